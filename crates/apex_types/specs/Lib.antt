@@ -1,0 +1,3 @@
+pub mod ServiceName
+pub mod Requested
+pub mod CodeName

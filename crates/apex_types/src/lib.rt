@@ -1,0 +1,21 @@
+//! The plain types of a recording: numbers, codes, services and their arguments, records, causes.
+//!
+//! Promises: a number reads back as it was made; a text, a message and a list of processes are seen by contracts as
+//! lists; a place is below the number of records that sixteen cores can give.
+#![tactic(auto)]
+
+mod cause;
+mod code;
+mod number;
+mod record;
+mod request;
+mod service;
+mod text;
+
+pub use cause::Cause;
+pub use code::Code;
+pub use number::{ChanId, CoreId, PartId, Place, ProcId};
+pub use record::{Body, Call, Claim, Ordered, Out, Pair, Record, Return, Who, Woken};
+pub use request::Request;
+pub use service::Service;
+pub use text::{Message, Name};

@@ -1,0 +1,132 @@
+// The records of a recording.
+
+ghost use Rattle.std.specs.Prelude.{◌≡◌, []};
+
+use crate::code::Code;
+use crate::number::{ChanId, CoreId, PartId, Place, ProcId};
+use crate::request::Request;
+use crate::service::Service;
+use crate::text::Message;
+use std::alloc::Global;
+use std::marker::Model;
+
+/// A process of a partition.
+#[derive(Clone, Copy, Debug, PartialEq, Eq, PartialOrd, Ord, Hash)]
+pub struct Who {
+    pub part: PartId,
+    pub proc: ProcId,
+}
+
+/// The processes whose wait ends by a record, in rising order of partition and process.
+#[derive(Debug, Drop)]
+pub struct Woken {
+    named: Vec<Who>,
+}
+
+impl Model for Woken {
+    ghost use Rattle.std.specs.Prelude.{List};
+    ghost use Rattle.apex_types.specs.declared.record.Who.{Who};
+
+    ghost Value = { List Who };
+
+    ghost view = { λ woken. woken.named.items };
+}
+
+impl Woken {
+    /// The list of these processes. Takes no memory.
+    pub fn new(named: Vec<Who>) -> Woken
+        ensures { result ≡ named.items }
+    {
+        Woken { named }
+    }
+
+    /// The list of no process. Takes no memory.
+    pub fn none(alloc: Global) -> Woken
+        ensures { result ≡ [] }
+    {
+        Woken {
+            named: Vec::new(alloc),
+        }
+    }
+
+    /// The processes, in their order.
+    pub fn as_slice(&self) -> &[Who]
+        ensures { result.now ≡ self.now }
+    {
+        &self.named
+    }
+}
+
+/// What a call says of its outcome.
+#[derive(Clone, Copy, Debug, PartialEq, Eq)]
+pub enum Out {
+    /// The caller waits; its outcome comes later.
+    Waits,
+    /// The call does not return.
+    Never,
+    /// The outcome is due at once, with this code.
+    Answer(Code),
+}
+
+/// What a call claims of the machine: the caller's current priority, the outcome with its value and its message, the
+/// channel of the port, and the processes whose wait ends.
+#[derive(Debug, Drop)]
+pub struct Claim {
+    pub prio: u8,
+    pub out: Out,
+    pub val: Option<i64>,
+    pub bytes: Message,
+    pub chan: Option<ChanId>,
+    pub woken: Woken,
+}
+
+/// A call of a service: the atomic moment of it.
+#[derive(Debug, Drop)]
+pub struct Call {
+    pub who: Who,
+    pub request: Request,
+    pub claim: Claim,
+}
+
+/// The return of a service to its caller, with the outcome that was due.
+#[derive(Debug, Drop)]
+pub struct Return {
+    pub who: Who,
+    pub service: Service,
+    pub code: Code,
+    pub val: Option<i64>,
+    pub bytes: Message,
+}
+
+/// What happened on a core.
+#[derive(Debug, Drop)]
+pub enum Body {
+    Call(Call),
+    Ret(Return),
+    /// The core is given to this process, or stands idle.
+    Disp(Option<Who>),
+    /// The core's time rises by one tick, and these waits end.
+    Tick(Woken),
+}
+
+/// A record of a core's recording, with its number there.
+#[derive(Debug, Drop)]
+pub struct Record {
+    pub seq: u32,
+    pub body: Body,
+}
+
+/// A record at its place in the proposed order.
+#[derive(Debug, Drop)]
+pub struct Ordered {
+    pub pos: Place,
+    pub core: CoreId,
+    pub rec: Record,
+}
+
+/// A row of an order certificate: which record of which core comes next.
+#[derive(Clone, Copy, Debug, PartialEq, Eq)]
+pub struct Pair {
+    pub core: u32,
+    pub seq: u64,
+}
