@@ -1,0 +1,54 @@
+-- Which process a core is to run.
+use Rattle.std.specs.Prelude.{ℕ, [], ◌∷◌, Option, Some, None, Bool, true, false, nat_eq, nat_lt, ◌&&◌, ◌||◌, if◌then◌else◌, filter, option_map, IsTrue, Contains}
+use Rattle.apex_types.specs.declared.record.Who.{Who}
+use Rattle.apex_machine.specs.declared.state.Process.{Process}
+use Rattle.apex_machine.specs.declared.state.Wait.{Wait}
+use Rattle.apex_machine.specs.declared.state.Wait.TheVariants as wait
+use Rattle.apex_machine.specs.Configuration.{Configuration, window_at}
+use Rattle.apex_machine.specs.State.{Partition, State, Table, time_of}
+
+abbrev pub waits_for_nothing : Wait → Bool
+waits_for_nothing wait.Nothing = true
+waits_for_nothing wait.NormalMode = false
+waits_for_nothing (wait.Until time) = false
+
+-- a process is ready on its core where it is not dormant and waits for nothing   (process states, section 2)
+abbrev pub is_ready : ℕ → Process → Bool
+is_ready core process = process.alive && (waits_for_nothing process.wait && nat_eq process.affinity core)
+
+-- one ready process goes before another by a higher current priority; among equals by an earlier ready position; at one
+-- position by a smaller number   (process scheduling, section 2)
+abbrev pub goes_before : ℕ × Process → ℕ × Process → Bool
+goes_before a b =
+    nat_lt b.1.current_priority a.1.current_priority
+    || (nat_eq a.1.current_priority b.1.current_priority
+    && (nat_lt a.1.ready_position b.1.ready_position || (nat_eq a.1.ready_position b.1.ready_position && nat_lt a.0 b.0)))
+
+abbrev pub sooner : ℕ × Process → Option (ℕ × Process) → Option (ℕ × Process)
+sooner entry None = Some entry
+sooner entry (Some other) = if goes_before other entry then Some other else Some entry
+
+abbrev pub foremost : Table → Option (ℕ × Process)
+foremost [] = None
+foremost (entry ∷ entries) = sooner entry (foremost entries)
+
+abbrev pub ready_entries : ℕ → Table → Table
+ready_entries core table = filter (λ entry. is_ready core entry.1) table
+
+-- the choice of a core among the processes of one partition: the ready one before which no other goes
+abbrev pub choice_in : ℕ → ℕ → Table → Option Who
+choice_in partition core table = option_map (λ entry. record { part = partition; proc = entry.0 }) (foremost (ready_entries core table))
+
+abbrev pub choice_of : Option ℕ → (ℕ → Partition) → ℕ → Option Who
+choice_of None partitions core = None
+choice_of (Some partition) partitions core = choice_in partition core (partitions partition).table
+
+-- the choice of a core: of the partition whose window it is; idle in no window
+abbrev pub choice : Configuration → State → ℕ → Option Who
+choice configuration state core = choice_of (window_at configuration core (time_of state.cores core)) state.partitions core
+
+-- the rule of the choice as a sentence: it is ready on this core, and no ready process goes before it
+pub record IsChosen (core : ℕ) (table : Table) (entry : ℕ × Process) : Type 0 where
+  pub stands : Contains table entry
+  pub ready : IsTrue (is_ready core entry.1)
+  pub first : (other : ℕ × Process) → Contains table other → IsTrue (is_ready core other.1) → ¬ IsTrue (goes_before other entry)

@@ -1,0 +1,85 @@
+-- What a module's configuration says: cores, frame, skew, partitions with their limits, windows.
+use Rattle.std.specs.Prelude.{ℕ, ◌+◌, ◌%◌, List, [], ◌∷◌, Option, Some, None, Bool, false, ◌&&◌, nat_eq, nat_le, nat_lt, if◌then◌else◌, is_some}
+
+-- a partition's window: from its start on, for its length, the core is the partition's in each major frame
+pub record Window : Type 0 where
+  pub core : ℕ
+  pub partition : ℕ
+  pub start : ℕ
+  pub span : ℕ
+
+-- a partition: its period, its cores of which the first is its first core, and how many of each kind it may create
+pub record PartitionLimits : Type 0 where
+  pub number : ℕ
+  pub period : ℕ
+  pub cores : List ℕ
+  pub processes : ℕ
+  pub buffers : ℕ
+  pub blackboards : ℕ
+  pub semaphores : ℕ
+  pub events : ℕ
+  pub mutexes : ℕ
+
+-- a module: its partitions stand in rising order of their numbers
+pub record Configuration : Type 0 where
+  pub cores : ℕ
+  pub frame : ℕ
+  pub skew : ℕ
+  pub partitions : List PartitionLimits
+  pub windows : List Window
+
+-- whether a window of this core holds this time within the major frame
+abbrev pub is_within : ℕ → ℕ → Window → Bool
+is_within core offset window = nat_eq window.core core && (nat_le window.start offset && nat_lt offset (window.start + window.span))
+
+abbrev pub window_among : ℕ → ℕ → List Window → Option ℕ
+window_among core offset [] = None
+window_among core offset (window ∷ windows) = if is_within core offset window then Some window.partition else window_among core offset windows
+
+-- the partition whose window of this core holds the time modulo the major frame, if any   (partition scheduling, section 2)
+abbrev pub window_at : Configuration → ℕ → ℕ → Option ℕ
+window_at configuration core time = window_among core (time % configuration.frame) configuration.windows
+
+abbrev pub limits_among : ℕ → List PartitionLimits → Option PartitionLimits
+limits_among number [] = None
+limits_among number (limits ∷ others) = if nat_eq limits.number number then Some limits else limits_among number others
+
+-- the limits of the partition of this number, if it is configured
+abbrev pub limits_of : Configuration → ℕ → Option PartitionLimits
+limits_of configuration number = limits_among number configuration.partitions
+
+-- whether a partition of this number is configured
+abbrev pub has_partition : Configuration → ℕ → Bool
+has_partition configuration number = is_some (limits_of configuration number)
+
+-- no channel is configured
+abbrev pub has_channel : Configuration → ℕ → Bool
+has_channel configuration number = false
+
+abbrev pub first_of : List ℕ → ℕ
+first_of [] = 0
+first_of (core ∷ cores) = core
+
+abbrev pub first_core_in : Option PartitionLimits → ℕ
+first_core_in None = 0
+first_core_in (Some limits) = first_of limits.cores
+
+-- the first core of a partition: the initialising process runs there, and each process until its affinity is set
+abbrev pub first_core : Configuration → ℕ → ℕ
+first_core configuration number = first_core_in (limits_of configuration number)
+
+abbrev pub process_limit_in : Option PartitionLimits → ℕ
+process_limit_in None = 0
+process_limit_in (Some limits) = limits.processes
+
+-- how many processes a partition may create
+abbrev pub process_limit : Configuration → ℕ → ℕ
+process_limit configuration number = process_limit_in (limits_of configuration number)
+
+abbrev pub period_in : Option PartitionLimits → ℕ
+period_in None = 1
+period_in (Some limits) = limits.period
+
+-- a partition's period
+abbrev pub period_of : Configuration → ℕ → ℕ
+period_of configuration number = period_in (limits_of configuration number)

@@ -1,0 +1,9 @@
+pub mod Configuration
+pub mod State
+pub mod Choice
+pub mod Conditions
+pub mod Services
+pub mod After
+pub mod Step
+pub mod Pieces
+pub mod Runs

@@ -1,0 +1,39 @@
+-- What a piece makes of a whole recording: its run over the records that touch it, or its first refusal.
+use Rattle.std.specs.Prelude.{◌≡◌, ◌⊎◌, ℕ, suc, List, [], ◌∷◌, Option, Some, None, Bool, true, false}
+use Rattle.apex_types.specs.declared.cause.Cause.{Cause}
+use Rattle.apex_types.specs.declared.record.Ordered.{Ordered}
+use Rattle.apex_machine.specs.Configuration.{Configuration}
+use Rattle.apex_machine.specs.Pieces.{Piece, Part, touches, demands, FirstFails, LocalStep}
+
+-- the records stand at this place and those after it
+abbrev pub ArePlaced : ℕ → List Ordered → Type 0
+ArePlaced place [] = Unit {0}
+ArePlaced place (ordered ∷ others) = (ordered.pos ≡ place) × ArePlaced (suc place) others
+
+-- a record that touches the piece is its local step; another leaves its part as it was
+abbrev pub Goes : Bool → Configuration → Part → Ordered → Part → Type 0
+Goes true configuration old ordered new = LocalStep configuration old ordered new
+Goes false configuration old ordered new = new ≡ old
+
+-- the run of a piece over the records
+abbrev pub PieceRun : Configuration → Piece → Part → List Ordered → Part → Type 0
+PieceRun configuration piece old [] final = final ≡ old
+PieceRun configuration piece old (ordered ∷ others) final =
+    (next : Part) × Goes (touches piece ordered) configuration old ordered next × PieceRun configuration piece next others final
+
+-- a piece refuses the record at a place, with a cause
+pub record Refusal : Type 0 where
+  pub pos : ℕ
+  pub cause : Cause
+
+abbrev pub FindsNext : Bool → Configuration → Part → Ordered → (Part → Type 0) → Option Refusal → Type 0
+FindsNext false configuration old ordered More found = More old
+FindsNext true configuration old ordered More found =
+    ((next : Part) × LocalStep configuration old ordered next × More next)
+    ⊎ ((cause : Cause) × FirstFails (demands configuration old ordered) cause × (found ≡ Some (record { pos = ordered.pos; cause = cause })))
+
+-- the first refusal of a piece over the records that touch it, if there is one
+abbrev pub Finds : Configuration → Piece → Part → List Ordered → Option Refusal → Type 0
+Finds configuration piece old [] found = found ≡ None
+Finds configuration piece old (ordered ∷ others) found =
+    FindsNext (touches piece ordered) configuration old ordered (λ next. Finds configuration piece next others found) found

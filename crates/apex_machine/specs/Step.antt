@@ -1,0 +1,172 @@
+-- A step of the machine: what a record must claim, and the state that it then leads to. A run is one step after another.
+use Rattle.std.specs.Prelude.{◌≡◌, ◌⊎◌, ℕ, ◌+◌, ◌≤◌, List, [], ◌∷◌, Option, Some, None, Bool, false, nat_eq, nat_le, ◌&&◌, IsTrue}
+use Rattle.apex_types.specs.declared.code.Code.{Code}
+use Rattle.apex_types.specs.declared.record.Body.{Body}
+use Rattle.apex_types.specs.declared.record.Body.TheVariants.{Call, Ret, Disp, Tick}
+use Rattle.apex_types.specs.declared.record.Call.{Call as CallRecord}
+use Rattle.apex_types.specs.declared.record.Claim.{Claim}
+use Rattle.apex_types.specs.declared.record.Ordered.{Ordered}
+use Rattle.apex_types.specs.declared.record.Out.{Out}
+use Rattle.apex_types.specs.declared.record.Out.TheVariants as out
+use Rattle.apex_types.specs.declared.record.Return.{Return}
+use Rattle.apex_types.specs.declared.record.Who.{Who}
+use Rattle.apex_types.specs.declared.request.Request.{Request}
+use Rattle.apex_types.specs.Requested.{service_of}
+use Rattle.apex_machine.specs.declared.state.CoreState.{CoreState}
+use Rattle.apex_machine.specs.declared.state.Outcome.{Outcome}
+use Rattle.apex_machine.specs.declared.state.Process.{Process}
+use Rattle.apex_machine.specs.declared.state.Wait.{Wait}
+use Rattle.apex_machine.specs.declared.state.Wait.TheVariants as wait
+use Rattle.apex_machine.specs.Configuration.{Configuration, has_partition, has_channel}
+use Rattle.apex_machine.specs.State.{State, Table, is_named, process_at, time_of, occupant_of}
+use Rattle.apex_machine.specs.Choice.{choice}
+use Rattle.apex_machine.specs.Conditions.{condition_codes}
+use Rattle.apex_machine.specs.Services.{Answer, HasValue, answer_of, is_built, in_profile}
+use Rattle.apex_machine.specs.After.{after}
+
+-- names
+
+-- each process named is of a configured partition
+abbrev pub AllConfigured : Configuration → List Who → Type 0
+AllConfigured configuration [] = Unit {0}
+AllConfigured configuration (who ∷ others) = IsTrue (has_partition configuration who.part) × AllConfigured configuration others
+
+abbrev pub OneConfigured : Configuration → Option Who → Type 0
+OneConfigured configuration None = Unit {0}
+OneConfigured configuration (Some who) = IsTrue (has_partition configuration who.part)
+
+abbrev pub ChannelConfigured : Configuration → Option ℕ → Type 0
+ChannelConfigured configuration None = Unit {0}
+ChannelConfigured configuration (Some channel) = IsTrue (has_channel configuration channel)
+
+-- ticks
+
+-- a core that has come to this time is at most the skew ahead of each core
+abbrev pub KeepsSkew : ℕ → ℕ → List CoreState → Type 0
+KeepsSkew time skew [] = Unit {0}
+KeepsSkew time skew (state ∷ states) = (time ≤ state.time + skew) × KeepsSkew time skew states
+
+-- a wait is over once its core's time has come to it
+abbrev pub due_by : ℕ → Wait → Bool
+due_by time wait.Nothing = false
+due_by time wait.NormalMode = false
+due_by time (wait.Until due) = nat_le due time
+
+-- whether a process of this core falls due at this time
+abbrev pub falls_due : ℕ → ℕ → Option Process → Bool
+falls_due core time None = false
+falls_due core time (Some process) = nat_eq process.affinity core && due_by time process.wait
+
+-- of this partition exactly those are named that fall due   (TIMED_WAIT, section 3)
+abbrev pub NamesThoseDue : ℕ → ℕ → ℕ → Table → List Who → Type 0
+NamesThoseDue partition core time table woken =
+    (number : ℕ) → is_named (record { part = partition; proc = number }) woken ≡ falls_due core time (process_at table number)
+
+-- calls and returns
+
+abbrev pub HasNoneDue : Option Process → Type 0
+HasNoneDue None = ⊥
+HasNoneDue (Some process) = process.due ≡ None
+
+abbrev pub HasPriority : ℕ → Option Process → Type 0
+HasPriority priority None = ⊥
+HasPriority priority (Some process) = process.current_priority ≡ priority
+
+abbrev pub due_of : Option Process → Option Outcome
+due_of None = None
+due_of (Some process) = process.due
+
+abbrev pub IsAmong : List Code → Code → Type 0
+IsAmong [] code = ⊥
+IsAmong (other ∷ others) code = (code ≡ other) ⊎ IsAmong others code
+
+abbrev pub HasCode : List Code → Out → Type 0
+HasCode codes out.Waits = ⊥
+HasCode codes out.Never = ⊥
+HasCode codes (out.Answer code) = IsAmong codes code
+
+-- where error conditions hold: one of their codes, and nothing else is claimed
+pub record IsRefused (codes : List Code) (claim : Claim) : Type 0 where
+  pub chan : claim.chan ≡ None
+  pub out : HasCode codes claim.out
+  pub val : claim.val ≡ None
+  pub bytes : claim.bytes ≡ []
+  pub woken : claim.woken ≡ []
+
+-- where none holds: the outcome of the service, with its value, its message and those whose waits end
+pub record IsAnswered (table : Table) (answer : Answer) (claim : Claim) : Type 0 where
+  pub chan : claim.chan ≡ None
+  pub out : claim.out ≡ answer.out
+  pub val : HasValue table answer.val claim.val
+  pub bytes : claim.bytes ≡ answer.bytes
+  pub woken : claim.woken ≡ answer.woken
+
+abbrev pub HasOutcome : List Code → Table → Answer → Claim → Type 0
+HasOutcome [] table answer claim = IsAnswered table answer claim
+HasOutcome (code ∷ codes) table answer claim = IsRefused (code ∷ codes) claim
+
+-- a demand that stands only where no error condition holds
+abbrev pub WhereNone : List Code → Type 0 → Type 0
+WhereNone [] Demanded = Demanded
+WhereNone (code ∷ codes) Demanded = Unit {0}
+
+-- the call's service is judged, and where no error condition holds the call is within the profile
+abbrev pub IsWithinProfile : List Code → Who → Request → Type 0
+IsWithinProfile codes who request = IsTrue (is_built (service_of request)) × WhereNone codes (IsTrue (in_profile who request))
+
+-- what a return gives back
+abbrev pub outcome_returned : Return → Outcome
+outcome_returned ret = record { service = ret.service; code = ret.code; val = ret.val; bytes = ret.bytes }
+
+-- a dispatch names the choice
+pub record IsLawfulDispatch (configuration : Configuration) (state : State) (core : ℕ) (who : Option Who) : Type 0 where
+  pub names : OneConfigured configuration who
+  pub choice : choice configuration state core ≡ who
+
+-- a tick keeps the skew, comes where the occupant is the choice, and names exactly those that fall due
+pub record IsLawfulTick (configuration : Configuration) (state : State) (core : ℕ) (woken : List Who) : Type 0 where
+  pub names : AllConfigured configuration woken
+  pub skew : KeepsSkew (time_of state.cores core + 1) configuration.skew state.cores
+  pub choice : choice configuration state core ≡ occupant_of state.cores core
+  pub due : (partition : ℕ) → IsTrue (has_partition configuration partition)
+      → NamesThoseDue partition core (time_of state.cores core + 1) (state.partitions partition).table woken
+
+-- a call comes from the occupant, which is the choice and to which no outcome is due; it claims its current priority and
+-- an outcome that the service can have
+pub record IsLawfulCall (configuration : Configuration) (state : State) (core : ℕ) (call : CallRecord) : Type 0 where
+  pub names : IsTrue (has_partition configuration call.who.part) × AllConfigured configuration call.claim.woken × ChannelConfigured configuration call.claim.chan
+  pub occupant : occupant_of state.cores core ≡ Some call.who
+  pub choice : choice configuration state core ≡ Some call.who
+  pub due : HasNoneDue (process_at (state.partitions call.who.part).table call.who.proc)
+  pub profile : IsWithinProfile (condition_codes configuration call.who (state.partitions call.who.part) call.request) call.who call.request
+  pub prio : HasPriority call.claim.prio (process_at (state.partitions call.who.part).table call.who.proc)
+  pub outcome : HasOutcome (condition_codes configuration call.who (state.partitions call.who.part) call.request)
+      (state.partitions call.who.part).table (answer_of call.who call.request) call.claim
+
+-- a return comes from the occupant, which is the choice, and gives back the outcome that is due
+pub record IsLawfulReturn (configuration : Configuration) (state : State) (core : ℕ) (ret : Return) : Type 0 where
+  pub names : IsTrue (has_partition configuration ret.who.part)
+  pub occupant : occupant_of state.cores core ≡ Some ret.who
+  pub choice : choice configuration state core ≡ Some ret.who
+  pub due : due_of (process_at (state.partitions ret.who.part).table ret.who.proc) ≡ Some (outcome_returned ret)
+
+abbrev pub IsLawfulBody : Configuration → State → ℕ → Body → Type 0
+IsLawfulBody configuration state core (Disp who) = IsLawfulDispatch configuration state core who
+IsLawfulBody configuration state core (Tick woken) = IsLawfulTick configuration state core woken
+IsLawfulBody configuration state core (Call call) = IsLawfulCall configuration state core call
+IsLawfulBody configuration state core (Ret ret) = IsLawfulReturn configuration state core ret
+
+-- a record is lawful in a state where it stands at the next place and what it claims is so
+pub record IsLawful (configuration : Configuration) (state : State) (ordered : Ordered) : Type 0 where
+  pub placed : ordered.pos ≡ state.count
+  pub claims : IsLawfulBody configuration state ordered.core ordered.rec.body
+
+-- the step of a record: it is lawful, and the next state is the one that its claims give
+abbrev pub Step : Configuration → State → Ordered → State → Type 0
+Step configuration state ordered next = IsLawful configuration state ordered × (next ≡ after configuration state ordered)
+
+-- one step after another
+abbrev pub Run : Configuration → State → List Ordered → State → Type 0
+Run configuration state [] final = final ≡ state
+Run configuration state (ordered ∷ others) final =
+    (next : State) × Step configuration state ordered next × Run configuration next others final
