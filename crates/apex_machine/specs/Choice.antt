@@ -1,5 +1,5 @@
 -- Which process a core is to run.
-use Rattle.std.specs.Prelude.{ℕ, [], ◌∷◌, Option, Some, None, Bool, true, false, nat_eq, nat_lt, ◌&&◌, ◌||◌, if◌then◌else◌, filter, option_map, IsTrue, Contains}
+use Rattle.std.specs.Prelude.{◌≡◌, ◌⊎◌, ◌<◌, ℕ, [], ◌∷◌, Option, Some, None, Bool, true, false, nat_eq, nat_lt, ◌&&◌, ◌||◌, if◌then◌else◌, filter, option_map, IsTrue, Contains}
 use Rattle.apex_types.specs.declared.record.Who.{Who}
 use Rattle.apex_machine.specs.declared.state.Process.{Process}
 use Rattle.apex_machine.specs.declared.state.Wait.{Wait}
@@ -12,12 +12,11 @@ waits_for_nothing wait.Nothing = true
 waits_for_nothing wait.NormalMode = false
 waits_for_nothing (wait.Until time) = false
 
--- a process is ready on its core where it is not dormant and waits for nothing   (process states, section 2)
+-- the test whether a process is ready on a core
 abbrev pub is_ready : ℕ → Process → Bool
 is_ready core process = process.alive && (waits_for_nothing process.wait && nat_eq process.affinity core)
 
--- one ready process goes before another by a higher current priority; among equals by an earlier ready position; at one
--- position by a smaller number   (process scheduling, section 2)
+-- the test whether one ready process goes before another
 abbrev pub goes_before : ℕ × Process → ℕ × Process → Bool
 goes_before a b =
     nat_lt b.1.current_priority a.1.current_priority
@@ -35,7 +34,7 @@ foremost (entry ∷ entries) = sooner entry (foremost entries)
 abbrev pub ready_entries : ℕ → Table → Table
 ready_entries core table = filter (λ entry. is_ready core entry.1) table
 
--- the choice of a core among the processes of one partition: the ready one before which no other goes
+-- the choice of a core among the processes of one partition
 abbrev pub choice_in : ℕ → ℕ → Table → Option Who
 choice_in partition core table = option_map (λ entry. record { part = partition; proc = entry.0 }) (foremost (ready_entries core table))
 
@@ -47,8 +46,24 @@ choice_of (Some partition) partitions core = choice_in partition core (partition
 abbrev pub choice : Configuration → State → ℕ → Option Who
 choice configuration state core = choice_of (window_at configuration core (time_of state.cores core)) state.partitions core
 
--- the rule of the choice as a sentence: it is ready on this core, and no ready process goes before it
+-- the rule of the choice, in sentences that share nothing with the tests above
+
+-- a process is ready on a core: it is not dormant, it waits for nothing, and the core is its own   (process states, section 2)
+pub record IsReady (core : ℕ) (process : Process) : Type 0 where
+  pub alive : IsTrue process.alive
+  pub waits : process.wait ≡ wait.Nothing
+  pub affinity : process.affinity ≡ core
+
+-- one process goes before another by a higher current priority; among equals by an earlier ready position; at one position
+-- by a smaller number   (process scheduling, section 2)
+abbrev pub GoesBefore : ℕ × Process → ℕ × Process → Type 0
+GoesBefore one other =
+    (other.1.current_priority < one.1.current_priority)
+    ⊎ ((one.1.current_priority ≡ other.1.current_priority)
+    × ((one.1.ready_position < other.1.ready_position) ⊎ ((one.1.ready_position ≡ other.1.ready_position) × (one.0 < other.0))))
+
+-- the choice of a core among the processes of a table: it is ready on this core, and no ready process goes before it
 pub record IsChosen (core : ℕ) (table : Table) (entry : ℕ × Process) : Type 0 where
   pub stands : Contains table entry
-  pub ready : IsTrue (is_ready core entry.1)
-  pub first : (other : ℕ × Process) → Contains table other → IsTrue (is_ready core other.1) → ¬ IsTrue (goes_before other entry)
+  pub ready : IsReady core entry.1
+  pub first : (other : ℕ × Process) → Contains table other → IsReady core other.1 → ¬ GoesBefore other entry

@@ -1,5 +1,5 @@
 -- What a module's configuration says: cores, frame, skew, partitions with their limits, windows.
-use Rattle.std.specs.Prelude.{ℕ, ◌+◌, ◌%◌, List, [], ◌∷◌, Option, Some, None, Bool, false, ◌&&◌, nat_eq, nat_le, nat_lt, if◌then◌else◌, is_some}
+use Rattle.std.specs.Prelude.{◌≡◌, IsTrue, ℕ, ◌+◌, ◌%◌, List, [], ◌∷◌, Option, Some, None, Bool, false, ◌&&◌, nat_eq, nat_le, nat_lt, if◌then◌else◌, is_some}
 
 -- a partition's window: from its start on, for its length, the core is the partition's in each major frame
 pub record Window : Type 0 where
@@ -83,3 +83,8 @@ period_in (Some limits) = limits.period
 -- a partition's period
 abbrev pub period_of : Configuration → ℕ → ℕ
 period_of configuration number = period_in (limits_of configuration number)
+
+-- each window is of a configured partition
+abbrev pub WindowsAreConfigured : Configuration → Type 0
+WindowsAreConfigured configuration =
+    (core time partition : ℕ) → window_at configuration core time ≡ Some partition → IsTrue (has_partition configuration partition)

@@ -1,5 +1,5 @@
 -- What a piece makes of a whole recording: its run over the records that touch it, or its first refusal.
-use Rattle.std.specs.Prelude.{◌≡◌, ◌⊎◌, ℕ, suc, List, [], ◌∷◌, Option, Some, None, Bool, true, false}
+use Rattle.std.specs.Prelude.{◌≡◌, ◌⊎◌, ◌<◌, ℕ, suc, List, [], ◌∷◌, Option, Some, None, Bool, true, false}
 use Rattle.apex_types.specs.declared.cause.Cause.{Cause}
 use Rattle.apex_types.specs.declared.record.Ordered.{Ordered}
 use Rattle.apex_machine.specs.Configuration.{Configuration}
@@ -9,6 +9,11 @@ use Rattle.apex_machine.specs.Pieces.{Piece, Part, touches, demands, FirstFails,
 abbrev pub ArePlaced : ℕ → List Ordered → Type 0
 ArePlaced place [] = Unit {0}
 ArePlaced place (ordered ∷ others) = (ordered.pos ≡ place) × ArePlaced (suc place) others
+
+-- each record is of a configured core
+abbrev pub AreOfCores : ℕ → List Ordered → Type 0
+AreOfCores cores [] = Unit {0}
+AreOfCores cores (ordered ∷ others) = (ordered.core < cores) × AreOfCores cores others
 
 -- a record that touches the piece is its local step; another leaves its part as it was
 abbrev pub Goes : Bool → Configuration → Part → Ordered → Part → Type 0

@@ -1,0 +1,5 @@
+use Rattle.apex_laws.proofs.Creations.{creation_is_the_sentence}
+use Rattle.apex_laws.proofs.creation_is_the_sentence.Goals as goal
+
+pub returns : goal.returns
+returns c = creation_is_the_sentence

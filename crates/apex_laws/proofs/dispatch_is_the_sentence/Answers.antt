@@ -1,0 +1,5 @@
+use Rattle.apex_laws.proofs.Dispatches.{dispatch_is_the_sentence}
+use Rattle.apex_laws.proofs.dispatch_is_the_sentence.Goals as goal
+
+pub returns : goal.returns
+returns c = dispatch_is_the_sentence

@@ -1,0 +1,5 @@
+use Rattle.apex_laws.proofs.Returns.{return_is_the_sentence}
+use Rattle.apex_laws.proofs.return_is_the_sentence.Goals as goal
+
+pub returns : goal.returns
+returns c = return_is_the_sentence

@@ -1,0 +1,148 @@
+// The clocks of the cores.
+
+ghost use Rattle.std.specs.Prelude.{◌≡◌, ◌≤◌, ◌<◌, ◌-◌, ◌↔◌, IsTrue, OnOk, OnErr, length, nat_le};
+ghost use Rattle.std.specs.List.{list_all};
+ghost use Rattle.apex_machine.specs.State.{time_of, occupant_of};
+ghost use Rattle.dispatch_rule.specs.Clocks.{cold_clocks, advanced, dispatched, MayTick};
+
+use apex_machine::CoreState;
+use apex_types::{CoreId, Who};
+use std::marker::Model;
+use thiserror::Error;
+
+/// How many cores a module has at most.
+const CORE_LIMIT: usize = 16;
+
+/// A core before its first record: idle, at time 0.
+const COLD: CoreState = CoreState {
+    time: 0,
+    occupant: None,
+};
+
+/// A tick that would lead its core further ahead of another than the skew allows.
+#[derive(Clone, Copy, Debug, PartialEq, Eq, Error)]
+#[error("the core would run ahead of another by more than the skew")]
+pub struct Skew;
+
+/// The time of each core in ticks, the process to which the last dispatch gave it, and the skew.
+#[derive(Debug, Drop)]
+pub struct Clock {
+    cores: [CoreState; CORE_LIMIT],
+    count: usize,
+    skew: u64,
+}
+
+impl Model for Clock {
+    ghost use Rattle.std.specs.Prelude.{◌≤◌, take};
+    ghost use Rattle.dispatch_rule.specs.Clocks.{Clocks};
+
+    ghost Value = { Clocks };
+
+    ghost view = { λ clock. record { cores = take clock.count clock.cores; skew = clock.skew } };
+
+    ghost invariant = { λ clock. clock.count ≤ 16 };
+}
+
+impl Clock {
+    /// The clock of so many idle cores at time 0, of which none may run further ahead of another than the skew, in ticks.
+    pub fn new(cores: u8, skew: u64) -> Clock
+        requires { cores ≤ 16 }
+        ensures { result ≡ cold_clocks cores skew }
+    {
+        Clock {
+            cores: [COLD; CORE_LIMIT],
+            count: cores as usize,
+            skew,
+        }
+    }
+
+    /// The time of a core, in ticks, or 0 where the clock has no such core.
+    #[tactic(auto, using(crate::proofs::Cores::time_of_there, crate::proofs::Cores::time_of_past))]
+    pub fn now(&self, core: CoreId) -> u64
+        ensures { result ≡ time_of self.now.cores core }
+    {
+        match self.states().get(core.number() as usize) {
+            Some(state) => state.time,
+            None => 0,
+        }
+    }
+
+    /// The process to which the last dispatch gave a core, or none where the core is idle or not there.
+    #[tactic(auto, using(crate::proofs::Cores::occupant_of_there, crate::proofs::Cores::occupant_of_past))]
+    pub fn on(&self, core: CoreId) -> Option<Who>
+        ensures { result ≡ occupant_of self.now.cores core }
+    {
+        match self.states().get(core.number() as usize) {
+            Some(state) => state.occupant,
+            None => None,
+        }
+    }
+
+    /// Whether the core may tick under this skew, in ticks: it is then at most the skew ahead of each core.
+    pub fn may_tick(&self, core: CoreId, skew: u64) -> bool
+        requires { time_of self.now.cores core < 68719476720 }
+        ensures { IsTrue result ↔ MayTick core skew self.now.cores }
+    {
+        let next = self.now(core) + 1;
+        keeps_skew(next, skew, self.states())
+    }
+
+    /// Adds one to the time of a core.
+    ///
+    /// Refused, with nothing changed, where the core would then be more than the clock's skew ahead of another.
+    pub fn tick(&mut self, core: CoreId) -> Result<(), Skew>
+        requires core { core < length self.old.cores }
+        requires time { time_of self.old.cores core < 68719476720 }
+        ensures within { OnOk result (MayTick core self.old.skew self.old.cores) }
+        ensures ok { OnOk result (self.new ≡ advanced core self.old) }
+        ensures refused { OnErr result (¬ MayTick core self.old.skew self.old.cores) }
+        ensures unchanged { OnErr result (self.new ≡ self.old) }
+    {
+        if !self.may_tick(core, self.skew) {
+            return Err(Skew);
+        }
+        self.advance(core);
+        Ok(())
+    }
+
+    /// Adds one to the time of a core, whatever the times of the others. It serves where another judges the skew.
+    pub fn advance(&mut self, core: CoreId)
+        requires core { core < length self.old.cores }
+        requires time { time_of self.old.cores core < 68719476720 }
+        ensures { self.new ≡ advanced core self.old }
+    {
+        let index = core.number() as usize;
+        let state = self.cores[index];
+        self.cores[index] = CoreState {
+            time: state.time + 1,
+            occupant: state.occupant,
+        };
+    }
+
+    /// Gives a core to a process, or leaves it idle.
+    pub fn dispatch(&mut self, core: CoreId, who: Option<Who>)
+        requires { core < length self.old.cores }
+        ensures { self.new ≡ dispatched core who self.old }
+    {
+        let index = core.number() as usize;
+        let state = self.cores[index];
+        self.cores[index] = CoreState {
+            time: state.time,
+            occupant: who,
+        };
+    }
+
+    fn states(&self) -> &[CoreState]
+        ensures { result.now ≡ self.now.cores }
+    {
+        &self.cores[..self.count]
+    }
+}
+
+fn keeps_skew(time: u64, skew: u64, states: &[CoreState]) -> bool
+    ensures { result ≡ list_all (λ state. nat_le (time - state.time) skew) states.now }
+{
+    states
+        .iter()
+        .all(|state| time.saturating_sub(state.time) <= skew)
+}

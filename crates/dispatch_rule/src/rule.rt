@@ -1,0 +1,51 @@
+// The rule by which a core is given to a process.
+
+ghost use Rattle.std.specs.Prelude.{◌≡◌, ◌↔◌, IsTrue};
+ghost use Rattle.apex_machine.specs.State.{occupant_of};
+ghost use Rattle.dispatch_rule.specs.Windows.{owns_window, choice_within};
+
+use crate::clock::Clock;
+use apex_types::{CoreId, PartId, Who};
+use module_config::Config;
+use process_state::ProcTable;
+
+/// Whether the present window of a core is this partition's.
+pub fn owns_window(config: &Config, clock: &Clock, part: PartId, core: CoreId) -> bool
+    ensures { result ≡ owns_window config.now clock.now part core }
+{
+    match config.window_at(core, clock.now(core)) {
+        Some(owner) => owner == part,
+        None => false,
+    }
+}
+
+/// The process of this partition that the core is to run now: none where no process is ready there, or where the present
+/// window is not the partition's.
+pub fn choice(
+    config: &Config,
+    clock: &Clock,
+    table: &ProcTable,
+    part: PartId,
+    core: CoreId,
+) -> Option<Who>
+    ensures { result ≡ choice_within config.now clock.now table.now.table part core }
+{
+    if owns_window(config, clock, part, core) {
+        table.ready_on(part, core)
+    } else {
+        None
+    }
+}
+
+/// Whether the core runs what this partition has it run now: its occupant is the choice.
+pub fn settled(
+    config: &Config,
+    clock: &Clock,
+    table: &ProcTable,
+    part: PartId,
+    core: CoreId,
+) -> bool
+    ensures { IsTrue result ↔ (choice_within config.now clock.now table.now.table part core ≡ occupant_of clock.now.cores core) }
+{
+    choice(config, clock, table, part, core) == clock.on(core)
+}

@@ -1,0 +1,45 @@
+-- A reading of the items that are left, with what has been read before them.
+use Rattle.std.proofs.Common.{◌≡◌, ◌<◌, ◌+◌, ◌++◌, ◌∷◌, [], ℕ, List, Ok, Err, refl, sym, ap, append_assoc, get_or, drop, length}
+use Rattle.std.specs.Prelude.{Result}
+use Rattle.toml.specs.Data.{Data}
+use Rattle.toml.specs.View.{view, items_view}
+use Rattle.toml.specs.declared.value.Value.{Value}
+use Rattle.toml.proofs.Views.{items_view-drop}
+use Rattle.module_config.specs.declared.fault.ConfigFault.{ConfigFault}
+use Rattle.module_config.specs.Keys.{◌>>=◌, each_item}
+
+-- what is read, behind what was read before
+abbrev pub behind : {A : Type 0} → List A → Result (List A) ConfigFault → Result (List A) ConfigFault
+behind front (Ok rest) = Ok (front ++ rest)
+behind front (Err fault) = Err fault
+
+-- before the first item nothing was read
+pub behind-nothing : {A : Type 0} (reading : Result (List A) ConfigFault) → behind [] reading ≡ reading
+behind-nothing (Ok rest) = refl
+behind-nothing (Err fault) = refl
+
+-- one element goes over from what is left to what was read
+pub behind-more : {A : Type 0} (front : List A) (first : A) (reading : Result (List A) ConfigFault) → behind front (reading >>= (λ rest. Ok (first ∷ rest))) ≡ behind (front ++ first ∷ []) reading
+behind-more front first (Ok rest) = ap (λ all. Ok all) (sym (append_assoc front (first ∷ []) rest))
+behind-more front first (Err fault) = refl
+
+-- an item is read, and the loop goes on
+pub each_item-more : {A : Type 0} (reading : Data → Result A ConfigFault) (front : List A) (values : List Value) (i : ℕ) (value : Value) (first : A)
+    → i < length values → value ≡ get_or values i value → reading (view value) ≡ Ok first
+    → behind front (each_item reading (items_view (drop i values))) ≡ behind (front ++ first ∷ []) (each_item reading (items_view (drop (i + 1) values)))
+each_item-more reading front values i value first below is read =
+    let cut = items_view-drop values i value below in
+    rw (cut, ← is, read) (behind-more front first (each_item reading (items_view (drop (i + 1) values))))
+
+-- an item is refused, and with it the list
+pub each_item-refused : {A : Type 0} (reading : Data → Result A ConfigFault) (front : List A) (values : List Value) (i : ℕ) (value : Value) (fault : ConfigFault)
+    → i < length values → value ≡ get_or values i value → reading (view value) ≡ Err fault
+    → behind front (each_item reading (items_view (drop i values))) ≡ Err fault
+each_item-refused reading front values i value fault below is read =
+    let cut = items_view-drop values i value below in
+    rw (cut, ← is, read) refl
+
+-- what a loop over the items of a list keeps after `i` of them
+pub record KeepsItems {A : Type 0} (reading : Data → Result A ConfigFault) (values : List Value) (i : ℕ) (front : List A) : Type 0 where
+  pub reads : behind front (each_item reading (items_view (drop i values))) ≡ each_item reading (items_view values)
+  pub as_many : length front ≡ i

@@ -1,0 +1,73 @@
+-- How the value under one key is read: it is missing, has the wrong type, is out of range, or is taken.
+use Rattle.std.specs.Prelude.{◌≡◌, ◌≢◌, ℕ, List, [], ◌∷◌, Option, Some, None, Result, Ok, Err, Bool, true, false, ◌&&◌, nat_le, pos, negsuc, if◌then◌else◌}
+use Rattle.toml.specs.Data.{Data, integer, array, table, Items, no_items, item}
+use Rattle.module_config.specs.declared.fault.ConfigFault.{ConfigFault}
+use Rattle.module_config.specs.declared.fault.ConfigFault.TheVariants.{Missing, WrongType, OutOfRange, Memory}
+
+infixl 10 ◌>>=◌
+-- a reading and then the next one; the first refusal stands
+abbrev pub ◌>>=◌ : {A B : Type 0} → Result A ConfigFault → (A → Result B ConfigFault) → Result B ConfigFault
+(Ok value) >>= next = next value
+(Err fault) >>= next = Err fault
+
+-- what a call gave is the reading, unless memory ran out
+abbrev pub Gives : {A B : Type 0} → (A → B) → Result A ConfigFault → Result B ConfigFault → Type 0
+Gives view (Ok value) reading = reading ≡ Ok (view value)
+Gives view (Err fault) reading = fault ≢ Memory → reading ≡ Err fault
+
+-- a value that has to be there
+abbrev pub required : Option Data → Result Data ConfigFault
+required None = Err Missing
+required (Some value) = Ok value
+
+-- an integer, and not a negative one
+abbrev pub natural_in : Data → Result ℕ ConfigFault
+natural_in (integer (pos number)) = Ok number
+natural_in (integer (negsuc number)) = Err OutOfRange
+natural_in _ = Err WrongType
+
+-- the number under a key
+abbrev pub natural_at : Option Data → Result ℕ ConfigFault
+natural_at value = required value >>= natural_in
+
+-- a number from the least to the most that may stand there
+abbrev pub within : ℕ → ℕ → ℕ → Result ℕ ConfigFault
+within least most number = if nat_le least number && nat_le number most then Ok number else Err OutOfRange
+
+-- the integer under a key, from the least to the most that may stand there
+abbrev pub integer_at : ℕ → ℕ → Option Data → Result ℕ ConfigFault
+integer_at least most value = natural_at value >>= within least most
+
+-- a number of ticks
+abbrev pub ticks_at : Option Data → Result ℕ ConfigFault
+ticks_at value = integer_at 1 4294967295 value
+
+-- the value is an integer
+abbrev pub is_integer : Data → Bool
+is_integer (integer number) = true
+is_integer _ = false
+
+-- the value is a table
+abbrev pub is_table : Data → Bool
+is_table (table keys) = true
+is_table _ = false
+
+-- each item of a list passes the test
+abbrev pub all_items : (Data → Bool) → Items → Bool
+all_items test no_items = true
+all_items test (item value items) = test value && all_items test items
+
+-- a list, each item of which has the type that it needs
+abbrev pub list_of : (Data → Bool) → Data → Result Items ConfigFault
+list_of test (array items) = if all_items test items then Ok items else Err WrongType
+list_of test _ = Err WrongType
+
+-- a list with an item at least
+abbrev pub at_least_one : Items → Result Items ConfigFault
+at_least_one no_items = Err OutOfRange
+at_least_one (item value items) = Ok (item value items)
+
+-- what each item of a list is read as, in turn
+abbrev pub each_item : {A : Type 0} → (Data → Result A ConfigFault) → Items → Result (List A) ConfigFault
+each_item reading no_items = Ok []
+each_item reading (item value items) = reading value >>= (λ first. each_item reading items >>= (λ rest. Ok (first ∷ rest)))

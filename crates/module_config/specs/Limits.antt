@@ -1,0 +1,44 @@
+-- What each configuration keeps.
+use Rattle.std.specs.Prelude.{◌≡◌, ℕ, ◌≤◌, ◌<◌, List, [], ◌∷◌, length, map, All, true, false, ⊤}
+use Rattle.std.specs.List.{AllByRecursion}
+use Rattle.apex_machine.specs.Configuration.{Configuration, PartitionLimits, first_of}
+use Rattle.module_config.specs.Whole.{is_too_large, are_of_partitions, has_overlap}
+
+-- a partition's number, period and processes are within their limits
+pub record AreLimits (number period processes : ℕ) : Type 0 where
+  pub number_most : number < 32
+  pub period_least : 1 ≤ period
+  pub period_most : period ≤ 4294967295
+  pub processes_most : processes ≤ 128
+
+-- each partition's number is at least the number before it
+abbrev pub IsOrdered : List PartitionLimits → Type 0
+IsOrdered [] = ⊤
+IsOrdered (limits ∷ others) = AllByRecursion (λ other. limits.number ≤ other.number) others × IsOrdered others
+
+-- each partition's number is above the number before it
+abbrev pub IsRising : List PartitionLimits → Type 0
+IsRising [] = ⊤
+IsRising (limits ∷ others) = AllByRecursion (λ other. limits.number < other.number) others × IsRising others
+
+-- the numbers of a configuration are within their limits
+pub record IsWithinLimits (configuration : Configuration) : Type 0 where
+  pub cores_least : 1 ≤ configuration.cores
+  pub cores_most : configuration.cores ≤ 16
+  pub frame_least : 1 ≤ configuration.frame
+  pub frame_most : configuration.frame ≤ 4294967295
+  pub skew_least : 1 ≤ configuration.skew
+  pub skew_most : configuration.skew ≤ 4294967295
+  pub some_partition : 1 ≤ length configuration.partitions
+  pub first_cores : All (λ limits. first_of limits.cores < configuration.cores) configuration.partitions
+
+-- the parts of a configuration go together: no number twice, each window on a core of its partition, no overlap
+pub record IsConsistent (configuration : Configuration) : Type 0 where
+  pub not_too_large : is_too_large configuration ≡ false
+  pub rising : IsRising configuration.partitions
+  pub of_partitions : are_of_partitions configuration.partitions configuration.windows ≡ true
+  pub apart : has_overlap configuration.windows ≡ false
+
+-- the numbers of the partitions, in the order of the configuration
+abbrev pub partition_numbers : Configuration → List ℕ
+partition_numbers configuration = map (λ limits. limits.number) configuration.partitions

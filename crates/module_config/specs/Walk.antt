@@ -1,0 +1,103 @@
+-- What a table configures: a walk over its keys in a fixed order, which ends at the first refusal.
+use Rattle.std.specs.Prelude.{ℕ, ◌+◌, ◌-◌, List, [], ◌∷◌, Option, Some, None, Result, Ok, Err, pos, nat_le, nat_lt, ◌&&◌, if◌then◌else◌, codes}
+use Rattle.toml.specs.Data.{Data, integer, table, Items, no_items, item, Members, get_member}
+use Rattle.apex_machine.specs.Configuration.{Configuration, PartitionLimits, Window}
+use Rattle.module_config.specs.declared.fault.ConfigFault.{ConfigFault}
+use Rattle.module_config.specs.declared.fault.ConfigFault.TheVariants.{WrongType, OutOfRange}
+use Rattle.module_config.specs.Keys.{◌>>=◌, integer_at, natural_at, ticks_at, required, is_integer, is_table, list_of, at_least_one, each_item}
+
+-- the next core of a partition's list: above those before it, and one that the module has
+abbrev pub core_in : ℕ → ℕ → Data → Result ℕ ConfigFault
+core_in count least (integer (pos core)) = if nat_le least core && nat_lt core count then Ok core else Err OutOfRange
+core_in count least _ = Err OutOfRange
+
+-- the cores of a partition's list, in rising order
+abbrev pub rising_cores : ℕ → ℕ → Items → Result (List ℕ) ConfigFault
+rising_cores count least no_items = Ok []
+rising_cores count least (item value items) =
+    core_in count least value >>= (λ core.
+    rising_cores count (core + 1) items >>= (λ rest. Ok (core ∷ rest)))
+
+-- the cores of a partition: a list of integers, of which there is one at least, rising, and each a core of the module
+abbrev pub cores_at : ℕ → Option Data → Result (List ℕ) ConfigFault
+cores_at count value = required value >>= list_of is_integer >>= at_least_one >>= rising_cores count 0
+
+-- how many objects of a kind a partition may create
+abbrev pub objects_at : Option Data → Result ℕ ConfigFault
+objects_at value = integer_at 0 64 value
+
+-- the partition that a table describes, in a module of this many cores
+abbrev pub partition_under : ℕ → Members → Result PartitionLimits ConfigFault
+partition_under count keys =
+    integer_at 0 31 (get_member (codes "number") keys) >>= (λ number.
+    ticks_at (get_member (codes "period") keys) >>= (λ period.
+    cores_at count (get_member (codes "cores") keys) >>= (λ cores.
+    integer_at 1 128 (get_member (codes "processes") keys) >>= (λ processes.
+    objects_at (get_member (codes "buffers") keys) >>= (λ buffers.
+    objects_at (get_member (codes "blackboards") keys) >>= (λ blackboards.
+    objects_at (get_member (codes "semaphores") keys) >>= (λ semaphores.
+    objects_at (get_member (codes "events") keys) >>= (λ events.
+    objects_at (get_member (codes "mutexes") keys) >>= (λ mutexes.
+    Ok (record {
+      number = number;
+      period = period;
+      cores = cores;
+      processes = processes;
+      buffers = buffers;
+      blackboards = blackboards;
+      semaphores = semaphores;
+      events = events;
+      mutexes = mutexes;
+    }))))))))))
+
+-- the partition that a value describes, which has to be a table
+abbrev pub partition_in : ℕ → Data → Result PartitionLimits ConfigFault
+partition_in count (table keys) = partition_under count keys
+partition_in count _ = Err WrongType
+
+-- a partition among others that stand in order: behind those of lower numbers and of its own
+abbrev pub put_among : PartitionLimits → List PartitionLimits → List PartitionLimits
+put_among limits [] = limits ∷ []
+put_among limits (first ∷ others) = if nat_lt limits.number first.number then limits ∷ first ∷ others else first ∷ put_among limits others
+
+-- partitions put, one after another, among those that stand in order
+abbrev pub in_order : List PartitionLimits → List PartitionLimits → List PartitionLimits
+in_order placed [] = placed
+in_order placed (limits ∷ others) = in_order (put_among limits placed) others
+
+-- the partitions that the items of a list describe, in the order of their numbers
+abbrev pub ordered_partitions : ℕ → Items → Result (List PartitionLimits) ConfigFault
+ordered_partitions count items = each_item (partition_in count) items >>= (λ partitions. Ok (in_order [] partitions))
+
+-- the partitions: a list of tables, of which there is one at least
+abbrev pub partitions_at : ℕ → Option Data → Result (List PartitionLimits) ConfigFault
+partitions_at count value = required value >>= list_of is_table >>= at_least_one >>= ordered_partitions count
+
+-- the window that a table describes: it ends within the major frame
+abbrev pub window_under : ℕ → ℕ → Members → Result Window ConfigFault
+window_under count frame keys =
+    integer_at 0 (count - 1) (get_member (codes "core") keys) >>= (λ core.
+    integer_at 0 31 (get_member (codes "partition") keys) >>= (λ partition.
+    natural_at (get_member (codes "start") keys) >>= (λ start.
+    integer_at 1 (frame - start) (get_member (codes "length") keys) >>= (λ span.
+    Ok (record { core = core; partition = partition; start = start; span = span })))))
+
+-- the window that a value describes, which has to be a table
+abbrev pub window_in : ℕ → ℕ → Data → Result Window ConfigFault
+window_in count frame (table keys) = window_under count frame keys
+window_in count frame _ = Err WrongType
+
+-- the windows: a list of tables; without the key there is none
+abbrev pub windows_at : ℕ → ℕ → Option Data → Result (List Window) ConfigFault
+windows_at count frame None = Ok []
+windows_at count frame (Some value) = list_of is_table value >>= each_item (window_in count frame)
+
+-- what a table configures, each key judged by itself; keys of other names say nothing
+abbrev pub walk : Members → Result Configuration ConfigFault
+walk keys =
+    integer_at 1 16 (get_member (codes "cores") keys) >>= (λ cores.
+    ticks_at (get_member (codes "frame") keys) >>= (λ frame.
+    ticks_at (get_member (codes "skew") keys) >>= (λ skew.
+    partitions_at cores (get_member (codes "partition") keys) >>= (λ partitions.
+    windows_at cores frame (get_member (codes "window") keys) >>= (λ windows.
+    Ok (record { cores = cores; frame = frame; skew = skew; partitions = partitions; windows = windows }))))))

@@ -1,0 +1,218 @@
+// The configuration of a module, and the readers of its fields.
+
+ghost use Rattle.std.specs.Prelude.{◌≡◌, ◌≤◌, ◌<◌, IfOk, IfSome, Bool, true, length, slice_index};
+ghost use Rattle.toml.specs.View.{table_view};
+ghost use Rattle.apex_machine.specs.Configuration.{window_at, window_among, has_partition, has_channel, WindowsAreConfigured, first_core, process_limit, period_of};
+ghost use Rattle.module_config.specs.Keys.{Gives};
+ghost use Rattle.module_config.specs.Reading.{configuration_of, configuration_under};
+ghost use Rattle.module_config.specs.Limits.{partition_numbers, IsWithinLimits, IsConsistent};
+
+use crate::fault::ConfigFault;
+use crate::layout::{Layout, read_layout};
+use crate::partition::Partition;
+use crate::whole::{find_partition, whole_fault};
+use crate::window::TimeWindow;
+use apex_types::{ChanId, CoreId, PartId};
+use std::alloc::Global;
+use std::marker::Model;
+use toml::Table;
+
+/// The most bytes that a configuration's text may have.
+const LONGEST_TEXT: usize = 1_048_576;
+
+/// The configuration of a module: its cores, major frame and skew, its partitions and their windows.
+#[derive(Debug, Drop)]
+pub struct Config {
+    cores: u8,
+    frame: u64,
+    skew: u64,
+    partitions: Vec<Partition>,
+    windows: Vec<TimeWindow>,
+}
+
+impl Model for Config {
+    ghost use Rattle.apex_machine.specs.Configuration.{Configuration};
+
+    ghost Value = { Configuration };
+
+    ghost use Rattle.module_config.specs.Limits.{IsWithinLimits, IsConsistent};
+    ghost use Rattle.module_config.specs.Held.{held_in};
+
+    ghost view = { held_in };
+
+    ghost invariant = { λ config. IsWithinLimits (held_in config) × IsConsistent (held_in config) };
+}
+
+impl Config {
+    /// Reads the configuration that a text is, in TOML.
+    ///
+    /// Every fault but `Memory` is the first that the text has: a text above 1,048,576 bytes is `TooMany`, then comes
+    /// `NotToml`, then the keys in their order, then what is judged over the whole. Keys of other names are ignored.
+    pub fn read(alloc: Global, text: &[u8]) -> Result<Config, ConfigFault>
+        ensures value { Gives (λ config. config) result (configuration_of text.now) }
+        ensures windows { IfOk result WindowsAreConfigured }
+    {
+        if text.len() > LONGEST_TEXT {
+            return Err(ConfigFault::TooMany);
+        }
+        match toml::table_from_slice(alloc, text) {
+            Ok(keys) => Config::from_table(alloc, &keys),
+            Err(fault) => {
+                if fault.is_memory() {
+                    return Err(ConfigFault::Memory);
+                }
+                Err(ConfigFault::NotToml)
+            }
+        }
+    }
+
+    // The configuration that a table is.
+    fn from_table(alloc: Global, keys: &Table) -> Result<Config, ConfigFault>
+        ensures value { Gives (λ config. config) result (configuration_under (table_view keys.now)) }
+        ensures windows { IfOk result WindowsAreConfigured }
+    {
+        let layout = read_layout(alloc, keys)?;
+        if let Some(fault) = whole_fault(keys, &layout) {
+            return Err(fault);
+        }
+        let Layout {
+            cores,
+            frame,
+            skew,
+            partitions,
+            windows,
+        } = layout;
+        Ok(Config {
+            cores,
+            frame,
+            skew,
+            partitions,
+            windows,
+        })
+    }
+
+    /// Tells what every configuration keeps: its limits; partitions in rising order, windows of configured partitions
+    /// that share no tick; so that each window is a configured partition's. Does nothing.
+    pub fn keeps_limits(&self)
+        ensures limits { IsWithinLimits self.now }
+        ensures consistent { IsConsistent self.now }
+        ensures windows { WindowsAreConfigured self.now }
+    {
+        let _ = &self.cores;
+    }
+
+    /// How many cores the module has.
+    pub fn cores(&self) -> u8
+        ensures value { result ≡ self.now.cores }
+        ensures least { 1 ≤ result }
+        ensures most { result ≤ 16 }
+    {
+        self.cores
+    }
+
+    /// How many ticks the major frame has.
+    pub fn frame(&self) -> u64
+        ensures value { result ≡ self.now.frame }
+        ensures least { 1 ≤ result }
+        ensures most { result ≤ 4294967295 }
+    {
+        self.frame
+    }
+
+    /// How many ticks a core may be ahead of another.
+    pub fn skew(&self) -> u64
+        ensures value { result ≡ self.now.skew }
+        ensures least { 1 ≤ result }
+        ensures most { result ≤ 4294967295 }
+    {
+        self.skew
+    }
+
+    /// The partition whose window of a core holds a time, if there is one.
+    pub fn window_at(&self, core: CoreId, time: u64) -> Option<PartId>
+        ensures value { result ≡ window_at self.now core time }
+        ensures configured { IfSome result (λ part. has_partition self.now part ≡ true) }
+    {
+        let offset = time % self.frame;
+        window_among(&self.windows, core, offset)
+    }
+
+    /// How many partitions are configured.
+    pub fn partition_count(&self) -> usize
+        ensures value { result ≡ length self.now.partitions }
+        ensures least { 1 ≤ result }
+        ensures most { result ≤ 32 }
+    {
+        self.partitions.len()
+    }
+
+    /// The number of the partition at an index.
+    pub fn partition_number(&self, index: usize) -> PartId
+        requires { index < length self.now.partitions }
+        ensures value { result ≡ slice_index (partition_numbers self.now) index }
+        ensures most { result < 32 }
+        ensures configured { has_partition self.now result ≡ true }
+    {
+        self.partitions[index].number
+    }
+
+    /// Whether a partition of this number is configured.
+    pub fn has_partition(&self, part: PartId) -> bool
+        ensures { result ≡ has_partition self.now part }
+    {
+        find_partition(&self.partitions, part).is_some()
+    }
+
+    /// Whether a channel of this number is configured.
+    pub fn has_channel(&self, chan: ChanId) -> bool
+        ensures { result ≡ has_channel self.now chan }
+    {
+        false
+    }
+
+    /// The first core of a partition, and core 0 where none of this number is configured.
+    pub fn first_core(&self, part: PartId) -> CoreId
+        ensures value { result ≡ first_core self.now part }
+        ensures below { result < self.now.cores }
+    {
+        match find_partition(&self.partitions, part) {
+            Some(partition) => partition.cores.first(),
+            None => CoreId::new(0),
+        }
+    }
+
+    /// How many processes a partition may create, and 0 where none of this number is configured.
+    pub fn process_limit(&self, part: PartId) -> u32
+        ensures value { result ≡ process_limit self.now part }
+        ensures most { result ≤ 128 }
+    {
+        match find_partition(&self.partitions, part) {
+            Some(partition) => partition.processes,
+            None => 0,
+        }
+    }
+
+    /// The period of a partition in ticks, and 1 where none of this number is configured.
+    pub fn period(&self, part: PartId) -> u64
+        ensures value { result ≡ period_of self.now part }
+        ensures least { 1 ≤ result }
+        ensures most { result ≤ 4294967295 }
+    {
+        match find_partition(&self.partitions, part) {
+            Some(partition) => partition.period,
+            None => 1,
+        }
+    }
+}
+
+// The partition of the first of the windows that is this core's and holds this time of the major frame.
+fn window_among(windows: &[TimeWindow], core: CoreId, offset: u64) -> Option<PartId>
+    ensures { result ≡ window_among core offset windows.now }
+{
+    for window in windows {
+        if window.holds(core, offset) {
+            return Some(window.partition());
+        }
+    }
+    None
+}

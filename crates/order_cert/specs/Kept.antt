@@ -1,0 +1,30 @@
+-- What callers see of a keeper.
+use Rattle.std.specs.Prelude.{◌≡◌, ◌≤◌, ℕ, List, length, nat_eq, if◌then◌else◌, get_or}
+use Rattle.apex_types.specs.declared.record.Pair.{Pair}
+use Rattle.order_cert.specs.Order.{IsPrefixOfLawful, most_records, numbers_of}
+
+-- the number of cores, and how many numbers of each were taken
+pub record Kept : Type 0 where
+  pub cores : ℕ
+  pub counts : List ℕ
+
+-- how many numbers of a core were taken
+abbrev pub taken_of : Kept → ℕ → ℕ
+taken_of kept core = get_or kept.counts core 0
+
+-- no core has more numbers than a recording can have
+abbrev pub AreCounts : List ℕ → Type 0
+AreCounts counts = (core : ℕ) → get_or counts core 0 ≤ most_records
+
+-- of no core was any taken
+abbrev pub none_taken : ℕ → ℕ
+none_taken core = 0
+
+-- the function that gives x at this core, and is f elsewhere
+abbrev pub put : {A : Type 0} → (ℕ → A) → ℕ → A → ℕ → A
+put f core x other = if nat_eq other core then x else f other
+
+-- the counts are those of these pairs, which begin a lawful order
+pub record Follows (kept : Kept) (pairs : List Pair) : Type 0 where
+  pub lawful : IsPrefixOfLawful kept.cores pairs
+  pub counts : (core : ℕ) → taken_of kept core ≡ length (numbers_of core pairs)

@@ -1,0 +1,49 @@
+-- Lawful orders of the records of all cores.
+use Rattle.std.specs.Prelude.{◌≡◌, ◌<◌, ◌≤◌, ℕ, zero, suc, List, [], ◌∷◌, ◌++◌, Option, Some, None, nat_eq, nat_lt, nat_le, ◌||◌, if◌then◌else◌}
+use Rattle.apex_types.specs.declared.record.Pair.{Pair}
+use Rattle.order_cert.specs.declared.fault.OrderFault.{OrderFault}
+use Rattle.order_cert.specs.declared.fault.OrderFault.TheVariants.{NoSuchCore, Skipped, Repeated}
+
+-- the pair of a core and a number
+abbrev pub pair_of : ℕ → ℕ → Pair
+pair_of core seq = record { core = core; seq = seq }
+
+-- the numbers that pairs give of one core, in their sequence
+abbrev pub numbers_of : ℕ → List Pair → List ℕ
+numbers_of core [] = []
+numbers_of core (p ∷ ps) = if nat_eq p.core core then p.seq ∷ numbers_of core ps else numbers_of core ps
+
+-- so many numbers one after another, from this one on
+abbrev pub following : ℕ → ℕ → List ℕ
+following first zero = []
+following first (suc n) = first ∷ following (suc first) n
+
+-- each pair is of a core that there is
+abbrev pub AllKnown : ℕ → List Pair → Type 0
+AllKnown cores [] = Unit {0}
+AllKnown cores (p ∷ ps) = (p.core < cores) × AllKnown cores ps
+
+-- a lawful order of recordings of these lengths: the numbers of each core are 0, 1, .. below its length in that
+-- sequence, and no other core stands
+pub record IsLawfulOrder (cores : ℕ) (lens : ℕ → ℕ) (pairs : List Pair) : Type 0 where
+  pub numbers : (core : ℕ) → core < cores → numbers_of core pairs ≡ following 0 (lens core)
+  pub known : AllKnown cores pairs
+
+-- a recording has at most this many records
+abbrev pub most_records : ℕ
+most_records = 4294967295
+
+-- for some lengths that recordings can have, and some further pairs, the whole is a lawful order
+pub record IsPrefixOfLawful (cores : ℕ) (pairs : List Pair) : Type 0 where
+  pub lens : ℕ → ℕ
+  pub more : List Pair
+  pub bound : (core : ℕ) → core < cores → lens core ≤ most_records
+  pub lawful : IsLawfulOrder cores lens (pairs ++ more)
+
+-- why a pair may not stand behind those that took so many numbers of each core
+abbrev pub misplaced : ℕ → (ℕ → ℕ) → Pair → Option OrderFault
+misplaced cores taken p =
+    if nat_lt p.core cores
+    then (if nat_lt p.seq (taken p.core) then Some Repeated
+    else (if nat_lt (taken p.core) p.seq || nat_le most_records p.seq then Some Skipped else None))
+    else Some NoSuchCore

@@ -1,0 +1,55 @@
+// The pair that the fields of a row are.
+
+ghost use Rattle.std.specs.Prelude.{◌≡◌, ◌<◌, ◌≤◌, IfOk, OnOk, IfErr, Ok, Err};
+ghost use Rattle.csv.specs.Records.{fields_of};
+ghost use Rattle.order_cert.specs.Row.{IsOfRow, item_of, number_at, pair_of};
+
+use crate::fault::CertFault;
+use apex_types::{Pair, Place};
+use csv::ByteRecord;
+use csv_rows::read_decimal;
+
+/// The pair that the row of this number is, numbers from 0, or the first fault from left to right. Takes no memory.
+pub fn read_item(number: u64, fields: &ByteRecord) -> Result<Pair, CertFault>
+    ensures value { result ≡ item_of number (fields_of fields.now) }
+    ensures refused { IfErr result (λ fault. IsOfRow fault) }
+    ensures bound { OnOk result (number < Place.COUNT) }
+{
+    if number >= Place::COUNT {
+        return Err(CertFault::TooMany);
+    }
+    read_pair(fields)
+}
+
+// The pair that these fields are.
+#[tactic(auto, unfolding(crate::specs::Row::pair_of))]
+fn read_pair(fields: &ByteRecord) -> Result<Pair, CertFault>
+    ensures value { result ≡ pair_of (fields_of fields.now) }
+    ensures refused { IfErr result (λ fault. IsOfRow fault) }
+{
+    if fields.len() != 2 {
+        return Err(CertFault::FieldCount);
+    }
+    let core = read_number(fields, 0)?;
+    let seq = read_number(fields, 1)?;
+    Ok(Pair {
+        core: core as u32,
+        seq,
+    })
+}
+
+// The number in the field at this place.
+#[tactic(auto, unfolding(crate::specs::Row::number_at))]
+fn read_number(fields: &ByteRecord, place: usize) -> Result<u64, CertFault>
+    ensures value { result ≡ number_at (fields_of fields.now) place }
+    ensures refused { IfErr result (λ fault. fault ≡ CertFault.BadNumber) }
+    ensures bound { IfOk result (λ number. number ≤ 0xFFFFFFFF) }
+{
+    match fields.get(place) {
+        Some(text) => match read_decimal(text, 0xFFFF_FFFF) {
+            Some(number) => Ok(number),
+            None => Err(CertFault::BadNumber),
+        },
+        None => Err(CertFault::BadNumber),
+    }
+}

@@ -1,0 +1,88 @@
+// The pairs of a certificate, one after another.
+
+ghost use Rattle.std.specs.Prelude.{◌≡◌, ◌≢◌, false, true, is_err, IfOk, IfErr, IfSome, Ok, Err, Some, None, is_none, option_map};
+ghost use Rattle.csv_rows.specs.Source.{Gives};
+ghost use Rattle.order_cert.specs.Row.{IsOutside, pairs_of};
+
+use crate::fault::CertFault;
+use crate::pair::read_item;
+use apex_types::Pair;
+use csv::ByteRecord;
+use csv_rows::{CsvRows, StreamFault};
+use std::alloc::Global;
+use std::io::Read;
+use std::marker::Model;
+
+/// The pairs that the rows of a certificate are, one for each call of `next`.
+#[derive(Drop)]
+pub struct CertSource<R: Read> {
+    rows: CsvRows<R>,
+    fields: ByteRecord,
+    count: u64,
+    stopped: bool,
+}
+
+impl<R: Read> Model for CertSource<R> {
+    ghost use Rattle.std.specs.Prelude.{◌≡◌, option_map, false};
+    ghost use Rattle.csv_rows.specs.Source.{Source, items_from};
+    ghost use Rattle.order_cert.specs.Row.{Item, item_of};
+
+    ghost Value = { Source Item };
+
+    ghost view = { λ source. record {
+      stopped = source.stopped;
+      ended = source.rows.ended;
+      failed = source.rows.failed;
+      left = option_map (items_from item_of source.count) source.rows.left;
+    } };
+
+    ghost invariant = { λ source. source.stopped ≡ false → source.rows.stopped ≡ false };
+}
+
+impl<R: Read> CertSource<R> {
+    /// The certificate that `reader` gives. Takes no memory.
+    pub fn new(alloc: Global, reader: R) -> CertSource<R>
+        ensures stopped { result.stopped ≡ false }
+        ensures ended { result.ended ≡ false }
+        ensures failed { result.failed ≡ false }
+        ensures left { result.left ≡ option_map pairs_of (R.remaining reader) }
+    {
+        CertSource {
+            rows: CsvRows::new(alloc, reader),
+            fields: ByteRecord::new(alloc),
+            count: 0,
+            stopped: false,
+        }
+    }
+
+    /// The next pair, or None behind the last, then and from then on. After a fault every call answers Ended.
+    ///
+    /// Read where the reader failed, Memory where a growth was refused; else the row's own fault.
+    pub fn next(&mut self) -> Result<Option<Pair>, CertFault>
+        ensures ended { self.old.stopped ≡ true → result ≡ Err CertFault.Ended }
+        ensures fresh { self.old.stopped ≡ false → result ≢ Err CertFault.Ended }
+        ensures stops { self.new.stopped ≡ is_err result }
+        ensures ends { IfOk result (λ pair. self.new.ended ≡ is_none pair) }
+        ensures stays { self.old.stopped ≡ false → self.old.ended ≡ true → result ≡ Ok None }
+        ensures failed { self.old.stopped ≡ false → result ≡ Err CertFault.Read → self.new.failed ≡ true }
+        ensures gives { self.old.stopped ≡ false → IfSome self.old.left (λ items. Gives IsOutside items result self.new.left) }
+    {
+        if self.stopped {
+            return Err(CertFault::Ended);
+        }
+        self.stopped = true;
+        match self.rows.read(&mut self.fields) {
+            Ok(true) => {}
+            Ok(false) => {
+                self.stopped = false;
+                return Ok(None);
+            }
+            Err(StreamFault::Read) => return Err(CertFault::Read),
+            Err(StreamFault::Memory) => return Err(CertFault::Memory),
+        }
+        let pair = read_item(self.count, &self.fields)?;
+        self.count += 1;
+        self.stopped = false;
+        Ok(Some(pair))
+    }
+}

@@ -1,0 +1,97 @@
+-- A lawful call that creates a process claims a new number, and its priority is one.
+use Rattle.std.proofs.Common.{◌≡◌, ◌≢◌, ℕ, List, [], ◌∷◌, ◌++◌, Bool, true, false, not, IsTrue, inl, inr, refl, sym}
+use Rattle.apex_types.specs.declared.code.Code.{Code}
+use Rattle.apex_types.specs.declared.code.Code.TheVariants as error
+use Rattle.apex_types.specs.declared.record.Call.{Call as CallRecord}
+use Rattle.apex_types.specs.declared.record.Claim.{Claim}
+use Rattle.apex_types.specs.declared.record.Out.{Out}
+use Rattle.apex_types.specs.declared.record.Out.TheVariants as out
+use Rattle.apex_types.specs.declared.record.Who.{Who}
+use Rattle.apex_types.specs.declared.request.Request.{Request}
+use Rattle.apex_types.specs.declared.request.Request.TheVariants as request
+use Rattle.apex_machine.specs.declared.state.CoreState.{CoreState}
+use Rattle.apex_machine.specs.Configuration.{Configuration}
+use Rattle.apex_machine.specs.State.{Partition, Table}
+use Rattle.apex_machine.specs.Conditions.{when, condition_codes}
+use Rattle.apex_machine.specs.Services.{Answer, answer_of}
+use Rattle.apex_machine.specs.After.{is_done}
+use Rattle.apex_machine.specs.Step.{IsAmong, HasCode}
+use Rattle.apex_machine.specs.Pieces.{AllHold, outcome_demands, own_call_demands}
+use Rattle.process_state.specs.Sound.{IsSound, CreatesSoundly}
+
+-- none of the codes is NO_ERROR
+abbrev AreErrors : List Code → Type 0
+AreErrors [] = Unit {0}
+AreErrors (code ∷ codes) = (code ≢ error.NoError) × AreErrors codes
+
+AreErrors-append : (codes others : List Code) → AreErrors codes → AreErrors others → AreErrors (codes ++ others)
+AreErrors-append [] others errors more = more
+AreErrors-append (code ∷ codes) others errors more = (errors.0, AreErrors-append codes others errors.1 more)
+
+AreErrors-when : (holds : Bool) (code : Code) → code ≢ error.NoError → AreErrors (when holds code)
+AreErrors-when true code differs = (differs, tt)
+AreErrors-when false code differs = tt
+
+no_error_among : (codes : List Code) → AreErrors codes → IsAmong codes error.NoError → ⊥
+no_error_among [] errors among = among
+no_error_among (code ∷ codes) errors among =
+    elim among [ inl same ↦ errors.0 (sym same) | inr later ↦ no_error_among codes errors.1 later ]
+
+-- a call that claims an error code is not carried out
+refused_not_done : (codes : List Code) (claimed : Out) → AreErrors codes → HasCode codes claimed → IsTrue (is_done claimed) → ⊥
+refused_not_done codes out.Waits errors has done = has
+refused_not_done codes out.Never errors has done = has
+refused_not_done codes (out.Answer error.NoError) errors has done = no_error_among codes errors has
+refused_not_done codes (out.Answer error.NoAction) errors has done = cc
+refused_not_done codes (out.Answer error.NotAvailable) errors has done = cc
+refused_not_done codes (out.Answer error.InvalidParam) errors has done = cc
+refused_not_done codes (out.Answer error.InvalidConfig) errors has done = cc
+refused_not_done codes (out.Answer error.InvalidMode) errors has done = cc
+refused_not_done codes (out.Answer error.TimedOut) errors has done = cc
+
+-- where it is carried out, no error condition holds
+none_where_done : (codes : List Code) (table : Table) (answer : Answer) (claim : Claim) → AreErrors codes
+    → AllHold (outcome_demands codes table answer claim) → IsTrue (is_done claim.out) → (codes ≡ []) × AllHold (outcome_demands [] table answer claim)
+none_where_done [] table answer claim errors hold done = (refl, hold)
+none_where_done (code ∷ codes) table answer claim errors hold done = absurd (refused_not_done (code ∷ codes) claim.out errors hold.0 done)
+
+nil_left : (codes others : List Code) → codes ++ others ≡ [] → codes ≡ []
+nil_left [] others e = refl
+nil_left (code ∷ codes) others e = cc
+
+nil_right : (codes others : List Code) → codes ++ others ≡ [] → others ≡ []
+nil_right [] others e = e
+nil_right (code ∷ codes) others e = cc
+
+when_not : (passes : Bool) (code : Code) → when (not passes) code ≡ [] → IsTrue passes
+when_not true code e = refl
+when_not false code e = cc
+
+-- the codes of CREATE_PROCESS, by whether each condition holds
+creates : (normal named full : Bool) (passes : Bool) (no_period no_fit : Bool) (table : Table) (answer : Answer) (claim : Claim)
+    → AllHold (outcome_demands (when normal error.InvalidMode ++ when named error.NoAction ++ when full error.InvalidConfig
+    ++ when (not passes) error.InvalidParam ++ when no_period error.InvalidParam ++ when no_fit error.InvalidConfig) table answer claim)
+    → IsTrue (is_done claim.out) → IsTrue passes × AllHold (outcome_demands [] table answer claim)
+creates normal named full passes no_period no_fit table answer claim hold done =
+    let one = AreErrors-when normal error.InvalidMode (λ e. cc) in
+    let two = AreErrors-append _ _ one (AreErrors-when named error.NoAction (λ e. cc)) in
+    let three = AreErrors-append _ _ two (AreErrors-when full error.InvalidConfig (λ e. cc)) in
+    let four = AreErrors-append _ _ three (AreErrors-when (not passes) error.InvalidParam (λ e. cc)) in
+    let five = AreErrors-append _ _ four (AreErrors-when no_period error.InvalidParam (λ e. cc)) in
+    let six = AreErrors-append _ _ five (AreErrors-when no_fit error.InvalidConfig (λ e. cc)) in
+    let none = none_where_done _ table answer claim six hold done in
+    (when_not passes error.InvalidParam (nil_right _ _ (nil_left _ _ (nil_left _ _ none.0))), none.1)
+
+creates_soundly : (configuration : Configuration) (who : Who) (partition : Partition) (call : CallRecord) (asked : Request)
+    → AllHold (outcome_demands (condition_codes configuration who partition asked) partition.table (answer_of who asked) call.claim)
+    → CreatesSoundly partition.table call asked
+creates_soundly configuration who partition call (request.CreateProcess name priority period) hold =
+    λ done. let both = creates _ _ _ _ _ _ partition.table (answer_of who (request.CreateProcess name priority period)) call.claim hold done in
+    (both.1.1.0, both.0)
+creates_soundly configuration who partition call _ hold = tt
+
+-- a lawful call of one of the partition's processes can be carried out
+pub IsSound_lawful : (configuration : Configuration) (number : ℕ) (cores : List CoreState) (partition : Partition) (core : ℕ) (call : CallRecord)
+    → AllHold (own_call_demands configuration number cores partition core call) → IsSound partition.table call
+IsSound_lawful configuration number cores partition core call hold =
+    creates_soundly configuration call.who partition call call.request hold.1.1.1.1.1.1

@@ -1,0 +1,4 @@
+pub mod Naming
+pub mod Lawful
+pub mod Numbering
+pub mod Parting

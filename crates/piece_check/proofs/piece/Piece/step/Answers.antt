@@ -1,0 +1,16 @@
+-- The part is then the part after the record, which has as many cores, and times of one more at most.
+use Rattle.piece_check.specs.Held.{part_of}
+use Rattle.piece_check.proofs.Parting.{HasCores_after, NoTimeAbove_after}
+use Rattle.piece_check.proofs.piece.Piece.step.Goals as goal
+
+pub returns-in-Ok-clause-cores : goal.returns-in-Ok-clause-cores
+returns-in-Ok-clause-cores c =
+    let has = rw (← c.self.view_is) at c.requires.cores in
+    rw c.in-Ok.ensures.ok
+    (HasCores_after c.args.config.now.cores c.args.config.now (part_of c.self.inside.held) c.args.ordered.now has)
+
+pub returns-in-Ok-clause-behind : goal.returns-in-Ok-clause-behind
+returns-in-Ok-clause-behind c =
+    let behind = rw (← c.self.view_is) at c.requires.behind in
+    rw c.in-Ok.ensures.ok
+    (NoTimeAbove_after c.args.ordered.now.pos c.args.config.now (part_of c.self.inside.held) c.args.ordered.now behind)

@@ -1,0 +1,12 @@
+-- The part that a piece holds.
+use Rattle.apex_machine.specs.Pieces.{Part, ModulePart, PartitionPart}
+use Rattle.piece_check.specs.declared.held.Held.{Held}
+use Rattle.piece_check.specs.declared.held.Held.TheVariants.{Module, Partition}
+use Rattle.piece_check.specs.declared.partition_piece.PartitionPiece.{PartitionPiece}
+
+abbrev pub partition_part : PartitionPiece → Part
+partition_part piece = PartitionPart piece.number piece.clock.cores piece.table
+
+abbrev pub part_of : Held → Part
+part_of (Module piece) = ModulePart piece.clock.cores
+part_of (Partition piece) = partition_part piece

@@ -1,0 +1,20 @@
+-- What a judgement says.
+use Rattle.std.specs.Prelude.{ℕ, List, Result, MatchResult}
+use Rattle.apex_types.specs.declared.cause.Cause.{Cause}
+use Rattle.apex_types.specs.declared.record.Body.{Body}
+use Rattle.apex_machine.specs.Configuration.{Configuration}
+use Rattle.apex_machine.specs.Pieces.{Demand, AllHold, FirstFails, module_demands, partition_demands}
+use Rattle.piece_check.specs.declared.module_piece.ModulePiece.{ModulePiece}
+use Rattle.piece_check.specs.declared.partition_piece.PartitionPiece.{PartitionPiece}
+
+-- all demands hold, or the cause is that of the first that fails
+abbrev pub Judges : List {1} Demand → Result (Unit {0}) Cause → Type 0
+Judges demands judgement = MatchResult judgement (λ _. AllHold demands) (λ cause. FirstFails demands cause)
+
+-- what the module's piece demands of a record of this core
+abbrev pub asked_by_module : Configuration → ModulePiece → ℕ → Body → List {1} Demand
+asked_by_module configuration piece core body = module_demands configuration piece.clock.cores core body
+
+-- what a partition's piece demands of a record of this core
+abbrev pub asked_by_partition : Configuration → PartitionPiece → ℕ → Body → List {1} Demand
+asked_by_partition configuration piece core body = partition_demands configuration piece.number piece.clock.cores piece.table core body

@@ -1,0 +1,5 @@
+pub mod Answers
+pub mod Parts
+pub mod Refused
+pub mod Held
+pub mod Judged

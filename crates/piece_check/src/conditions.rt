@@ -1,0 +1,161 @@
+// The error conditions that hold for a call, as their codes.
+
+ghost use Rattle.std.specs.Prelude.{◌≡◌, ◌<◌, ◌≤◌, ◌+◌, ◌++◌, ◌↔◌, [], IsTrue, length};
+ghost use Rattle.std.specs.Option.{option_copied};
+ghost use Rattle.apex_machine.specs.Conditions as services;
+ghost use Rattle.apex_machine.specs.Conditions.{when};
+ghost use Rattle.apex_machine.specs.Step.{IsAmong, HasCode};
+
+use crate::arguments::{
+    is_mode, is_negative, is_normal_mode, is_period, is_priority, suits_period,
+};
+use apex_machine::{Mode, Process};
+use apex_types::{Call, Code, Name, Out, PartId, Request};
+use module_config::Config;
+use process_state::ProcTable;
+use std::marker::Model;
+
+/// How many error conditions a service has at most.
+const CONDITION_LIMIT: usize = 6;
+
+/// The codes of the error conditions that hold, in the order of the conditions. A contract sees the list of them.
+#[derive(Drop)]
+pub(crate) struct Conditions {
+    codes: [Code; CONDITION_LIMIT],
+    count: usize,
+}
+
+impl Model for Conditions {
+    ghost use Rattle.std.specs.Prelude.{List, ◌≤◌, take};
+    ghost use Rattle.apex_types.specs.declared.code.Code.{Code};
+
+    ghost Value = { List Code };
+
+    ghost view = { λ conditions. take conditions.count conditions.codes };
+
+    ghost invariant = { λ conditions. conditions.count ≤ 6 };
+}
+
+impl Conditions {
+    /// No condition.
+    fn none() -> Conditions
+        ensures { result ≡ [] }
+    {
+        Conditions {
+            codes: [Code::NoError; CONDITION_LIMIT],
+            count: 0,
+        }
+    }
+
+    /// These conditions, and this code where its condition holds.
+    fn with(mut self, holds: bool, code: Code) -> Conditions
+        requires { length self < 6 }
+        ensures value { result ≡ self ++ when holds code }
+        ensures growth { length result ≤ length self + 1 }
+    {
+        if holds {
+            self.codes[self.count] = code;
+            self.count += 1;
+        }
+        self
+    }
+
+    /// Whether none holds.
+    pub(crate) fn is_empty(&self) -> bool
+        ensures { IsTrue result ↔ (self.now ≡ []) }
+    {
+        self.as_slice().is_empty()
+    }
+
+    /// Whether the outcome is one of the codes.
+    pub(crate) fn has_code(&self, out: Out) -> bool
+        ensures { IsTrue result ↔ HasCode self.now out }
+    {
+        match out {
+            Out::Waits | Out::Never => false,
+            Out::Answer(code) => is_among(self.as_slice(), code),
+        }
+    }
+
+    fn as_slice(&self) -> &[Code]
+        ensures { result.now ≡ self.now }
+    {
+        &self.codes[..self.count]
+    }
+}
+
+fn is_among(codes: &[Code], code: Code) -> bool
+    ensures { IsTrue result ↔ IsAmong codes.now code }
+{
+    for other in codes {
+        if *other == code {
+            return true;
+        }
+    }
+    false
+}
+
+/// The error conditions that hold for a call of one of the partition's processes.
+pub(crate) fn conditions_of(config: &Config, table: &ProcTable, call: &Call) -> Conditions
+    ensures { result ≡ services.condition_codes config.now call.now.who table.now call.now.request }
+{
+    let initialising = call.who.proc.number() == 0;
+    match &call.request {
+        Request::CreateProcess {
+            name,
+            priority,
+            period,
+        } => create_process(config, call.who.part, table, name, *priority, *period),
+        Request::Start { process } => start(table.created(*process)),
+        Request::GetMyId => Conditions::none().with(initialising, Code::InvalidMode),
+        Request::TimedWait { delay } => Conditions::none()
+            .with(is_negative(*delay), Code::InvalidParam)
+            .with(initialising, Code::InvalidMode),
+        Request::SetPartitionMode { mode } => Conditions::none()
+            .with(!is_mode(*mode), Code::InvalidParam)
+            .with(
+                is_normal_mode(*mode) && is_normal(table.mode()),
+                Code::NoAction,
+            ),
+        _ => Conditions::none(),
+    }
+}
+
+// CREATE_PROCESS: not in NORMAL; a name not yet taken; no more than configured; a priority and a period in range, and a
+// period that suits the partition's.
+fn create_process(
+    config: &Config,
+    number: PartId,
+    table: &ProcTable,
+    name: &Name,
+    priority: i64,
+    period: i64,
+) -> Conditions
+    ensures { result ≡ services.create_process_codes config.now number table.now name.now priority period }
+{
+    let is_full = config.process_limit(number) as usize <= table.len();
+    let suits = suits_period(config.period(number), period);
+    Conditions::none()
+        .with(is_normal(table.mode()), Code::InvalidMode)
+        .with(table.named(name), Code::NoAction)
+        .with(is_full, Code::InvalidConfig)
+        .with(!is_priority(priority), Code::InvalidParam)
+        .with(!is_period(period), Code::InvalidParam)
+        .with(!suits, Code::InvalidConfig)
+}
+
+// START: a created process, and a dormant one.
+fn start(target: Option<&Process>) -> Conditions
+    ensures { result ≡ services.start_codes (option_copied target.entry) }
+{
+    match target {
+        Some(process) => Conditions::none().with(process.alive, Code::NoAction),
+        None => Conditions::none().with(true, Code::InvalidParam),
+    }
+}
+
+fn is_normal(mode: Mode) -> bool
+    ensures { result ≡ services.is_normal mode }
+{
+    mode == Mode::Normal
+}

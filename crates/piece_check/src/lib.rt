@@ -1,0 +1,23 @@
+//! The pieces that judge a recording side by side: the module, and each partition.
+//!
+//! Promises: a piece starts with its part of the cold state; its step accepts a record exactly where all that it demands
+//! of the record holds, and its part is then the part after the record; else it names the cause of the first demand that
+//! fails, with nothing changed. A step takes memory at a call alone; where memory was refused, every later step says so.
+#![tactic(auto)]
+
+mod arguments;
+mod conditions;
+mod fault;
+mod held;
+mod module_piece;
+mod names;
+mod outcome;
+mod partition_piece;
+mod piece;
+mod profile;
+
+pub use fault::PieceFault;
+pub use piece::{Piece, count, touches};
+
+#[cfg(test)]
+mod tests;

@@ -1,0 +1,109 @@
+// The piece of the module: configured names, the skew, and idle cores in no window.
+
+ghost use Rattle.std.specs.Prelude.{◌≡◌, ◌<◌, is_none, length};
+ghost use Rattle.apex_types.specs.declared.record.Body.TheVariants as body;
+ghost use Rattle.apex_machine.specs.State.{time_of};
+ghost use Rattle.apex_machine.specs.After.{cores_after};
+ghost use Rattle.apex_machine.specs.Pieces.{window_now};
+ghost use Rattle.piece_check.specs.Judged.{Judges, asked_by_module};
+
+use crate::names::{all_configured, channel_configured, one_configured};
+use apex_types::{Body, Call, Cause, CoreId, Ordered, Return, Who, Woken};
+use dispatch_rule::Clock;
+use module_config::Config;
+
+/// The piece of the module: the cores.
+#[derive(Debug, Drop)]
+pub(crate) struct ModulePiece {
+    pub(crate) clock: Clock,
+}
+
+impl ModulePiece {
+    /// Judges a record: the cause is that of the first demand that fails.
+    pub(crate) fn judge(&self, config: &Config, ordered: &Ordered) -> Result<(), Cause>
+        requires { time_of self.now.clock.cores ordered.now.core < 68719476720 }
+        ensures { Judges (asked_by_module config.now self.now ordered.now.core ordered.now.rec.body) result }
+    {
+        match &ordered.rec.body {
+            Body::Call(call) => self.judge_call(config, ordered.core, call),
+            Body::Ret(ret) => self.judge_return(config, ordered.core, ret),
+            Body::Disp(who) => self.judge_dispatch(config, ordered.core, *who),
+            Body::Tick(woken) => self.judge_tick(config, ordered.core, woken),
+        }
+    }
+
+    /// Makes the part what a record makes of it: a dispatch and a tick change their core.
+    pub(crate) fn apply(&mut self, ordered: &Ordered)
+        requires core { ordered.now.core < length self.old.clock.cores }
+        requires time { time_of self.old.clock.cores ordered.now.core < 68719476720 }
+        ensures { self.new.clock.cores ≡ cores_after ordered.now self.old.clock.cores }
+    {
+        match &ordered.rec.body {
+            Body::Disp(who) => self.clock.dispatch(ordered.core, *who),
+            Body::Tick(_) => self.clock.advance(ordered.core),
+            Body::Call(_) | Body::Ret(_) => {}
+        }
+    }
+
+    fn judge_call(&self, config: &Config, core: CoreId, call: &Call) -> Result<(), Cause>
+        ensures { Judges (asked_by_module config.now self.now core (body.Call call.now)) result }
+    {
+        let are_configured = config.has_partition(call.who.part)
+            && all_configured(config, call.claim.woken.as_slice())
+            && channel_configured(config, call.claim.chan);
+        if !are_configured {
+            return Err(Cause::Names);
+        }
+        if self.is_in_no_window(config, core) {
+            return Err(Cause::Idle);
+        }
+        Ok(())
+    }
+
+    fn judge_return(&self, config: &Config, core: CoreId, ret: &Return) -> Result<(), Cause>
+        ensures { Judges (asked_by_module config.now self.now core (body.Ret ret.now)) result }
+    {
+        if !config.has_partition(ret.who.part) {
+            return Err(Cause::Names);
+        }
+        if self.is_in_no_window(config, core) {
+            return Err(Cause::Idle);
+        }
+        Ok(())
+    }
+
+    fn judge_dispatch(&self, config: &Config, core: CoreId, who: Option<Who>) -> Result<(), Cause>
+        ensures { Judges (asked_by_module config.now self.now core (body.Disp who)) result }
+    {
+        if !one_configured(config, who) {
+            return Err(Cause::Names);
+        }
+        if who.is_some() && self.is_in_no_window(config, core) {
+            return Err(Cause::Idle);
+        }
+        Ok(())
+    }
+
+    fn judge_tick(&self, config: &Config, core: CoreId, woken: &Woken) -> Result<(), Cause>
+        requires { time_of self.now.clock.cores core < 68719476720 }
+        ensures { Judges (asked_by_module config.now self.now core (body.Tick woken.now)) result }
+    {
+        if !all_configured(config, woken.as_slice()) {
+            return Err(Cause::Names);
+        }
+        if !self.clock.may_tick(core, config.skew()) {
+            return Err(Cause::Skew);
+        }
+        if self.clock.on(core).is_some() && self.is_in_no_window(config, core) {
+            return Err(Cause::Idle);
+        }
+        Ok(())
+    }
+
+    // Whether the core is in no window now.
+    fn is_in_no_window(&self, config: &Config, core: CoreId) -> bool
+        ensures { result ≡ is_none (window_now config.now self.now.clock.cores core) }
+    {
+        config.window_at(core, self.clock.now(core)).is_none()
+    }
+}

@@ -1,0 +1,149 @@
+// The outcome that a call claims.
+
+ghost use Rattle.std.specs.Prelude.{◌≡◌, ◌≢◌, ◌↔◌, [], IsTrue};
+ghost use Rattle.apex_machine.specs.Services as services;
+ghost use Rattle.apex_machine.specs.Services.{HasValue};
+ghost use Rattle.apex_machine.specs.Pieces.{outcome_demands};
+ghost use Rattle.piece_check.specs.Answers.{given, value_of};
+ghost use Rattle.piece_check.specs.Judged.{Judges};
+
+use crate::arguments::is_over;
+use crate::conditions::Conditions;
+use apex_types::{Call, Cause, Claim, Code, Out, ProcId, Request, Who};
+use process_state::ProcTable;
+
+/// Which value goes with an outcome.
+#[derive(Clone, Copy)]
+pub(crate) enum Due {
+    /// None.
+    Nothing,
+    /// The number of this process.
+    Number(ProcId),
+    /// Any number for the new process that no process has.
+    NewNumber,
+}
+
+/// What a service gives its caller where no error condition holds. No service that is judged gives a message, or ends the
+/// wait of another process.
+#[derive(Clone, Copy)]
+pub(crate) struct Answer {
+    pub(crate) out: Out,
+    pub(crate) val: Due,
+}
+
+impl Answer {
+    // The service is done at once, with this value.
+    fn done_with(val: Due) -> Answer
+        ensures { given result ≡ services.done_with (value_of val) }
+    {
+        Answer {
+            out: Out::Answer(Code::NoError),
+            val,
+        }
+    }
+
+    // The caller waits, or its call does not return.
+    fn later(out: Out) -> Answer
+        ensures { result ≡ record { out = out; val = Due.Nothing } }
+    {
+        Answer {
+            out,
+            val: Due::Nothing,
+        }
+    }
+}
+
+/// What a service gives its caller where no error condition holds.
+fn answer_of(who: Who, request: &Request) -> Answer
+    ensures { given result ≡ services.answer_of who request.now }
+{
+    match request {
+        Request::CreateProcess { .. } => Answer::done_with(Due::NewNumber),
+        Request::GetMyId => Answer::done_with(Due::Number(who.proc)),
+        Request::TimedWait { delay } => {
+            if is_over(*delay) {
+                Answer::done_with(Due::Nothing)
+            } else {
+                Answer::later(Out::Waits)
+            }
+        }
+        Request::StopSelf | Request::SetPartitionMode { .. } => Answer::later(Out::Never),
+        _ => Answer::done_with(Due::Nothing),
+    }
+}
+
+/// Whether a claimed value is the one that goes with the outcome.
+fn has_value(table: &ProcTable, due: Due, claimed: Option<i64>) -> bool
+    ensures { IsTrue result ↔ HasValue table.now.table (value_of due) claimed }
+{
+    match due {
+        Due::Nothing => claimed.is_none(),
+        Due::Number(process) => claimed == Some(i64::from(process.number())),
+        Due::NewNumber => table.is_new_number(claimed),
+    }
+}
+
+/// Judges the outcome of a call on which these error conditions hold: one of their codes and nothing else, or where none
+/// holds what the service gives.
+pub(crate) fn judge_outcome(
+    conditions: &Conditions,
+    table: &ProcTable,
+    call: &Call,
+) -> Result<(), Cause>
+    ensures { Judges (outcome_demands conditions.now table.now.table (services.answer_of call.now.who call.now.request) call.now.claim) result }
+{
+    if conditions.is_empty() {
+        judge_answered(table, answer_of(call.who, &call.request), &call.claim)
+    } else {
+        judge_refused(
+            conditions,
+            table,
+            answer_of(call.who, &call.request),
+            &call.claim,
+        )
+    }
+}
+
+// No error condition holds: the outcome, the value and the message are the service's, and so are those whose wait ends.
+fn judge_answered(table: &ProcTable, answer: Answer, claim: &Claim) -> Result<(), Cause>
+    ensures { Judges (outcome_demands [] table.now.table (given answer) claim.now) result }
+{
+    if claim.out != answer.out {
+        return Err(Cause::Out);
+    }
+    if !has_value(table, answer.val, claim.val) {
+        return Err(Cause::Val);
+    }
+    if !claim.bytes.as_bytes().is_empty() {
+        return Err(Cause::Data);
+    }
+    if !claim.woken.as_slice().is_empty() {
+        return Err(Cause::Woken);
+    }
+    Ok(())
+}
+
+// Some error condition holds: one of the codes, and nothing else.
+fn judge_refused(
+    conditions: &Conditions,
+    table: &ProcTable,
+    answer: Answer,
+    claim: &Claim,
+) -> Result<(), Cause>
+    requires { conditions.now ≢ [] }
+    ensures { Judges (outcome_demands conditions.now table.now.table (given answer) claim.now) result }
+{
+    if !conditions.has_code(claim.out) {
+        return Err(Cause::Out);
+    }
+    if claim.val.is_some() {
+        return Err(Cause::Val);
+    }
+    if !claim.bytes.as_bytes().is_empty() {
+        return Err(Cause::Data);
+    }
+    if !claim.woken.as_slice().is_empty() {
+        return Err(Cause::Woken);
+    }
+    Ok(())
+}

@@ -1,0 +1,230 @@
+// The piece of a partition: its windows, its choices, and the claims of its own calls and returns.
+
+ghost use Rattle.std.specs.Prelude.{◌≡◌, ◌<◌, ◌↔◌, IsTrue, Some, OnOk, OnErr, length, false};
+ghost use Rattle.std.specs.Option.{option_copied};
+ghost use Rattle.apex_types.specs.declared.record.Body.TheVariants as body;
+ghost use Rattle.apex_machine.specs.State.{process_at, time_of};
+ghost use Rattle.apex_machine.specs.Step.{HasNoneDue, HasPriority, due_of};
+ghost use Rattle.apex_machine.specs.Pieces.{AllHold, FirstFails, IsRunning, own_call_demands, foreign_call_demands, part_after, window_now};
+ghost use Rattle.piece_check.specs.Held.{partition_part};
+ghost use Rattle.piece_check.specs.Judged.{Judges, asked_by_partition};
+ghost use Rattle.piece_check.specs.Parts.{IsCall};
+
+use crate::conditions::conditions_of;
+use crate::outcome::judge_outcome;
+use crate::profile::is_within;
+use apex_machine::Outcome;
+use apex_types::{Body, Call, Cause, CoreId, Ordered, PartId, ProcId, Return, Service, Who, Woken};
+use dispatch_rule::{Clock, owns_window};
+use module_config::Config;
+use process_state::ProcTable;
+use std::alloc::AllocError;
+
+/// The piece of a partition: the cores, and the partition's mode and processes.
+#[derive(Drop)]
+pub(crate) struct PartitionPiece {
+    pub(crate) number: PartId,
+    pub(crate) clock: Clock,
+    pub(crate) table: ProcTable,
+}
+
+impl PartitionPiece {
+    /// Judges a record: the cause is that of the first demand that fails.
+    pub(crate) fn judge(&self, config: &Config, ordered: &Ordered) -> Result<(), Cause>
+        requires { time_of self.now.clock.cores ordered.now.core < 68719476720 }
+        ensures { Judges (asked_by_partition config.now self.now ordered.now.core ordered.now.rec.body) result }
+    {
+        match &ordered.rec.body {
+            Body::Call(call) => {
+                if call.who.part == self.number {
+                    self.judge_own_call(config, ordered.core, call)
+                } else {
+                    Err(self.judge_foreign_call(config, ordered.core, call))
+                }
+            }
+            Body::Ret(ret) => self.judge_return(config, ordered.core, ret),
+            Body::Disp(who) => self.judge_dispatch(config, ordered.core, *who),
+            Body::Tick(woken) => self.judge_tick(config, ordered.core, woken),
+        }
+    }
+
+    /// Makes the part what a record that was judged lawful makes of it.
+    ///
+    /// AllocError where a call was refused memory; nothing is changed then.
+    pub(crate) fn apply(&mut self, config: &Config, ordered: &Ordered) -> Result<(), AllocError>
+        requires core { ordered.now.core < length self.old.clock.cores }
+        requires time { time_of self.old.clock.cores ordered.now.core < 68719476720 }
+        requires lawful { AllHold (asked_by_partition config.now self.old ordered.now.core ordered.now.rec.body) }
+        ensures ok { OnOk result (partition_part self.new ≡ part_after config.now (partition_part self.old) ordered.now) }
+        ensures unchanged { OnErr result (self.new ≡ self.old) }
+        ensures memory { OnErr result (IsCall ordered.now.rec.body) }
+    {
+        match &ordered.rec.body {
+            Body::Call(call) => {
+                if call.who.part == self.number {
+                    let now = self.clock.now(ordered.core);
+                    let first_core = config.first_core(self.number);
+                    self.table.call(first_core, ordered.pos, now, call)?;
+                }
+            }
+            Body::Ret(ret) => {
+                if ret.who.part == self.number {
+                    self.table.ret(ret.who.proc);
+                }
+            }
+            Body::Disp(who) => self.clock.dispatch(ordered.core, *who),
+            Body::Tick(woken) => {
+                self.table.tick(self.number, ordered.pos, woken.as_slice());
+                self.clock.advance(ordered.core);
+            }
+        }
+        Ok(())
+    }
+
+    // In the partition's windows a dispatch names its choice.
+    fn judge_dispatch(&self, config: &Config, core: CoreId, who: Option<Who>) -> Result<(), Cause>
+        ensures { Judges (asked_by_partition config.now self.now core (body.Disp who)) result }
+    {
+        if self.is_in_window(config, core) && self.table.ready_on(self.number, core) != who {
+            return Err(Cause::Choice);
+        }
+        Ok(())
+    }
+
+    // In the partition's windows a tick comes where the occupant is its choice. It names, of the partition, those that
+    // fall due.
+    fn judge_tick(&self, config: &Config, core: CoreId, woken: &Woken) -> Result<(), Cause>
+        requires { time_of self.now.clock.cores core < 68719476720 }
+        ensures { Judges (asked_by_partition config.now self.now core (body.Tick woken.now)) result }
+    {
+        if self.is_in_window(config, core)
+            && self.table.ready_on(self.number, core) != self.clock.on(core)
+        {
+            return Err(Cause::Choice);
+        }
+        let next = self.clock.now(core) + 1;
+        if !self
+            .table
+            .names_those_due(self.number, core, next, woken.as_slice())
+        {
+            return Err(Cause::Woken);
+        }
+        Ok(())
+    }
+
+    // A call of one of the partition's processes.
+    fn judge_own_call(&self, config: &Config, core: CoreId, call: &Call) -> Result<(), Cause>
+        ensures { Judges (own_call_demands config.now self.now.number self.now.clock.cores self.now.table core call.now) result }
+    {
+        if !self.is_in_window(config, core) {
+            return Err(Cause::Window);
+        }
+        if !self.is_running(core, call.who) {
+            return Err(Cause::Choice);
+        }
+        if !self.has_none_due(call.who.proc) {
+            return Err(Cause::Return);
+        }
+        let conditions = conditions_of(config, &self.table, call);
+        if !is_within(&conditions, call.who, &call.request) {
+            return Err(Cause::OutsideProfile);
+        }
+        if !self.has_priority(call.who.proc, call.claim.prio) {
+            return Err(Cause::Prio);
+        }
+        if call.claim.chan.is_some() {
+            return Err(Cause::Chan);
+        }
+        judge_outcome(&conditions, &self.table, call)
+    }
+
+    // A call of another partition's process: no service that is judged wakes a process elsewhere.
+    fn judge_foreign_call(&self, config: &Config, core: CoreId, call: &Call) -> Cause
+        ensures { FirstFails (foreign_call_demands config.now self.now.number self.now.clock.cores self.now.table core call.now) result }
+    {
+        if self.is_in_window(config, core) && !self.is_running(core, call.who) {
+            Cause::Choice
+        } else {
+            Cause::Woken
+        }
+    }
+
+    // A return gives back the outcome that is due.
+    fn judge_return(&self, config: &Config, core: CoreId, ret: &Return) -> Result<(), Cause>
+        ensures { Judges (asked_by_partition config.now self.now core (body.Ret ret.now)) result }
+    {
+        if !self.is_in_window(config, core) {
+            return Err(Cause::Window);
+        }
+        if !self.is_running(core, ret.who) {
+            return Err(Cause::Choice);
+        }
+        let Some(due) = self.due_to(ret.who.proc) else {
+            return Err(Cause::Return);
+        };
+        if !is_same_service(due.service, ret.service) {
+            return Err(Cause::Return);
+        }
+        if due.code != ret.code {
+            return Err(Cause::Out);
+        }
+        if due.val != ret.val {
+            return Err(Cause::Val);
+        }
+        if due.bytes.as_bytes() != ret.bytes.as_bytes() {
+            return Err(Cause::Data);
+        }
+        Ok(())
+    }
+
+    // Whether the core's present window is the partition's.
+    fn is_in_window(&self, config: &Config, core: CoreId) -> bool
+        ensures { IsTrue result ↔ (window_now config.now self.now.clock.cores core ≡ Some self.now.number) }
+    {
+        owns_window(config, &self.clock, self.number, core)
+    }
+
+    // Whether this process is the core's occupant and the partition's choice.
+    fn is_running(&self, core: CoreId, who: Who) -> bool
+        ensures { IsTrue result ↔ IsRunning self.now.number self.now.clock.cores self.now.table.table core who }
+    {
+        let running = Some(who);
+        self.clock.on(core) == running && self.table.ready_on(self.number, core) == running
+    }
+
+    // The outcome that is due to the process, if it is there and one is.
+    fn due_to(&self, number: ProcId) -> Option<&Outcome>
+        ensures { option_copied result ≡ due_of (process_at self.now.table.table number) }
+    {
+        match self.table.proc(number) {
+            Some(process) => process.due.as_ref(),
+            None => None,
+        }
+    }
+
+    // Whether the process is there and no outcome is due to it.
+    fn has_none_due(&self, number: ProcId) -> bool
+        ensures { IsTrue result ↔ HasNoneDue (process_at self.now.table.table number) }
+    {
+        match self.table.proc(number) {
+            Some(process) => process.due.is_none(),
+            None => false,
+        }
+    }
+
+    // Whether the process is there and has this current priority.
+    fn has_priority(&self, number: ProcId, priority: u8) -> bool
+        ensures { IsTrue result ↔ HasPriority priority (process_at self.now.table.table number) }
+    {
+        match self.table.proc(number) {
+            Some(process) => process.current_priority == priority,
+            None => false,
+        }
+    }
+}
+
+fn is_same_service(one: Service, other: Service) -> bool
+    ensures { IsTrue result ↔ (one ≡ other) }
+{
+    one == other
+}

@@ -1,0 +1,5 @@
+pub mod Standing
+pub mod Readings
+pub mod Underway
+pub mod Ends
+pub mod Places

@@ -1,0 +1,60 @@
+-- Readings of a text's items, and functions of the core that change at one core.
+use Rattle.std.proofs.Common.{◌≡◌, ◌≢◌, ◌⊎◌, ◌∙◌, ℕ, List, [], ◌∷◌, ◌++◌, Bool, true, false, Option, Result, Ok, Err, map, refl, sym, ap, inl, inr, nat_eq, eqb-true, eq-eqb, true≢false}
+use mathlib.Core.Path.{fun_ext}
+use Rattle.csv_rows.specs.Source.{Gives}
+use Rattle.order_cert.specs.Kept.{put}
+use Rattle.placement.specs.Reading.{Reads}
+
+-- an outside fault is the reader's failure or want of memory
+abbrev pub IsEither : {Fault : Type 0} → Fault → Fault → Fault → Type 0
+IsEither failure memory fault = (fault ≡ failure) ⊎ (fault ≡ memory)
+
+pub reads_all : {Value Fault : Type 0} (failure : Fault) (items : List (Result Value Fault)) → Reads failure items items
+reads_all failure items = inl refl
+
+reads_none : {Value Fault : Type 0} (failure : Fault) (items : List (Result Value Fault)) → Reads failure items (Err failure ∷ [])
+reads_none failure items = inr ([], items, refl, refl)
+
+pub reads_more : {Value Fault : Type 0} (failure : Fault) (value : Value) (items given : List (Result Value Fault)) → Reads failure items given
+    → Reads failure (Ok value ∷ items) (Ok value ∷ given)
+reads_more failure value items given (inl e) = inl (ap (λ l. Ok value ∷ l) e)
+reads_more failure value items given (inr (before, rest, e, f)) = inr (value ∷ before, rest, ap (λ l. Ok value ∷ l) e, ap (λ l. Ok value ∷ l) f)
+
+-- a fault that a source gave is one that some reading of its items begins with
+pub fault_read : {Value Fault : Type 0} (failure memory fault : Fault) (items : List (Result Value Fault)) (left : Option (List (Result Value Fault)))
+    → fault ≢ memory → Gives (IsEither failure memory) items (Err fault) left
+    → (more : List (Result Value Fault)) × Reads failure items (Err fault ∷ more)
+fault_read failure memory fault items left other (inl (inl e)) = ([], rw e (reads_none failure items))
+fault_read failure memory fault items left other (inl (inr e)) = absurd (other e)
+fault_read failure memory fault items left other (inr (rest, e)) = (rest, inl (sym e))
+
+pub put-here : {A : Type 0} (f : ℕ → A) (core : ℕ) (x : A) → put f core x core ≡ x
+put-here f core x = rw (eq-eqb core core refl) refl
+
+pub same_or : (a b : ℕ) → (a ≡ b) ⊎ (a ≢ b)
+same_or a b = by (nat_eq a b) refl
+  where
+    by : (t : Bool) → nat_eq a b ≡ t → (a ≡ b) ⊎ (a ≢ b)
+    by true e = inl (eqb-true a b e)
+    by false e = inr (λ f. true≢false (sym (eq-eqb a b f) ∙ e))
+
+pub put-other : {A : Type 0} (f : ℕ → A) (core other : ℕ) (x : A) → other ≢ core → put f core x other ≡ f other
+put-other f core other x apart = by (nat_eq other core) refl
+  where
+    by : (t : Bool) → nat_eq other core ≡ t → put f core x other ≡ f other
+    by true e = absurd (apart (eqb-true other core e))
+    by false e = rw e refl
+
+pub put-back : {A : Type 0} (f : ℕ → A) (core : ℕ) (x : A) → put (put f core x) core (f core) ≡ f
+put-back f core x = fun_ext (λ other. elim (same_or other core) [
+  | inl e ↦ rw e (put-here (put f core x) core (f core))
+  | inr apart ↦ put-other (put f core x) core other (f core) apart ∙ put-other f core other x apart
+])
+
+pub put_reads : {Value Fault : Type 0} (failure : Fault) (items left : ℕ → List (Result Value Fault)) (core : ℕ) (given : List (Result Value Fault))
+    → ((other : ℕ) → other ≢ core → Reads failure (items other) (left other)) → Reads failure (items core) given
+    → (other : ℕ) → Reads failure (items other) (put left core given other)
+put_reads failure items left core given others here other = elim (same_or other core) [
+  | inl e ↦ rw (e, put-here left core given) here
+  | inr apart ↦ rw (put-other left core other given apart) (others other apart)
+]

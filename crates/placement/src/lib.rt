@@ -1,0 +1,13 @@
+//! The records of all cores at their places: in the order that a certificate proposes.
+//!
+//! Promises: the records placed, and how the input ends behind them, are what the certificate and the recordings say; a
+//! reader that fails ends its own text early, and nothing else.
+#![tactic(auto)]
+
+mod fault;
+mod lanes;
+mod placing;
+
+pub use fault::InputFault;
+pub use lanes::Lanes;
+pub use placing::place_records;

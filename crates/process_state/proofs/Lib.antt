@@ -1,0 +1,10 @@
+pub mod Booleans
+pub mod Tables
+pub mod Numbers
+pub mod Searches
+pub mod Due
+pub mod Ranks
+pub mod Below
+pub mod Ticks
+pub mod Carried
+pub mod Called

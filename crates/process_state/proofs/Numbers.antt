@@ -1,0 +1,45 @@
+-- The numbers of processes: new ones, and those that callers give.
+use Rattle.std.proofs.Common.{◌≡◌, ℕ, zero, suc, ◌<◌, ◌≤◌, ◌^◌, true, is_none, nat_le, nat_lt, Option, Some, None, ℤ, pos, negsuc, refl, arith}
+use Rattle.std.proofs.lemmas.Bool.Decides.{nat_tests}
+use Rattle.apex_machine.specs.declared.state.Process.{Process}
+use Rattle.apex_machine.specs.State.{Table, process_at}
+use Rattle.apex_machine.specs.Conditions.{created}
+use Rattle.apex_machine.specs.Services.{is_new_number}
+use Rattle.process_state.specs.Numbers.{NumbersFit, number_of}
+use Rattle.process_state.proofs.Tables.{absent-above}
+use Rattle.process_state.proofs.Booleans.{both-left, both-right}
+
+none_of : (found : Option Process) → is_none found ≡ true → found ≡ None
+none_of None h = refl
+none_of (Some process) h = cc
+
+-- no process has a new number
+pub new-absent : (table : Table) (number : ℕ) → is_new_number table (Some (pos number)) ≡ true → process_at table number ≡ None
+new-absent table number new = none_of _ (both-right _ _ (both-right _ _ new))
+
+-- a new number fits
+pub new-fits : (table : Table) (number : ℕ) → is_new_number table (Some (pos number)) ≡ true → number < 2 ^ 32
+new-fits table number new =
+    let least : nat_le number 2147483647 ≡ true = both-left (nat_le number 2147483647) _ (both-right (nat_lt 0 number) _ new) in
+    grind (arith, nat_tests)
+
+-- a number that can be no process's has no process
+pub created-none : (table : Table) (given : ℤ) → NumbersFit table → number_of given ≡ None → created table given ≡ None
+created-none table (pos zero) fit none = refl
+created-none table (pos (suc n)) fit none = absent-above table (suc n) fit (above n none)
+  where
+    above : (m : ℕ) → number_of (pos (suc m)) ≡ None → 2 ^ 32 ≤ suc m
+    above m h = grind (arith, nat_tests)
+created-none table (negsuc n) fit none = refl
+
+-- 0 is no created process's
+pub created-zero : (table : Table) (given : ℤ) → given ≡ pos 0 → created table given ≡ None
+created-zero table given is = rw is refl
+
+-- another number has the process of the table
+pub created-some : (table : Table) (given : ℤ) (number : ℕ) → number_of given ≡ Some number → ¬ (given ≡ pos 0) → created table given ≡ process_at table number
+created-some table (pos zero) number found apart = absurd (apart refl)
+created-some table (pos (suc n)) number found apart =
+    let same : suc n ≡ number = grind (arith, nat_tests) in
+    rw same refl
+created-some table (negsuc n) number found apart = cc

@@ -1,0 +1,34 @@
+-- Changes of one process of a table, and of one partition's table.
+use Rattle.std.specs.Prelude.{ℕ, Option, Some, None, false, nat_eq, if◌then◌else◌}
+use Rattle.apex_machine.specs.declared.state.Outcome.{Outcome}
+use Rattle.apex_machine.specs.declared.state.Process.{Process}
+use Rattle.apex_machine.specs.declared.state.Wait.{Wait}
+use Rattle.apex_machine.specs.State.{Partition, each_process}
+
+-- the partition with each process changed
+abbrev pub with_each : (ℕ → Process → Process) → Partition → Partition
+with_each change partition = record partition { table = each_process change partition.table }
+
+-- a change of the process of one number alone
+abbrev pub only : ℕ → (Process → Process) → ℕ → Process → Process
+only chosen change number process = if nat_eq number chosen then change process else process
+
+-- a caller that is dormant after its call
+abbrev pub stopped_self : ℕ → Process → Process
+stopped_self now process = record process { alive = false; called_at = now }
+
+-- a caller that waits after its call
+abbrev pub waiting_for : ℕ → Wait → Process → Process
+waiting_for now wait process = record process { wait = wait; called_at = now }
+
+abbrev pub position_by : Option ℕ → ℕ → ℕ
+position_by None old = old
+position_by (Some place) old = place
+
+-- a caller to which an outcome is due after its call; where its ready position is renewed, it is this place
+abbrev pub answered : ℕ → Option ℕ → Outcome → Process → Process
+answered now renewed outcome process = record process {
+  ready_position = position_by renewed process.ready_position;
+  due = Some outcome;
+  called_at = now;
+}

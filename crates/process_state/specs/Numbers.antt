@@ -1,0 +1,13 @@
+-- The numbers of processes.
+use Rattle.std.specs.Prelude.{ℕ, ◌<◌, ◌^◌, [], ◌∷◌, Option, Some, None, ℤ, pos, negsuc, nat_lt, if◌then◌else◌}
+use Rattle.apex_machine.specs.State.{Table}
+
+-- each number fits 32 bits
+abbrev pub NumbersFit : Table → Type 0
+NumbersFit [] = Unit {0}
+NumbersFit (entry ∷ entries) = (entry.0 < 2 ^ 32) × NumbersFit entries
+
+-- the number of a process that a caller's number can be: one that fits 32 bits
+abbrev pub number_of : ℤ → Option ℕ
+number_of (pos n) = if nat_lt n 4294967296 then Some n else None
+number_of (negsuc n) = None

@@ -1,0 +1,17 @@
+//! The processes of one partition and its mode: what a record sets in them, and which process its core is to run.
+//!
+//! Promises: a table is seen as the partition of the definitions, with its processes in the order of their creation;
+//! each change is the one that the definitions give to every process at once, made in place at the few that it
+//! touches; the choice is the ready process before which no other goes; where memory is refused, nothing has changed.
+#![tactic(auto)]
+
+mod caller;
+mod number;
+mod order;
+mod process;
+mod table;
+
+pub use table::ProcTable;
+
+#[cfg(test)]
+mod tests;

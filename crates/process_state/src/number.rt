@@ -1,0 +1,27 @@
+// Numbers of processes as callers give them.
+
+ghost use Rattle.std.specs.Prelude.{◌≡◌, None, MatchOption};
+ghost use Rattle.process_state.specs.Numbers.{number_of};
+
+use apex_types::ProcId;
+
+/// The number of a process that a caller's number can be: 0 to 4,294,967,295; None for any other.
+pub fn process_number(given: i64) -> Option<ProcId>
+    ensures { result ≡ number_of given }
+{
+    if given >= 0 && given <= u32::MAX as i64 {
+        Some(ProcId::new(given as u32))
+    } else {
+        None
+    }
+}
+
+/// The same of a number that a call may claim: None too where it claims none.
+pub fn claimed_number(claimed: Option<i64>) -> Option<ProcId>
+    ensures { MatchOption claimed (result ≡ None) (λ given. result ≡ number_of given) }
+{
+    match claimed {
+        Some(given) => process_number(given),
+        None => None,
+    }
+}

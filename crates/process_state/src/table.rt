@@ -1,0 +1,174 @@
+// The processes of a partition under their numbers.
+
+ghost use Rattle.std.specs.Prelude.{◌≡◌, ◌∷◌, ◌↔◌, [], IfOk, IsTrue};
+ghost use Rattle.std.specs.Option.{option_copied};
+ghost use Rattle.apex_machine.specs.State.{initialising_process, process_at};
+ghost use Rattle.apex_machine.specs.Choice.{choice_in};
+ghost use Rattle.apex_machine.specs.Conditions.{created, created_count, has_name};
+ghost use Rattle.apex_machine.specs.Services as services;
+ghost use Rattle.apex_machine.specs.Step as step;
+ghost use Rattle.process_state.specs.Due.{DueAreNamed, NamedFallDue};
+
+mod changes;
+mod records;
+
+use crate::number::process_number;
+use crate::order::{Rank, falls_due, first_of, is_named, is_ready};
+use crate::process::initialising;
+use apex_machine::{Mode, Process};
+use apex_types::{CoreId, Name, PartId, ProcId, Who};
+use indexmap::IndexMap;
+use std::alloc::{AllocError, Global};
+use std::marker::Model;
+
+/// The processes of one partition, in the order of their creation, and the partition's mode. A contract sees the
+/// partition of the definitions. Process number 0 is the initialising process.
+#[derive(Drop)]
+pub struct ProcTable {
+    mode: Mode,
+    processes: IndexMap<ProcId, Process>,
+}
+
+impl Model for ProcTable {
+    ghost use Rattle.apex_machine.specs.State.{Partition};
+    ghost use Rattle.process_state.specs.Numbers.{NumbersFit};
+
+    ghost Value = { Partition };
+
+    ghost view = { λ table. record { mode = table.mode; table = table.processes.entries } };
+
+    ghost invariant = { λ table. NumbersFit table.processes.entries };
+}
+
+impl ProcTable {
+    /// A partition as it starts cold: its initialising process alone, on its first core.
+    ///
+    /// AllocError where memory is refused.
+    pub fn new(alloc: Global, first_core: CoreId) -> Result<ProcTable, AllocError>
+        ensures { IfOk result (λ table. table ≡ record { mode = Mode.ColdStart; table = (0, initialising_process first_core) ∷ [] }) }
+    {
+        let mut processes = IndexMap::new(alloc);
+        processes.insert(ProcId::new(0), initialising(alloc, first_core))?;
+        Ok(ProcTable {
+            mode: Mode::ColdStart,
+            processes,
+        })
+    }
+
+    /// The partition's mode.
+    pub fn mode(&self) -> Mode
+        ensures { result ≡ self.now.mode }
+    {
+        self.mode
+    }
+
+    /// The process of this number, the initialising one included, or None where there is none.
+    pub fn proc(&self, number: ProcId) -> Option<&Process>
+        ensures { option_copied result ≡ process_at self.now.table number }
+    {
+        self.processes.get(&number)
+    }
+
+    /// The created process of this number, as a caller gives it, or None where there is none: nobody created number 0.
+    pub fn created(&self, number: i64) -> Option<&Process>
+        ensures { option_copied result ≡ created self.now.table number }
+    {
+        let processes = &self.processes;
+        let process = process_number(number)?;
+        if number == 0 {
+            return None;
+        }
+        processes.get(&process)
+    }
+
+    /// Whether a process has this name.
+    pub fn named(&self, name: &Name) -> bool
+        ensures { result ≡ has_name name.now self.now.table }
+    {
+        self.processes
+            .values()
+            .any(|process| name.as_bytes() == process.name.as_bytes())
+    }
+
+    /// How many processes are created: all but the initialising one.
+    pub fn len(&self) -> usize
+        ensures { result ≡ created_count self.now.table }
+    {
+        self.processes.len().saturating_sub(1)
+    }
+
+    /// The process that this core is to run, where the window is this partition's: the ready one before which no other
+    /// goes, or None where none is ready.
+    pub fn ready_on(&self, part: PartId, core: CoreId) -> Option<Who>
+        ensures { result ≡ choice_in part core self.now.table }
+    {
+        let mut first: Option<Rank> = None;
+        for (number, process) in self.processes.iter() {
+            if is_ready(process, core) {
+                first = Some(first_of(first, Rank::new(*number, process)));
+            }
+        }
+        match first {
+            Some(rank) => Some(Who {
+                part,
+                proc: rank.number,
+            }),
+            None => None,
+        }
+    }
+
+    /// Whether, of this partition, the list names exactly the processes of the core whose wait is over once the core comes
+    /// to this time, in ticks.
+    pub fn names_those_due(&self, part: PartId, core: CoreId, time: u64, woken: &[Who]) -> bool
+        ensures { IsTrue result ↔ step.NamesThoseDue part core time self.now.table woken.now }
+    {
+        self.named_fall_due(part, core, time, woken) && self.due_are_named(part, core, time, woken)
+    }
+
+    /// Whether a claimed value is a number that a new process can take: 1 to 2,147,483,647, and no process has it.
+    pub fn is_new_number(&self, claimed: Option<i64>) -> bool
+        ensures { result ≡ services.is_new_number self.now.table claimed }
+    {
+        match claimed {
+            Some(number) => {
+                number > 0
+                    && number <= 2_147_483_647
+                    && self.proc(ProcId::new(number as u32)).is_none()
+            }
+            None => false,
+        }
+    }
+
+    // Whether each process of this partition that the list names falls due.
+    fn named_fall_due(&self, part: PartId, core: CoreId, time: u64, woken: &[Who]) -> bool
+        ensures { IsTrue result ↔ NamedFallDue part core time self.now.table woken.now }
+    {
+        woken.iter().all(|who| who.part != part || self.is_due(who.proc, core, time))
+    }
+
+    // Whether the list names each process of this partition that falls due.
+    fn due_are_named(&self, part: PartId, core: CoreId, time: u64, woken: &[Who]) -> bool
+        ensures { IsTrue result ↔ DueAreNamed part core time self.now.table woken.now }
+    {
+        self.processes.iter().all(|(number, process)| {
+            !falls_due(process, core, time)
+                || is_named(
+                    Who {
+                        part,
+                        proc: *number,
+                    },
+                    woken,
+                )
+        })
+    }
+
+    // Whether there is a process of this number on this core whose wait is over once the core comes to this time.
+    fn is_due(&self, number: ProcId, core: CoreId, time: u64) -> bool
+        ensures { result ≡ step.falls_due core time (process_at self.now.table number) }
+    {
+        match self.proc(number) {
+            Some(process) => falls_due(process, core, time),
+            None => false,
+        }
+    }
+}

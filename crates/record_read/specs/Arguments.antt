@@ -1,0 +1,99 @@
+-- Which arguments each service takes, and the request that they make.
+use Rattle.std.specs.Prelude.{ℕ, ℤ, List, true, false}
+use Rattle.apex_types.specs.declared.service.Service.{Service}
+use Rattle.apex_types.specs.declared.service.Service.TheVariants as service
+use Rattle.apex_types.specs.declared.request.Request.{Request}
+use Rattle.apex_types.specs.declared.request.Request.TheVariants as request
+use Rattle.record_read.specs.declared.arguments.Arguments.{Arguments}
+
+-- so many of n1, n2, n3, from the first on
+abbrev pub plain : ℕ → Arguments
+plain count = record { numbers = count; name = false; message = false }
+
+-- a name too
+abbrev pub named : ℕ → Arguments
+named count = record { numbers = count; name = true; message = false }
+
+-- a message too, of which n2 is the length
+abbrev pub sending : ℕ → Arguments
+sending count = record { numbers = count; name = false; message = true }
+
+-- the arguments that each service takes
+unfoldable pub arguments_of : Service → Arguments
+arguments_of service.CreateProcess = named 2
+arguments_of service.InitializeProcessCoreAffinity = plain 2
+arguments_of service.Start = plain 1
+arguments_of service.Stop = plain 1
+arguments_of service.StopSelf = plain 0
+arguments_of service.Suspend = plain 1
+arguments_of service.SuspendSelf = plain 1
+arguments_of service.Resume = plain 1
+arguments_of service.SetPriority = plain 2
+arguments_of service.GetMyId = plain 0
+arguments_of service.TimedWait = plain 1
+arguments_of service.PeriodicWait = plain 0
+arguments_of service.GetTime = plain 0
+arguments_of service.SetPartitionMode = plain 1
+arguments_of service.CreateBuffer = named 3
+arguments_of service.SendBuffer = sending 3
+arguments_of service.ReceiveBuffer = plain 2
+arguments_of service.CreateBlackboard = named 1
+arguments_of service.DisplayBlackboard = sending 2
+arguments_of service.ReadBlackboard = plain 2
+arguments_of service.ClearBlackboard = plain 1
+arguments_of service.CreateSemaphore = named 3
+arguments_of service.WaitSemaphore = plain 2
+arguments_of service.SignalSemaphore = plain 1
+arguments_of service.CreateEvent = named 0
+arguments_of service.SetEvent = plain 1
+arguments_of service.ResetEvent = plain 1
+arguments_of service.WaitEvent = plain 2
+arguments_of service.CreateMutex = named 2
+arguments_of service.AcquireMutex = plain 2
+arguments_of service.ReleaseMutex = plain 1
+arguments_of service.CreateSamplingPort = named 3
+arguments_of service.WriteSamplingMessage = sending 2
+arguments_of service.ReadSamplingMessage = plain 1
+arguments_of service.CreateQueuingPort = named 3
+arguments_of service.SendQueuingMessage = sending 3
+arguments_of service.ReceiveQueuingMessage = plain 2
+
+-- the request of a service, from n1, n2, n3, the name and the message; what the service does not take is not used
+unfoldable pub request_of : Service → ℤ → ℤ → ℤ → List ℕ → List ℕ → Request
+request_of service.CreateProcess n1 n2 n3 name message = request.CreateProcess name n1 n2
+request_of service.InitializeProcessCoreAffinity n1 n2 n3 name message = request.InitializeProcessCoreAffinity n1 n2
+request_of service.Start n1 n2 n3 name message = request.Start n1
+request_of service.Stop n1 n2 n3 name message = request.Stop n1
+request_of service.StopSelf n1 n2 n3 name message = request.StopSelf
+request_of service.Suspend n1 n2 n3 name message = request.Suspend n1
+request_of service.SuspendSelf n1 n2 n3 name message = request.SuspendSelf n1
+request_of service.Resume n1 n2 n3 name message = request.Resume n1
+request_of service.SetPriority n1 n2 n3 name message = request.SetPriority n1 n2
+request_of service.GetMyId n1 n2 n3 name message = request.GetMyId
+request_of service.TimedWait n1 n2 n3 name message = request.TimedWait n1
+request_of service.PeriodicWait n1 n2 n3 name message = request.PeriodicWait
+request_of service.GetTime n1 n2 n3 name message = request.GetTime
+request_of service.SetPartitionMode n1 n2 n3 name message = request.SetPartitionMode n1
+request_of service.CreateBuffer n1 n2 n3 name message = request.CreateBuffer name n1 n2 n3
+request_of service.SendBuffer n1 n2 n3 name message = request.SendBuffer n1 n2 n3 message
+request_of service.ReceiveBuffer n1 n2 n3 name message = request.ReceiveBuffer n1 n2
+request_of service.CreateBlackboard n1 n2 n3 name message = request.CreateBlackboard name n1
+request_of service.DisplayBlackboard n1 n2 n3 name message = request.DisplayBlackboard n1 n2 message
+request_of service.ReadBlackboard n1 n2 n3 name message = request.ReadBlackboard n1 n2
+request_of service.ClearBlackboard n1 n2 n3 name message = request.ClearBlackboard n1
+request_of service.CreateSemaphore n1 n2 n3 name message = request.CreateSemaphore name n1 n2 n3
+request_of service.WaitSemaphore n1 n2 n3 name message = request.WaitSemaphore n1 n2
+request_of service.SignalSemaphore n1 n2 n3 name message = request.SignalSemaphore n1
+request_of service.CreateEvent n1 n2 n3 name message = request.CreateEvent name
+request_of service.SetEvent n1 n2 n3 name message = request.SetEvent n1
+request_of service.ResetEvent n1 n2 n3 name message = request.ResetEvent n1
+request_of service.WaitEvent n1 n2 n3 name message = request.WaitEvent n1 n2
+request_of service.CreateMutex n1 n2 n3 name message = request.CreateMutex name n1 n2
+request_of service.AcquireMutex n1 n2 n3 name message = request.AcquireMutex n1 n2
+request_of service.ReleaseMutex n1 n2 n3 name message = request.ReleaseMutex n1
+request_of service.CreateSamplingPort n1 n2 n3 name message = request.CreateSamplingPort name n1 n2 n3
+request_of service.WriteSamplingMessage n1 n2 n3 name message = request.WriteSamplingMessage n1 n2 message
+request_of service.ReadSamplingMessage n1 n2 n3 name message = request.ReadSamplingMessage n1
+request_of service.CreateQueuingPort n1 n2 n3 name message = request.CreateQueuingPort name n1 n2 n3
+request_of service.SendQueuingMessage n1 n2 n3 name message = request.SendQueuingMessage n1 n2 n3 message
+request_of service.ReceiveQueuingMessage n1 n2 n3 name message = request.ReceiveQueuingMessage n1 n2

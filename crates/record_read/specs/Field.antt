@@ -1,0 +1,47 @@
+-- Fields of a row: filled or empty, and numbers.
+use Rattle.std.specs.Prelude.{ℕ, zero, suc, ℤ, pos, List, [], ◌∷◌, Bool, true, false, Option, Some, None, Result, Ok, Err}
+use Rattle.std.specs.Option.{ok_or, unwrap_or}
+use Rattle.csv.specs.Records.{field_at}
+use Rattle.csv_rows.specs.Decimal.{decimal, signed_decimal}
+use Rattle.record_read.specs.declared.fault.RowFault.{RowFault}
+use Rattle.record_read.specs.declared.fault.RowFault.TheVariants.{FieldNotForKind, BadNumber}
+use Rattle.record_read.specs.Steps.{◌>>=◌}
+
+-- the bytes of the field at this place
+abbrev pub text_at : List (List ℕ) → ℕ → List ℕ
+text_at fields place = unwrap_or (field_at fields place) []
+
+-- a field that must be empty
+abbrev pub empty : List ℕ → Result (Unit {0}) RowFault
+empty [] = Ok tt
+empty (b ∷ bs) = Err FieldNotForKind
+
+-- so many fields from this place on, which must be empty
+unfoldable pub all_empty : List (List ℕ) → ℕ → ℕ → Result (Unit {0}) RowFault
+all_empty fields place zero = Ok tt
+all_empty fields place (suc n) = empty (text_at fields place) >>= (λ u. all_empty fields (suc place) n)
+
+-- a number from 0 to max, which must be filled
+unfoldable pub number : ℕ → List ℕ → Result ℕ RowFault
+number max [] = Err FieldNotForKind
+number max (b ∷ bs) = ok_or (decimal max (b ∷ bs)) BadNumber
+
+-- a number from 0 to max, which may be left out
+unfoldable pub maybe_number : ℕ → List ℕ → Result (Option ℕ) RowFault
+maybe_number max [] = Ok None
+maybe_number max (b ∷ bs) = number max (b ∷ bs) >>= (λ n. Ok (Some n))
+
+-- a number of 64 bits with a sign, which must be filled
+unfoldable pub signed : List ℕ → Result ℤ RowFault
+signed [] = Err FieldNotForKind
+signed (b ∷ bs) = ok_or (signed_decimal (b ∷ bs)) BadNumber
+
+-- a number of 64 bits with a sign, which may be left out
+unfoldable pub maybe_signed : List ℕ → Result (Option ℤ) RowFault
+maybe_signed [] = Ok None
+maybe_signed (b ∷ bs) = signed (b ∷ bs) >>= (λ n. Ok (Some n))
+
+-- an argument: filled where the service takes it, and else empty, for which 0 stands
+unfoldable pub argument : Bool → List ℕ → Result ℤ RowFault
+argument true text = signed text
+argument false text = empty text >>= (λ u. Ok (pos 0))

@@ -1,0 +1,84 @@
+-- What is given by its name: kinds of rows, services, codes and outcomes.
+use Rattle.std.specs.Prelude.{ℕ, List, [], ◌∷◌, Option, Some, None, Result, Err, codes, option_map, if◌then◌else◌}
+use Rattle.std.specs.Option.{ok_or}
+use Rattle.std.specs.Str.{bytes_eq}
+use Rattle.apex_types.specs.declared.code.Code.{Code}
+use Rattle.apex_types.specs.declared.code.Code.TheVariants as code
+use Rattle.apex_types.specs.declared.service.Service.{Service}
+use Rattle.apex_types.specs.declared.service.Service.TheVariants as service
+use Rattle.apex_types.specs.declared.record.Out.{Out}
+use Rattle.apex_types.specs.declared.record.Out.TheVariants as out
+use Rattle.apex_types.specs.CodeName as CodeName
+use Rattle.apex_types.specs.ServiceName as ServiceName
+use Rattle.record_read.specs.declared.kind.Kind.{Kind}
+use Rattle.record_read.specs.declared.kind.Kind.TheVariants as kind
+use Rattle.record_read.specs.declared.fault.RowFault.{RowFault}
+use Rattle.record_read.specs.declared.fault.RowFault.TheVariants.{FieldNotForKind, BadKind, BadService, BadOut}
+
+-- the kinds of rows are `call`, `ret`, `disp` and `tick`
+unfoldable pub kind_named : List ℕ → Option Kind
+kind_named text =
+    if bytes_eq text (codes "call") then Some kind.Call
+    else if bytes_eq text (codes "ret") then Some kind.Ret
+    else if bytes_eq text (codes "disp") then Some kind.Disp
+    else if bytes_eq text (codes "tick") then Some kind.Tick
+    else None
+
+-- the first of these codes that has this name
+unfoldable pub code_among : List Code → List ℕ → Option Code
+code_among [] text = None
+code_among (c ∷ cs) text = if bytes_eq (CodeName.name_of c) text then Some c else code_among cs text
+
+abbrev pub all_codes : List Code
+all_codes = code.NoError ∷ code.NoAction ∷ code.NotAvailable ∷ code.InvalidParam ∷ code.InvalidConfig ∷ code.InvalidMode ∷ code.TimedOut ∷ []
+
+-- the code of this name
+abbrev pub code_named : List ℕ → Option Code
+code_named text = code_among all_codes text
+
+-- the first of these services that has this name
+unfoldable pub service_among : List Service → List ℕ → Option Service
+service_among [] text = None
+service_among (s ∷ ss) text = if bytes_eq (ServiceName.name_of s) text then Some s else service_among ss text
+
+abbrev pub all_services : List Service
+all_services =
+    service.CreateProcess ∷ service.InitializeProcessCoreAffinity ∷ service.Start ∷ service.Stop ∷ service.StopSelf
+    ∷ service.Suspend ∷ service.SuspendSelf ∷ service.Resume ∷ service.SetPriority ∷ service.GetMyId ∷ service.TimedWait
+    ∷ service.PeriodicWait ∷ service.GetTime ∷ service.SetPartitionMode ∷ service.CreateBuffer ∷ service.SendBuffer
+    ∷ service.ReceiveBuffer ∷ service.CreateBlackboard ∷ service.DisplayBlackboard ∷ service.ReadBlackboard
+    ∷ service.ClearBlackboard ∷ service.CreateSemaphore ∷ service.WaitSemaphore ∷ service.SignalSemaphore
+    ∷ service.CreateEvent ∷ service.SetEvent ∷ service.ResetEvent ∷ service.WaitEvent ∷ service.CreateMutex
+    ∷ service.AcquireMutex ∷ service.ReleaseMutex ∷ service.CreateSamplingPort ∷ service.WriteSamplingMessage
+    ∷ service.ReadSamplingMessage ∷ service.CreateQueuingPort ∷ service.SendQueuingMessage ∷ service.ReceiveQueuingMessage ∷ []
+
+-- the service of this name
+unfoldable pub service_named : List ℕ → Option Service
+service_named text = service_among all_services text
+
+-- a kind, which must be filled
+unfoldable pub kind_of : List ℕ → Result Kind RowFault
+kind_of [] = Err FieldNotForKind
+kind_of (b ∷ bs) = ok_or (kind_named (b ∷ bs)) BadKind
+
+-- a service, which must be filled
+unfoldable pub service_of : List ℕ → Result Service RowFault
+service_of [] = Err FieldNotForKind
+service_of (b ∷ bs) = ok_or (service_named (b ∷ bs)) BadService
+
+-- a code, which must be filled
+unfoldable pub code_of : List ℕ → Result Code RowFault
+code_of [] = Err FieldNotForKind
+code_of (b ∷ bs) = ok_or (code_named (b ∷ bs)) BadOut
+
+-- `wait`, `none` or the name of a code
+unfoldable pub out_named : List ℕ → Option Out
+out_named text =
+    if bytes_eq text (codes "wait") then Some out.Waits
+    else if bytes_eq text (codes "none") then Some out.Never
+    else option_map out.Answer (code_named text)
+
+-- an outcome, which must be filled
+unfoldable pub out_of : List ℕ → Result Out RowFault
+out_of [] = Err FieldNotForKind
+out_of (b ∷ bs) = ok_or (out_named (b ∷ bs)) BadOut

@@ -1,0 +1,125 @@
+-- The grammar of rows: sixteen fields, judged from left to right.
+--   0 seq, 1 kind, 2 part, 3 proc, 4 service, 5 n1, 6 n2, 7 n3, 8 name, 9 msg, 10 prio, 11 out, 12 val, 13 data,
+--   14 chan, 15 woken
+use Rattle.std.specs.Prelude.{ℕ, List, Option, Some, None, Result, Ok, Err, length, nat_lt, nat_le, nat_eq, ◌==◌, if◌then◌else◌}
+use Rattle.csv_rows.specs.Stream.{Fields}
+use Rattle.csv_rows.specs.Source.{items_of}
+use Rattle.apex_types.specs.declared.record.Who.{Who}
+use Rattle.apex_types.specs.declared.record.Claim.{Claim}
+use Rattle.apex_types.specs.declared.record.Call.{Call}
+use Rattle.apex_types.specs.declared.record.Return.{Return}
+use Rattle.apex_types.specs.declared.record.Body.{Body}
+use Rattle.apex_types.specs.declared.record.Body.TheVariants as body
+use Rattle.apex_types.specs.declared.record.Record.{Record}
+use Rattle.apex_types.specs.declared.request.Request.{Request}
+use Rattle.record_read.specs.declared.kind.Kind.{Kind}
+use Rattle.record_read.specs.declared.kind.Kind.TheVariants as kind
+use Rattle.record_read.specs.declared.fault.RowFault.{RowFault}
+use Rattle.record_read.specs.declared.fault.RowFault.TheVariants.{TooMany, FieldCount, SeqGap}
+use Rattle.record_read.specs.Arguments.{arguments_of, request_of}
+use Rattle.record_read.specs.Field.{all_empty, argument, empty, maybe_number, maybe_signed, number, text_at}
+use Rattle.record_read.specs.Named.{code_of, kind_of, out_of, service_of}
+use Rattle.record_read.specs.Payload.{maybe_message, message_in, name_in}
+use Rattle.record_read.specs.Steps.{◌>>=◌}
+use Rattle.record_read.specs.Woken.{woken_of}
+
+-- the process of a call or a return
+unfoldable pub who_in : Fields → Result Who RowFault
+who_in fields = do
+  part ← number 31 (text_at fields 2)
+  proc ← number 2147483647 (text_at fields 3)
+  Ok (record { part = part; proc = proc })
+
+-- the request of a call: the service, and just the arguments that it takes
+unfoldable pub request_in : Fields → Result Request RowFault
+request_in fields = do
+  service ← service_of (text_at fields 4)
+  n1 ← argument (nat_le 1 (arguments_of service).numbers) (text_at fields 5)
+  n2 ← argument (nat_le 2 (arguments_of service).numbers) (text_at fields 6)
+  n3 ← argument (nat_le 3 (arguments_of service).numbers) (text_at fields 7)
+  name ← name_in (arguments_of service).name (text_at fields 8)
+  message ← message_in (arguments_of service).message n2 (text_at fields 9)
+  Ok (request_of service n1 n2 n3 name message)
+
+-- what a call claims
+unfoldable pub claim_in : Fields → Result Claim RowFault
+claim_in fields = do
+  prio ← number 239 (text_at fields 10)
+  out ← out_of (text_at fields 11)
+  val ← maybe_signed (text_at fields 12)
+  bytes ← maybe_message (text_at fields 13)
+  chan ← maybe_number 255 (text_at fields 14)
+  woken ← woken_of (text_at fields 15)
+  Ok (record { prio = prio; out = out; val = val; bytes = bytes; chan = chan; woken = woken })
+
+-- a call
+unfoldable pub call_in : Fields → Result Call RowFault
+call_in fields = do
+  who ← who_in fields
+  request ← request_in fields
+  claim ← claim_in fields
+  Ok (record { who = who; request = request; claim = claim })
+
+-- a return: its service without arguments, and a code
+unfoldable pub return_in : Fields → Result Return RowFault
+return_in fields = do
+  who ← who_in fields
+  service ← service_of (text_at fields 4)
+  unused ← all_empty fields 5 6
+  code ← code_of (text_at fields 11)
+  val ← maybe_signed (text_at fields 12)
+  bytes ← maybe_message (text_at fields 13)
+  unused_too ← all_empty fields 14 2
+  Ok (record { who = who; service = service; code = code; val = val; bytes = bytes })
+
+-- the process of a dispatch: with its partition, or neither
+unfoldable pub proc_of : Option ℕ → List ℕ → Result (Option Who) RowFault
+proc_of None text = empty text >>= (λ u. Ok None)
+proc_of (Some part) text = number 2147483647 text >>= (λ proc. Ok (Some (record { part = part; proc = proc })))
+
+-- a dispatch of a process, or of none
+unfoldable pub dispatch_in : Fields → Result (Option Who) RowFault
+dispatch_in fields = do
+  part ← maybe_number 31 (text_at fields 2)
+  who ← proc_of part (text_at fields 3)
+  unused ← all_empty fields 4 12
+  Ok who
+
+-- a tick, with the processes whose wait ends
+unfoldable pub tick_in : Fields → Result (List Who) RowFault
+tick_in fields = do
+  unused ← all_empty fields 2 13
+  woken_of (text_at fields 15)
+
+-- what a row of this kind records
+unfoldable pub body_in : Kind → Fields → Result Body RowFault
+body_in kind.Call fields = call_in fields >>= (λ call. Ok (body.Call call))
+body_in kind.Ret fields = return_in fields >>= (λ ret. Ok (body.Ret ret))
+body_in kind.Disp fields = dispatch_in fields >>= (λ who. Ok (body.Disp who))
+body_in kind.Tick fields = tick_in fields >>= (λ woken. Ok (body.Tick woken))
+
+-- a row's number is the next one
+unfoldable pub seq_in : ℕ → ℕ → Result ℕ RowFault
+seq_in next seq = if nat_eq seq next then Ok seq else Err SeqGap
+
+-- a row of sixteen fields
+unfoldable pub fields_read : ℕ → Fields → Result Record RowFault
+fields_read next fields = do
+  given ← number 4294967294 (text_at fields 0)
+  seq ← seq_in next given
+  kind ← kind_of (text_at fields 1)
+  body ← body_in kind fields
+  Ok (record { seq = seq; body = body })
+
+-- the row of this number, from 0; a recording has at most 4,294,967,295 rows
+unfoldable pub record_of : ℕ → Fields → Result Record RowFault
+record_of next fields =
+    if nat_lt next 4294967295 then (if length fields == 16 then fields_read next fields else Err FieldCount) else Err TooMany
+
+-- a record, or why a row is none
+abbrev pub Item : Type 0
+Item = Result Record RowFault
+
+-- the records of a text
+abbrev pub records_of : List ℕ → List Item
+records_of text = items_of record_of text

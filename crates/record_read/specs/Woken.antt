@@ -1,0 +1,57 @@
+-- Lists of processes, `part:proc` joined by `;`.
+use Rattle.std.specs.Prelude.{ℕ, List, [], ◌∷◌, Bool, true, Option, Some, None, Result, Ok, nat_lt, nat_eq, ◌&&◌, ◌||◌, if◌then◌else◌, option_map, option_and_then}
+use Rattle.std.specs.Option.{ok_or}
+use Rattle.csv_rows.specs.Decimal.{decimal}
+use Rattle.apex_types.specs.declared.record.Who.{Who}
+use Rattle.record_read.specs.declared.fault.RowFault.{RowFault}
+use Rattle.record_read.specs.declared.fault.RowFault.TheVariants.{BadWoken}
+
+-- the bytes before the first separator, all where there is none
+abbrev pub front_of : ℕ → List ℕ → List ℕ
+front_of separator [] = []
+front_of separator (b ∷ bs) = if nat_eq b separator then [] else b ∷ front_of separator bs
+
+-- the bytes behind the first separator, if there is one
+abbrev pub rest_of : ℕ → List ℕ → Option (List ℕ)
+rest_of separator [] = None
+rest_of separator (b ∷ bs) = if nat_eq b separator then Some bs else rest_of separator bs
+
+-- a text with one byte more in front of its first piece
+abbrev pub onto : ℕ → List (List ℕ) → List (List ℕ)
+onto b [] = (b ∷ []) ∷ []
+onto b (piece ∷ pieces) = (b ∷ piece) ∷ pieces
+
+-- the pieces of a text between its separators
+abbrev pub pieces_of : ℕ → List ℕ → List (List ℕ)
+pieces_of separator [] = [] ∷ []
+pieces_of separator (b ∷ bs) = if nat_eq b separator then [] ∷ pieces_of separator bs else onto b (pieces_of separator bs)
+
+-- the process of a partition from 0 to 31 and a number from 1 to 2,147,483,647
+abbrev pub process : ℕ → ℕ → Option Who
+process part number = if nat_eq number 0 then None else Some (record { part = part; proc = number })
+
+-- a process: the decimals of its partition and of its number around a `:`
+unfoldable pub process_of : List ℕ → Option Who
+process_of text =
+    option_and_then (λ rest. option_and_then (λ part. option_and_then (λ number. process part number) (decimal 2147483647 rest)) (decimal 31 (front_of 58 text)))
+    (rest_of 58 text)
+
+-- a process stands behind another by its partition, and in one partition by its number
+abbrev pub stands_behind : Option Who → Who → Bool
+stands_behind None who = true
+stands_behind (Some last) who = nat_lt last.part who.part || (nat_eq last.part who.part && nat_lt last.proc who.proc)
+
+-- a process that stands behind the last
+unfoldable pub next_process : Option Who → List ℕ → Option Who
+next_process last text = option_and_then (λ who. if stands_behind last who then Some who else None) (process_of text)
+
+-- the processes that pieces name, each behind the one before
+unfoldable pub processes_behind : Option Who → List (List ℕ) → Option (List Who)
+processes_behind last [] = Some []
+processes_behind last (piece ∷ pieces) =
+    option_and_then (λ who. option_map (λ more. who ∷ more) (processes_behind (Some who) pieces)) (next_process last piece)
+
+-- a list of processes: none where the field is empty
+unfoldable pub woken_of : List ℕ → Result (List Who) RowFault
+woken_of [] = Ok []
+woken_of (b ∷ bs) = ok_or (processes_behind None (pieces_of 59 (b ∷ bs))) BadWoken

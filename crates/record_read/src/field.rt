@@ -1,0 +1,113 @@
+// Fields of a row: filled or empty, and numbers.
+
+ghost use Rattle.std.specs.Prelude.{◌≡◌, ◌≤◌, ◌+◌, ◌<◌, ℕ, IfOk, IfErr, IfSome};
+ghost use Rattle.csv.specs.Records.{fields_of};
+ghost use Rattle.record_read.specs.Field.{all_empty, argument, empty, maybe_number, maybe_signed, number, signed, text_at};
+ghost use Rattle.record_read.specs.Steps.{IsOfRow};
+
+use crate::fault::RowFault;
+use csv::ByteRecord;
+use csv_rows::{read_decimal, read_signed};
+
+/// The bytes of the field at this place, from 0.
+pub fn text(fields: &ByteRecord, place: usize) -> &[u8]
+    ensures { result.now ≡ text_at (fields_of fields.now) place }
+{
+    match fields.get(place) {
+        Some(text) => text,
+        None => b"",
+    }
+}
+
+/// Sees that a field is empty.
+pub fn expect_empty(text: &[u8]) -> Result<(), RowFault>
+    ensures value { result ≡ empty text.now }
+    ensures own { IfErr result (λ fault. IsOfRow fault) }
+{
+    match text {
+        [] => Ok(()),
+        _ => Err(RowFault::FieldNotForKind),
+    }
+}
+
+/// Sees that so many fields from this place on are empty.
+#[tactic(auto, unfolding(crate::specs::Field::all_empty))]
+pub fn expect_all_empty(fields: &ByteRecord, place: usize, count: usize) -> Result<(), RowFault>
+    requires { place + count ≤ 16 }
+    ensures value { result ≡ all_empty (fields_of fields.now) place count }
+    ensures own { IfErr result (λ fault. IsOfRow fault) }
+{
+    for step in 0..count {
+        expect_empty(text(fields, place + step))?;
+    }
+    Ok(())
+}
+
+/// The number from 0 to `max` in a field that must be filled.
+#[tactic(auto, unfolding(crate::specs::Field::number))]
+pub fn required_number(text: &[u8], max: u64) -> Result<u64, RowFault>
+    ensures value { result ≡ number max text.now }
+    ensures bound { IfOk result (λ n. n ≤ max) }
+    ensures own { IfErr result (λ fault. IsOfRow fault) }
+{
+    match text {
+        [] => Err(RowFault::FieldNotForKind),
+        _ => match read_decimal(text, max) {
+            Some(number) => Ok(number),
+            None => Err(RowFault::BadNumber),
+        },
+    }
+}
+
+/// The number from 0 to `max` in a field, if it is filled.
+#[tactic(auto, unfolding(crate::specs::Field::maybe_number))]
+pub fn optional_number(text: &[u8], max: u64) -> Result<Option<u64>, RowFault>
+    ensures value { result ≡ maybe_number max text.now }
+    ensures bound { IfOk result (λ o. IfSome o (λ n. n ≤ max)) }
+    ensures own { IfErr result (λ fault. IsOfRow fault) }
+{
+    match text {
+        [] => Ok(None),
+        _ => Ok(Some(required_number(text, max)?)),
+    }
+}
+
+/// The signed number in a field that must be filled.
+#[tactic(auto, unfolding(crate::specs::Field::signed))]
+pub fn required_signed(text: &[u8]) -> Result<i64, RowFault>
+    ensures value { result ≡ signed text.now }
+    ensures own { IfErr result (λ fault. IsOfRow fault) }
+{
+    match text {
+        [] => Err(RowFault::FieldNotForKind),
+        _ => match read_signed(text) {
+            Some(number) => Ok(number),
+            None => Err(RowFault::BadNumber),
+        },
+    }
+}
+
+/// The signed number in a field, if it is filled.
+#[tactic(auto, unfolding(crate::specs::Field::maybe_signed))]
+pub fn optional_signed(text: &[u8]) -> Result<Option<i64>, RowFault>
+    ensures value { result ≡ maybe_signed text.now }
+    ensures own { IfErr result (λ fault. IsOfRow fault) }
+{
+    match text {
+        [] => Ok(None),
+        _ => Ok(Some(required_signed(text)?)),
+    }
+}
+
+/// The argument in a field: filled where it is taken, and else empty, which gives 0.
+#[tactic(auto, unfolding(crate::specs::Field::argument))]
+pub fn read_argument(taken: bool, text: &[u8]) -> Result<i64, RowFault>
+    ensures value { result ≡ argument taken text.now }
+    ensures own { IfErr result (λ fault. IsOfRow fault) }
+{
+    if taken {
+        return required_signed(text);
+    }
+    expect_empty(text)?;
+    Ok(0)
+}

@@ -1,0 +1,53 @@
+// The kinds of rows.
+
+ghost use Rattle.std.specs.Prelude.{◌≡◌, IfErr};
+ghost use Rattle.record_read.specs.Named.{kind_named, kind_of};
+ghost use Rattle.record_read.specs.Steps.{IsOfRow};
+
+use crate::fault::RowFault;
+
+/// What a row records.
+#[derive(Clone, Copy, Debug, PartialEq, Eq)]
+pub enum Kind {
+    /// A call of a service.
+    Call,
+    /// The return of a service.
+    Ret,
+    /// A dispatch of a core.
+    Disp,
+    /// A tick of a core's time.
+    Tick,
+}
+
+/// The kind in a field that must be filled.
+#[tactic(auto, unfolding(crate::specs::Named::kind_of))]
+pub fn read_kind(text: &[u8]) -> Result<Kind, RowFault>
+    ensures value { result ≡ kind_of text.now }
+    ensures own { IfErr result (λ fault. IsOfRow fault) }
+{
+    match text {
+        [] => Err(RowFault::FieldNotForKind),
+        _ => match find_kind(text) {
+            Some(kind) => Ok(kind),
+            None => Err(RowFault::BadKind),
+        },
+    }
+}
+
+// The kind of this name.
+#[tactic(auto, unfolding(crate::specs::Named::kind_named))]
+fn find_kind(text: &[u8]) -> Option<Kind>
+    ensures { result ≡ kind_named text.now }
+{
+    if text == b"call".as_slice() {
+        Some(Kind::Call)
+    } else if text == b"ret".as_slice() {
+        Some(Kind::Ret)
+    } else if text == b"disp".as_slice() {
+        Some(Kind::Disp)
+    } else if text == b"tick".as_slice() {
+        Some(Kind::Tick)
+    } else {
+        None
+    }
+}

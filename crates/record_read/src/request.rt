@@ -1,0 +1,156 @@
+// The requests of rows.
+
+ghost use Rattle.std.specs.Prelude.{◌≡◌, IfOk, IfErr, Ok, Err};
+ghost use Rattle.csv.specs.Records.{fields_of};
+ghost use Rattle.record_read.specs.Arguments.{request_of};
+ghost use Rattle.record_read.specs.Row.{request_in};
+ghost use Rattle.record_read.specs.Steps.{IsOfRow, Refuses};
+
+use crate::arguments::taken_by;
+use crate::fault::RowFault;
+use crate::field::{read_argument, text};
+use crate::named::read_service;
+use crate::payload::{read_message, read_name};
+use apex_types::{Message, Name, Request, Service};
+use csv::ByteRecord;
+use std::alloc::Global;
+
+/// The request of a call: its service and the service's arguments.
+#[tactic(auto, unfolding(crate::specs::Row::request_in))]
+pub fn read_request(alloc: Global, fields: &ByteRecord) -> Result<Request, RowFault>
+    ensures value { IfOk result (λ request. request_in (fields_of fields.now) ≡ Ok request) }
+    ensures refused { IfErr result (λ fault. Refuses fault (request_in (fields_of fields.now))) }
+    ensures own { IfErr result (λ fault. IsOfRow fault) }
+{
+    let service = read_service(text(fields, 4))?;
+    let takes = taken_by(service);
+    let n1 = read_argument(takes.numbers >= 1, text(fields, 5))?;
+    let n2 = read_argument(takes.numbers >= 2, text(fields, 6))?;
+    let n3 = read_argument(takes.numbers >= 3, text(fields, 7))?;
+    let name = read_name(alloc, takes.name, text(fields, 8))?;
+    let message = read_message(alloc, takes.message, n2, text(fields, 9))?;
+    Ok(make_request(service, n1, n2, n3, name, message))
+}
+
+// The request of a service, from its numbers, its name and its message.
+#[tactic(auto, unfolding(crate::specs::Arguments::request_of))]
+fn make_request(
+    service: Service,
+    n1: i64,
+    n2: i64,
+    n3: i64,
+    name: Name,
+    message: Message,
+) -> Request
+    ensures { result ≡ request_of service n1 n2 n3 name message }
+{
+    match service {
+        Service::CreateProcess => Request::CreateProcess {
+            name,
+            priority: n1,
+            period: n2,
+        },
+        Service::InitializeProcessCoreAffinity => Request::InitializeProcessCoreAffinity {
+            process: n1,
+            core: n2,
+        },
+        Service::Start => Request::Start { process: n1 },
+        Service::Stop => Request::Stop { process: n1 },
+        Service::StopSelf => Request::StopSelf,
+        Service::Suspend => Request::Suspend { process: n1 },
+        Service::SuspendSelf => Request::SuspendSelf { time_out: n1 },
+        Service::Resume => Request::Resume { process: n1 },
+        Service::SetPriority => Request::SetPriority {
+            process: n1,
+            priority: n2,
+        },
+        Service::GetMyId => Request::GetMyId,
+        Service::TimedWait => Request::TimedWait { delay: n1 },
+        Service::PeriodicWait => Request::PeriodicWait,
+        Service::GetTime => Request::GetTime,
+        Service::SetPartitionMode => Request::SetPartitionMode { mode: n1 },
+        Service::CreateBuffer => Request::CreateBuffer {
+            name,
+            size: n1,
+            capacity: n2,
+            discipline: n3,
+        },
+        Service::SendBuffer => Request::SendBuffer {
+            buffer: n1,
+            length: n2,
+            time_out: n3,
+            message,
+        },
+        Service::ReceiveBuffer => Request::ReceiveBuffer {
+            buffer: n1,
+            time_out: n2,
+        },
+        Service::CreateBlackboard => Request::CreateBlackboard { name, size: n1 },
+        Service::DisplayBlackboard => Request::DisplayBlackboard {
+            blackboard: n1,
+            length: n2,
+            message,
+        },
+        Service::ReadBlackboard => Request::ReadBlackboard {
+            blackboard: n1,
+            time_out: n2,
+        },
+        Service::ClearBlackboard => Request::ClearBlackboard { blackboard: n1 },
+        Service::CreateSemaphore => Request::CreateSemaphore {
+            name,
+            value: n1,
+            maximum: n2,
+            discipline: n3,
+        },
+        Service::WaitSemaphore => Request::WaitSemaphore {
+            semaphore: n1,
+            time_out: n2,
+        },
+        Service::SignalSemaphore => Request::SignalSemaphore { semaphore: n1 },
+        Service::CreateEvent => Request::CreateEvent { name },
+        Service::SetEvent => Request::SetEvent { event: n1 },
+        Service::ResetEvent => Request::ResetEvent { event: n1 },
+        Service::WaitEvent => Request::WaitEvent {
+            event: n1,
+            time_out: n2,
+        },
+        Service::CreateMutex => Request::CreateMutex {
+            name,
+            priority: n1,
+            discipline: n2,
+        },
+        Service::AcquireMutex => Request::AcquireMutex {
+            mutex: n1,
+            time_out: n2,
+        },
+        Service::ReleaseMutex => Request::ReleaseMutex { mutex: n1 },
+        Service::CreateSamplingPort => Request::CreateSamplingPort {
+            name,
+            size: n1,
+            direction: n2,
+            refresh: n3,
+        },
+        Service::WriteSamplingMessage => Request::WriteSamplingMessage {
+            port: n1,
+            length: n2,
+            message,
+        },
+        Service::ReadSamplingMessage => Request::ReadSamplingMessage { port: n1 },
+        Service::CreateQueuingPort => Request::CreateQueuingPort {
+            name,
+            size: n1,
+            capacity: n2,
+            direction_and_discipline: n3,
+        },
+        Service::SendQueuingMessage => Request::SendQueuingMessage {
+            port: n1,
+            length: n2,
+            time_out: n3,
+            message,
+        },
+        Service::ReceiveQueuingMessage => Request::ReceiveQueuingMessage {
+            port: n1,
+            time_out: n2,
+        },
+    }
+}

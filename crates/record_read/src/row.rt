@@ -1,0 +1,78 @@
+// The record that a row is.
+
+ghost use Rattle.std.specs.Prelude.{◌≡◌, ◌<◌, ◌≤◌, OnOk, IfOk, IfErr, Ok, Err};
+ghost use Rattle.csv.specs.Records.{fields_of};
+ghost use Rattle.record_read.specs.Field.{number, text_at};
+ghost use Rattle.record_read.specs.Row.{body_in, fields_read, record_of, seq_in};
+ghost use Rattle.record_read.specs.Steps.{IsOfRow, Refuses};
+
+use crate::call::read_call;
+use crate::dispatch::{read_dispatch, read_tick};
+use crate::fault::RowFault;
+use crate::field::{required_number, text};
+use crate::kind::{Kind, read_kind};
+use crate::ret::read_return;
+use apex_types::{Body, Record};
+use csv::ByteRecord;
+use std::alloc::Global;
+
+// How many fields a row has.
+const FIELDS: usize = 16;
+
+/// The record that the row of this number is, numbers from 0, or its first fault from left to right.
+#[tactic(auto, unfolding(crate::specs::Row::record_of))]
+pub fn read_record(alloc: Global, next: u32, fields: &ByteRecord) -> Result<Record, RowFault>
+    ensures value { IfOk result (λ made. record_of next (fields_of fields.now) ≡ Ok made) }
+    ensures refused { IfErr result (λ fault. Refuses fault (record_of next (fields_of fields.now))) }
+    ensures own { IfErr result (λ fault. IsOfRow fault) }
+    ensures bound { OnOk result (next < 4294967295) }
+{
+    if next == u32::MAX {
+        return Err(RowFault::TooMany);
+    }
+    if fields.len() != FIELDS {
+        return Err(RowFault::FieldCount);
+    }
+    read_fields(alloc, next, fields)
+}
+
+// The record that sixteen fields are.
+#[tactic(auto, unfolding(crate::specs::Row::fields_read))]
+fn read_fields(alloc: Global, next: u32, fields: &ByteRecord) -> Result<Record, RowFault>
+    ensures value { IfOk result (λ made. fields_read next (fields_of fields.now) ≡ Ok made) }
+    ensures refused { IfErr result (λ fault. Refuses fault (fields_read next (fields_of fields.now))) }
+    ensures own { IfErr result (λ fault. IsOfRow fault) }
+{
+    let given = required_number(text(fields, 0), 4_294_967_294)?;
+    let seq = expect_next(next, given)?;
+    let kind = read_kind(text(fields, 1))?;
+    let body = read_body(alloc, kind, fields)?;
+    Ok(Record { seq, body })
+}
+
+// Sees that a row's number is the next one.
+#[tactic(auto, unfolding(crate::specs::Row::seq_in))]
+fn expect_next(next: u32, seq: u64) -> Result<u32, RowFault>
+    ensures value { result ≡ seq_in next seq }
+    ensures own { IfErr result (λ fault. IsOfRow fault) }
+{
+    if seq != next as u64 {
+        return Err(RowFault::SeqGap);
+    }
+    Ok(next)
+}
+
+// What a row of this kind records.
+#[tactic(auto, unfolding(crate::specs::Row::body_in))]
+fn read_body(alloc: Global, kind: Kind, fields: &ByteRecord) -> Result<Body, RowFault>
+    ensures value { IfOk result (λ body. body_in kind (fields_of fields.now) ≡ Ok body) }
+    ensures refused { IfErr result (λ fault. Refuses fault (body_in kind (fields_of fields.now))) }
+    ensures own { IfErr result (λ fault. IsOfRow fault) }
+{
+    match kind {
+        Kind::Call => Ok(Body::Call(read_call(alloc, fields)?)),
+        Kind::Ret => Ok(Body::Ret(read_return(alloc, fields)?)),
+        Kind::Disp => Ok(Body::Disp(read_dispatch(fields)?)),
+        Kind::Tick => Ok(Body::Tick(read_tick(alloc, fields)?)),
+    }
+}

@@ -1,0 +1,91 @@
+// The records of a recording, one after another.
+
+ghost use Rattle.std.specs.Prelude.{◌≡◌, ◌≢◌, false, true, is_err, IfOk, IfErr, IfSome, Ok, Err, Some, None, is_none, option_map};
+ghost use Rattle.csv_rows.specs.Source.{Gives};
+ghost use Rattle.record_read.specs.Row.{records_of};
+ghost use Rattle.record_read.specs.Steps.{IsOutside};
+
+use crate::fault::RowFault;
+use crate::row::read_record;
+use apex_types::Record;
+use csv::ByteRecord;
+use csv_rows::{CsvRows, StreamFault};
+use std::alloc::Global;
+use std::io::Read;
+use std::marker::Model;
+
+/// The records that the rows of a recording are, one for each call of `next`.
+#[derive(Drop)]
+pub struct RowSource<R: Read> {
+    rows: CsvRows<R>,
+    fields: ByteRecord,
+    count: u32,
+    stopped: bool,
+    alloc: Global,
+}
+
+impl<R: Read> Model for RowSource<R> {
+    ghost use Rattle.std.specs.Prelude.{◌≡◌, option_map, false};
+    ghost use Rattle.csv_rows.specs.Source.{Source, items_from};
+    ghost use Rattle.record_read.specs.Row.{Item, record_of};
+
+    ghost Value = { Source Item };
+
+    ghost view = { λ source. record {
+      stopped = source.stopped;
+      ended = source.rows.ended;
+      failed = source.rows.failed;
+      left = option_map (items_from record_of source.count) source.rows.left;
+    } };
+
+    ghost invariant = { λ source. source.stopped ≡ false → source.rows.stopped ≡ false };
+}
+
+impl<R: Read> RowSource<R> {
+    /// The recording that `reader` gives. Takes no memory.
+    pub fn new(alloc: Global, reader: R) -> RowSource<R>
+        ensures stopped { result.stopped ≡ false }
+        ensures ended { result.ended ≡ false }
+        ensures failed { result.failed ≡ false }
+        ensures left { result.left ≡ option_map records_of (R.remaining reader) }
+    {
+        RowSource {
+            rows: CsvRows::new(alloc, reader),
+            fields: ByteRecord::new(alloc),
+            count: 0,
+            stopped: false,
+            alloc,
+        }
+    }
+
+    /// The next record, or None behind the last, then and from then on. After a fault every call answers Ended.
+    ///
+    /// Read where the reader failed, Memory where a growth was refused; else the row's first fault.
+    pub fn next(&mut self) -> Result<Option<Record>, RowFault>
+        ensures ended { self.old.stopped ≡ true → result ≡ Err RowFault.Ended }
+        ensures fresh { self.old.stopped ≡ false → result ≢ Err RowFault.Ended }
+        ensures stops { self.new.stopped ≡ is_err result }
+        ensures ends { IfOk result (λ made. self.new.ended ≡ is_none made) }
+        ensures stays { self.old.stopped ≡ false → self.old.ended ≡ true → result ≡ Ok None }
+        ensures failed { self.old.stopped ≡ false → result ≡ Err RowFault.Read → self.new.failed ≡ true }
+        ensures gives { self.old.stopped ≡ false → IfSome self.old.left (λ items. Gives IsOutside items result self.new.left) }
+    {
+        if self.stopped {
+            return Err(RowFault::Ended);
+        }
+        self.stopped = true;
+        match self.rows.read(&mut self.fields) {
+            Ok(true) => {}
+            Ok(false) => {
+                self.stopped = false;
+                return Ok(None);
+            }
+            Err(StreamFault::Read) => return Err(RowFault::Read),
+            Err(StreamFault::Memory) => return Err(RowFault::Memory),
+        }
+        let made = read_record(self.alloc, self.count, &self.fields)?;
+        self.count += 1;
+        self.stopped = false;
+        Ok(Some(made))
+    }
+}

@@ -1,0 +1,38 @@
+-- `new` makes the struct of no fields, with the count that its clause names.
+use Rattle.std.proofs.Common.{[], ◌∷◌, refl}
+use Rattle.std.proofs.raw_atomic.Walks.{proved}
+use contract.Running.{tables}
+use types.Kit.{‵, raw, ◌⊛◌, ◌$◌, ◌∵◌, !, qed, move, keep, split, fjoin, suffices, done}
+use types.Part.{agg}
+use types.Run.{enter, returns, no_more}
+use types.ByLocal.{alloc_all, pass_all, free_all, look_at, sets}
+use denote.Steps.{nothing}
+use denote.RattleType.{owns}
+use denote.Signature.{types_at}
+use denote.Triple.Entry.{alive}
+use denote.Triple.Walked.{says, Stays, walk_of, ends_at}
+use Rattle.sink.proofs.Walks.{empty, empty_made}
+use Rattle.sink.specs.contracts.count.FailureCount as FailureCount
+use Rattle.sink.specs.contracts.count.FailureCount.new as f
+use Rattle.sink.proofs.count.FailureCount.new.Statement.{statement}
+use Rattle.sink.proofs.count.FailureCount.new.Code as code
+
+abbrev stayed : Stays f.ended.signature.params f.ended.kept
+stayed = tt
+
+pub new_spec : {M : Type 1} → statement M
+new_spec 𝓤 𝓛 𝓜 𝓡 wired =
+    let c = f.clauses 𝓛 𝓜.mem 𝓡.returns in let W = walk_of 𝓛 f.ended stayed c in let 𝓣 = tables 𝓤 𝓛.H 𝓜 𝓡 𝓡.env in
+    proved 𝓛 f.ended stayed c 𝓜 𝓡 tt
+    f.Key.name code.function (code.unfolded 𝓤 𝓛.H 𝓜 𝓡 wired)
+    (λ κs. tt) (λ κs. tt) (λ κs qs bounds a n are.
+    let y : W.Ghost = ((κs, qs, bounds, a, tt), n) in
+    let made : FailureCount.the_row.Denot = record { count = 0 } in
+    qed 𝓛 ((raw (alive 𝓛 f.signature κs qs) ⊛ ‵ (owns (types_at f.ended.signature.params κs) a tt)) ∷ raw ((c κs a).requires n) ∷ []) ∵
+    keep ! (0 ∷ []) $ split ! $ keep ! (0 ∷ []) $
+    enter ! _ _ _ _ _ $ alloc_all ! (λ l. pass_all ! refl tt $
+    sets ! (agg ! (no_more !)) refl (tt, tt) $
+    nothing ! $ empty_made ! $ fjoin ! $
+    returns ! (look_at ! 0 refl) $ free_all ! refl $
+    suffices ! _ (ends_at 𝓛 f.ended stayed c y empty made tt tt) $ says ! refl $
+    nothing ! $ move ! (2 ∷ 0 ∷ 1 ∷ []) $ done !))

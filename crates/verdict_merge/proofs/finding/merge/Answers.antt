@@ -1,0 +1,15 @@
+use Rattle.std.proofs.Common.{◌≡◌, ◌++◌, ◌∷◌, [], ◌∙◌, ap, sym, subst, take, Some, ◌+◌}
+use Rattle.std.proofs.lemmas.List.{take_more}
+use Rattle.verdict_merge.specs.Findings.{IsLeast}
+use Rattle.verdict_merge.proofs.Least.{least_more}
+use Rattle.verdict_merge.proofs.finding.merge.Goals as goal
+
+pub loop-finding-preserved : goal.loop-finding-preserved
+loop-finding-preserved c =
+    let items = c.args.findings.now in
+    let index = c.loop-finding.finding-index in
+    let item = c.finding-item.result in
+    let grown : take (index + 1) items ≡ take index items ++ item ∷ [] =
+    take_more items index item c.loop-finding-test.true ∙ ap (λ x. take index items ++ x ∷ []) (sym c.finding-item.is) in
+    subst (λ l. IsLeast l (Some c.lesser.result)) (sym grown)
+    (least_more (take index items) c.loop-finding.least item c.lesser.result c.loop-finding.invariant c.lesser.ensures)
