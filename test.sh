@@ -1,6 +1,12 @@
 #!/usr/bin/env bash
-# All tests: every proof, every wrong body that the prover must refuse, and every test. The last line is
-# `N passed, 0 failed`.
+# All tests: the program on one example through real files, and then every proof, every wrong body that the prover must
+# refuse, every test and the program as two compilers build it. The last line is `N passed, 0 failed`.
 set -euo pipefail
 cd "$(dirname "$0")"
+report=$(bash examples/run timed_wait)
+echo "$report"
+if [ "$report" != "$(cat examples/timed_wait/expected.txt)" ]; then
+    echo "examples/timed_wait has another report than expected" >&2
+    exit 1
+fi
 rt ci

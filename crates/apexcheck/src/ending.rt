@@ -1,0 +1,52 @@
+// How a run of the program ends: its line on standard output and its exit status.
+
+ghost use Rattle.std.specs.Prelude.{◌≡◌, ◌<◌, OnErr, OnOk};
+ghost use Rattle.apexcheck.specs.Endings.{exit_status_of, line_of};
+ghost use Rattle.sink.specs.Written.{IsCut, IsWritten};
+
+use report::{CheckFault, Verdict, write_report};
+use sink::{Sink, WriteFault, put_all};
+
+/// The exit status where the line could not be written.
+pub const UNWRITTEN: u8 = 4;
+
+/// How a run ends.
+#[derive(Debug, Drop)]
+pub enum Ending {
+    /// The check came to an outcome. Want of memory before the check is the check's own `Memory`.
+    Checked(Result<Verdict, CheckFault>),
+    /// The words of the command line are not those of the usage.
+    BadUsage,
+    /// A file could not be opened, or the configuration could not be read.
+    Unopened,
+}
+
+/// The exit status of an end: 0 yes, 1 no, 2 refused, 3 out of memory. Takes no memory.
+pub fn status_of(ending: &Ending) -> u8
+    ensures value { result ≡ exit_status_of ending.now }
+{
+    match ending {
+        Ending::Checked(Ok(Verdict::Yes { .. })) => 0,
+        Ending::Checked(Ok(Verdict::No { .. })) => 1,
+        Ending::Checked(Err(CheckFault::Memory)) => 3,
+        Ending::Checked(Err(_)) | Ending::BadUsage | Ending::Unopened => 2,
+    }
+}
+
+/// Puts out the line of an end. Takes no memory.
+///
+/// # Errors
+///
+/// `WriteFault` where the sink failed. Then the first bytes of the line went out, and no others.
+pub fn write_ending<W: Sink>(w: &mut W, ending: &Ending) -> Result<(), WriteFault>
+    ensures whole { OnOk result (IsWritten (W.bytes w.old) (line_of ending.now) (W.bytes w.new)) }
+    ensures same { OnOk result (W.failures w.new ≡ W.failures w.old) }
+    ensures cut { OnErr result (IsCut (W.bytes w.old) (line_of ending.now) (W.bytes w.new)) }
+    ensures failed { OnErr result (W.failures w.old < W.failures w.new) }
+{
+    match ending {
+        Ending::Checked(outcome) => write_report(w, outcome),
+        Ending::BadUsage => put_all(w, b"REFUSED usage\n"),
+        Ending::Unopened => put_all(w, b"REFUSED open\n"),
+    }
+}

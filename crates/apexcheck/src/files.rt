@@ -1,0 +1,88 @@
+// The check of files.
+
+use crate::ending::Ending;
+use crate::usage::FileNames;
+use report::{CheckFault, check};
+use std::alloc::{AllocFailed, Global};
+use std::fs::{File, Files};
+use std::io::ErrorKind;
+use std::{fs, io};
+
+/// Opens the files of a run and checks what they hold. The configuration is read first, then the order is opened, then
+/// the recordings, core 0 first.
+///
+/// Where a file can't be opened, or the configuration can't be read, standard error names it and tells why.
+pub fn check_files<R: Files<File = File> + Eprint + AllocGlobal>(
+    rt: &R,
+    alloc: Global,
+    names: &FileNames,
+) -> Ending {
+    match Opened::open(rt, alloc, names) {
+        Ok(
+            Opened {
+                config,
+                order,
+                cores,
+            },
+        ) => Ending::Checked(check(alloc, &config, cores, order)),
+        Err(OpenFault::Unopened) => Ending::Unopened,
+        Err(OpenFault::Memory) => Ending::Checked(Err(CheckFault::Memory)),
+    }
+}
+
+// What is opened for a check. The order and the recordings are read as the check goes on, in pieces of 8 KiB: the reader
+// of rows has that buffer of its own.
+#[derive(Drop)]
+struct Opened {
+    config: Vec<u8>,
+    order: File,
+    cores: Vec<File>,
+}
+
+impl Opened {
+    fn open<R: Files<File = File> + Eprint + AllocGlobal>(
+        rt: &R,
+        alloc: Global,
+        names: &FileNames,
+    ) -> Result<Opened, OpenFault> {
+        let config = told(rt, &names.config, fs::read(rt, &names.config))?;
+        let order = told(rt, &names.order, File::open(rt, &names.order))?;
+        let mut cores = Vec::new(alloc);
+        for name in &names.cores {
+            cores.push(told(rt, name, File::open(rt, name))?)?;
+        }
+        Ok(Opened {
+            config,
+            order,
+            cores,
+        })
+    }
+}
+
+// Why the files of a run are not all there.
+#[derive(Clone, Copy, Debug, PartialEq, Eq)]
+enum OpenFault {
+    // One can't be opened, or the configuration can't be read.
+    Unopened,
+    // Memory was refused on the way.
+    Memory,
+}
+
+// The answer of the system for the file of this name. A refusal other than want of memory is told to a person.
+fn told<T: Drop>(rt: &impl Eprint, name: &str, answer: io::Result<T>) -> Result<T, OpenFault> {
+    match answer {
+        Ok(value) => Ok(value),
+        Err(e) if e.kind() == ErrorKind::OutOfMemory => Err(OpenFault::Memory),
+        Err(e) => {
+            // Standard error only helps a person, so that a failure there changes nothing.
+            let _ = rt.eprintln(format_args!("apexcheck: {name}: {e}"));
+            Err(OpenFault::Unopened)
+        }
+    }
+}
+
+impl<T: Drop> From<AllocFailed<T>> for OpenFault {
+    fn from(_: AllocFailed<T>) -> OpenFault {
+        OpenFault::Memory
+    }
+}

@@ -1,0 +1,43 @@
+//! The program: checks recordings against a configuration and a proposed order, and prints one line.
+//!
+//! Promises: what is printed is the text of how the run ended, and the exit status is the one of that end; where the
+//! output could not be written, the status is the one that says so.
+#![tactic(auto)]
+
+mod ending;
+mod files;
+mod stored;
+mod usage;
+
+use ending::{Ending, UNWRITTEN, status_of, write_ending};
+use report::CheckFault;
+use sink::WriterSink;
+use std::alloc::Global;
+use std::fs::{File, Files};
+use std::io;
+use std::process::ExitCode;
+use std::rt::Env;
+use usage::{Asked, UsageFault};
+
+fn main(rt: HostRuntime) -> ExitCode {
+    let ending = run(&rt, rt.alloc());
+    let mut output = WriterSink::new(io::writer(&rt));
+    match write_ending(&mut output, &ending) {
+        Ok(()) => ExitCode::from(status_of(&ending)),
+        Err(_) => ExitCode::from(UNWRITTEN),
+    }
+}
+
+// Does what the command line asks for. The words are judged first, then the files are opened, then comes the check.
+fn run<R: Env + Files<File = File> + Eprint + AllocGlobal>(rt: &R, alloc: Global) -> Ending {
+    match usage::from_words(rt, alloc) {
+        Ok(Asked::StoredRun) => Ending::Checked(stored::check_stored(alloc)),
+        Ok(Asked::Files(names)) => files::check_files(rt, alloc, &names),
+        Err(UsageFault::Usage) => {
+            // Standard error only helps a person, so that a failure there changes nothing.
+            let _ = rt.eprintln(usage::USAGE);
+            Ending::BadUsage
+        }
+        Err(UsageFault::Memory) => Ending::Checked(Err(CheckFault::Memory)),
+    }
+}

@@ -1,0 +1,67 @@
+// The run that stands in the program, which is checked where the command line has no words.
+
+use report::{CheckFault, Verdict, check};
+use std::alloc::Global;
+
+// One core, which belongs to one partition all the time.
+const CONFIG: &[u8] = b"cores = 1
+frame = 10
+skew = 1
+
+[[partition]]
+number = 0
+period = 10
+cores = [0]
+processes = 4
+buffers = 2
+blackboards = 1
+semaphores = 1
+events = 1
+mutexes = 2
+
+[[window]]
+core = 0
+partition = 0
+start = 0
+length = 10
+";
+
+// Process 1 is created and started, waits for two ticks and returns.
+const RECORDING: &[u8] = b"0,disp,0,0,,,,,,,,,,,,
+1,call,0,0,CREATE_PROCESS,10,-1,,P1,,0,NO_ERROR,1,,,
+2,ret,0,0,CREATE_PROCESS,,,,,,,NO_ERROR,1,,,
+3,call,0,0,START,1,,,,,0,NO_ERROR,,,,
+4,ret,0,0,START,,,,,,,NO_ERROR,,,,
+5,call,0,0,SET_PARTITION_MODE,3,,,,,0,none,,,,
+6,disp,0,1,,,,,,,,,,,,
+7,call,0,1,TIMED_WAIT,2,,,,,10,wait,,,,
+8,disp,,,,,,,,,,,,,,
+9,tick,,,,,,,,,,,,,,
+10,tick,,,,,,,,,,,,,,0:1
+11,disp,0,1,,,,,,,,,,,,
+12,ret,0,1,TIMED_WAIT,,,,,,,NO_ERROR,,,,
+";
+
+// The records of core 0 in their own order.
+const ORDER: &[u8] = b"0,0
+0,1
+0,2
+0,3
+0,4
+0,5
+0,6
+0,7
+0,8
+0,9
+0,10
+0,11
+0,12
+";
+
+/// Checks the run that stands in the program.
+pub fn check_stored(alloc: Global) -> Result<Verdict, CheckFault> {
+    let Ok(readers) = vec![in alloc; RECORDING] else {
+        return Err(CheckFault::Memory);
+    };
+    check(alloc, CONFIG, readers, ORDER)
+}

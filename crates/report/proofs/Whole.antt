@@ -1,0 +1,61 @@
+-- What was placed and judged is the outcome of the texts.
+use Rattle.std.proofs.Common.{◌≡◌, ℕ, zero, suc, List, [], ◌∷◌, Option, Some, None, Result, Ok, Err, length, map, refl, sym, ap, ◌∙◌, inl, inr, subst, Bool, true, false, nat_eq, eq-eqb, eqb-true}
+use Rattle.std.specs.Option.{option_map}
+use Rattle.apex_machine.specs.Configuration.{Configuration}
+use Rattle.apex_types.specs.declared.record.Ordered.{Ordered}
+use Rattle.order_cert.specs.Row.{Item as CertItem, pairs_of}
+use Rattle.placement.specs.declared.fault.InputFault.{InputFault}
+use Rattle.placement.specs.Lanes.{AreLeft, IsScanOf, IsScanned, left_at}
+use Rattle.placement.specs.Scan.{Scan}
+use Rattle.record_read.specs.Row.{Item, records_of}
+use Rattle.verdict_merge.specs.declared.verdict.Verdict.{Verdict}
+use Rattle.verdict_merge.specs.Findings.{IsRunWhereYes, IsVerdict}
+use Rattle.report.specs.declared.fault.CheckFault.{CheckFault}
+use Rattle.report.specs.Outcome.{IsJudged, IsOutcomeUnder, answer_with, items_at}
+
+-- what lanes have left that were opened over readers of these texts
+pub known_lanes : {A : Type 0} (known : A → Option (List ℕ)) (readers : List A) (texts : List (List ℕ)) → map known readers ≡ map Some texts
+    → (length readers ≡ length texts) × (length (map (λ reader. option_map records_of (known reader)) readers) ≡ length texts)
+    × AreLeft (map (λ reader. option_map records_of (known reader)) readers) (items_at texts)
+known_lanes known [] [] e = (refl, refl, λ core. refl)
+known_lanes known [] (text ∷ texts) e = cc
+known_lanes known (reader ∷ readers) [] e = cc
+known_lanes known (reader ∷ readers) (text ∷ texts) e =
+    let head : known reader ≡ Some text = cc in
+    let tail : map known readers ≡ map Some texts = cc in
+    let rest = known_lanes known readers texts tail in
+    (ap suc rest.0, ap suc rest.1, at head rest.2)
+  where
+    at : known reader ≡ Some text → AreLeft (map (λ reader. option_map records_of (known reader)) readers) (items_at texts)
+        → AreLeft (map (λ reader. option_map records_of (known reader)) (reader ∷ readers)) (items_at (text ∷ texts))
+    at h more zero = rw h refl
+    at h more (suc core) = more core
+
+-- a scan of what is left is a scan of the texts
+pub scanned_texts : {A : Type 0} (known : A → Option (List ℕ)) (readers : List A) (texts : List (List ℕ)) (certificate : List ℕ) (bytes : Option (List ℕ))
+    (lanes : List (Option (List Item))) (left : Option (List CertItem)) (scanned : Scan)
+    → map known readers ≡ map Some texts → bytes ≡ Some certificate → lanes ≡ map (λ reader. option_map records_of (known reader)) readers
+    → left ≡ option_map pairs_of bytes → IsScanned lanes left scanned → IsScanOf (length texts) (items_at texts) (pairs_of certificate) scanned
+scanned_texts known readers texts certificate bytes lanes left scanned e is opened begun scan =
+    let h = known_lanes known readers texts e in
+    let count : length lanes ≡ length texts = ap length opened ∙ h.1 in
+    let are : AreLeft lanes (items_at texts) = rw opened h.2 in
+    let certs : left ≡ Some (pairs_of certificate) = begun ∙ ap (option_map pairs_of) is in
+    rw count at (scan (items_at texts) (pairs_of certificate) are certs)
+
+-- the outcome under a configuration with as many cores as there are texts
+pub outcome_under : (configuration : Configuration) (texts : List (List ℕ)) (certificate : List ℕ) (result : Result Verdict CheckFault) (scanned : Scan)
+    → length texts ≡ configuration.cores → IsScanOf (length texts) (items_at texts) (pairs_of certificate) scanned → IsJudged configuration scanned result
+    → IsOutcomeUnder (nat_eq (length texts) configuration.cores) configuration texts certificate result
+outcome_under configuration texts certificate result scanned count scan judged =
+    subst (λ b. IsOutcomeUnder b configuration texts certificate result) (sym (eq-eqb (length texts) configuration.cores count)) (scanned, scan, judged)
+
+pub other_count : (configuration : Configuration) (texts : List (List ℕ)) (certificate : List ℕ) (result : Result Verdict CheckFault)
+    → (length texts ≡ configuration.cores → ⊥) → IsOutcomeUnder false configuration texts certificate result
+    → IsOutcomeUnder (nat_eq (length texts) configuration.cores) configuration texts certificate result
+other_count configuration texts certificate result other refused =
+    by (nat_eq (length texts) configuration.cores) refl
+  where
+    by : (b : Bool) → nat_eq (length texts) configuration.cores ≡ b → IsOutcomeUnder b configuration texts certificate result
+    by true e = absurd (other (eqb-true (length texts) configuration.cores e))
+    by false e = refused

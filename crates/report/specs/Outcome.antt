@@ -1,0 +1,58 @@
+-- The outcome of a check, from the bytes of its inputs.
+use Rattle.std.specs.Prelude.{◌≡◌, ◌⊎◌, ℕ, zero, suc, List, [], ◌∷◌, Bool, true, false, Result, Ok, Err, length, nat_eq}
+use Rattle.apex_machine.specs.Configuration.{Configuration}
+use Rattle.module_config.specs.declared.fault.ConfigFault.{ConfigFault}
+use Rattle.module_config.specs.Reading.{configuration_of}
+use Rattle.order_cert.specs.Row.{pairs_of}
+use Rattle.placement.specs.declared.fault.InputFault.{InputFault}
+use Rattle.placement.specs.declared.fault.InputFault.TheVariants as input
+use Rattle.placement.specs.Lanes.{IsScanOf}
+use Rattle.placement.specs.Scan.{Scan}
+use Rattle.record_read.specs.Row.{Item, records_of}
+use Rattle.verdict_merge.specs.declared.verdict.Verdict.{Verdict}
+use Rattle.verdict_merge.specs.declared.verdict.Verdict.TheVariants.{Yes, No}
+use Rattle.verdict_merge.specs.Findings.{IsVerdict}
+use Rattle.report.specs.declared.fault.ArgumentFault.TheVariants.{ReaderCount}
+use Rattle.report.specs.declared.fault.CheckFault.{CheckFault}
+use Rattle.report.specs.declared.fault.CheckFault.TheVariants.{Arguments, Config, Cert, Order, Row, Memory}
+
+-- what the text of a core's recording is read as: nothing where there is no such core
+abbrev pub items_at : List (List ℕ) → ℕ → List Item
+items_at [] core = []
+items_at (text ∷ texts) zero = records_of text
+items_at (text ∷ texts) (suc core) = items_at texts core
+
+-- the refusal that a fault of the input is
+abbrev pub refusal_of : InputFault → CheckFault
+refusal_of (input.Cert place fault) = Cert place fault
+refusal_of (input.Order place core fault) = Order place core fault
+refusal_of (input.Row core seq fault) = Row core seq fault
+refusal_of input.Memory = Memory
+
+-- a No stands at a place before the end of the input, so it decides; a Yes needs an input without a fault
+abbrev pub answer_with : Verdict → Result (Unit {0}) InputFault → Result Verdict CheckFault
+answer_with (No pos piece cause) end = Ok (No pos piece cause)
+answer_with (Yes records) (Ok ended) = Ok (Yes records)
+answer_with (Yes records) (Err fault) = Err (refusal_of fault)
+
+-- the records that were placed are judged, and the input's end with them
+abbrev pub IsJudged : Configuration → Scan → Result Verdict CheckFault → Type 0
+IsJudged configuration scanned result =
+    (verdict : Verdict) × IsVerdict configuration scanned.placed verdict × (result ≡ answer_with verdict scanned.end)
+
+-- the outcome under a configuration: there has to be one recording for each core
+abbrev pub IsOutcomeUnder : Bool → Configuration → List (List ℕ) → List ℕ → Result Verdict CheckFault → Type 0
+IsOutcomeUnder false configuration texts certificate result = result ≡ Err (Arguments ReaderCount)
+IsOutcomeUnder true configuration texts certificate result =
+    (scanned : Scan) × IsScanOf (length texts) (items_at texts) (pairs_of certificate) scanned × IsJudged configuration scanned result
+
+abbrev pub IsOutcomeBy : Result Configuration ConfigFault → List (List ℕ) → List ℕ → Result Verdict CheckFault → Type 0
+IsOutcomeBy (Err fault) texts certificate result = result ≡ Err (Config fault)
+IsOutcomeBy (Ok configuration) texts certificate result =
+    IsOutcomeUnder (nat_eq (length texts) configuration.cores) configuration texts certificate result
+
+-- the outcome of a configuration's text, the recordings' texts and the certificate's, for some readings of these in which
+-- readers may have failed; want of memory outranks it
+abbrev pub IsOutcome : List ℕ → List (List ℕ) → List ℕ → Result Verdict CheckFault → Type 0
+IsOutcome config texts certificate result =
+    (result ≡ Err Memory) ⊎ IsOutcomeBy (configuration_of config) texts certificate result

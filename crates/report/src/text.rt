@@ -1,0 +1,117 @@
+// The text of an outcome.
+
+ghost use Rattle.std.specs.Prelude.{◌≡◌, ◌<◌, ℕ, List, OnOk, OnErr};
+ghost use Rattle.sink.specs.Written.{IsCut, IsWritten};
+ghost use Rattle.report.specs.Text.{report_of};
+
+use crate::fault::CheckFault;
+use crate::names::{
+    name_of_argument_fault, name_of_cause, name_of_cert_fault, name_of_config_fault,
+    name_of_order_fault, name_of_row_fault,
+};
+use itoa::Buffer;
+use sink::{Sink, WriteFault, put_parts};
+use verdict_merge::Verdict;
+
+/// Puts out the report of an outcome, one line. Takes no memory.
+///
+/// Where the sink fails, only first bytes of the line went out.
+pub fn write_report<W: Sink>(
+    w: &mut W,
+    outcome: &Result<Verdict, CheckFault>,
+) -> Result<(), WriteFault>
+    ensures whole { OnOk result (IsWritten (W.bytes w.old) (report_of outcome.now) (W.bytes w.new)) }
+    ensures same { OnOk result (W.failures w.new ≡ W.failures w.old) }
+    ensures cut { OnErr result (IsCut (W.bytes w.old) (report_of outcome.now) (W.bytes w.new)) }
+    ensures failed { OnErr result (W.failures w.old < W.failures w.new) }
+{
+    match outcome {
+        Ok(verdict) => write_verdict(w, verdict),
+        Err(fault) => write_refusal(w, fault),
+    }
+}
+
+// Puts out the report of a verdict.
+fn write_verdict<W: Sink>(w: &mut W, verdict: &Verdict) -> Result<(), WriteFault>
+    ensures whole { OnOk result (IsWritten (W.bytes w.old) (report_of (Ok verdict.now)) (W.bytes w.new)) }
+    ensures same { OnOk result (W.failures w.new ≡ W.failures w.old) }
+    ensures cut { OnErr result (IsCut (W.bytes w.old) (report_of (Ok verdict.now)) (W.bytes w.new)) }
+    ensures failed { OnErr result (W.failures w.old < W.failures w.new) }
+{
+    let mut first = Buffer::new();
+    let mut second = Buffer::new();
+    match verdict {
+        Verdict::Yes { records } => put_parts(
+            w,
+            &[b"YES records=", first.format(*records).as_bytes(), b"\n"],
+        ),
+        Verdict::No { pos, piece, cause } => put_parts(
+            w,
+            &[
+                b"NO place=",
+                first.format(pos.number()).as_bytes(),
+                b" piece=",
+                second.format(*piece).as_bytes(),
+                b" cause=",
+                name_of_cause(*cause),
+                b"\n",
+            ],
+        ),
+    }
+}
+
+// Puts out the report of a refusal.
+fn write_refusal<W: Sink>(w: &mut W, fault: &CheckFault) -> Result<(), WriteFault>
+    ensures whole { OnOk result (IsWritten (W.bytes w.old) (report_of (Err fault.now)) (W.bytes w.new)) }
+    ensures same { OnOk result (W.failures w.new ≡ W.failures w.old) }
+    ensures cut { OnErr result (IsCut (W.bytes w.old) (report_of (Err fault.now)) (W.bytes w.new)) }
+    ensures failed { OnErr result (W.failures w.old < W.failures w.new) }
+{
+    let mut first = Buffer::new();
+    let mut second = Buffer::new();
+    match fault {
+        CheckFault::Arguments(fault) => put_parts(
+            w,
+            &[b"REFUSED arguments=", name_of_argument_fault(*fault), b"\n"],
+        ),
+        CheckFault::Config(fault) => put_parts(
+            w,
+            &[b"REFUSED config=", name_of_config_fault(*fault), b"\n"],
+        ),
+        CheckFault::Cert { place, fault } => put_parts(
+            w,
+            &[
+                b"REFUSED cert place=",
+                first.format(*place).as_bytes(),
+                b" fault=",
+                name_of_cert_fault(*fault),
+                b"\n",
+            ],
+        ),
+        CheckFault::Order { place, core, fault } => put_parts(
+            w,
+            &[
+                b"REFUSED order place=",
+                first.format(*place).as_bytes(),
+                b" core=",
+                second.format(*core).as_bytes(),
+                b" fault=",
+                name_of_order_fault(*fault),
+                b"\n",
+            ],
+        ),
+        CheckFault::Row { core, seq, fault } => put_parts(
+            w,
+            &[
+                b"REFUSED row core=",
+                first.format(*core).as_bytes(),
+                b" seq=",
+                second.format(*seq).as_bytes(),
+                b" fault=",
+                name_of_row_fault(*fault),
+                b"\n",
+            ],
+        ),
+        CheckFault::Memory => put_parts(w, &[b"MEMORY\n"]),
+    }
+}
