@@ -1,20 +1,22 @@
 #!/usr/bin/env python3
-"""Makes a lawful recording of one core with its configuration and its certificate.
+"""Makes lawful recordings of a module with their configuration and their certificate.
 
-    make_recording.py RECORDS FOLDER
+    make_recording.py RECORDS FOLDER [CORES]
 
-writes config.toml, core0.csv and order.csv to FOLDER. The recording has exactly RECORDS records. Any number is lawful,
-since each first part of a lawful recording is one.
+writes config.toml, a recording for each core (core0.csv and on) and order.csv to FOLDER. Without CORES there is one core.
+The recordings have exactly RECORDS records together. Any number is lawful, since each first part of a lawful recording
+is one.
 
-The module has one core and one partition, whose window is the whole major frame. The initialising process creates and
-starts eight processes and sets the partition to NORMAL. From then on each process in turn asks for its number and
-waits for some ticks, of a pattern that repeats. The core's time goes on while all of them wait, and now and then while
-one of them runs, so that a process of higher priority takes the core from it.
+The module has one partition, whose windows are the whole major frame on each core. The initialising process creates
+eight processes for each core, puts them on their cores, starts them and sets the partition to NORMAL. From then on each
+process in turn asks for its number, asks for the time, or waits for some ticks, in a pattern that repeats. The cores take
+turns. A core's time goes on while all of its processes wait, and now and then while one of them runs, so that a process
+of higher priority takes the core from it; but no core runs further ahead of another than the skew.
 """
 import os
 import sys
 
-# The processes, by number from 1: priorities, with ties among them.
+# The processes of each core: priorities, with ties among them.
 PRIORITIES = [10, 20, 20, 30, 10, 40, 20, 5]
 
 # How long a process waits: a delay of 0 doesn't wait and puts it behind its equals.
@@ -23,23 +25,31 @@ DELAYS = [3, 1, 0, 7, 2, 5, 0, 4, 1, 6, 9]
 # One call in so many is interrupted by a tick before it returns.
 TICK_EVERY = 5
 
-CONFIGURATION = """cores = 1
+# How many ticks a core may be ahead of another.
+SKEW = 10
+
+# The partition creates at most 128 processes.
+MOST_CORES = 128 // len(PRIORITIES)
+
+CONFIGURATION = """cores = {cores}
 frame = 10
-skew = 1
+skew = {skew}
 
 [[partition]]
 number = 0
 period = 10
-cores = [0]
+cores = {list}
 processes = {processes}
 buffers = 0
 blackboards = 0
 semaphores = 0
 events = 0
 mutexes = 0
+"""
 
+WINDOW = """
 [[window]]
-core = 0
+core = {core}
 partition = 0
 start = 0
 length = 10
@@ -58,129 +68,175 @@ class Process:
         self.calls = 0              # how many calls it has made
 
 
-class Enough(Exception):
-    """The recording is as long as it should be."""
+class Core:
+    """A core: its recording, its time and its processes."""
 
-
-class Recording:
-    """The rows of one core, with the state of its partition."""
-
-    def __init__(self, records, rows, order):
-        self.records = records
+    def __init__(self, number, rows):
+        self.number = number
         self.rows = rows
-        self.order = order
-        self.place = 0
+        self.records = 0
         self.time = 0
         self.occupant = None
         self.processes = []
-
-    def put(self, kind, **fields):
-        """Writes a row with the fields given, and answers its place."""
-        if self.place == self.records:
-            raise Enough
-        names = "part proc service n1 n2 n3 name msg prio out val data chan woken".split()
-        given = [str(fields.get(name, "")) for name in names]
-        self.rows.write("%d,%s,%s\n" % (self.place, kind, ",".join(given)))
-        self.order.write("0,%d\n" % self.place)
-        self.place += 1
-        return self.place - 1
-
-    def call_and_return(self, service, val="", **fields):
-        """A call of the initialising process that answers NO_ERROR at once."""
-        self.put("call", part=0, proc=0, service=service, prio=0, out="NO_ERROR", val=val, **fields)
-        self.put("ret", part=0, proc=0, service=service, out="NO_ERROR", val=val)
-
-    def set_up(self):
-        """Creates and starts the processes. With NORMAL all of them become ready, at one place."""
-        self.put("disp", part=0, proc=0)
-        for number, priority in enumerate(PRIORITIES, 1):
-            self.call_and_return("CREATE_PROCESS", val=number, n1=priority, n2=-1, name="P%d" % number)
-            self.processes.append(Process(number, priority))
-        for process in self.processes:
-            self.call_and_return("START", n1=process.number)
-        place = self.put("call", part=0, proc=0, service="SET_PARTITION_MODE", n1=3, prio=0, out="none")
-        self.occupant = 0
-        for process in self.processes:
-            process.ready_position = place
+        self.turns = 0
 
     def choice(self):
         """The ready process of highest priority, then of least ready position, then of least number."""
         ready = [p for p in self.processes if p.ready_position is not None]
         return min(ready, key=lambda p: (-p.priority, p.ready_position, p.number), default=None)
 
-    def dispatch(self, process):
+
+class Enough(Exception):
+    """The recordings are as long as they should be."""
+
+
+class Module:
+    """The cores of a module, whose records are written in one order."""
+
+    def __init__(self, records, cores, order):
+        self.records = records
+        self.cores = cores
+        self.order = order
+        self.place = 0
+
+    def put(self, core, kind, **fields):
+        """Writes a row of the core with the fields given, and answers its place."""
+        if self.place == self.records:
+            raise Enough
+        names = "part proc service n1 n2 n3 name msg prio out val data chan woken".split()
+        given = [str(fields.get(name, "")) for name in names]
+        core.rows.write("%d,%s,%s\n" % (core.records, kind, ",".join(given)))
+        self.order.write("%d,%d\n" % (core.number, core.records))
+        core.records += 1
+        self.place += 1
+        return self.place - 1
+
+    def call_and_return(self, service, val="", **fields):
+        """A call of the initialising process that answers NO_ERROR at once."""
+        first = self.cores[0]
+        self.put(first, "call", part=0, proc=0, service=service, prio=0, out="NO_ERROR", val=val, **fields)
+        self.put(first, "ret", part=0, proc=0, service=service, out="NO_ERROR", val=val)
+
+    def set_up(self):
+        """Creates the processes of each core and starts them. With NORMAL all of them become ready, at one place."""
+        first = self.cores[0]
+        self.put(first, "disp", part=0, proc=0)
+        numbers = iter(range(1, len(self.cores) * len(PRIORITIES) + 1))
+        for core in self.cores:
+            for priority in PRIORITIES:
+                process = Process(next(numbers), priority)
+                self.call_and_return("CREATE_PROCESS", val=process.number, n1=priority, n2=-1, name="P%d" % process.number)
+                if core is not first:
+                    self.call_and_return("INITIALIZE_PROCESS_CORE_AFFINITY", n1=process.number, n2=core.number)
+                core.processes.append(process)
+        for core in self.cores:
+            for process in core.processes:
+                self.call_and_return("START", n1=process.number)
+        place = self.put(first, "call", part=0, proc=0, service="SET_PARTITION_MODE", n1=3, prio=0, out="none")
+        first.occupant = 0
+        for core in self.cores:
+            for process in core.processes:
+                process.ready_position = place
+
+    def dispatch(self, core, process):
         """Makes the process the occupant, where it isn't already."""
         number = process.number if process else None
-        if self.occupant != number:
+        if core.occupant != number:
             if process:
-                self.put("disp", part=0, proc=number)
+                self.put(core, "disp", part=0, proc=number)
             else:
-                self.put("disp")
-            self.occupant = number
+                self.put(core, "disp")
+            core.occupant = number
 
-    def tick(self):
+    def may_tick(self, core):
+        """Whether a tick keeps the core within the skew of each other."""
+        return core.time + 1 <= min(other.time for other in self.cores) + SKEW
+
+    def tick(self, core):
         """One tick: every wait that falls due ends, and its process becomes ready here."""
-        due = [p for p in self.processes if p.due_time is not None and p.due_time <= self.time + 1]
-        place = self.put("tick", woken=";".join("0:%d" % p.number for p in due))
-        self.time += 1
+        due = [p for p in core.processes if p.due_time is not None and p.due_time <= core.time + 1]
+        place = self.put(core, "tick", woken=";".join("0:%d" % p.number for p in due))
+        core.time += 1
         for process in due:
             process.due_time = None
             process.ready_position = place
 
-    def give_back(self, process):
+    def give_back(self, core, process):
         """The process returns from its call."""
         service, val = process.outcome
-        self.put("ret", part=0, proc=process.number, service=service, out="NO_ERROR", val=val)
+        self.put(core, "ret", part=0, proc=process.number, service=service, out="NO_ERROR", val=val)
         process.outcome = None
 
-    def call(self, process):
-        """The next call of the process: its number and a wait, in turn."""
+    def call(self, core, process):
+        """The next call of the process: its number, a wait, the time and a wait, in turn."""
         number = process.number
         fields = dict(part=0, proc=number, prio=process.priority)
-        if process.calls % 2 == 0:
-            self.put("call", service="GET_MY_ID", out="NO_ERROR", val=number, **fields)
-            process.outcome = ("GET_MY_ID", number)
-        else:
+        if process.calls % 2 == 1:
             delay = DELAYS[(process.calls // 2 + number) % len(DELAYS)]
             out = "wait" if delay else "NO_ERROR"
-            place = self.put("call", service="TIMED_WAIT", n1=delay, out=out, **fields)
+            place = self.put(core, "call", service="TIMED_WAIT", n1=delay, out=out, **fields)
             process.outcome = ("TIMED_WAIT", "")
             if delay:
                 process.ready_position = None
-                process.due_time = self.time + delay
+                process.due_time = core.time + delay
             else:
                 process.ready_position = place
+        else:
+            service, val = ("GET_MY_ID", number) if process.calls % 4 == 0 else ("GET_TIME", core.time)
+            self.put(core, "call", service=service, out="NO_ERROR", val=val, **fields)
+            process.outcome = (service, val)
         process.calls += 1
 
+    def turn(self, core):
+        """The next record of a core, with a dispatch before it where another process is to run."""
+        process = core.choice()
+        self.dispatch(core, process)
+        core.turns += 1
+        if process is None or core.turns % TICK_EVERY == 0:
+            if self.may_tick(core):
+                self.tick(core)
+                return
+        if process is None:
+            return
+        if process.outcome is not None:
+            self.give_back(core, process)
+        else:
+            self.call(core, process)
+
     def run(self):
-        """Goes on until the recording is long enough."""
-        turns = 0
+        """Goes on until the recordings are long enough."""
         while True:
-            process = self.choice()
-            self.dispatch(process)
-            turns += 1
-            if process is None or turns % TICK_EVERY == 0:
-                self.tick()
-            elif process.outcome is not None:
-                self.give_back(process)
-            else:
-                self.call(process)
+            for core in self.cores:
+                self.turn(core)
+
+
+def write_configuration(folder, cores):
+    """The configuration of a module with so many cores."""
+    with open(os.path.join(folder, "config.toml"), "w") as text:
+        text.write(CONFIGURATION.format(cores=cores, skew=SKEW, list=list(range(cores)), processes=cores * len(PRIORITIES)))
+        for core in range(cores):
+            text.write(WINDOW.format(core=core))
 
 
 def main():
-    if len(sys.argv) != 3 or not sys.argv[1].isdigit():
+    words = sys.argv[1:]
+    if len(words) == 2:
+        words.append("1")
+    if len(words) != 3 or not words[0].isdigit() or not words[2].isdigit() or not 1 <= int(words[2]) <= MOST_CORES:
         sys.exit(__doc__)
-    records, folder = int(sys.argv[1]), sys.argv[2]
+    records, folder, count = int(words[0]), words[1], int(words[2])
     os.makedirs(folder, exist_ok=True)
-    with open(os.path.join(folder, "config.toml"), "w") as text:
-        text.write(CONFIGURATION.format(processes=len(PRIORITIES)))
-    with open(os.path.join(folder, "core0.csv"), "w") as rows, open(os.path.join(folder, "order.csv"), "w") as order:
-        recording = Recording(records, rows, order)
+    write_configuration(folder, count)
+    files = [open(os.path.join(folder, "core%d.csv" % number), "w") for number in range(count)]
+    with open(os.path.join(folder, "order.csv"), "w") as order:
+        module = Module(records, [Core(number, rows) for number, rows in enumerate(files)], order)
         try:
-            recording.set_up()
-            recording.run()
+            module.set_up()
+            module.run()
         except Enough:
             pass
+    for rows in files:
+        rows.close()
 
 
 if __name__ == "__main__":

@@ -1,5 +1,5 @@
 -- No error condition has the code NO_ERROR: a call that is done met none.
-use Rattle.std.proofs.Common.{◌≡◌, List, [], ◌∷◌, ◌++◌, Bool, true, false, Option, Some, None, not, nat_eq, nat_le, ◌&&◌, refl, sym, ◌∙◌, inl, inr, true≢false}
+use Rattle.std.proofs.Common.{◌≡◌, List, [], ◌∷◌, ◌++◌, Bool, true, false, Option, Some, None, is_none, not, nat_eq, nat_le, ◌&&◌, refl, sym, ◌∙◌, inl, inr, true≢false}
 use Rattle.apex_types.specs.declared.code.Code.{Code}
 use Rattle.apex_types.specs.declared.code.Code.TheVariants as code
 use Rattle.apex_types.specs.declared.record.Claim.{Claim}
@@ -10,7 +10,7 @@ use Rattle.apex_types.specs.declared.request.Request.{Request}
 use Rattle.apex_types.specs.declared.request.Request.TheVariants as request
 use Rattle.apex_machine.specs.declared.state.Process.{Process}
 use Rattle.apex_machine.specs.After.{is_done}
-use Rattle.apex_machine.specs.Conditions.{condition_codes, created, created_count, has_name, is_mode, is_negative, is_normal, is_normal_mode, is_period, is_priority, start_codes, suits_period, when}
+use Rattle.apex_machine.specs.Conditions.{condition_codes, created, created_count, has_name, is_core, is_mode, is_negative, is_normal, is_normal_mode, is_period, is_priority, start_codes, suits_period, when}
 use Rattle.apex_machine.specs.Configuration.{Configuration, period_of, process_limit}
 use Rattle.apex_machine.specs.Services.{Answer}
 use Rattle.apex_machine.specs.State.{Partition, Table}
@@ -48,6 +48,13 @@ start_errors : (target : Option Process) → AreErrors (start_codes target)
 start_errors None = one_error true code.InvalidParam invalid_param
 start_errors (Some process) = one_error process.alive code.NoAction no_action
 
+-- the three conditions of INITIALIZE_PROCESS_CORE_AFFINITY
+affinity_errors : (absent normal foreign : Bool)
+    → AreErrors (when absent code.InvalidParam ++ when normal code.InvalidMode ++ when foreign code.InvalidConfig)
+affinity_errors absent normal foreign =
+    one_more (when absent code.InvalidParam ++ when normal code.InvalidMode) foreign code.InvalidConfig invalid_config
+    (one_more (when absent code.InvalidParam) normal code.InvalidMode invalid_mode (one_error absent code.InvalidParam invalid_param))
+
 -- the six conditions of CREATE_PROCESS
 creation_errors : (normal named full priority period suits : Bool) → AreErrors (when normal code.InvalidMode ++ when named code.NoAction
     ++ when full code.InvalidConfig ++ when priority code.InvalidParam ++ when period code.InvalidParam ++ when suits code.InvalidConfig)
@@ -68,6 +75,8 @@ are_errors configuration who partition (request.CreateProcess name priority peri
     creation_errors (is_normal partition.mode) (has_name name partition.table)
     (nat_le (process_limit configuration who.part) (created_count partition.table)) (not (is_priority priority)) (not (is_period period))
     (not (suits_period (period_of configuration who.part) period))
+are_errors configuration who partition (request.InitializeProcessCoreAffinity process core) =
+    affinity_errors (is_none (created partition.table process)) (is_normal partition.mode) (not (is_core configuration who.part core))
 are_errors configuration who partition (request.Start process) = start_errors (created partition.table process)
 are_errors configuration who partition request.GetMyId = one_error (nat_eq who.proc 0) code.InvalidMode invalid_mode
 are_errors configuration who partition (request.TimedWait delay) =

@@ -18,7 +18,7 @@ use Rattle.apex_machine.specs.declared.state.Process.{Process}
 use Rattle.apex_machine.specs.After.{caller_after, created_by, is_done, numbered}
 use Rattle.apex_machine.specs.Conditions.{condition_codes, created_count, has_name, is_normal, is_period, is_priority, suits_period}
 use Rattle.apex_machine.specs.Configuration.{Configuration, first_core, period_of, process_limit}
-use Rattle.apex_machine.specs.Services.{answer_of, mode_by, new_process, priority_of, renews, set_by}
+use Rattle.apex_machine.specs.Services.{answer_of, mode_by, new_process, natural_of, renews, set_by}
 use Rattle.apex_machine.specs.State.{Partition, State, Table, each_process, process_at, time_of}
 use Rattle.apex_machine.specs.Step.{HasOutcome}
 use Rattle.apex_laws.specs.Laws.{CreationIsTheSentence}
@@ -34,7 +34,7 @@ use Rattle.apex_laws.proofs.Whos.{free_stands, same_who}
 -- the new process
 
 -- a priority in range is a number
-priority_is : (priority : ℤ) → not (is_priority priority) ≡ false → pos (priority_of priority) ≡ priority
+priority_is : (priority : ℤ) → not (is_priority priority) ≡ false → pos (natural_of priority) ≡ priority
 priority_is (pos n) within = refl
 priority_is (negsuc n) within = cc
 
@@ -47,7 +47,7 @@ priority_fits configuration who partition name priority period none =
     (not (suits_period (period_of configuration who.part) period)) none
 
 -- a created process is as the sentence says
-is_created : (name : List ℕ) (priority : ℤ) (core : ℕ) → pos (priority_of priority) ≡ priority → IsCreated name priority core (new_process core name priority)
+is_created : (name : List ℕ) (priority : ℤ) (core : ℕ) → pos (natural_of priority) ≡ priority → IsCreated name priority core (new_process core name priority)
 is_created name priority core fits = record {
   named = refl;
   base_priority = fits;
@@ -91,7 +91,7 @@ stands_new configuration state ordered call next number new made creates none =
 -- the creation of a process under a number that was new
 creation_of : (configuration : Configuration) (state : State) (ordered : Ordered) (call : CallRecord) (next : State) (name : List ℕ) (priority period : ℤ) (caller : Process)
     → IsCallStep configuration state ordered call next → call.request ≡ request.CreateProcess name priority period → call.claim.out ≡ out.Answer code.NoError
-    → call.claim.bytes ≡ [] → pos (priority_of priority) ≡ priority → process_in state call.who ≡ Some caller
+    → call.claim.bytes ≡ [] → pos (natural_of priority) ≡ priority → process_in state call.who ≡ Some caller
     → (new : IsNew (state.partitions call.who.part).table call.claim.val)
     → IsCreationOf call.who (record { part = call.who.part; proc = new.number }) name priority (first_core configuration call.who.part)
     (time_of state.cores ordered.core) state next
@@ -135,9 +135,9 @@ creation_is_the_sentence configuration state ordered call name priority period n
     let partition : Partition = state.partitions call.who.part in
     let asked : Request = request.CreateProcess name priority period in
     let codes : List Code = condition_codes configuration call.who partition asked in
-    let has : HasOutcome codes partition.table (answer_of call.who asked) call.claim =
-    subst (λ one. HasOutcome (condition_codes configuration call.who partition one) partition.table (answer_of call.who one) call.claim) asks law.outcome in
-    let answer = done_is_answered codes partition.table (answer_of call.who asked) call.claim (are_errors configuration call.who partition asked) has (ap is_done given) in
+    let has : HasOutcome codes partition.table (answer_of (time_of state.cores ordered.core) call.who asked) call.claim =
+    subst (λ one. HasOutcome (condition_codes configuration call.who partition one) partition.table (answer_of (time_of state.cores ordered.core) call.who one) call.claim) asks law.outcome in
+    let answer = done_is_answered codes partition.table (answer_of (time_of state.cores ordered.core) call.who asked) call.claim (are_errors configuration call.who partition asked) has (ap is_done given) in
     let new : IsNew partition.table call.claim.val = new_is partition.table call.claim.val answer.1.val in
     let fits = priority_is priority (priority_fits configuration call.who partition name priority period answer.0) in
     let stands = free_stands (process_in state call.who) law.due in (

@@ -11,7 +11,7 @@ use Rattle.apex_machine.specs.Configuration.{Configuration, has_partition}
 use Rattle.apex_machine.specs.Pieces.{AllHold, Piece, call_demands, demands, is_configured, module_demands, own_call_demands, part, partition_demands, touched_by, touches, window_now}
 use Rattle.apex_machine.specs.Pieces.Piece.{Module, OfPartition}
 use Rattle.apex_machine.specs.Services.{answer_of}
-use Rattle.apex_machine.specs.State.{State, names_one_of, occupant_of, process_at}
+use Rattle.apex_machine.specs.State.{State, names_one_of, occupant_of, process_at, time_of}
 use Rattle.apex_machine.specs.Step.{IsLawful, IsLawfulBody, IsLawfulCall, IsLawfulReturn, due_of, outcome_returned}
 use Rattle.apex_laws.proofs.Choices.{choice_is, idle_choice, not_idle, own_choice}
 use Rattle.apex_laws.proofs.Outcomes.{if_due, names_nobody, outcome_chan, outcome_holds}
@@ -40,7 +40,7 @@ own_call_demanded : (configuration : Configuration) (state : State) (core : ℕ)
 own_call_demanded configuration state core call law =
     let codes = condition_codes configuration call.who (state.partitions call.who.part) call.request in
     let table = (state.partitions call.who.part).table in
-    let answer = answer_of call.who call.request in
+    let answer = answer_of (time_of state.cores core) call.who call.request in
     let chosen = choice_is (window_now configuration state.cores core) state.partitions core call.who law.choice in (
       chosen.of,
       (
@@ -64,7 +64,7 @@ call_demanded configuration state core call law number true is touched =
     (eqb-true call.who.part number is) (own_call_demanded configuration state core call law)
 call_demanded configuration state core call law number false is touched =
     let nobody = names_nobody (condition_codes configuration call.who (state.partitions call.who.part) call.request)
-    (state.partitions call.who.part).table call.who call.request call.claim law.outcome in
+    (state.partitions call.who.part).table (time_of state.cores core) call.who call.request call.claim law.outcome in
     absurd (true≢false (sym touched ∙ ap (names_one_of number) nobody))
 
 -- the partition of the returner

@@ -56,20 +56,20 @@ distinct_alone : (change : ℕ → Process → Process) (table : Table) → are_
 distinct_alone change table distinct = ap are_distinct (append-nil (each_process change table)) ∙ distinct_each change table ∙ distinct
 
 -- the table of the caller's partition
-distinct_called : (configuration : Configuration) (partition : Partition) (core : ℕ) (call : CallRecord) (asked : Request) (change : ℕ → Process → Process)
-    → HasOutcome (condition_codes configuration call.who partition asked) partition.table (answer_of call.who asked) call.claim
+distinct_called : (now : ℕ) (configuration : Configuration) (partition : Partition) (core : ℕ) (call : CallRecord) (asked : Request) (change : ℕ → Process → Process)
+    → HasOutcome (condition_codes configuration call.who partition asked) partition.table (answer_of now call.who asked) call.claim
     → are_distinct partition.table ≡ true → are_distinct (each_process change partition.table ++ created_by core call asked) ≡ true
-distinct_called configuration partition core call (request.CreateProcess name priority period) change has distinct =
+distinct_called now configuration partition core call (request.CreateProcess name priority period) change has distinct =
     elim (is_done call.claim.out) as (λ done. is_done call.claim.out ≡ done → are_distinct (each_process change partition.table
     ++ cond done (numbered call.claim.val (new_process core name priority)) []) ≡ true) [
       | true ↦ λ done.
           let codes = condition_codes configuration call.who partition (request.CreateProcess name priority period) in
-          let answered = done_is_answered codes partition.table (answer_of call.who (request.CreateProcess name priority period)) call.claim
+          let answered = done_is_answered codes partition.table (answer_of now call.who (request.CreateProcess name priority period)) call.claim
           (are_errors configuration call.who partition (request.CreateProcess name priority period)) has done in
           distinct_numbered change partition.table call.claim.val (new_process core name priority) distinct answered.1.val
       | false ↦ λ not_done. distinct_alone change partition.table distinct
     ] refl
-distinct_called configuration partition core call _ change has distinct = distinct_alone change partition.table distinct
+distinct_called now configuration partition core call _ change has distinct = distinct_alone change partition.table distinct
 
 -- the table of each partition after a lawful record
 distinct_by : (configuration : Configuration) (state : State) (place core : ℕ) (body : Body) → IsLawfulBody configuration state core body
@@ -88,8 +88,8 @@ distinct_by configuration state place core (Call call) law number distinct =
     (partition_called (first_core configuration number) place (time_of state.cores core) call (state.partitions number)) (state.partitions number)).table ≡ true) [
       | true ↦ λ own.
           let outcome = subst (λ of. HasOutcome (condition_codes configuration call.who (state.partitions of) call.request) (state.partitions of).table
-          (answer_of call.who call.request) call.claim) (eqb-true call.who.part number own) law.outcome in
-          distinct_called configuration (state.partitions number) (first_core configuration number) call call.request
+          (answer_of (time_of state.cores core) call.who call.request) call.claim) (eqb-true call.who.part number own) law.outcome in
+          distinct_called (time_of state.cores core) configuration (state.partitions number) (first_core configuration number) call call.request
           (called place (time_of state.cores core) (state.partitions number) call) outcome distinct
       | false ↦ λ foreign. distinct
     ] refl

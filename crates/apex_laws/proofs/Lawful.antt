@@ -11,7 +11,7 @@ use Rattle.apex_machine.specs.Configuration.{Configuration, WindowsAreConfigured
 use Rattle.apex_machine.specs.Pieces.{AllHold, InNoWindow, InWindowOf, call_demands, demands, is_configured, module_demands, own_call_demands, part, partition_demands, touched_by, touches, window_now, Piece}
 use Rattle.apex_machine.specs.Pieces.Piece.{Module, OfPartition}
 use Rattle.apex_machine.specs.Services.{answer_of}
-use Rattle.apex_machine.specs.State.{State, occupant_of, process_at}
+use Rattle.apex_machine.specs.State.{State, occupant_of, process_at, time_of}
 use Rattle.apex_machine.specs.Step.{IsLawful, IsLawfulBody, IsLawfulCall, IsLawfulReturn, due_of}
 use Rattle.apex_types.specs.declared.record.Who.{Who}
 use Rattle.apex_laws.proofs.Booleans.{first_holds, is_itself}
@@ -46,7 +46,7 @@ lawful_call configuration state core call of_module own = record {
   profile = own.1.1.1.0;
   prio = own.1.1.1.1.0;
   outcome = has_outcome (condition_codes configuration call.who (state.partitions call.who.part) call.request)
-      (state.partitions call.who.part).table (answer_of call.who call.request) call.claim own.1.1.1.1.1.0 own.1.1.1.1.1.1;
+      (state.partitions call.who.part).table (answer_of (time_of state.cores core) call.who call.request) call.claim own.1.1.1.1.1.0 own.1.1.1.1.1.1;
 }
 
 -- a return that the module and the returner's partition agree to

@@ -21,6 +21,7 @@ pub mod Calls
 pub mod Callers
 pub mod Refused
 pub mod Starts
+pub mod Affinities
 pub mod Modes
 pub mod Cores
 pub mod Dispatches

@@ -132,7 +132,7 @@ pub normal_mode_is_the_sentence : NormalModeIsTheSentence
 normal_mode_is_the_sentence configuration state ordered call asked next distinct step is asks given =
     let law = lawful_body configuration state ordered next (Call call) step is in
     let codes : List Code = condition_codes configuration call.who (state.partitions call.who.part) call.request in
-    let answer = done_is_answered codes (state.partitions call.who.part).table (answer_of call.who call.request) call.claim
+    let answer = done_is_answered codes (state.partitions call.who.part).table (answer_of (time_of state.cores ordered.core) call.who call.request) call.claim
     (are_errors configuration call.who (state.partitions call.who.part) call.request) law.outcome (ap is_done given) in
     let within : IsTrue (in_profile call.who call.request) = profiled codes call.who call.request answer.0 law.profile in (
       is_three asked (sym (ap (in_profile call.who) asks) ∙ within),

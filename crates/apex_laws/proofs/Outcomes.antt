@@ -1,5 +1,5 @@
 -- The outcome that a call claims and the outcome that a return gives back, as a whole and demand by demand.
-use Rattle.std.proofs.Common.{◌≡◌, List, [], ◌∷◌, Option, Some, None, true, false, cond, sym, subst, refl, ◌∙◌}
+use Rattle.std.proofs.Common.{◌≡◌, ℕ, List, [], ◌∷◌, Option, Some, None, true, false, cond, sym, subst, refl, ◌∙◌}
 use Rattle.apex_types.specs.declared.code.Code.{Code}
 use Rattle.apex_types.specs.declared.record.Claim.{Claim}
 use Rattle.apex_types.specs.declared.record.Return.{Return}
@@ -32,16 +32,16 @@ outcome_holds [] table answer claim has = (has.out, (has.val, (has.bytes, (has.w
 outcome_holds (code ∷ codes) table answer claim has = (has.out, (has.val, (has.bytes, (has.woken, tt))))
 
 -- no service ends the wait of another process
-no_service_wakes : (who : Who) (asked : Request) → (answer_of who asked).woken ≡ []
-no_service_wakes who (request.TimedWait delay) =
+no_service_wakes : (now : ℕ) (who : Who) (asked : Request) → (answer_of now who asked).woken ≡ []
+no_service_wakes now who (request.TimedWait delay) =
     elim (is_over delay) as (λ over. (cond over (done_with Nothing) waiting).woken ≡ []) [ true ↦ refl | false ↦ refl ]
-no_service_wakes who _ = refl
+no_service_wakes now who _ = refl
 
 -- so a call with a lawful outcome names nobody
-pub names_nobody : (codes : List Code) (table : Table) (who : Who) (asked : Request) (claim : Claim)
-    → HasOutcome codes table (answer_of who asked) claim → claim.woken ≡ []
-names_nobody [] table who asked claim has = has.woken ∙ no_service_wakes who asked
-names_nobody (code ∷ codes) table who asked claim has = has.woken
+pub names_nobody : (codes : List Code) (table : Table) (now : ℕ) (who : Who) (asked : Request) (claim : Claim)
+    → HasOutcome codes table (answer_of now who asked) claim → claim.woken ≡ []
+names_nobody [] table now who asked claim has = has.woken ∙ no_service_wakes now who asked
+names_nobody (code ∷ codes) table now who asked claim has = has.woken
 
 -- returns
 

@@ -135,9 +135,9 @@ pub start_is_the_sentence : StartIsTheSentence
 start_is_the_sentence configuration state ordered call process next distinct step is asks given =
     let law = lawful_body configuration state ordered next (Call call) step is in
     let table : Table = (state.partitions call.who.part).table in
-    let outcome : HasOutcome (start_codes (created table process)) table (answer_of call.who (request.Start process)) call.claim =
-    subst (λ asked. HasOutcome (condition_codes configuration call.who (state.partitions call.who.part) asked) table (answer_of call.who asked) call.claim) asks law.outcome in
-    let answer = done_is_answered (start_codes (created table process)) table (answer_of call.who (request.Start process)) call.claim
+    let outcome : HasOutcome (start_codes (created table process)) table (answer_of (time_of state.cores ordered.core) call.who (request.Start process)) call.claim =
+    subst (λ asked. HasOutcome (condition_codes configuration call.who (state.partitions call.who.part) asked) table (answer_of (time_of state.cores ordered.core) call.who asked) call.claim) asks law.outcome in
+    let answer = done_is_answered (start_codes (created table process)) table (answer_of (time_of state.cores ordered.core) call.who (request.Start process)) call.claim
     (are_errors configuration call.who (state.partitions call.who.part) (request.Start process)) outcome (ap is_done given) in
     let target = target_of table process answer.0 in
     let caller = caller_stands configuration state ordered.core call distinct law in (

@@ -92,17 +92,17 @@ gives_way place now call process given again serves nothing =
 -- the calls
 
 -- a call of TIMED_WAIT that is done met no condition, and has its outcome
-wait_answered : (configuration : Configuration) (state : State) (call : CallRecord) (delay : ℤ) → call.request ≡ request.TimedWait delay
+wait_answered : (now : ℕ) (configuration : Configuration) (state : State) (call : CallRecord) (delay : ℤ) → call.request ≡ request.TimedWait delay
     → HasOutcome (condition_codes configuration call.who (state.partitions call.who.part) call.request) (state.partitions call.who.part).table
-    (answer_of call.who call.request) call.claim
+    (answer_of now call.who call.request) call.claim
     → is_done call.claim.out ≡ true
     → (is_negative delay ≡ false) × IsAnswered (state.partitions call.who.part).table (wait_answer (is_over delay)) call.claim
-wait_answered configuration state call delay asks has done =
+wait_answered now configuration state call delay asks has done =
     let table : Table = (state.partitions call.who.part).table in
     let codes : List Code = condition_codes configuration call.who (state.partitions call.who.part) (request.TimedWait delay) in
-    let outcome : HasOutcome codes table (answer_of call.who (request.TimedWait delay)) call.claim =
-    subst (λ asked. HasOutcome (condition_codes configuration call.who (state.partitions call.who.part) asked) table (answer_of call.who asked) call.claim) asks has in
-    let answer = done_is_answered codes table (answer_of call.who (request.TimedWait delay)) call.claim
+    let outcome : HasOutcome codes table (answer_of now call.who (request.TimedWait delay)) call.claim =
+    subst (λ asked. HasOutcome (condition_codes configuration call.who (state.partitions call.who.part) asked) table (answer_of now call.who asked) call.claim) asks has in
+    let answer = done_is_answered codes table (answer_of now call.who (request.TimedWait delay)) call.claim
     (are_errors configuration call.who (state.partitions call.who.part) (request.TimedWait delay)) outcome done in
     let none = append_none (when (is_negative delay) code.InvalidParam) (when (nat_eq call.who.proc 0) code.InvalidMode) answer.0 in
     (unmet (is_negative delay) code.InvalidParam none.0, answer.1)
@@ -113,7 +113,7 @@ wait_is_the_sentence configuration state ordered call delay next step is asks gi
     let made : IsCallStep configuration state ordered call next = record { step = step; is = is } in
     let now : ℕ = time_of state.cores ordered.core in
     let current : Mode = (state.partitions call.who.part).mode in
-    let answer = wait_answered configuration state call delay asks law.outcome (ap is_done given) in
+    let answer = wait_answered (time_of state.cores ordered.core) configuration state call delay asks law.outcome (ap is_done given) in
     let ticks = above delay answer.0 (not_over (is_over delay) (sym given ∙ answer.1.out)) in
     let stands = free_stands (process_in state call.who) law.due in (
       ticks.0,
@@ -133,7 +133,7 @@ giving_way_is_the_sentence configuration state ordered call delay next step is a
     let now : ℕ = time_of state.cores ordered.core in
     let current : Mode = (state.partitions call.who.part).mode in
     let table : Table = (state.partitions call.who.part).table in
-    let answer = wait_answered configuration state call delay asks law.outcome (ap is_done given) in
+    let answer = wait_answered (time_of state.cores ordered.core) configuration state call delay asks law.outcome (ap is_done given) in
     let over : is_over delay ≡ true = over_at_once (is_over delay) (sym given ∙ answer.1.out) in
     let stands = free_stands (process_in state call.who) law.due in (
       is_zero delay over,

@@ -13,13 +13,13 @@ use Rattle.apex_types.specs.Requested.{service_of}
 use Rattle.apex_machine.specs.declared.state.Process.{Process}
 use Rattle.apex_machine.specs.Choice.{IsChosen, IsReady, foremost, ready_entries}
 use Rattle.apex_machine.specs.Conditions.{condition_codes}
-use Rattle.apex_machine.specs.Configuration.{Configuration, first_core}
+use Rattle.apex_machine.specs.Configuration.{Configuration, first_core, has_core, limits_of}
 pub use Rattle.apex_machine.specs.Configuration.{WindowsAreConfigured}
 use Rattle.apex_machine.specs.Pieces.{Part, Piece, LocalStep, is_configured, part, touches}
 use Rattle.apex_machine.specs.Runs.{ArePlaced, Finds, PieceRun, Refusal}
 use Rattle.apex_machine.specs.State.{State, Table, cold_state, process_at, time_of}
 use Rattle.apex_machine.specs.Step.{Run, Step}
-use Rattle.apex_laws.specs.Sentences.{HasGivenWay, HasOutcomeDue, HasReturned, IsCreationOf, IsDispatchOf, IsDormant, IsNormalModeOf, IsRefusedCallOf, IsStartOf, IsTickOf, OnlyChanges, WaitsUntil}
+use Rattle.apex_laws.specs.Sentences.{HasGivenWay, HasOutcomeDue, HasReturned, IsAffinityOf, IsCreationOf, IsDispatchOf, IsDormant, IsNormalModeOf, IsRefusedCallOf, IsStartOf, IsTickOf, OnlyChanges, WaitsUntil}
 
 -- a record leads from a state to at most one next state
 abbrev pub AtMostOneNextState : Type 0
@@ -148,6 +148,15 @@ OwnNumberIsTheSentence =
     → OnlyChanges (HasOutcomeDue (record { service = service.GetMyId; code = code.NoError; val = Some (pos call.who.proc); bytes = [] })
     (time_of state.cores ordered.core)) call.who state next
 
+-- GET_TIME that is done: its core's time is due to the caller, and nothing else changes
+abbrev pub TimeIsTheSentence : Type 0
+TimeIsTheSentence =
+    (configuration : Configuration) (state : State) (ordered : Ordered) (call : CallRecord) (next : State)
+    → Step configuration state ordered next → ordered.rec.body ≡ Call call
+    → call.request ≡ request.GetTime → call.claim.out ≡ out.Answer code.NoError
+    → OnlyChanges (HasOutcomeDue (record { service = service.GetTime; code = code.NoError; val = Some (pos (time_of state.cores ordered.core)); bytes = [] })
+    (time_of state.cores ordered.core)) call.who state next
+
 -- STOP_SELF: the caller is dormant, and nothing else changes
 abbrev pub StopIsTheSentence : Type 0
 StopIsTheSentence =
@@ -173,6 +182,18 @@ GivingWayIsTheSentence =
     → Step configuration state ordered next → ordered.rec.body ≡ Call call
     → call.request ≡ request.TimedWait delay → call.claim.out ≡ out.Answer code.NoError
     → (delay ≡ pos 0) × OnlyChanges (HasGivenWay ordered.pos (time_of state.cores ordered.core)) call.who state next
+
+-- INITIALIZE_PROCESS_CORE_AFFINITY that is done, for another process than the caller: the core is one of the partition's, and
+-- the process runs on it from now on
+abbrev pub AffinityIsTheSentence : Type 0
+AffinityIsTheSentence =
+    (configuration : Configuration) (state : State) (ordered : Ordered) (call : CallRecord) (process core : ℤ) (next : State)
+    → Step configuration state ordered next → ordered.rec.body ≡ Call call
+    → call.request ≡ request.InitializeProcessCoreAffinity process core → call.claim.out ≡ out.Answer code.NoError
+    → ¬ (process ≡ pos call.who.proc)
+    → (target : ℕ) × (process ≡ pos target) × (on : ℕ) × (core ≡ pos on)
+    × IsTrue (has_core on (limits_of configuration call.who.part))
+    × IsAffinityOf call.who (record { part = call.who.part; proc = target }) on (time_of state.cores ordered.core) state next
 
 -- START that is done, in a state of distinct numbers
 abbrev pub StartIsTheSentence : Type 0

@@ -39,7 +39,7 @@ ModesStay state next = (number : ℕ) → (next.partitions number).mode ≡ (sta
 
 -- what changes of one process
 
--- the name, the base priority and the affinity of a process are its own for ever
+-- the name, the base priority and the core of a process stay
 pub record IsSameProcess (old new : Process) : Type 0 where
   pub name : new.name ≡ old.name
   pub base_priority : new.base_priority ≡ old.base_priority
@@ -83,6 +83,18 @@ pub record HasOutcomeDue (outcome : Outcome) (now : ℕ) (old new : Process) : T
   pub wait : new.wait ≡ old.wait
   pub ready_position : new.ready_position ≡ old.ready_position
   pub current_priority : new.current_priority ≡ old.current_priority
+
+-- it runs on this core from now on; nothing else of it changes   (INITIALIZE_PROCESS_CORE_AFFINITY, section 3)
+pub record HasMoved (core : ℕ) (old new : Process) : Type 0 where
+  pub affinity : new.affinity ≡ core
+  pub name : new.name ≡ old.name
+  pub base_priority : new.base_priority ≡ old.base_priority
+  pub current_priority : new.current_priority ≡ old.current_priority
+  pub alive : new.alive ≡ old.alive
+  pub wait : new.wait ≡ old.wait
+  pub ready_position : new.ready_position ≡ old.ready_position
+  pub due : new.due ≡ old.due
+  pub called_at : new.called_at ≡ old.called_at
 
 -- it is dormant, and this was its core's time at the call; nothing else of it changes
 pub record IsDormant (now : ℕ) (old new : Process) : Type 0 where
@@ -196,6 +208,15 @@ pub record IsCreationOf (caller created : Who) (name : List ℕ) (priority : ℤ
   pub new : (process : Process) × (process_in next created ≡ Some process) × IsCreated name priority core process
   pub answered : Turns (HasOutcomeDue (record { service = service.CreateProcess; code = code.NoError; val = Some (pos created.proc); bytes = [] }) now) state next caller
   pub others : (other : Who) → ¬ (other ≡ caller) → ¬ (other ≡ created) → Stays state next other
+  pub modes : ModesStay state next
+  pub cores : next.cores ≡ state.cores
+
+-- INITIALIZE_PROCESS_CORE_AFFINITY that is done: the target runs on this core, NO_ERROR is due to the caller, and nothing else
+-- changes
+pub record IsAffinityOf (caller target : Who) (core now : ℕ) (state next : State) : Type 0 where
+  pub moved : Turns (HasMoved core) state next target
+  pub answered : Turns (HasOutcomeDue (record { service = service.InitializeProcessCoreAffinity; code = code.NoError; val = None; bytes = [] }) now) state next caller
+  pub others : (other : Who) → ¬ (other ≡ caller) → ¬ (other ≡ target) → Stays state next other
   pub modes : ModesStay state next
   pub cores : next.cores ≡ state.cores
 

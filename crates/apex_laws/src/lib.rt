@@ -7,7 +7,7 @@
 //! service that is judged, changes what its sentence names and nothing else.
 #![tactic(auto)]
 
-ghost use Rattle.apex_laws.specs.Laws.{AtMostOneNextState, ChoiceIsTheSentence, CreationIsTheSentence, DispatchIsTheSentence, GivingWayIsTheSentence, NormalModeIsTheSentence, OneFirstRefusal, OneRun, OwnNumberIsTheSentence, PiecesCompose, PiecesFollow, RefusalIsTheSentence, ReturnIsTheSentence, RunOfEach, SilentPieceRuns, StartIsTheSentence, StopIsTheSentence, TablesStayDistinct, TickIsTheSentence, WaitIsTheSentence};
+ghost use Rattle.apex_laws.specs.Laws.{AffinityIsTheSentence, AtMostOneNextState, ChoiceIsTheSentence, CreationIsTheSentence, DispatchIsTheSentence, GivingWayIsTheSentence, NormalModeIsTheSentence, OneFirstRefusal, OneRun, OwnNumberIsTheSentence, PiecesCompose, PiecesFollow, RefusalIsTheSentence, ReturnIsTheSentence, RunOfEach, SilentPieceRuns, StartIsTheSentence, StopIsTheSentence, TablesStayDistinct, TickIsTheSentence, TimeIsTheSentence, WaitIsTheSentence};
 
 /// A record leads from a state to at most one next state.
 pub fn at_most_one_next_state()
@@ -99,6 +99,17 @@ pub fn creation_is_the_sentence()
 /// GET_MY_ID that is done makes the caller's number due to it, and changes nothing else.
 pub fn own_number_is_the_sentence()
     ensures { OwnNumberIsTheSentence }
+{}
+
+/// INITIALIZE_PROCESS_CORE_AFFINITY that is done puts another process on a core of the partition. NO_ERROR is due to the
+/// caller, and nothing else changes.
+pub fn affinity_is_the_sentence()
+    ensures { AffinityIsTheSentence }
+{}
+
+/// GET_TIME that is done makes the time of its caller's core due to it, and changes nothing else.
+pub fn time_is_the_sentence()
+    ensures { TimeIsTheSentence }
 {}
 
 /// STOP_SELF makes its caller dormant, and changes nothing else.

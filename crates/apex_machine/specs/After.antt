@@ -70,6 +70,7 @@ numbered None process = []
 numbered (Some (pos number)) process = (number, process) ∷ []
 numbered (Some (negsuc n)) process = []
 
+-- what a call adds to the table of its caller's partition: a created process, on this core
 abbrev pub created_by : ℕ → CallRecord → Request → Table
 created_by core call (request.CreateProcess name priority period) =
     if is_done call.claim.out then numbered call.claim.val (new_process core name priority) else []
@@ -103,6 +104,7 @@ partition_by configuration cores place core number (Call call) partition =
     then partition_called (first_core configuration number) place (time_of cores core) call partition
     else partition
 
+-- a partition after an ordered record
 abbrev pub partition_after : Configuration → List CoreState → ℕ → Ordered → Partition → Partition
 partition_after configuration cores number ordered partition =
     partition_by configuration cores ordered.pos ordered.core number ordered.rec.body partition
@@ -114,6 +116,7 @@ cores_by core (Tick woken) cores = at_core (λ state. record state { time = stat
 cores_by core (Ret ret) cores = cores
 cores_by core (Call call) cores = cores
 
+-- the cores after an ordered record
 abbrev pub cores_after : Ordered → List CoreState → List CoreState
 cores_after ordered cores = cores_by ordered.core ordered.rec.body cores
 

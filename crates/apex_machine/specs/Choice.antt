@@ -7,6 +7,7 @@ use Rattle.apex_machine.specs.declared.state.Wait.TheVariants as wait
 use Rattle.apex_machine.specs.Configuration.{Configuration, window_at}
 use Rattle.apex_machine.specs.State.{Partition, State, Table, time_of}
 
+-- whether a wait is none
 abbrev pub waits_for_nothing : Wait → Bool
 waits_for_nothing wait.Nothing = true
 waits_for_nothing wait.NormalMode = false
@@ -23,14 +24,17 @@ goes_before a b =
     || (nat_eq a.1.current_priority b.1.current_priority
     && (nat_lt a.1.ready_position b.1.ready_position || (nat_eq a.1.ready_position b.1.ready_position && nat_lt a.0 b.0)))
 
+-- the entry that goes before, of one and what another walk has found
 abbrev pub sooner : ℕ × Process → Option (ℕ × Process) → Option (ℕ × Process)
 sooner entry None = Some entry
 sooner entry (Some other) = if goes_before other entry then Some other else Some entry
 
+-- the entry before which none of a table goes, found by a walk from its end
 abbrev pub foremost : Table → Option (ℕ × Process)
 foremost [] = None
 foremost (entry ∷ entries) = sooner entry (foremost entries)
 
+-- the processes of a table that are ready on a core
 abbrev pub ready_entries : ℕ → Table → Table
 ready_entries core table = filter (λ entry. is_ready core entry.1) table
 
@@ -38,11 +42,12 @@ ready_entries core table = filter (λ entry. is_ready core entry.1) table
 abbrev pub choice_in : ℕ → ℕ → Table → Option Who
 choice_in partition core table = option_map (λ entry. record { part = partition; proc = entry.0 }) (foremost (ready_entries core table))
 
+-- the choice of a core whose window is this partition's; idle where it is in no window
 abbrev pub choice_of : Option ℕ → (ℕ → Partition) → ℕ → Option Who
 choice_of None partitions core = None
 choice_of (Some partition) partitions core = choice_in partition core (partitions partition).table
 
--- the choice of a core: of the partition whose window it is; idle in no window
+-- the choice of a core at its present time: of the partition whose window it is   (partition scheduling, section 2)
 abbrev pub choice : Configuration → State → ℕ → Option Who
 choice configuration state core = choice_of (window_at configuration core (time_of state.cores core)) state.partitions core
 

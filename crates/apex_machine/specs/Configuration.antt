@@ -1,5 +1,6 @@
 -- What a module's configuration says: cores, frame, skew, partitions with their limits, windows.
 use Rattle.std.specs.Prelude.{◌≡◌, IsTrue, ℕ, ◌+◌, ◌%◌, List, [], ◌∷◌, Option, Some, None, Bool, false, ◌&&◌, nat_eq, nat_le, nat_lt, if◌then◌else◌, is_some}
+use Rattle.std.specs.List.{list_any}
 
 -- a partition's window: from its start on, for its length, the core is the partition's in each major frame
 pub record Window : Type 0 where
@@ -32,6 +33,7 @@ pub record Configuration : Type 0 where
 abbrev pub is_within : ℕ → ℕ → Window → Bool
 is_within core offset window = nat_eq window.core core && (nat_le window.start offset && nat_lt offset (window.start + window.span))
 
+-- the partition of the first of these windows that holds the time within the major frame, if any
 abbrev pub window_among : ℕ → ℕ → List Window → Option ℕ
 window_among core offset [] = None
 window_among core offset (window ∷ windows) = if is_within core offset window then Some window.partition else window_among core offset windows
@@ -40,6 +42,7 @@ window_among core offset (window ∷ windows) = if is_within core offset window 
 abbrev pub window_at : Configuration → ℕ → ℕ → Option ℕ
 window_at configuration core time = window_among core (time % configuration.frame) configuration.windows
 
+-- the limits of a partition among others, by its number
 abbrev pub limits_among : ℕ → List PartitionLimits → Option PartitionLimits
 limits_among number [] = None
 limits_among number (limits ∷ others) = if nat_eq limits.number number then Some limits else limits_among number others
@@ -56,10 +59,17 @@ has_partition configuration number = is_some (limits_of configuration number)
 abbrev pub has_channel : Configuration → ℕ → Bool
 has_channel configuration number = false
 
+-- whether a partition is configured and this is one of its cores
+abbrev pub has_core : ℕ → Option PartitionLimits → Bool
+has_core core None = false
+has_core core (Some limits) = list_any (nat_eq core) limits.cores
+
+-- the first core of a list; a configured partition has one at least
 abbrev pub first_of : List ℕ → ℕ
 first_of [] = 0
 first_of (core ∷ cores) = core
 
+-- the first core, by the limits of the partition, if it is configured
 abbrev pub first_core_in : Option PartitionLimits → ℕ
 first_core_in None = 0
 first_core_in (Some limits) = first_of limits.cores
@@ -68,6 +78,7 @@ first_core_in (Some limits) = first_of limits.cores
 abbrev pub first_core : Configuration → ℕ → ℕ
 first_core configuration number = first_core_in (limits_of configuration number)
 
+-- how many processes may be created, by the limits of the partition, if it is configured
 abbrev pub process_limit_in : Option PartitionLimits → ℕ
 process_limit_in None = 0
 process_limit_in (Some limits) = limits.processes
@@ -76,6 +87,7 @@ process_limit_in (Some limits) = limits.processes
 abbrev pub process_limit : Configuration → ℕ → ℕ
 process_limit configuration number = process_limit_in (limits_of configuration number)
 
+-- the period, by the limits of the partition, if it is configured
 abbrev pub period_in : Option PartitionLimits → ℕ
 period_in None = 1
 period_in (Some limits) = limits.period

@@ -30,6 +30,7 @@ pub data Part : Type 0 where
   ModulePart : (cores : List CoreState) → Part
   PartitionPart : (number : ℕ) → (cores : List CoreState) → (partition : Partition) → Part
 
+-- the part of a state that a piece holds
 abbrev pub part : Piece → State → Part
 part Module state = ModulePart state.cores
 part (OfPartition number) state = PartitionPart number state.cores (state.partitions number)
@@ -52,6 +53,7 @@ touched_by (Tick woken) (OfPartition number) = true
 touched_by (Call call) (OfPartition number) = nat_eq call.who.part number || names_one_of number call.claim.woken
 touched_by (Ret ret) (OfPartition number) = nat_eq ret.who.part number
 
+-- whether a record touches a piece
 abbrev pub touches : Piece → Ordered → Bool
 touches piece ordered = touched_by ordered.rec.body piece
 
@@ -62,6 +64,7 @@ pub record Demand : Type 1 where
   pub cause : Cause
   pub holds : Type 0
 
+-- all demands hold
 abbrev pub AllHold : List {1} Demand → Type 0
 AllHold [] = Unit {0}
 AllHold (demand ∷ demands) = demand.holds × AllHold demands
@@ -131,7 +134,7 @@ own_call_demands configuration number cores partition core call =
     ∷ record { cause = cause.OutsideProfile; holds = IsWithinProfile codes call.who call.request }
     ∷ record { cause = cause.Prio; holds = HasPriority call.claim.prio (process_at partition.table call.who.proc) }
     ∷ record { cause = cause.Chan; holds = call.claim.chan ≡ None }
-    ∷ outcome_demands codes partition.table (answer_of call.who call.request) call.claim
+    ∷ outcome_demands codes partition.table (answer_of (time_of cores core) call.who call.request) call.claim
 
 -- a call of another partition that names one of these processes: no service of today wakes a process elsewhere
 abbrev pub foreign_call_demands : Configuration → ℕ → List CoreState → Partition → ℕ → CallRecord → List {1} Demand
@@ -139,6 +142,7 @@ foreign_call_demands configuration number cores partition core call =
     record { cause = cause.Choice; holds = InWindowOf number (window_now configuration cores core) (IsRunning number cores partition.table core call.who) }
     ∷ record { cause = cause.Woken; holds = ⊥ } ∷ []
 
+-- a call of one of the partition's own processes, or of another's
 abbrev pub call_demands : Bool → Configuration → ℕ → List CoreState → Partition → ℕ → CallRecord → List {1} Demand
 call_demands true configuration number cores partition core call = own_call_demands configuration number cores partition core call
 call_demands false configuration number cores partition core call = foreign_call_demands configuration number cores partition core call

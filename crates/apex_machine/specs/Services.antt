@@ -21,13 +21,16 @@ use Rattle.apex_machine.specs.State.{Table, process_at}
 -- the services that are judged; a call of any other stands outside the profile
 abbrev pub is_built : Service → Bool
 is_built service.CreateProcess = true
+is_built service.InitializeProcessCoreAffinity = true
 is_built service.Start = true
 is_built service.StopSelf = true
 is_built service.GetMyId = true
 is_built service.TimedWait = true
+is_built service.GetTime = true
 is_built service.SetPartitionMode = true
 is_built _ = false
 
+-- whether a period is none
 abbrev pub is_aperiodic : ℤ → Bool
 is_aperiodic (pos n) = nat_eq n 0
 is_aperiodic (negsuc n) = true
@@ -72,15 +75,16 @@ abbrev pub is_over : ℤ → Bool
 is_over (pos n) = nat_eq n 0
 is_over (negsuc n) = false
 
--- CREATE_PROCESS gives a new number, GET_MY_ID the caller's; TIMED_WAIT waits, but for a delay of 0; STOP_SELF and
--- SET_PARTITION_MODE to NORMAL do not return   (process management, section 3)
-abbrev pub answer_of : Who → Request → Answer
-answer_of who (request.CreateProcess name priority period) = done_with NewNumber
-answer_of who request.GetMyId = done_with (Number (pos who.proc))
-answer_of who (request.TimedWait delay) = if is_over delay then done_with Nothing else waiting
-answer_of who request.StopSelf = never
-answer_of who (request.SetPartitionMode mode) = never
-answer_of who _ = done_with Nothing
+-- CREATE_PROCESS gives a new number, GET_MY_ID the caller's, GET_TIME its core's time; TIMED_WAIT waits, but for a delay of
+-- 0; STOP_SELF and SET_PARTITION_MODE to NORMAL do not return   (process and time management, section 3)
+abbrev pub answer_of : ℕ → Who → Request → Answer
+answer_of now who (request.CreateProcess name priority period) = done_with NewNumber
+answer_of now who request.GetMyId = done_with (Number (pos who.proc))
+answer_of now who request.GetTime = done_with (Number (pos now))
+answer_of now who (request.TimedWait delay) = if is_over delay then done_with Nothing else waiting
+answer_of now who request.StopSelf = never
+answer_of now who (request.SetPartitionMode mode) = never
+answer_of now who _ = done_with Nothing
 
 -- a new number is 1 to 2,147,483,647, and no process has it
 abbrev pub is_new_number : Table → Option ℤ → Bool
@@ -96,6 +100,10 @@ HasValue table NewNumber claimed = is_new_number table claimed ≡ true
 
 -- what a service sets in its partition
 
+-- a process that runs on this core from now on
+abbrev pub moved_to : ℕ → Process → Process
+moved_to core process = record process { affinity = core }
+
 -- START sets the current priority back; the process is ready at once in NORMAL, and else waits for NORMAL
 abbrev pub started : ℕ → Mode → Process → Process
 started place mode process = record process {
@@ -105,6 +113,7 @@ started place mode process = record process {
   ready_position = place;
 }
 
+-- whether a wait is that for NORMAL
 abbrev pub waits_for_normal : Wait → Bool
 waits_for_normal wait.NormalMode = true
 waits_for_normal wait.Nothing = false
@@ -114,31 +123,36 @@ waits_for_normal (wait.Until time) = false
 abbrev pub after_normal : ℕ → Process → Process
 after_normal place process = if waits_for_normal process.wait then record process { wait = wait.Nothing; ready_position = place } else process
 
+-- whether a caller's number is this process's
 abbrev pub is_number : ℤ → ℕ → Bool
 is_number (pos n) number = nat_eq n number
 is_number (negsuc n) number = false
 
--- what a call sets in the processes of its partition, beside its caller's wait and outcome
+-- a caller's number that is not below 0; no condition lets another through where this is used
+abbrev pub natural_of : ℤ → ℕ
+natural_of (pos n) = n
+natural_of (negsuc n) = 0
+
+-- what a call sets in the processes of its partition, beside its caller's wait and outcome:
+-- INITIALIZE_PROCESS_CORE_AFFINITY the core of its target, START its target, SET_PARTITION_MODE those that wait for NORMAL
 abbrev pub set_by : ℕ → Mode → Request → ℕ → Process → Process
+set_by place mode (request.InitializeProcessCoreAffinity process core) number x =
+    if is_number process number then moved_to (natural_of core) x else x
 set_by place mode (request.Start process) number x = if is_number process number then started place mode x else x
 set_by place mode (request.SetPartitionMode next) number x = after_normal place x
 set_by place mode _ number x = x
 
--- the mode after a call
+-- the mode after a call: only NORMAL can be entered
 abbrev pub mode_by : Request → Mode → Mode
 mode_by (request.SetPartitionMode next) current = mode.Normal
 mode_by _ current = current
-
-abbrev pub priority_of : ℤ → ℕ
-priority_of (pos n) = n
-priority_of (negsuc n) = 0
 
 -- a created process is dormant, on the partition's first core
 abbrev pub new_process : ℕ → List ℕ → ℤ → Process
 new_process core name priority = record {
   name = name;
-  base_priority = priority_of priority;
-  current_priority = priority_of priority;
+  base_priority = natural_of priority;
+  current_priority = natural_of priority;
   affinity = core;
   alive = false;
   wait = wait.Nothing;

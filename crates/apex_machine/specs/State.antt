@@ -12,6 +12,7 @@ use Rattle.apex_machine.specs.Configuration.{Configuration, first_core}
 abbrev pub Table : Type 0
 Table = List (ℕ × Process)
 
+-- a partition: its operating mode and its processes   (partition modes, section 2)
 pub record Partition : Type 0 where
   pub mode : Mode
   pub table : Table
@@ -85,9 +86,11 @@ cold_partition configuration number = record {
   table = (0, initialising_process (first_core configuration number)) ∷ [];
 }
 
+-- a core before the first record: no tick has passed, and no dispatch has given it to a process
 abbrev pub cold_core : CoreState
 cold_core = record { time = 0; occupant = None }
 
+-- the cores before the first record
 abbrev pub cold_cores : Configuration → List CoreState
 cold_cores configuration = replicate configuration.cores cold_core
 

@@ -31,10 +31,12 @@ abbrev pub AllConfigured : Configuration → List Who → Type 0
 AllConfigured configuration [] = Unit {0}
 AllConfigured configuration (who ∷ others) = IsTrue (has_partition configuration who.part) × AllConfigured configuration others
 
+-- the process that a dispatch names, if any, is of a configured partition
 abbrev pub OneConfigured : Configuration → Option Who → Type 0
 OneConfigured configuration None = Unit {0}
 OneConfigured configuration (Some who) = IsTrue (has_partition configuration who.part)
 
+-- a channel that is claimed is configured
 abbrev pub ChannelConfigured : Configuration → Option ℕ → Type 0
 ChannelConfigured configuration None = Unit {0}
 ChannelConfigured configuration (Some channel) = IsTrue (has_channel configuration channel)
@@ -64,22 +66,27 @@ NamesThoseDue partition core time table woken =
 
 -- calls and returns
 
+-- the process is there, and no outcome is due to it
 abbrev pub HasNoneDue : Option Process → Type 0
 HasNoneDue None = ⊥
 HasNoneDue (Some process) = process.due ≡ None
 
+-- the process is there, and this is its current priority
 abbrev pub HasPriority : ℕ → Option Process → Type 0
 HasPriority priority None = ⊥
 HasPriority priority (Some process) = process.current_priority ≡ priority
 
+-- the outcome that is due to a process, if it is there and one is
 abbrev pub due_of : Option Process → Option Outcome
 due_of None = None
 due_of (Some process) = process.due
 
+-- a code is one of these
 abbrev pub IsAmong : List Code → Code → Type 0
 IsAmong [] code = ⊥
 IsAmong (other ∷ others) code = (code ≡ other) ⊎ IsAmong others code
 
+-- an outcome is one of these codes
 abbrev pub HasCode : List Code → Out → Type 0
 HasCode codes out.Waits = ⊥
 HasCode codes out.Never = ⊥
@@ -101,6 +108,7 @@ pub record IsAnswered (table : Table) (answer : Answer) (claim : Claim) : Type 0
   pub bytes : claim.bytes ≡ answer.bytes
   pub woken : claim.woken ≡ answer.woken
 
+-- the outcome of a call on which these error conditions hold, or none
 abbrev pub HasOutcome : List Code → Table → Answer → Claim → Type 0
 HasOutcome [] table answer claim = IsAnswered table answer claim
 HasOutcome (code ∷ codes) table answer claim = IsRefused (code ∷ codes) claim
@@ -141,7 +149,7 @@ pub record IsLawfulCall (configuration : Configuration) (state : State) (core : 
   pub profile : IsWithinProfile (condition_codes configuration call.who (state.partitions call.who.part) call.request) call.who call.request
   pub prio : HasPriority call.claim.prio (process_at (state.partitions call.who.part).table call.who.proc)
   pub outcome : HasOutcome (condition_codes configuration call.who (state.partitions call.who.part) call.request)
-      (state.partitions call.who.part).table (answer_of call.who call.request) call.claim
+      (state.partitions call.who.part).table (answer_of (time_of state.cores core) call.who call.request) call.claim
 
 -- a return comes from the occupant, which is the choice, and gives back the outcome that is due
 pub record IsLawfulReturn (configuration : Configuration) (state : State) (core : ℕ) (ret : Return) : Type 0 where
@@ -150,6 +158,7 @@ pub record IsLawfulReturn (configuration : Configuration) (state : State) (core 
   pub choice : choice configuration state core ≡ Some ret.who
   pub due : due_of (process_at (state.partitions ret.who.part).table ret.who.proc) ≡ Some (outcome_returned ret)
 
+-- what a record claims is so
 abbrev pub IsLawfulBody : Configuration → State → ℕ → Body → Type 0
 IsLawfulBody configuration state core (Disp who) = IsLawfulDispatch configuration state core who
 IsLawfulBody configuration state core (Tick woken) = IsLawfulTick configuration state core woken
@@ -165,7 +174,7 @@ pub record IsLawful (configuration : Configuration) (state : State) (ordered : O
 abbrev pub Step : Configuration → State → Ordered → State → Type 0
 Step configuration state ordered next = IsLawful configuration state ordered × (next ≡ after configuration state ordered)
 
--- one step after another
+-- a run: one step after another
 abbrev pub Run : Configuration → State → List Ordered → State → Type 0
 Run configuration state [] final = final ≡ state
 Run configuration state (ordered ∷ others) final =

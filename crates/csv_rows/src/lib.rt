@@ -10,6 +10,3 @@ mod watched;
 
 pub use decimal::{read_decimal, read_signed};
 pub use stream::{CsvRows, StreamFault};
-
-#[cfg(test)]
-mod tests;

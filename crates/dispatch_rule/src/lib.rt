@@ -10,6 +10,3 @@ mod rule;
 
 pub use clock::{Clock, Skew};
 pub use rule::{choice, owns_window, settled};
-
-#[cfg(test)]
-mod tests;

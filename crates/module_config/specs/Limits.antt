@@ -1,7 +1,7 @@
 -- What each configuration keeps.
-use Rattle.std.specs.Prelude.{◌≡◌, ℕ, ◌≤◌, ◌<◌, List, [], ◌∷◌, length, map, All, true, false, ⊤}
+use Rattle.std.specs.Prelude.{◌≡◌, ℕ, ◌≤◌, ◌<◌, List, [], ◌∷◌, length, map, All, IsTrue, true, false, ⊤}
 use Rattle.std.specs.List.{AllByRecursion}
-use Rattle.apex_machine.specs.Configuration.{Configuration, PartitionLimits, first_of}
+use Rattle.apex_machine.specs.Configuration.{Configuration, PartitionLimits, has_core, limits_of}
 use Rattle.module_config.specs.Whole.{is_too_large, are_of_partitions, has_overlap}
 
 -- a partition's number, period and processes are within their limits
@@ -21,6 +21,10 @@ abbrev pub IsRising : List PartitionLimits → Type 0
 IsRising [] = ⊤
 IsRising (limits ∷ others) = AllByRecursion (λ other. limits.number < other.number) others × IsRising others
 
+-- a partition's cores are of a module that has this many
+abbrev pub AreCoresOf : ℕ → PartitionLimits → Type 0
+AreCoresOf count limits = All (λ core. core < count) limits.cores
+
 -- the numbers of a configuration are within their limits
 pub record IsWithinLimits (configuration : Configuration) : Type 0 where
   pub cores_least : 1 ≤ configuration.cores
@@ -30,7 +34,11 @@ pub record IsWithinLimits (configuration : Configuration) : Type 0 where
   pub skew_least : 1 ≤ configuration.skew
   pub skew_most : configuration.skew ≤ 4294967295
   pub some_partition : 1 ≤ length configuration.partitions
-  pub first_cores : All (λ limits. first_of limits.cores < configuration.cores) configuration.partitions
+  pub own_cores : All (AreCoresOf configuration.cores) configuration.partitions
+
+-- each core of a partition is one of the module's
+abbrev pub CoresAreOfModule : Configuration → Type 0
+CoresAreOfModule configuration = (number core : ℕ) → IsTrue (has_core core (limits_of configuration number)) → core < configuration.cores
 
 -- the parts of a configuration go together: no number twice, each window on a core of its partition, no overlap
 pub record IsConsistent (configuration : Configuration) : Type 0 where

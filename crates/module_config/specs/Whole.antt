@@ -1,23 +1,15 @@
 -- What is refused over the whole of a configuration, once each key has been read.
-use Rattle.std.specs.Prelude.{ℕ, ◌+◌, List, [], ◌∷◌, length, Option, Some, None, is_some, Bool, false, not, ◌&&◌, ◌||◌, nat_eq, nat_lt, if◌then◌else◌, codes}
+use Rattle.std.specs.Prelude.{◌+◌, List, [], ◌∷◌, length, Option, Some, None, is_some, Bool, false, not, ◌&&◌, ◌||◌, nat_eq, nat_lt, if◌then◌else◌, codes}
 use Rattle.std.specs.List.{list_any, list_all}
 use Rattle.toml.specs.Data.{Members, get_member}
-use Rattle.apex_machine.specs.Configuration.{Configuration, PartitionLimits, Window, limits_among}
+use Rattle.apex_machine.specs.Configuration.{Configuration, PartitionLimits, Window, has_core, limits_among}
 use Rattle.module_config.specs.declared.fault.ConfigFault.{ConfigFault}
 use Rattle.module_config.specs.declared.fault.ConfigFault.TheVariants.{TooMany, Duplicate, CoreNotOfPartition, Overlap}
 
--- there is one window, and it is the whole major frame
-abbrev pub is_whole_frame : ℕ → List Window → Bool
-is_whole_frame frame [] = false
-is_whole_frame frame (window ∷ []) = nat_eq window.start 0 && nat_eq window.span frame
-is_whole_frame frame (window ∷ another ∷ windows) = false
-
--- what is not served yet: a second core, a second partition, more or less than one window of the whole frame, and ports
+-- what is not served yet: a second partition, and ports
 abbrev pub is_not_served : Members → Configuration → Bool
 is_not_served keys configuration =
-    nat_lt 1 configuration.cores
-    || nat_lt 1 (length configuration.partitions)
-    || not (is_whole_frame configuration.frame configuration.windows)
+    nat_lt 1 (length configuration.partitions)
     || is_some (get_member (codes "sampling") keys)
     || is_some (get_member (codes "queuing") keys)
 
@@ -29,11 +21,6 @@ is_too_large configuration = nat_lt 32 (length configuration.partitions) || nat_
 abbrev pub has_duplicate : List PartitionLimits → Bool
 has_duplicate [] = false
 has_duplicate (limits ∷ others) = is_some (limits_among limits.number others) || has_duplicate others
-
--- a partition was found, and the core is one of its cores
-abbrev pub has_core : ℕ → Option PartitionLimits → Bool
-has_core core None = false
-has_core core (Some limits) = list_any (nat_eq core) limits.cores
 
 -- the window's partition is configured, and the window's core is one of its cores
 abbrev pub is_of_partition : List PartitionLimits → Window → Bool

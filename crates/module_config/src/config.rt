@@ -3,9 +3,10 @@
 ghost use Rattle.std.specs.Prelude.{◌≡◌, ◌≤◌, ◌<◌, IfOk, IfSome, Bool, true, length, slice_index};
 ghost use Rattle.toml.specs.View.{table_view};
 ghost use Rattle.apex_machine.specs.Configuration.{window_at, window_among, has_partition, has_channel, WindowsAreConfigured, first_core, process_limit, period_of};
+ghost use Rattle.apex_machine.specs.Conditions.{is_core};
 ghost use Rattle.module_config.specs.Keys.{Gives};
 ghost use Rattle.module_config.specs.Reading.{configuration_of, configuration_under};
-ghost use Rattle.module_config.specs.Limits.{partition_numbers, IsWithinLimits, IsConsistent};
+ghost use Rattle.module_config.specs.Limits.{partition_numbers, CoresAreOfModule, IsWithinLimits, IsConsistent};
 
 use crate::fault::ConfigFault;
 use crate::layout::{Layout, read_layout};
@@ -92,11 +93,13 @@ impl Config {
     }
 
     /// Tells what every configuration keeps: its limits; partitions in rising order, windows of configured partitions
-    /// that share no tick; so that each window is a configured partition's. Does nothing.
+    /// that share no tick; so that each window is a configured partition's, and each core of a partition one of the
+    /// module's. Does nothing.
     pub fn keeps_limits(&self)
         ensures limits { IsWithinLimits self.now }
         ensures consistent { IsConsistent self.now }
         ensures windows { WindowsAreConfigured self.now }
+        ensures cores { CoresAreOfModule self.now }
     {
         let _ = &self.cores;
     }
@@ -178,6 +181,17 @@ impl Config {
         match find_partition(&self.partitions, part) {
             Some(partition) => partition.cores.first(),
             None => CoreId::new(0),
+        }
+    }
+
+    /// Whether a number that a caller gives is one of a partition's cores; none is where no partition of this number is
+    /// configured.
+    pub fn has_core(&self, part: PartId, given: i64) -> bool
+        ensures { result ≡ is_core self.now part given }
+    {
+        match find_partition(&self.partitions, part) {
+            Some(partition) => given >= 0 && partition.cores.contains(given as u64),
+            None => false,
         }
     }
 

@@ -4,10 +4,9 @@ ghost use Rattle.std.specs.Prelude.{◌≡◌, ◌<◌, ◌≤◌, IfOk, All, co
 ghost use Rattle.std.specs.List.{position_or_len};
 ghost use Rattle.toml.specs.Data.{get_member};
 ghost use Rattle.toml.specs.View.{view, table_view, items_view};
-ghost use Rattle.apex_machine.specs.Configuration.{first_of};
 ghost use Rattle.module_config.specs.Keys.{Gives, each_item};
 ghost use Rattle.module_config.specs.Walk.{ordered_partitions, partitions_at, window_in, windows_at, walk};
-ghost use Rattle.module_config.specs.Limits.{IsWithinLimits, IsOrdered};
+ghost use Rattle.module_config.specs.Limits.{AreCoresOf, IsWithinLimits, IsOrdered};
 ghost use Rattle.module_config.specs.Laid.{laid_out};
 
 use crate::fault::ConfigFault;
@@ -52,7 +51,7 @@ pub(crate) fn read_layout(alloc: Global, keys: &Table) -> Result<Layout, ConfigF
 fn partitions(alloc: Global, keys: &Table, count: u8) -> Result<Vec<Partition>, ConfigFault>
     ensures value { Gives (λ found. found.items) result (partitions_at count (get_member (codes "partition") (table_view keys.now))) }
     ensures some { IfOk result (λ found. 1 ≤ length found.items) }
-    ensures first_cores { IfOk result (λ found. All (λ limits. first_of limits.cores < count) found.items) }
+    ensures own_cores { IfOk result (λ found. All (AreCoresOf count) found.items) }
     ensures ordered { IfOk result (λ found. IsOrdered found.items) }
 {
     let Some(value) = member(keys, "partition") else {
@@ -73,7 +72,7 @@ fn ordered_partitions(
 ) -> Result<Vec<Partition>, ConfigFault>
     ensures value { Gives (λ found. found.items) result (ordered_partitions count (items_view items.now)) }
     ensures as_many { IfOk result (λ found. length found.items ≡ length items.now) }
-    ensures first_cores { IfOk result (λ found. All (λ limits. first_of limits.cores < count) found.items) }
+    ensures own_cores { IfOk result (λ found. All (AreCoresOf count) found.items) }
     ensures ordered { IfOk result (λ found. IsOrdered found.items) }
 {
     let mut found = Vec::new(alloc);

@@ -15,6 +15,3 @@ mod window;
 
 pub use config::Config;
 pub use fault::ConfigFault;
-
-#[cfg(test)]
-mod tests;

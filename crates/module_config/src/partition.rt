@@ -1,10 +1,10 @@
 // What is configured of a partition.
 
-ghost use Rattle.std.specs.Prelude.{◌≡◌, ◌<◌, IfOk};
+ghost use Rattle.std.specs.Prelude.{◌≡◌, IfOk};
 ghost use Rattle.toml.specs.Data.{get_member};
 ghost use Rattle.toml.specs.View.{view, table_view};
-ghost use Rattle.apex_machine.specs.Configuration.{first_of};
 ghost use Rattle.module_config.specs.Keys.{Gives};
+ghost use Rattle.module_config.specs.Limits.{AreCoresOf};
 ghost use Rattle.module_config.specs.Walk.{objects_at, partition_in, partition_under};
 
 use crate::cores::CoreList;
@@ -55,7 +55,7 @@ impl Partition {
     /// Reads a partition of a module of `count` cores.
     pub(crate) fn read(alloc: Global, value: &Value, count: u8) -> Result<Partition, ConfigFault>
         ensures value { Gives (λ own. own) result (partition_in count (view value.now)) }
-        ensures first_core { IfOk result (λ own. first_of own.cores < count) }
+        ensures own_cores { IfOk result (λ own. AreCoresOf count own) }
     {
         let Some(keys) = value.as_table() else {
             return Err(ConfigFault::WrongType);
@@ -66,7 +66,7 @@ impl Partition {
     // The partition that a table describes.
     fn from_table(alloc: Global, keys: &Table, count: u8) -> Result<Partition, ConfigFault>
         ensures value { Gives (λ own. own) result (partition_under count (table_view keys.now)) }
-        ensures first_core { IfOk result (λ own. first_of own.cores < count) }
+        ensures own_cores { IfOk result (λ own. AreCoresOf count own) }
     {
         let number = integer(keys, "number", 0, 31)?;
         let period = ticks(keys, "period")?;

@@ -5,7 +5,7 @@ ghost use Rattle.std.specs.List.{list_any};
 ghost use Rattle.toml.specs.View.{table_view};
 ghost use Rattle.apex_machine.specs.Configuration.{limits_among};
 ghost use Rattle.module_config.specs.Laid.{laid_out};
-ghost use Rattle.module_config.specs.Whole.{is_whole_frame, is_not_served, is_too_large, has_duplicate, is_of_partition, are_of_partitions, shares_tick, has_overlap, consistency_fault, whole_fault};
+ghost use Rattle.module_config.specs.Whole.{is_not_served, is_too_large, has_duplicate, is_of_partition, are_of_partitions, shares_tick, has_overlap, consistency_fault, whole_fault};
 
 use crate::fault::ConfigFault;
 use crate::keys::member;
@@ -44,26 +44,13 @@ pub(crate) fn consistency_fault(layout: &Layout) -> Option<ConfigFault>
     None
 }
 
-// Whether a table asks for what is not served yet: a second core, a second partition, more or less than one window of
-// the whole major frame, or ports.
+// Whether a table asks for what is not served yet: a second partition, or ports.
 fn is_not_served(keys: &Table, layout: &Layout) -> bool
     ensures { result ≡ is_not_served (table_view keys.now) (laid_out layout.now) }
 {
-    layout.cores > 1
-        || layout.partitions.len() > 1
-        || !is_whole_frame(layout.frame, &layout.windows)
+    layout.partitions.len() > 1
         || member(keys, "sampling").is_some()
         || member(keys, "queuing").is_some()
-}
-
-// Whether there is one window, and it is the whole major frame.
-fn is_whole_frame(frame: u64, windows: &[TimeWindow]) -> bool
-    ensures { result ≡ is_whole_frame frame windows.now }
-{
-    match windows {
-        [window] => window.is_whole(frame),
-        _ => false,
-    }
 }
 
 // Whether there are more partitions or windows than a module may have.
@@ -114,7 +101,7 @@ fn is_of_partition(partitions: &[Partition], window: &TimeWindow) -> bool
     ensures { result ≡ is_of_partition partitions.now window.now }
 {
     match find_partition(partitions, window.partition()) {
-        Some(partition) => partition.cores.contains(window.core()),
+        Some(partition) => partition.cores.contains(u64::from(window.core().number())),
         None => false,
     }
 }

@@ -13,6 +13,3 @@ mod source;
 pub use fault::{CertFault, OrderFault};
 pub use keeper::Keeper;
 pub use source::CertSource;
-
-#[cfg(test)]
-mod tests;

@@ -1,5 +1,7 @@
--- A lawful call that creates a process claims a new number, and its priority is one.
-use Rattle.std.proofs.Common.{◌≡◌, ◌≢◌, ℕ, List, [], ◌∷◌, ◌++◌, Bool, true, false, not, IsTrue, inl, inr, refl, sym}
+-- What a lawful call asks for can be held: a process that it creates has a new number and a priority in range, and a core that
+-- it gives is one.
+use Rattle.std.proofs.Common.{◌≡◌, ◌≢◌, ◌<◌, ◌≤◌, ℕ, List, [], ◌∷◌, ◌++◌, Bool, true, false, not, IsTrue, inl, inr, ℤ, pos, negsuc, refl, sym, arith}
+use Rattle.std.proofs.lemmas.Bool.Decides.{nat_tests}
 use Rattle.apex_types.specs.declared.code.Code.{Code}
 use Rattle.apex_types.specs.declared.code.Code.TheVariants as error
 use Rattle.apex_types.specs.declared.record.Call.{Call as CallRecord}
@@ -11,13 +13,14 @@ use Rattle.apex_types.specs.declared.request.Request.{Request}
 use Rattle.apex_types.specs.declared.request.Request.TheVariants as request
 use Rattle.apex_machine.specs.declared.state.CoreState.{CoreState}
 use Rattle.apex_machine.specs.Configuration.{Configuration}
-use Rattle.apex_machine.specs.State.{Partition, Table}
-use Rattle.apex_machine.specs.Conditions.{when, condition_codes}
+use Rattle.apex_machine.specs.State.{Partition, Table, time_of}
+use Rattle.apex_machine.specs.Conditions.{when, condition_codes, is_core}
 use Rattle.apex_machine.specs.Services.{Answer, answer_of}
 use Rattle.apex_machine.specs.After.{is_done}
 use Rattle.apex_machine.specs.Step.{IsAmong, HasCode}
 use Rattle.apex_machine.specs.Pieces.{AllHold, outcome_demands, own_call_demands}
-use Rattle.process_state.specs.Sound.{IsSound, CreatesSoundly}
+use Rattle.module_config.specs.Limits.{CoresAreOfModule}
+use Rattle.process_state.specs.Sound.{IsSound, AsksSoundly, is_core_number}
 
 -- none of the codes is NO_ERROR
 abbrev AreErrors : List Code → Type 0
@@ -67,6 +70,25 @@ when_not : (passes : Bool) (code : Code) → when (not passes) code ≡ [] → I
 when_not true code e = refl
 when_not false code e = cc
 
+-- the codes of INITIALIZE_PROCESS_CORE_AFFINITY, by whether each condition holds
+moves : (absent normal : Bool) (passes : Bool) (table : Table) (answer : Answer) (claim : Claim)
+    → AllHold (outcome_demands (when absent error.InvalidParam ++ when normal error.InvalidMode ++ when (not passes) error.InvalidConfig) table answer claim)
+    → IsTrue (is_done claim.out) → IsTrue passes
+moves absent normal passes table answer claim hold done =
+    let one = AreErrors-when absent error.InvalidParam (λ e. cc) in
+    let two = AreErrors-append _ _ one (AreErrors-when normal error.InvalidMode (λ e. cc)) in
+    let three = AreErrors-append _ _ two (AreErrors-when (not passes) error.InvalidConfig (λ e. cc)) in
+    let none = none_where_done _ table answer claim three hold done in
+    when_not passes error.InvalidConfig (nil_right _ _ none.0)
+
+-- a core of a partition is one
+core_is : (configuration : Configuration) (number : ℕ) (core : ℤ) → configuration.cores ≤ 16 → CoresAreOfModule configuration
+    → IsTrue (is_core configuration number core) → IsTrue (is_core_number core)
+core_is configuration number (pos core) few of_module has =
+    let below : core < configuration.cores = of_module number core has in
+    grind (arith, nat_tests)
+core_is configuration number (negsuc core) few of_module has = cc
+
 -- the codes of CREATE_PROCESS, by whether each condition holds
 creates : (normal named full : Bool) (passes : Bool) (no_period no_fit : Bool) (table : Table) (answer : Answer) (claim : Claim)
     → AllHold (outcome_demands (when normal error.InvalidMode ++ when named error.NoAction ++ when full error.InvalidConfig
@@ -82,16 +104,21 @@ creates normal named full passes no_period no_fit table answer claim hold done =
     let none = none_where_done _ table answer claim six hold done in
     (when_not passes error.InvalidParam (nil_right _ _ (nil_left _ _ (nil_left _ _ none.0))), none.1)
 
-creates_soundly : (configuration : Configuration) (who : Who) (partition : Partition) (call : CallRecord) (asked : Request)
-    → AllHold (outcome_demands (condition_codes configuration who partition asked) partition.table (answer_of who asked) call.claim)
-    → CreatesSoundly partition.table call asked
-creates_soundly configuration who partition call (request.CreateProcess name priority period) hold =
-    λ done. let both = creates _ _ _ _ _ _ partition.table (answer_of who (request.CreateProcess name priority period)) call.claim hold done in
+asks_soundly : (configuration : Configuration) (now : ℕ) (who : Who) (partition : Partition) (call : CallRecord) (asked : Request)
+    → configuration.cores ≤ 16 → CoresAreOfModule configuration
+    → AllHold (outcome_demands (condition_codes configuration who partition asked) partition.table (answer_of now who asked) call.claim)
+    → AsksSoundly partition.table call asked
+asks_soundly configuration now who partition call (request.CreateProcess name priority period) few of_module hold =
+    λ done. let both = creates _ _ _ _ _ _ partition.table (answer_of now who (request.CreateProcess name priority period)) call.claim hold done in
     (both.1.1.0, both.0)
-creates_soundly configuration who partition call _ hold = tt
+asks_soundly configuration now who partition call (request.InitializeProcessCoreAffinity process core) few of_module hold =
+    λ done. core_is configuration who.part core few of_module
+    (moves _ _ _ partition.table (answer_of now who (request.InitializeProcessCoreAffinity process core)) call.claim hold done)
+asks_soundly configuration now who partition call _ few of_module hold = tt
 
 -- a lawful call of one of the partition's processes can be carried out
 pub IsSound_lawful : (configuration : Configuration) (number : ℕ) (cores : List CoreState) (partition : Partition) (core : ℕ) (call : CallRecord)
+    → configuration.cores ≤ 16 → CoresAreOfModule configuration
     → AllHold (own_call_demands configuration number cores partition core call) → IsSound partition.table call
-IsSound_lawful configuration number cores partition core call hold =
-    creates_soundly configuration call.who partition call call.request hold.1.1.1.1.1.1
+IsSound_lawful configuration number cores partition core call few of_module hold =
+    asks_soundly configuration (time_of cores core) call.who partition call call.request few of_module hold.1.1.1.1.1.1

@@ -106,6 +106,9 @@ pub(crate) fn conditions_of(config: &Config, table: &ProcTable, call: &Call) -> 
             priority,
             period,
         } => create_process(config, call.who.part, table, name, *priority, *period),
+        Request::InitializeProcessCoreAffinity { process, core } => {
+            initialize_affinity(config, call.who.part, table, *process, *core)
+        }
         Request::Start { process } => start(table.created(*process)),
         Request::GetMyId => Conditions::none().with(initialising, Code::InvalidMode),
         Request::TimedWait { delay } => Conditions::none()
@@ -142,6 +145,23 @@ fn create_process(
         .with(!is_priority(priority), Code::InvalidParam)
         .with(!is_period(period), Code::InvalidParam)
         .with(!suits, Code::InvalidConfig)
+}
+
+// INITIALIZE_PROCESS_CORE_AFFINITY: a created process; not in NORMAL; one of the partition's cores.
+fn initialize_affinity(
+    config: &Config,
+    number: PartId,
+    table: &ProcTable,
+    process: i64,
+    core: i64,
+) -> Conditions
+    ensures { result ≡ services.affinity_codes config.now number table.now process core }
+{
+    let target = table.created(process);
+    Conditions::none()
+        .with(target.is_none(), Code::InvalidParam)
+        .with(is_normal(table.mode()), Code::InvalidMode)
+        .with(!config.has_core(number, core), Code::InvalidConfig)
 }
 
 // START: a created process, and a dormant one.

@@ -18,6 +18,3 @@ mod profile;
 
 pub use fault::PieceFault;
 pub use piece::{Piece, count, touches};
-
-#[cfg(test)]
-mod tests;

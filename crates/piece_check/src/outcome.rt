@@ -19,6 +19,8 @@ pub(crate) enum Due {
     Nothing,
     /// The number of this process.
     Number(ProcId),
+    /// This time, in ticks.
+    Time(u64),
     /// Any number for the new process that no process has.
     NewNumber,
 }
@@ -53,13 +55,14 @@ impl Answer {
     }
 }
 
-/// What a service gives its caller where no error condition holds.
-fn answer_of(who: Who, request: &Request) -> Answer
-    ensures { given result ≡ services.answer_of who request.now }
+/// What a service gives its caller, when its core's time is `now`, where no error condition holds.
+fn answer_of(now: u64, who: Who, request: &Request) -> Answer
+    ensures { given result ≡ services.answer_of now who request.now }
 {
     match request {
         Request::CreateProcess { .. } => Answer::done_with(Due::NewNumber),
         Request::GetMyId => Answer::done_with(Due::Number(who.proc)),
+        Request::GetTime => Answer::done_with(Due::Time(now)),
         Request::TimedWait { delay } => {
             if is_over(*delay) {
                 Answer::done_with(Due::Nothing)
@@ -79,26 +82,28 @@ fn has_value(table: &ProcTable, due: Due, claimed: Option<i64>) -> bool
     match due {
         Due::Nothing => claimed.is_none(),
         Due::Number(process) => claimed == Some(i64::from(process.number())),
+        Due::Time(now) => claimed.is_some_and(|value| value >= 0 && value as u64 == now),
         Due::NewNumber => table.is_new_number(claimed),
     }
 }
 
 /// Judges the outcome of a call on which these error conditions hold: one of their codes and nothing else, or where none
-/// holds what the service gives.
+/// holds what the service gives when its core's time is `now`.
 pub(crate) fn judge_outcome(
     conditions: &Conditions,
     table: &ProcTable,
+    now: u64,
     call: &Call,
 ) -> Result<(), Cause>
-    ensures { Judges (outcome_demands conditions.now table.now.table (services.answer_of call.now.who call.now.request) call.now.claim) result }
+    ensures { Judges (outcome_demands conditions.now table.now.table (services.answer_of now call.now.who call.now.request) call.now.claim) result }
 {
     if conditions.is_empty() {
-        judge_answered(table, answer_of(call.who, &call.request), &call.claim)
+        judge_answered(table, answer_of(now, call.who, &call.request), &call.claim)
     } else {
         judge_refused(
             conditions,
             table,
-            answer_of(call.who, &call.request),
+            answer_of(now, call.who, &call.request),
             &call.claim,
         )
     }

@@ -59,6 +59,7 @@ impl PartitionPiece {
         ensures unchanged { OnErr result (self.new ≡ self.old) }
         ensures memory { OnErr result (IsCall ordered.now.rec.body) }
     {
+        config.keeps_limits();
         match &ordered.rec.body {
             Body::Call(call) => {
                 if call.who.part == self.number {
@@ -97,9 +98,8 @@ impl PartitionPiece {
         requires { time_of self.now.clock.cores core < 68719476720 }
         ensures { Judges (asked_by_partition config.now self.now core (body.Tick woken.now)) result }
     {
-        if self.is_in_window(config, core)
-            && self.table.ready_on(self.number, core) != self.clock.on(core)
-        {
+        let occupant = self.clock.on(core);
+        if self.is_in_window(config, core) && self.table.ready_on(self.number, core) != occupant {
             return Err(Cause::Choice);
         }
         let next = self.clock.now(core) + 1;
@@ -135,7 +135,7 @@ impl PartitionPiece {
         if call.claim.chan.is_some() {
             return Err(Cause::Chan);
         }
-        judge_outcome(&conditions, &self.table, call)
+        judge_outcome(&conditions, &self.table, self.clock.now(core), call)
     }
 
     // A call of another partition's process: no service that is judged wakes a process elsewhere.

@@ -22,10 +22,12 @@ fn is_built(service: Service) -> bool
 {
     match service {
         Service::CreateProcess
+        | Service::InitializeProcessCoreAffinity
         | Service::Start
         | Service::StopSelf
         | Service::GetMyId
         | Service::TimedWait
+        | Service::GetTime
         | Service::SetPartitionMode => true,
         _ => false,
     }

@@ -1,5 +1,5 @@
 -- Readings of a text's items, and functions of the core that change at one core.
-use Rattle.std.proofs.Common.{◌≡◌, ◌≢◌, ◌⊎◌, ◌∙◌, ℕ, List, [], ◌∷◌, ◌++◌, Bool, true, false, Option, Result, Ok, Err, map, refl, sym, ap, inl, inr, nat_eq, eqb-true, eq-eqb, true≢false}
+use Rattle.std.proofs.Common.{◌≡◌, ◌≢◌, ◌⊎◌, ◌∙◌, ℕ, List, [], ◌∷◌, Bool, true, false, Option, Result, Ok, Err, refl, sym, ap, inl, inr, nat_eq, eqb-true, eq-eqb, true≢false}
 use mathlib.Core.Path.{fun_ext}
 use Rattle.csv_rows.specs.Source.{Gives}
 use Rattle.order_cert.specs.Kept.{put}

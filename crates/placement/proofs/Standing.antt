@@ -1,5 +1,5 @@
 -- What the recordings have left, behind a call of one of them.
-use Rattle.std.proofs.Common.{◌≡◌, ◌≢◌, ◌<◌, ◌∙◌, ℕ, zero, suc, List, [], ◌∷◌, Bool, true, false, Option, Some, None, Result, Ok, Err, length, map, get_or, set, refl, sym, ap, subst, arith}
+use Rattle.std.proofs.Common.{◌≡◌, ◌≢◌, ◌<◌, ℕ, zero, suc, List, [], ◌∷◌, Bool, true, false, Option, Some, None, Result, Ok, Err, length, map, get_or, set, refl, ap, arith}
 use Rattle.std.specs.Prelude.{IfSome, is_err, if◌then◌else◌}
 use Rattle.csv_rows.specs.Source.{Source, Gives}
 use Rattle.apex_types.specs.declared.record.Record.{Record}

@@ -20,7 +20,7 @@ use Rattle.placement.specs.declared.fault.InputFault.{InputFault}
 use Rattle.placement.specs.declared.fault.InputFault.TheVariants as input
 use Rattle.placement.specs.Lanes.{AreLeft, IsEnded, IsScanOf, IsScanned, left_at}
 use Rattle.placement.specs.Reading.{Reads}
-use Rattle.placement.specs.Scan.{Scan, ends_with, placed_at, ends_of, scan}
+use Rattle.placement.specs.Scan.{ends_with, placed_at, ends_of, scan}
 use Rattle.placement.proofs.Readings.{reads_all, reads_more, fault_read, put-here, put-other, put-back, put_reads, same_or}
 
 -- what is left is known, and each scan of readings of it is the scan of readings of the whole

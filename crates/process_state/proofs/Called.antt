@@ -10,7 +10,7 @@ use Rattle.apex_machine.specs.State.{Partition, Table, each_process, process_at}
 use Rattle.apex_machine.specs.Services.{is_new_number, mode_by, new_process, set_by}
 use Rattle.apex_machine.specs.After.{adjusted, called, caller_after, created_by, is_done, numbered, partition_called}
 use Rattle.process_state.specs.Changes.{only, with_each}
-use Rattle.process_state.specs.Sound.{CreatesSoundly, IsSound}
+use Rattle.process_state.specs.Sound.{AsksSoundly, IsSound}
 use Rattle.process_state.proofs.Carried.{append-nothing}
 use Rattle.process_state.proofs.Numbers.{new-absent}
 use Rattle.process_state.proofs.Tables.{each_process-append, each_process-congr, each_process-same, each_process-twice, only-absent}
@@ -42,7 +42,7 @@ adjusted-not place core call old refused = record {
 }
 
 -- no created process has the number of a caller that stands in the table
-creates-apart : (core : ℕ) (call : CallRecord) (asked : Request) (table : Table) (caller : ℕ) → CreatesSoundly table call asked
+creates-apart : (core : ℕ) (call : CallRecord) (asked : Request) (table : Table) (caller : ℕ) → AsksSoundly table call asked
     → is_some (process_at table caller) ≡ true → process_at (created_by core call asked) caller ≡ None
 creates-apart core call (request.CreateProcess name priority period) table caller sound stands = by (is_done call.claim.out) refl
   where

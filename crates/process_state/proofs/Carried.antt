@@ -4,40 +4,41 @@ use Rattle.std.proofs.lemmas.Bool.Decides.{nat_tests}
 use Rattle.apex_types.specs.declared.record.Call.{Call as CallRecord}
 use Rattle.apex_types.specs.declared.request.Request.{Request}
 use Rattle.apex_types.specs.declared.request.Request.TheVariants as request
+use Rattle.apex_machine.specs.declared.state.Process.{Process}
 use Rattle.apex_machine.specs.State.{Partition, Table, each_process}
 use Rattle.apex_machine.specs.Conditions.{is_priority}
-use Rattle.apex_machine.specs.Services.{is_new_number, mode_by, new_process, set_by, started}
+use Rattle.apex_machine.specs.Services.{is_new_number, mode_by, new_process, set_by}
 use Rattle.apex_machine.specs.After.{created_by, is_done}
-use Rattle.process_state.specs.Changes.{only, with_each}
+use Rattle.process_state.specs.Changes.{named, only, with_each}
 use Rattle.process_state.specs.Numbers.{NumbersFit, number_of}
-use Rattle.process_state.specs.Sound.{CreatesSoundly}
+use Rattle.process_state.specs.Sound.{AsksSoundly}
 use Rattle.process_state.proofs.Tables.{each_process-congr, each_process-same, nat_eq-swap, partition_of}
 
 pub append-nothing : (table : Table) → table ++ [] ≡ table
 append-nothing [] = refl
 append-nothing (entry ∷ entries) = ap (λ rest. entry ∷ rest) (append-nothing entries)
 
--- START by a number that is a process's
+-- a change of a process by a caller's number that is its own
 
-pub started-named : (place : ℕ) (given : ℤ) (number : ℕ) (partition : Partition) → number_of given ≡ Some number
-    → with_each (only number (started place partition.mode)) partition ≡ with_each (set_by place partition.mode (request.Start given)) partition
-started-named place (pos n) number partition found =
+pub named-found : (change : Process → Process) (given : ℤ) (number : ℕ) (partition : Partition) → number_of given ≡ Some number
+    → with_each (only number change) partition ≡ with_each (named given change) partition
+named-found change (pos n) number partition found =
     let same : n ≡ number = grind (arith, nat_tests) in
     ap (partition_of partition.mode) (each_process-congr _ _ (λ other process. rw (same, nat_eq-swap number other) refl) partition.table)
-started-named place (negsuc n) number partition found = cc
+named-found change (negsuc n) number partition found = cc
 
--- START by any other number
-pub started-none : (place : ℕ) (given : ℤ) (partition : Partition) → number_of given ≡ None → NumbersFit partition.table
-    → partition ≡ with_each (set_by place partition.mode (request.Start given)) partition
-started-none place (pos n) partition none fit = ap (partition_of partition.mode) (sym (stays partition.table fit))
+-- a change by any other number
+pub named-none : (change : Process → Process) (given : ℤ) (partition : Partition) → number_of given ≡ None → NumbersFit partition.table
+    → partition ≡ with_each (named given change) partition
+named-none change (pos n) partition none fit = ap (partition_of partition.mode) (sym (stays partition.table fit))
   where
     apart : (number : ℕ) → number < 2 ^ 32 → nat_eq n number ≡ false
     apart number bound = grind (arith, nat_tests)
 
-    stays : (entries : Table) → NumbersFit entries → each_process (set_by place partition.mode (request.Start (pos n))) entries ≡ entries
+    stays : (entries : Table) → NumbersFit entries → each_process (named (pos n) change) entries ≡ entries
     stays [] h = refl
     stays (entry ∷ entries) h = rw (apart entry.0 h.0, stays entries h.1) refl
-started-none place (negsuc n) partition none fit =
+named-none change (negsuc n) partition none fit =
     ap (partition_of partition.mode) (sym (each_process-same _ (λ number process. refl) partition.table))
 
 -- a partition as a call leaves it, by the mode and the table that it sets
@@ -48,13 +49,15 @@ pub record Carries (place core : ℕ) (call : CallRecord) (asked : Request) (old
 -- a service that sets nothing beside its caller
 pub carried-none : (place core : ℕ) (call : CallRecord) (asked : Request) (old : Partition)
     → ((name : List ℕ) (priority period : ℤ) → asked ≡ request.CreateProcess name priority period → ⊥)
+    → ((process core : ℤ) → asked ≡ request.InitializeProcessCoreAffinity process core → ⊥)
     → ((process : ℤ) → asked ≡ request.Start process → ⊥)
     → ((mode : ℤ) → asked ≡ request.SetPartitionMode mode → ⊥)
     → Carries place core call asked old old
-carried-none place core call (request.CreateProcess name priority period) old not_create not_start not_mode = absurd (not_create name priority period refl)
-carried-none place core call (request.Start process) old not_create not_start not_mode = absurd (not_start process refl)
-carried-none place core call (request.SetPartitionMode mode) old not_create not_start not_mode = absurd (not_mode mode refl)
-carried-none place core call _ old not_create not_start not_mode = record {
+carried-none place core call (request.CreateProcess name priority period) old not_create not_move not_start not_mode = absurd (not_create name priority period refl)
+carried-none place core call (request.InitializeProcessCoreAffinity process on) old not_create not_move not_start not_mode = absurd (not_move process on refl)
+carried-none place core call (request.Start process) old not_create not_move not_start not_mode = absurd (not_start process refl)
+carried-none place core call (request.SetPartitionMode mode) old not_create not_move not_start not_mode = absurd (not_mode mode refl)
+carried-none place core call _ old not_create not_move not_start not_mode = record {
   mode = refl;
   table = sym (append-nothing _ ∙ each_process-same _ (λ number process. refl) old.table);
 }
@@ -77,7 +80,7 @@ priority-kept (negsuc n) h = cc
 
 pub carried-create : (place core : ℕ) (call : CallRecord) (name : List ℕ) (priority period : ℤ) (old : Partition) (found : Option ℕ) (number cast : ℕ)
     → cast ≡ nat_abs priority
-    → is_done call.claim.out ≡ true → CreatesSoundly old.table call (request.CreateProcess name priority period)
+    → is_done call.claim.out ≡ true → AsksSoundly old.table call (request.CreateProcess name priority period)
     → MatchOption call.claim.val (found ≡ None) (λ given. found ≡ number_of given) → found ≡ Some number
     → old.table ++ (number, new_process core name (pos cast)) ∷ []
     ≡ each_process (set_by place old.mode (request.CreateProcess name priority period)) old.table

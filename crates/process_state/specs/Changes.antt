@@ -1,9 +1,10 @@
 -- Changes of one process of a table, and of one partition's table.
-use Rattle.std.specs.Prelude.{ℕ, Option, Some, None, false, nat_eq, if◌then◌else◌}
+use Rattle.std.specs.Prelude.{ℕ, Option, Some, None, false, nat_eq, if◌then◌else◌, ℤ}
 use Rattle.apex_machine.specs.declared.state.Outcome.{Outcome}
 use Rattle.apex_machine.specs.declared.state.Process.{Process}
 use Rattle.apex_machine.specs.declared.state.Wait.{Wait}
 use Rattle.apex_machine.specs.State.{Partition, each_process}
+use Rattle.apex_machine.specs.Services.{is_number}
 
 -- the partition with each process changed
 abbrev pub with_each : (ℕ → Process → Process) → Partition → Partition
@@ -13,6 +14,10 @@ with_each change partition = record partition { table = each_process change part
 abbrev pub only : ℕ → (Process → Process) → ℕ → Process → Process
 only chosen change number process = if nat_eq number chosen then change process else process
 
+-- a change of the process that a caller names by this number
+abbrev pub named : ℤ → (Process → Process) → ℕ → Process → Process
+named given change number process = if is_number given number then change process else process
+
 -- a caller that is dormant after its call
 abbrev pub stopped_self : ℕ → Process → Process
 stopped_self now process = record process { alive = false; called_at = now }
@@ -21,6 +26,7 @@ stopped_self now process = record process { alive = false; called_at = now }
 abbrev pub waiting_for : ℕ → Wait → Process → Process
 waiting_for now wait process = record process { wait = wait; called_at = now }
 
+-- the ready position of a process that is put to this place, if to any
 abbrev pub position_by : Option ℕ → ℕ → ℕ
 position_by None old = old
 position_by (Some place) old = place

@@ -1,5 +1,5 @@
--- What a call must keep to, so that a table can take what it creates.
-use Rattle.std.specs.Prelude.{IsTrue}
+-- What a call must keep to, so that a table can hold what it asks for.
+use Rattle.std.specs.Prelude.{IsTrue, Bool, false, nat_lt, ℤ, pos, negsuc}
 use Rattle.apex_types.specs.declared.record.Call.{Call as CallRecord}
 use Rattle.apex_types.specs.declared.request.Request.{Request}
 use Rattle.apex_types.specs.declared.request.Request.TheVariants as request
@@ -8,11 +8,19 @@ use Rattle.apex_machine.specs.Conditions.{is_priority}
 use Rattle.apex_machine.specs.Services.{is_new_number}
 use Rattle.apex_machine.specs.After.{is_done}
 
--- a CREATE_PROCESS that was carried out claims a new number and has a priority in range
-abbrev pub CreatesSoundly : Table → CallRecord → Request → Type 0
-CreatesSoundly table call (request.CreateProcess name priority period) =
-    IsTrue (is_done call.claim.out) → IsTrue (is_new_number table call.claim.val) × IsTrue (is_priority priority)
-CreatesSoundly table call _ = Unit {0}
+-- the number of a core fits 8 bits
+abbrev pub is_core_number : ℤ → Bool
+is_core_number (pos n) = nat_lt n 256
+is_core_number (negsuc n) = false
 
+-- a CREATE_PROCESS that was carried out claims a new number and has a priority in range; an INITIALIZE_PROCESS_CORE_AFFINITY
+-- that was carried out gives the number of a core
+abbrev pub AsksSoundly : Table → CallRecord → Request → Type 0
+AsksSoundly table call (request.CreateProcess name priority period) =
+    IsTrue (is_done call.claim.out) → IsTrue (is_new_number table call.claim.val) × IsTrue (is_priority priority)
+AsksSoundly table call (request.InitializeProcessCoreAffinity process core) = IsTrue (is_done call.claim.out) → IsTrue (is_core_number core)
+AsksSoundly table call _ = Unit {0}
+
+-- a table can hold what a call asks for
 abbrev pub IsSound : Table → CallRecord → Type 0
-IsSound table call = CreatesSoundly table call call.request
+IsSound table call = AsksSoundly table call call.request

@@ -12,6 +12,3 @@ mod process;
 mod table;
 
 pub use table::ProcTable;
-
-#[cfg(test)]
-mod tests;

@@ -2,7 +2,7 @@
 
 ghost use Rattle.std.specs.Prelude.{◌≡◌, None, pos, IfOk};
 ghost use Rattle.apex_machine.specs.State.{initialising_process};
-ghost use Rattle.apex_machine.specs.Services.{new_process, started, after_normal};
+ghost use Rattle.apex_machine.specs.Services.{new_process, moved_to, started, after_normal};
 ghost use Rattle.apex_machine.specs.After as after;
 ghost use Rattle.process_state.specs.Changes.{stopped_self, waiting_for, answered};
 
@@ -48,6 +48,13 @@ pub fn created(
         due: None,
         called_at: 0,
     })
+}
+
+/// The process runs on this core from now on.
+pub fn move_to(process: &mut Process, core: CoreId)
+    ensures { process.new ≡ moved_to core process.old }
+{
+    process.affinity = core;
 }
 
 /// The process is started at this place, in this mode of its partition.

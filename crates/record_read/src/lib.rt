@@ -20,6 +20,3 @@ mod woken;
 
 pub use fault::RowFault;
 pub use source::RowSource;
-
-#[cfg(test)]
-mod tests;

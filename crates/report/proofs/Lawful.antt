@@ -1,5 +1,5 @@
 -- What a Yes means, from the scan of the texts and the verdict over the records placed.
-use Rattle.std.proofs.Common.{◌≡◌, ◌≢◌, ◌<◌, ◌+◌, ◌⊎◌, ℕ, zero, suc, List, [], ◌∷◌, ◌++◌, Bool, true, false, Option, Some, None, Result, Ok, Err, length, map, refl, sym, ap, ◌∙◌, subst, inl, inr, arith, nat_eq, nat_lt, nat_le, ◌||◌, eqb-true, eq-eqb, append_assoc}
+use Rattle.std.proofs.Common.{◌≡◌, ◌≢◌, ◌<◌, ℕ, zero, suc, List, [], ◌∷◌, ◌++◌, Bool, true, false, Option, Some, None, Result, Ok, Err, length, map, refl, sym, ap, ◌∙◌, subst, inl, inr, arith, nat_eq, nat_lt, nat_le, ◌||◌, eqb-true, eq-eqb, append_assoc}
 use Rattle.std.specs.Prelude.{if◌then◌else◌}
 use Rattle.std.proofs.lemmas.Bool.Decides.{nat_tests}
 use Rattle.std.proofs.lemmas.List.{append-nil, length-append}
@@ -12,7 +12,7 @@ use Rattle.order_cert.specs.declared.fault.CertFault.TheVariants as cert
 use Rattle.order_cert.specs.declared.fault.OrderFault.{OrderFault}
 use Rattle.order_cert.specs.declared.fault.OrderFault.TheVariants.{NoSuchCore, Skipped, Repeated}
 use Rattle.order_cert.specs.Kept.{none_taken, put}
-use Rattle.order_cert.specs.Order.{AllKnown, IsLawfulOrder, following, misplaced, most_records, numbers_of}
+use Rattle.order_cert.specs.Order.{AllKnown, following, misplaced, most_records, numbers_of}
 use Rattle.order_cert.specs.Row.{Item as CertItem, pairs_of}
 use Rattle.placement.specs.declared.fault.InputFault.{InputFault}
 use Rattle.placement.specs.Lanes.{IsScanOf}
@@ -26,8 +26,8 @@ use Rattle.verdict_merge.specs.declared.verdict.Verdict.TheVariants.{Yes, No}
 use Rattle.verdict_merge.specs.Findings.{IsRunWhereYes}
 use Rattle.report.specs.declared.fault.CheckFault.{CheckFault}
 use Rattle.report.specs.declared.fault.CheckFault.TheVariants as refusal
-use Rattle.report.specs.Outcome.{answer_with, items_at, refusal_of}
-use Rattle.report.specs.Yes.{AreInOrder, IsLawfulRun, YesMeansRun}
+use Rattle.report.specs.Outcome.{answer_with, items_at}
+use Rattle.report.specs.Yes.{AreInOrder, YesMeansRun}
 
 -- a reading with no fault is of items with no fault
 reads_good : {Value Fault : Type 0} (failure : Fault) (items : List (Result Value Fault)) (good : List Value) (given : List (Result Value Fault))

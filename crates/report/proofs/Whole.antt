@@ -1,17 +1,14 @@
 -- What was placed and judged is the outcome of the texts.
-use Rattle.std.proofs.Common.{◌≡◌, ℕ, zero, suc, List, [], ◌∷◌, Option, Some, None, Result, Ok, Err, length, map, refl, sym, ap, ◌∙◌, inl, inr, subst, Bool, true, false, nat_eq, eq-eqb, eqb-true}
+use Rattle.std.proofs.Common.{◌≡◌, ℕ, zero, suc, List, [], ◌∷◌, Option, Some, Result, length, map, refl, sym, ap, ◌∙◌, subst, Bool, true, false, nat_eq, eq-eqb, eqb-true}
 use Rattle.std.specs.Option.{option_map}
 use Rattle.apex_machine.specs.Configuration.{Configuration}
-use Rattle.apex_types.specs.declared.record.Ordered.{Ordered}
 use Rattle.order_cert.specs.Row.{Item as CertItem, pairs_of}
-use Rattle.placement.specs.declared.fault.InputFault.{InputFault}
-use Rattle.placement.specs.Lanes.{AreLeft, IsScanOf, IsScanned, left_at}
+use Rattle.placement.specs.Lanes.{AreLeft, IsScanOf, IsScanned}
 use Rattle.placement.specs.Scan.{Scan}
 use Rattle.record_read.specs.Row.{Item, records_of}
 use Rattle.verdict_merge.specs.declared.verdict.Verdict.{Verdict}
-use Rattle.verdict_merge.specs.Findings.{IsRunWhereYes, IsVerdict}
 use Rattle.report.specs.declared.fault.CheckFault.{CheckFault}
-use Rattle.report.specs.Outcome.{IsJudged, IsOutcomeUnder, answer_with, items_at}
+use Rattle.report.specs.Outcome.{IsJudged, IsOutcomeUnder, items_at}
 
 -- what lanes have left that were opened over readers of these texts
 pub known_lanes : {A : Type 0} (known : A → Option (List ℕ)) (readers : List A) (texts : List (List ℕ)) → map known readers ≡ map Some texts

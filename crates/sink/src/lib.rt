@@ -13,6 +13,3 @@ pub use count::FailureCount;
 pub use output::{Sink, SinkFault};
 pub use writer::WriterSink;
 pub use written::{WriteFault, put_all, put_parts};
-
-#[cfg(test)]
-mod tests;

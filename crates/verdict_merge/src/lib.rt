@@ -11,6 +11,3 @@ mod verdict;
 pub use finding::{Finding, merge};
 pub use plain::{Memory, check_plain};
 pub use verdict::Verdict;
-
-#[cfg(test)]
-mod tests;

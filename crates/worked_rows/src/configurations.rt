@@ -16,9 +16,10 @@ a core that is not        |  6 | cores = [1]      | REFUSED config=OutOfRange
 a text beside a core      |  6 | cores = [9, \"a\"] | REFUSED config=WrongType
 processes too many        |  7 | processes = 129  | REFUSED config=OutOfRange
 a window behind the frame | 16 | start = 1        | REFUSED config=OutOfRange
-half the frame            | 17 | length = 5       | REFUSED config=TooMany
-two cores                 |  0 | cores = 2        | REFUSED config=TooMany
-no window                 | 13 | [[other]]        | REFUSED config=TooMany
+half the frame            | 17 | length = 5       | YES records=13
+two cores                 |  0 | cores = 2        | REFUSED arguments=ReaderCount
+seventeen cores           |  0 | cores = 17       | REFUSED config=OutOfRange
+no window                 | 13 | [[other]]        | NO place=0 piece=0 cause=Idle
 no such partition         | 15 | partition = 1    | REFUSED config=CoreNotOfPartition";
 
 #[test]
@@ -40,12 +41,24 @@ partition = 0
 start = 0
 length = 10";
 
+const SAME_PARTITION: &str = "[[partition]]
+number = 0
+period = 10
+cores = [0]
+processes = 4
+buffers = 2
+blackboards = 1
+semaphores = 1
+events = 1
+mutexes = 2";
+
 #[test]
 fn further_lines(rt: HostRuntime) -> Result<(), Fail> {
     let order = in_order(rt.alloc(), 13)?;
     for (further, expected) in [
         ("# a comment", "YES records=13"),
-        (SAME_WINDOW, "REFUSED config=TooMany"),
+        (SAME_WINDOW, "REFUSED config=Overlap"),
+        (SAME_PARTITION, "REFUSED config=TooMany"),
         ("[[sampling]]", "REFUSED config=TooMany"),
         ("[[queuing]]", "REFUSED config=TooMany"),
     ] {

@@ -44,7 +44,7 @@ fn returns(rt: HostRuntime) -> Result<(), Fail> {
 
 const OUTSIDE_THE_PROFILE: &str = "\
 a process with a period  | 1 | 1,call,0,0,CREATE_PROCESS,10,20,,P1,,0,NO_ERROR,1,,, | NO place=1 piece=1 cause=OutsideProfile
-another service          | 3 | 3,call,0,0,GET_TIME,,,,,,0,NO_ERROR,0,,,             | NO place=3 piece=1 cause=OutsideProfile
+another service          | 3 | 3,call,0,0,STOP,1,,,,,0,NO_ACTION,,,,                | NO place=3 piece=1 cause=OutsideProfile
 process 0 stops itself   | 5 | 5,call,0,0,STOP_SELF,,,,,,0,none,,,,                 | NO place=5 piece=1 cause=OutsideProfile
 a restart                | 5 | 5,call,0,0,SET_PARTITION_MODE,1,,,,,0,none,,,,       | NO place=5 piece=1 cause=OutsideProfile";
 
@@ -66,6 +66,7 @@ const OUTCOMES: &str = "\
 a priority too low         |  1 | 1,call,0,0,CREATE_PROCESS,0,-1,,P1,,0,NO_ERROR,1,,,  | NO place=1 piece=1 cause=Out
 another code at the return |  2 | 2,ret,0,0,CREATE_PROCESS,,,,,,,NO_ACTION,,,,         | NO place=2 piece=1 cause=Out
 a name is taken            |  3 | 3,call,0,0,CREATE_PROCESS,20,-1,,P1,,0,NO_ERROR,2,,, | NO place=3 piece=1 cause=Out
+a core of no partition     |  3 | 3,call,0,0,INITIALIZE_PROCESS_CORE_AFFINITY,1,1,,,,0,NO_ERROR,,,, | NO place=3 piece=1 cause=Out
 nothing is wrong           |  3 | 3,call,0,0,START,1,,,,,0,INVALID_PARAM,,,,           | NO place=3 piece=1 cause=Out
 no such process            |  3 | 3,call,0,0,START,2,,,,,0,NO_ERROR,,,,                | NO place=3 piece=1 cause=Out
 process 0 has no number    |  3 | 3,call,0,0,GET_MY_ID,,,,,,0,NO_ERROR,0,,,            | NO place=3 piece=1 cause=Out
@@ -87,7 +88,10 @@ a number too great           |  1 | 1,call,0,0,CREATE_PROCESS,10,-1,,P1,,0,NO_ER
 another number at the return |  2 | 2,ret,0,0,CREATE_PROCESS,,,,,,,NO_ERROR,2,,,                  | NO place=2 piece=1 cause=Val
 a number used twice          |  3 | 3,call,0,0,CREATE_PROCESS,20,-1,,P2,,0,NO_ERROR,1,,,          | NO place=3 piece=1 cause=Val
 a value where none belongs   |  3 | 3,call,0,0,START,1,,,,,0,NO_ERROR,1,,,                        | NO place=3 piece=1 cause=Val
-the number of another        | 13 | 13,call,0,1,GET_MY_ID,,,,,,10,NO_ERROR,2,,,                   | NO place=13 piece=1 cause=Val";
+the number of another        | 13 | 13,call,0,1,GET_MY_ID,,,,,,10,NO_ERROR,2,,,                   | NO place=13 piece=1 cause=Val
+the time of the call before  | 13 | 13,call,0,1,GET_TIME,,,,,,10,NO_ERROR,1,,,                    | NO place=13 piece=1 cause=Val
+a time below zero            | 13 | 13,call,0,1,GET_TIME,,,,,,10,NO_ERROR,-2,,,                   | NO place=13 piece=1 cause=Val
+no time                      | 13 | 13,call,0,1,GET_TIME,,,,,,10,NO_ERROR,,,,                     | NO place=13 piece=1 cause=Val";
 
 #[test]
 fn values(rt: HostRuntime) -> Result<(), Fail> {

@@ -23,6 +23,14 @@ mod recordings;
 #[cfg(test)]
 mod rows;
 #[cfg(test)]
+mod scripts;
+#[cfg(test)]
+mod several_cores;
+#[cfg(test)]
 mod tables;
 #[cfg(test)]
 mod texts;
+#[cfg(test)]
+mod times;
+#[cfg(test)]
+mod windows;

@@ -1,11 +1,10 @@
 // The changes of a partition, one at a time.
 
 ghost use Rattle.std.specs.Prelude.{◌≡◌, ◌++◌, ◌∷◌, [], Some, pos, IsTrue, OnOk, OnErr};
-ghost use Rattle.apex_types.specs.declared.request.Request.{Request};
 ghost use Rattle.apex_machine.specs.State.{each_process};
-ghost use Rattle.apex_machine.specs.Services.{after_normal, is_new_number, new_process, set_by, started};
+ghost use Rattle.apex_machine.specs.Services.{after_normal, is_new_number, moved_to, new_process, started};
 ghost use Rattle.apex_machine.specs.After.{released, returned};
-ghost use Rattle.process_state.specs.Changes.{answered, only, stopped_self, waiting_for, with_each};
+ghost use Rattle.process_state.specs.Changes.{answered, named, only, stopped_self, waiting_for, with_each};
 
 use super::ProcTable;
 use crate::number::process_number;
@@ -36,6 +35,26 @@ impl ProcTable {
         Ok(())
     }
 
+    /// INITIALIZE_PROCESS_CORE_AFFINITY: this process runs on this core from now on. Takes no memory.
+    pub fn set_affinity(&mut self, process: ProcId, core: CoreId)
+        ensures { self.new ≡ with_each (only process (moved_to core)) self.old }
+    {
+        if let Some(process) = self.processes.get_mut(&process) {
+            process::move_to(process, core);
+        }
+    }
+
+    /// The same of the process that a caller names by this number: of none, where there is none. Takes no memory.
+    pub fn set_affinity_named(&mut self, given: i64, core: CoreId)
+        ensures { self.new ≡ with_each (named given (moved_to core)) self.old }
+    {
+        // What is known of each table, that its numbers fit 32 bits, is known where one of its fields is used.
+        let _ = &self.processes;
+        if let Some(process) = process_number(given) {
+            self.set_affinity(process, core);
+        }
+    }
+
     /// START of this process, at this place. Takes no memory.
     pub fn start(&mut self, process: ProcId, place: Place)
         ensures { self.new ≡ with_each (only process (started place self.old.mode)) self.old }
@@ -48,7 +67,7 @@ impl ProcTable {
 
     /// START of the process that a caller names by this number, at this place: of none, where there is none. Takes no memory.
     pub fn start_named(&mut self, given: i64, place: Place)
-        ensures { self.new ≡ with_each (set_by place self.old.mode (Request.Start given)) self.old }
+        ensures { self.new ≡ with_each (named given (started place self.old.mode)) self.old }
     {
         // What is known of each table, that its numbers fit 32 bits, is known where one of its fields is used.
         let _ = &self.processes;

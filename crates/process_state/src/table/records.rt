@@ -69,6 +69,9 @@ impl ProcTable {
                     self.create(first_core, number, name, *priority as u8)?;
                 }
             }
+            Request::InitializeProcessCoreAffinity { process, core } => {
+                self.set_affinity_named(*process, CoreId::new(*core as u8));
+            }
             Request::Start { process } => self.start_named(*process, place),
             Request::SetPartitionMode { .. } => self.normal(place),
             _ => {}

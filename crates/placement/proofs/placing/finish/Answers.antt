@@ -1,4 +1,4 @@
-use Rattle.std.proofs.Common.{◌≡◌, ◌≤◌, ◌<◌, ◌∙◌, length, subst, arith, inr}
+use Rattle.std.proofs.Common.{◌≡◌, ◌<◌, length, subst, arith, inr}
 use Rattle.order_cert.specs.Kept.{taken_of}
 use Rattle.placement.specs.Lanes.{left_at}
 use Rattle.placement.proofs.Ends.{HaveEnded, end_fault, end_missing, end_all}

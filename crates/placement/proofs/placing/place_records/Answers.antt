@@ -3,7 +3,6 @@ use Rattle.std.specs.Result.{is_ok}
 use Rattle.std.proofs.lemmas.List.{length-append}
 use Rattle.order_cert.specs.Kept.{put, taken_of}
 use Rattle.order_cert.specs.Order.{pair_of}
-use Rattle.apex_types.specs.declared.record.Ordered.{Ordered}
 use Rattle.placement.specs.Lanes.{left_at}
 use Rattle.placement.specs.Scan.{placed_at}
 use Rattle.placement.proofs.Underway.{IsUnderway, underway_first, all_placed, cert_fault, pair_refused, record_absent, record_fault, record_placed}

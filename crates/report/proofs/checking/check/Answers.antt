@@ -1,12 +1,10 @@
-use Rattle.std.proofs.Common.{◌≡◌, ◌≢◌, ◌∙◌, ℕ, List, length, refl, sym, arith, inl, inr, subst, Ok, Err}
+use Rattle.std.proofs.Common.{◌≡◌, ◌≢◌, ◌∙◌, length, refl, sym, arith, inl, inr, subst, Err}
 use Rattle.order_cert.specs.Row.{pairs_of}
 use Rattle.placement.specs.Lanes.{IsScanOf}
 use Rattle.placement.specs.Scan.{Scan}
-use Rattle.verdict_merge.specs.declared.verdict.Verdict.{Verdict}
-use Rattle.verdict_merge.specs.Findings.{IsRunWhereYes, IsVerdict}
 use Rattle.report.specs.declared.fault.ArgumentFault.TheVariants.{ReaderCount}
 use Rattle.report.specs.declared.fault.CheckFault.TheVariants.{Arguments}
-use Rattle.report.specs.Outcome.{IsOutcomeBy, answer_with, items_at}
+use Rattle.report.specs.Outcome.{IsOutcomeBy, items_at}
 use Rattle.report.proofs.Lawful.{memory_means, yes_means}
 use Rattle.report.proofs.Whole.{known_lanes, other_count, outcome_under, scanned_texts}
 use Rattle.report.proofs.checking.check.Goals as goal

@@ -1,6 +1,10 @@
 use Rattle.module_config.specs.Held.{held_in}
+use Rattle.module_config.proofs.Found.{cores_are_of_module}
 use Rattle.module_config.proofs.Judged.{windows_are_configured}
 use Rattle.module_config.proofs.config.Config.keeps_limits.Goals as goal
 
 pub returns-clause-windows : goal.returns-clause-windows
 returns-clause-windows c = rw (← c.self.view_is) (windows_are_configured (held_in c.self.inside) c.self.invariant.1)
+
+pub returns-clause-cores : goal.returns-clause-cores
+returns-clause-cores c = rw (← c.self.view_is) (cores_are_of_module (held_in c.self.inside) c.self.invariant.0)

@@ -17,5 +17,5 @@ returns-in_ok-create-in-CreateProcess-clause-table c =
 
 pub returns-in_default : goal.returns-in_default
 returns-in_default c =
-    let carried = carried-none c.args.place c.args.first_core c.args.call.now c.args.call.now.request c.args.self.now c.in_default.not-CreateProcess c.in_default.not-Start c.in_default.not-SetPartitionMode in
+    let carried = carried-none c.args.place c.args.first_core c.args.call.now c.args.call.now.request c.args.self.now c.in_default.not-CreateProcess c.in_default.not-InitializeProcessCoreAffinity c.in_default.not-Start c.in_default.not-SetPartitionMode in
     record { mode = carried.mode; table = carried.table; unchanged = tt }
