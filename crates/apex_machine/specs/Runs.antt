@@ -31,6 +31,7 @@ pub record Refusal : Type 0 where
   pub pos : ℕ
   pub cause : Cause
 
+-- what a piece finds from a record on that touches it, or does not: it refuses the record, or goes on behind it
 abbrev pub FindsNext : Bool → Configuration → Part → Ordered → (Part → Type 0) → Option Refusal → Type 0
 FindsNext false configuration old ordered More found = More old
 FindsNext true configuration old ordered More found =

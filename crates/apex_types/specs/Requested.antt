@@ -4,6 +4,7 @@ use Rattle.apex_types.specs.declared.request.Request.TheVariants as request
 use Rattle.apex_types.specs.declared.service.Service.{Service}
 use Rattle.apex_types.specs.declared.service.Service.TheVariants as service
 
+-- the service of a request
 abbrev pub service_of : Request → Service
 service_of (request.CreateProcess name priority period) = service.CreateProcess
 service_of (request.InitializeProcessCoreAffinity process core) = service.InitializeProcessCoreAffinity

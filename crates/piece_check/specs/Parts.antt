@@ -16,6 +16,7 @@ pub record Holding : Type 0 where
 abbrev pub piece_at : Configuration → ℕ → Piece
 piece_at configuration number = slice_index_or (pieces configuration) number Module
 
+-- the cores of a part
 abbrev pub cores_of : Part → List CoreState
 cores_of (ModulePart cores) = cores
 cores_of (PartitionPart number cores partition) = cores

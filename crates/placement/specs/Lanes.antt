@@ -20,6 +20,7 @@ left_at [] core = Some []
 left_at (left ∷ others) zero = left
 left_at (left ∷ others) (suc core) = left_at others core
 
+-- these items are left of the recordings
 abbrev pub AreLeft : List (Option (List Item)) → (ℕ → List Item) → Type 0
 AreLeft lanes items = (core : ℕ) → left_at lanes core ≡ Some (items core)
 

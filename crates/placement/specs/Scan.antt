@@ -17,6 +17,7 @@ pub record Scan : Type 0 where
   pub placed : List Ordered
   pub end : Result (Unit {0}) InputFault
 
+-- the records placed, and the fault behind them
 abbrev pub ends_with : List Ordered → InputFault → Scan
 ends_with placed fault = record { placed = placed; end = Err fault }
 
@@ -30,6 +31,7 @@ end_of place core taken [] = Ok tt
 end_of place core taken (Ok rec ∷ rest) = Err (input.Order place core Missing)
 end_of place core taken (Err fault ∷ rest) = Err (input.Row core taken fault)
 
+-- the first fault of two ends
 abbrev pub and_then : Result (Unit {0}) InputFault → Result (Unit {0}) InputFault → Result (Unit {0}) InputFault
 and_then (Err fault) later = Err fault
 and_then (Ok ended) later = later

@@ -9,25 +9,16 @@ use Rattle.apex_machine.specs.State.{Partition, Table, each_process}
 use Rattle.apex_machine.specs.Conditions.{is_priority}
 use Rattle.apex_machine.specs.Services.{is_new_number, mode_by, new_process, set_by}
 use Rattle.apex_machine.specs.After.{created_by, is_done}
-use Rattle.process_state.specs.Changes.{named, only, with_each}
+use Rattle.process_state.specs.Changes.{named, with_each}
 use Rattle.process_state.specs.Numbers.{NumbersFit, number_of}
 use Rattle.process_state.specs.Sound.{AsksSoundly}
-use Rattle.process_state.proofs.Tables.{each_process-congr, each_process-same, nat_eq-swap, partition_of}
+use Rattle.process_state.proofs.Tables.{each_process-same, partition_of}
 
 pub append-nothing : (table : Table) → table ++ [] ≡ table
 append-nothing [] = refl
 append-nothing (entry ∷ entries) = ap (λ rest. entry ∷ rest) (append-nothing entries)
 
--- a change of a process by a caller's number that is its own
-
-pub named-found : (change : Process → Process) (given : ℤ) (number : ℕ) (partition : Partition) → number_of given ≡ Some number
-    → with_each (only number change) partition ≡ with_each (named given change) partition
-named-found change (pos n) number partition found =
-    let same : n ≡ number = grind (arith, nat_tests) in
-    ap (partition_of partition.mode) (each_process-congr _ _ (λ other process. rw (same, nat_eq-swap number other) refl) partition.table)
-named-found change (negsuc n) number partition found = cc
-
--- a change by any other number
+-- a change by a number that no process of a table can have
 pub named-none : (change : Process → Process) (given : ℤ) (partition : Partition) → number_of given ≡ None → NumbersFit partition.table
     → partition ≡ with_each (named given change) partition
 named-none change (pos n) partition none fit = ap (partition_of partition.mode) (sym (stays partition.table fit))

@@ -29,6 +29,7 @@ unfoldable pub code_among : List Code → List ℕ → Option Code
 code_among [] text = None
 code_among (c ∷ cs) text = if bytes_eq (CodeName.name_of c) text then Some c else code_among cs text
 
+-- the codes   (RETURN_CODE_TYPE, section 3)
 abbrev pub all_codes : List Code
 all_codes = code.NoError ∷ code.NoAction ∷ code.NotAvailable ∷ code.InvalidParam ∷ code.InvalidConfig ∷ code.InvalidMode ∷ code.TimedOut ∷ []
 
@@ -41,6 +42,7 @@ unfoldable pub service_among : List Service → List ℕ → Option Service
 service_among [] text = None
 service_among (s ∷ ss) text = if bytes_eq (ServiceName.name_of s) text then Some s else service_among ss text
 
+-- the services that a row can name
 abbrev pub all_services : List Service
 all_services =
     service.CreateProcess ∷ service.InitializeProcessCoreAffinity ∷ service.Start ∷ service.Stop ∷ service.StopSelf

@@ -46,6 +46,7 @@ IsOutcomeUnder false configuration texts certificate result = result ≡ Err (Ar
 IsOutcomeUnder true configuration texts certificate result =
     (scanned : Scan) × IsScanOf (length texts) (items_at texts) (pairs_of certificate) scanned × IsJudged configuration scanned result
 
+-- the outcome of these texts, by what the text of the configuration is
 abbrev pub IsOutcomeBy : Result Configuration ConfigFault → List (List ℕ) → List ℕ → Result Verdict CheckFault → Type 0
 IsOutcomeBy (Err fault) texts certificate result = result ≡ Err (Config fault)
 IsOutcomeBy (Ok configuration) texts certificate result =

@@ -19,6 +19,7 @@ use Rattle.report.specs.declared.fault.CheckFault.TheVariants.{Arguments, Config
 
 -- each cause and each fault by its name
 
+-- the name of a cause
 abbrev pub cause_name : Cause → List ℕ
 cause_name cause.Names = codes "Names"
 cause_name cause.Skew = codes "Skew"
@@ -34,9 +35,11 @@ cause_name cause.Val = codes "Val"
 cause_name cause.Data = codes "Data"
 cause_name cause.Woken = codes "Woken"
 
+-- the name of a fault of the arguments
 abbrev pub argument_fault_name : ArgumentFault → List ℕ
 argument_fault_name argument.ReaderCount = codes "ReaderCount"
 
+-- the name of a fault of the configuration
 abbrev pub config_fault_name : ConfigFault → List ℕ
 config_fault_name config.NotToml = codes "NotToml"
 config_fault_name config.Missing = codes "Missing"
@@ -49,6 +52,7 @@ config_fault_name config.Overlap = codes "Overlap"
 config_fault_name config.ChannelEnds = codes "ChannelEnds"
 config_fault_name config.Memory = codes "Memory"
 
+-- the name of a fault of a row of the certificate
 abbrev pub cert_fault_name : CertFault → List ℕ
 cert_fault_name cert.Read = codes "Read"
 cert_fault_name cert.Memory = codes "Memory"
@@ -57,6 +61,7 @@ cert_fault_name cert.FieldCount = codes "FieldCount"
 cert_fault_name cert.BadNumber = codes "BadNumber"
 cert_fault_name cert.Ended = codes "Ended"
 
+-- the name of a fault of the order
 abbrev pub order_fault_name : OrderFault → List ℕ
 order_fault_name order.NoSuchCore = codes "NoSuchCore"
 order_fault_name order.Skipped = codes "Skipped"
@@ -64,6 +69,7 @@ order_fault_name order.Repeated = codes "Repeated"
 order_fault_name order.Absent = codes "Absent"
 order_fault_name order.Missing = codes "Missing"
 
+-- the name of a fault of a row of a recording
 abbrev pub row_fault_name : RowFault → List ℕ
 row_fault_name row.Read = codes "Read"
 row_fault_name row.Memory = codes "Memory"

@@ -41,6 +41,7 @@ pub record IsLawfulRun (config : List ℕ) (texts : List (List ℕ)) (certificat
   pub run : Run configuration (cold_state configuration) records final
   pub counted : count ≡ length records
 
+-- where the answer is Yes, the recordings are lawful in the order of the certificate
 abbrev pub YesMeansRun : List ℕ → List (List ℕ) → List ℕ → Result Verdict CheckFault → Type 0
 YesMeansRun config texts certificate (Ok (Yes records)) = IsLawfulRun config texts certificate records
 YesMeansRun config texts certificate (Ok (No pos piece cause)) = Unit {0}
