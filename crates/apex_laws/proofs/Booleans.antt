@@ -1,5 +1,5 @@
 -- Plain facts about tests, which the other lemmas take.
-use Rattle.std.proofs.Common.{◌≡◌, ℕ, Bool, true, false, ◌||◌, nat_eq, refl, sym, true≢false}
+use Rattle.std.proofs.Common.{◌≡◌, ℕ, Bool, true, false, ◌||◌, ◌&&◌, nat_eq, refl, sym, true≢false}
 use Rattle.std.proofs.lemmas.Bool.{eq-eqb}
 
 -- a number is equal to itself
@@ -20,3 +20,31 @@ first_holds false other holds = absurd (true≢false (sym holds))
 pub cannot_hold : (test : Bool) → (test ≡ true → ⊥) → test ≡ false
 cannot_hold true cannot = absurd (cannot refl)
 cannot_hold false cannot = refl
+
+-- where neither test holds the second doesn't
+pub neither_later : (one other : Bool) → (one || other) ≡ false → other ≡ false
+neither_later true other neither = absurd (true≢false neither)
+neither_later false other neither = neither
+
+-- where the second of two tests holds one of them does
+pub later_holds : (one other : Bool) → other ≡ true → (one || other) ≡ true
+later_holds true other holds = refl
+later_holds false other holds = holds
+
+-- where one of two tests holds and it isn't the first, the second does
+pub other_holds : (one other : Bool) → (one || other) ≡ true → one ≡ false → other ≡ true
+other_holds true other some not_first = absurd (true≢false not_first)
+other_holds false other some not_first = some
+
+-- where neither of two tests holds, none does
+pub neither : (one other : Bool) → one ≡ false → other ≡ false → (one || other) ≡ false
+neither one other first second = rw first second
+
+-- where the first of two tests fails both don't hold
+pub not_first : (one other : Bool) → one ≡ false → (one && other) ≡ false
+not_first one other fails = rw fails refl
+
+-- where the second of two tests fails both don't hold
+pub not_second : (one other : Bool) → other ≡ false → (one && other) ≡ false
+not_second true other fails = fails
+not_second false other fails = refl

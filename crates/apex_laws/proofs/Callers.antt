@@ -1,24 +1,18 @@
--- The caller of a call: it stands in its partition's table and is ready, and an outcome becomes due to it.
-use Rattle.std.proofs.Common.{◌≡◌, ℕ, Option, Some, None, cond, true, false, option_map, refl, sym, ap, subst, ◌&&◌}
+-- The caller of a call: it stands in its partition's table and is ready.
+use Rattle.std.proofs.Common.{◌≡◌, ℕ, Option, Some, None, true, option_map, refl, sym, ap, subst, ◌∙◌, true≢false}
+use Rattle.std.proofs.lemmas.Bool.{and_parts}
 use Rattle.std.proofs.lemmas.List.Elements.{All-contains}
-use Rattle.apex_types.specs.declared.code.Code.{Code}
-use Rattle.apex_types.specs.declared.record.Call.{Call as CallRecord}
-use Rattle.apex_types.specs.declared.record.Out.TheVariants as out
 use Rattle.apex_types.specs.declared.record.Who.{Who}
-use Rattle.apex_machine.specs.declared.state.Outcome.{Outcome}
 use Rattle.apex_machine.specs.declared.state.Process.{Process}
-use Rattle.apex_machine.specs.After.{caller_after, caller_with, is_done, outcome_of}
-use Rattle.apex_machine.specs.Choice.{IsReady, choice_in, foremost, ready_entries}
-use Rattle.apex_machine.specs.Configuration.{Configuration}
-use Rattle.apex_machine.specs.Pieces.{window_now}
-use Rattle.apex_machine.specs.Services.{renews}
-use Rattle.apex_machine.specs.State.{State, Table, process_at}
-use Rattle.apex_machine.specs.Step.{IsLawfulCall}
-use Rattle.apex_laws.specs.Laws.{AreDistinct, are_distinct}
-use Rattle.apex_laws.specs.Sentences.{HasOutcomeDue, process_in}
+use Rattle.apex_machine.specs.declared.state.WaitingSet.{WaitingSet}
+use Rattle.apex_machine.specs.Choice.{IsReady, choice_in, choice_of, foremost, ready_entries, waits_for_nothing}
+use Rattle.apex_machine.specs.State.{Partition, Table, process_at}
+use Rattle.apex_machine.specs.Waiting.{is_in, waits_at}
+use Rattle.apex_laws.specs.Laws.{are_distinct}
 use Rattle.apex_laws.proofs.Choices.{choice_is}
 use Rattle.apex_laws.proofs.Entries.{at_its_number}
 use Rattle.apex_laws.proofs.Foremost.{foremost_is_chosen}
+use Rattle.apex_laws.proofs.WaitSets.{in_no_set}
 
 -- a process that stands and is ready
 pub record StandsReady (core : ℕ) (found : Option Process) : Type 0 where
@@ -27,7 +21,7 @@ pub record StandsReady (core : ℕ) (found : Option Process) : Type 0 where
   pub ready : IsReady core process
 
 -- the choice of a partition stands in its table and is ready
-choice_stands : (number core : ℕ) (table : Table) (who : Who) → are_distinct table ≡ true → choice_in number core table ≡ Some who
+pub choice_stands : (number core : ℕ) (table : Table) (who : Who) → are_distinct table ≡ true → choice_in number core table ≡ Some who
     → StandsReady core (process_at table who.proc)
 choice_stands number core table who distinct chosen = by (foremost (ready_entries core table)) refl chosen
   where
@@ -40,24 +34,15 @@ choice_stands number core table who distinct chosen = by (foremost (ready_entrie
         let at : process_at table entry.0 ≡ Some entry.1 = All-contains (λ one. process_at table one.0 ≡ Some one.1) table entry (at_its_number table distinct) is.stands in
         record { process = entry.1; stands = subst (λ number. process_at table number ≡ Some entry.1) (ap (λ one. one.proc) same) at; ready = is.ready }
 
--- so the caller stands and is ready
-pub caller_stands : (configuration : Configuration) (state : State) (core : ℕ) (call : CallRecord) → AreDistinct state
-    → IsLawfulCall configuration state core call → StandsReady core (process_in state call.who)
-caller_stands configuration state core call distinct law =
-    choice_stands call.who.part core (state.partitions call.who.part).table call.who (distinct call.who.part)
-    (choice_is (window_now configuration state.cores core) state.partitions core call.who law.choice).choice
+-- the choice of a core stands in its partition's table and is ready
+pub chosen_stands : (window : Option ℕ) (partitions : ℕ → Partition) (core : ℕ) (who : Who) → are_distinct (partitions who.part).table ≡ true
+    → choice_of window partitions core ≡ Some who → StandsReady core (process_at (partitions who.part).table who.proc)
+chosen_stands window partitions core who distinct chosen =
+    choice_stands who.part core (partitions who.part).table who distinct (choice_is window partitions core who chosen).choice
 
--- the caller of a call that answers and doesn't renew its place
-pub answered : (place now : ℕ) (call : CallRecord) (code : Code) (outcome : Outcome) (process : Process) → call.claim.out ≡ out.Answer code
-    → (renews call.request && is_done (out.Answer code)) ≡ false → outcome_of call code ≡ outcome
-    → HasOutcomeDue outcome now process (caller_after place now call process)
-answered place now call code outcome process is keeps same =
-    subst (λ given. HasOutcomeDue outcome now process (record (caller_with place now call given process) { called_at = now })) (sym is) (record {
-      same = record { name = refl; base_priority = refl; affinity = refl };
-      due = ap Some same;
-      called_at = refl;
-      alive = refl;
-      wait = refl;
-      ready_position = ap (λ renewed. cond renewed place process.ready_position) keeps;
-      current_priority = refl;
-    })
+-- so it waits in no set
+pub ready_waits_not : (core : ℕ) (found : Option Process) (wanted : WaitingSet) → StandsReady core found → waits_at wanted found ≡ true → ⊥
+ready_waits_not core found wanted ready waits =
+    let here : waits_at wanted (Some ready.process) ≡ true = subst (λ one. waits_at wanted one ≡ true) ready.stands waits in
+    let wait : is_in wanted ready.process.wait ≡ true = (and_parts ready.process.alive _ here).1 in
+    true≢false (sym wait ∙ in_no_set wanted ready.process.wait (ap waits_for_nothing ready.ready.waits))

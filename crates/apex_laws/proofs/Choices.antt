@@ -3,7 +3,7 @@ use Rattle.std.proofs.Common.{◌≡◌, ℕ, Option, Some, None, sym, ap, subst
 use Rattle.apex_types.specs.declared.record.Who.{Who}
 use Rattle.apex_machine.specs.declared.state.Process.{Process}
 use Rattle.apex_machine.specs.Choice.{choice_in, choice_of, foremost, ready_entries}
-use Rattle.apex_machine.specs.Pieces.{InNoWindow, InWindowOf}
+use Rattle.apex_machine.specs.Demands.{InNoWindow, InWindowOf}
 use Rattle.apex_machine.specs.State.{Partition}
 
 -- where the module finds the idle core idle, and the partition of the window finds its choice, the core has its choice

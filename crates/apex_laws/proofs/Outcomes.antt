@@ -1,47 +1,127 @@
 -- The outcome that a call claims and the outcome that a return gives back, as a whole and demand by demand.
-use Rattle.std.proofs.Common.{◌≡◌, ℕ, List, [], ◌∷◌, Option, Some, None, true, false, cond, sym, subst, refl, ◌∙◌}
+use Rattle.std.proofs.Common.{◌≡◌, ℕ, List, [], ◌∷◌, length, Bool, true, false, cond, nat_lt, ℤ, Option, Some, None, IsTrue, sym, subst, refl, ◌∙◌, true≢false}
 use Rattle.apex_types.specs.declared.code.Code.{Code}
+use Rattle.apex_types.specs.declared.code.Code.TheVariants as code
 use Rattle.apex_types.specs.declared.record.Claim.{Claim}
+use Rattle.apex_types.specs.declared.record.Out.{Out}
 use Rattle.apex_types.specs.declared.record.Return.{Return}
-use Rattle.apex_types.specs.declared.record.Who.{Who}
 use Rattle.apex_types.specs.declared.request.Request.{Request}
 use Rattle.apex_types.specs.declared.request.Request.TheVariants as request
 use Rattle.apex_machine.specs.declared.state.Outcome.{Outcome}
-use Rattle.apex_machine.specs.Pieces.{AllHold, IfDue, outcome_demands}
-use Rattle.apex_machine.specs.Services.{Answer, Nothing, answer_of, done_with, is_over, waiting}
-use Rattle.apex_machine.specs.State.{Table}
-use Rattle.apex_machine.specs.Step.{HasOutcome, outcome_returned}
+use Rattle.apex_machine.specs.Answer.{Answer, HasValue, NamesExactly, answering, unmet, waiting}
+use Rattle.apex_machine.specs.Arguments.{is_over}
+use Rattle.apex_machine.specs.Channels.{capacity_of, receiving_discipline, refresh_of, sending_discipline}
+use Rattle.apex_machine.specs.Configuration.{Configuration}
+use Rattle.apex_machine.specs.Demands.{AllHold, CanHave, IfDue, outcome_demands}
+use Rattle.apex_machine.specs.Ports.{Receive, Read, Send, Write, channel_effect, reading_of, suits_use, use_of, used}
+use Rattle.apex_machine.specs.Queue.{Messages, appended, not_yet, received, sent}
+use Rattle.apex_machine.specs.State.{Channel, Content, Entry, Queued, Sampled, Stamped, names_one_of}
+use Rattle.apex_machine.specs.Step.{HasOutcome, IsThrough, outcome_returned}
+use Rattle.apex_machine.specs.Waiting.{first_waiter}
 
 -- calls
 
--- the demands on the outcome, and no channel, are the outcome that a lawful call has
-pub has_outcome : (codes : List Code) (table : Table) (answer : Answer) (claim : Claim) → claim.chan ≡ None
-    → AllHold (outcome_demands codes table answer claim) → HasOutcome codes table answer claim
-has_outcome [] table answer claim chan hold = record { chan = chan; out = hold.0; val = hold.1.0; bytes = hold.1.1.0; woken = hold.1.1.1.0 }
-has_outcome (code ∷ codes) table answer claim chan hold = record { chan = chan; out = hold.0; val = hold.1.0; bytes = hold.1.1.0; woken = hold.1.1.1.0 }
+-- what a channel says of a call through it
+pub record ChannelSays (suited : Bool) (answer : Answer) (claim : Claim) : Type 0 where
+  pub kind : IsTrue suited
+  pub out : claim.out ≡ answer.out
+  pub val : HasValue answer.val claim.val
+  pub bytes : claim.bytes ≡ answer.bytes
+  pub woken : NamesExactly answer.woken claim.woken
 
--- a call with a lawful outcome goes to no channel
-pub outcome_chan : (codes : List Code) (table : Table) (answer : Answer) (claim : Claim) → HasOutcome codes table answer claim → claim.chan ≡ None
-outcome_chan [] table answer claim has = has.chan
-outcome_chan (code ∷ codes) table answer claim has = has.chan
+-- the demands of the caller's partition and those of the channel that is claimed are the outcome that a lawful call has
+pub has_outcome : (codes : List Code) (channel : Option ℕ) (number : ℕ) (asked : Request) (answer : Answer) (suited : ℕ → Bool) (through : ℕ → Answer) (claim : Claim)
+    → AllHold (outcome_demands codes channel number asked answer claim)
+    → ((channel : ℕ) → claim.chan ≡ Some channel → ChannelSays (suited channel) (through channel) claim)
+    → HasOutcome codes channel answer suited through claim
+has_outcome [] None number asked answer suited through claim hold says =
+    record { chan = hold.0; out = hold.1.0; val = hold.1.1.0; bytes = hold.1.1.1.0; woken = hold.1.1.1.1.0 }
+has_outcome [] (Some channel) number asked answer suited through claim hold says =
+    let of_channel = says channel hold.0 in
+    record { chan = hold.0; kind = of_channel.kind; out = of_channel.out; val = of_channel.val; bytes = of_channel.bytes; woken = of_channel.woken }
+has_outcome (code ∷ codes) channel number asked answer suited through claim hold says =
+    record { chan = hold.0; out = hold.1.0; val = hold.1.1.0; bytes = hold.1.1.1.0; woken = hold.1.1.1.1.0 }
 
--- the outcome that a lawful call has meets the demands on it
-pub outcome_holds : (codes : List Code) (table : Table) (answer : Answer) (claim : Claim)
-    → HasOutcome codes table answer claim → AllHold (outcome_demands codes table answer claim)
-outcome_holds [] table answer claim has = (has.out, (has.val, (has.bytes, (has.woken, tt))))
-outcome_holds (code ∷ codes) table answer claim has = (has.out, (has.val, (has.bytes, (has.woken, tt))))
+-- the outcome that a lawful call has meets the demands of the caller's partition
+pub outcome_holds : (codes : List Code) (channel : Option ℕ) (number : ℕ) (asked : Request) (answer : Answer) (suited : ℕ → Bool) (through : ℕ → Answer) (claim : Claim)
+    → ((channel : ℕ) → IsTrue (suited channel) → CanHave asked (through channel).out)
+    → ((other : ℕ) → channel ≡ Some other → IsThrough other (suited other) (through other) claim → names_one_of number claim.woken ≡ false)
+    → HasOutcome codes channel answer suited through claim
+    → AllHold (outcome_demands codes channel number asked answer claim)
+outcome_holds [] None number asked answer suited through claim can apart has = (has.chan, (has.out, (has.val, (has.bytes, (has.woken, tt)))))
+outcome_holds [] (Some channel) number asked answer suited through claim can apart has =
+    (has.chan, (subst (CanHave asked) (sym has.out) (can channel has.kind), (apart channel refl has, tt)))
+outcome_holds (code ∷ codes) channel number asked answer suited through claim can apart has =
+    (has.chan, (has.out, (has.val, (has.bytes, (has.woken, tt)))))
 
--- no service ends the wait of another process
-no_service_wakes : (now : ℕ) (who : Who) (asked : Request) → (answer_of now who asked).woken ≡ []
-no_service_wakes now who (request.TimedWait delay) =
-    elim (is_over delay) as (λ over. (cond over (done_with Nothing) waiting).woken ≡ []) [ true ↦ refl | false ↦ refl ]
-no_service_wakes now who _ = refl
+-- a lawful call that claims a channel is answered by that channel
+pub through_claimed : (codes : List Code) (channel : Option ℕ) (answer : Answer) (suited : ℕ → Bool) (through : ℕ → Answer) (claim : Claim) (claimed : ℕ)
+    → claim.chan ≡ Some claimed → HasOutcome codes channel answer suited through claim → IsThrough claimed (suited claimed) (through claimed) claim
+through_claimed [] None answer suited through claim claimed is has = let none : ◌≡◌ {A = Option ℕ} None (Some claimed) = sym has.chan ∙ is in cc
+through_claimed (code ∷ codes) channel answer suited through claim claimed is has = let none : ◌≡◌ {A = Option ℕ} None (Some claimed) = sym has.chan ∙ is in cc
+through_claimed [] (Some channel) answer suited through claim claimed is has =
+    let both : ◌≡◌ {A = Option ℕ} (Some channel) (Some claimed) = sym has.chan ∙ is in
+    let same : channel ≡ claimed = cc in
+    subst (λ one. IsThrough one (suited one) (through one) claim) same has
 
--- so a call with a lawful outcome names nobody
-pub names_nobody : (codes : List Code) (table : Table) (now : ℕ) (who : Who) (asked : Request) (claim : Claim)
-    → HasOutcome codes table (answer_of now who asked) claim → claim.woken ≡ []
-names_nobody [] table now who asked claim has = has.woken ∙ no_service_wakes now who asked
-names_nobody (code ∷ codes) table now who asked claim has = has.woken
+-- what a channel can give, as a partition sees it
+
+unmet_can : (Fact : Out → Type 0) (time_out : ℤ) → Fact (answering code.NotAvailable).out → (is_over time_out ≡ false → Fact waiting.out) → Fact (unmet time_out).out
+unmet_can Fact time_out at_once waits =
+    elim (is_over time_out) as (λ over. is_over time_out ≡ over → Fact (cond over (answering code.NotAvailable) waiting).out) [ true ↦ λ over. at_once | false ↦ λ later. waits later ] refl
+
+sent_can : (Fact : Out → Type 0) (capacity : ℕ) (message : List ℕ) (time_out : ℤ) (first : Option Entry) (messages : Messages) → ((one : Out) → one ≡ (answering code.NoError).out → Fact one)
+    → Fact (answering code.NotAvailable).out → (is_over time_out ≡ false → Fact waiting.out) → Fact (sent capacity message time_out first messages).answer.out
+sent_can Fact capacity message time_out (Some entry) messages done at_once waits = done _ refl
+sent_can Fact capacity message time_out None messages done at_once waits =
+    elim (nat_lt (length messages) capacity) as (λ room. Fact (cond room (appended message messages) (not_yet time_out messages)).answer.out) [
+      | true ↦ done _ refl
+      | false ↦ unmet_can Fact time_out at_once waits
+    ]
+
+received_can : (Fact : Out → Type 0) (time_out : ℤ) (first : Option Entry) (messages : Messages) → ((one : Out) → one ≡ (answering code.NoError).out → Fact one)
+    → Fact (answering code.NotAvailable).out → (is_over time_out ≡ false → Fact waiting.out) → Fact (received time_out first messages).answer.out
+received_can Fact time_out first [] done at_once waits = unmet_can Fact time_out at_once waits
+received_can Fact time_out None (message ∷ others) done at_once waits = done _ refl
+received_can Fact time_out (Some entry) (message ∷ others) done at_once waits = done _ refl
+
+done_can : (asked : Request) (one : Out) → one ≡ (answering code.NoError).out → CanHave asked one
+done_can asked one is = subst (CanHave asked) (sym is) tt
+
+-- an outcome that a channel of the right kind gives is one that the partition lets pass
+pub channel_can : (configuration : Configuration) (now number : ℕ) (asked : Request) (channel : Channel) → IsTrue (suits_use (use_of asked) channel)
+    → CanHave asked (channel_effect configuration now number (use_of asked) channel).answer.out
+channel_can configuration now number (request.WriteSamplingMessage port length message) channel suited = by channel.content
+  where
+    by : (content : Content) → CanHave (request.WriteSamplingMessage port length message) (used configuration now number (Write message) channel content).answer.out
+    by (Sampled last) = tt
+    by (Queued messages) = tt
+channel_can configuration now number (request.ReadSamplingMessage port) channel suited = by channel.content
+  where
+    read : (last : Option Stamped) → CanHave (request.ReadSamplingMessage port) (reading_of now (refresh_of configuration number) last).out
+    read None = tt
+    read (Some last) = tt
+
+    by : (content : Content) → CanHave (request.ReadSamplingMessage port) (used configuration now number Read channel content).answer.out
+    by (Sampled last) = read last
+    by (Queued messages) = tt
+channel_can configuration now number (request.SendQueuingMessage port length time_out message) channel suited = by channel.content
+  where
+    by : (content : Content) → CanHave (request.SendQueuingMessage port length time_out message) (used configuration now number (Send message time_out) channel content).answer.out
+    by (Queued messages) =
+        sent_can (CanHave (request.SendQueuingMessage port length time_out message)) (capacity_of configuration number) message time_out
+        (first_waiter (receiving_discipline configuration number) channel.receivers) messages
+        (done_can (request.SendQueuingMessage port length time_out message)) tt (λ later. later)
+    by (Sampled last) = tt
+channel_can configuration now number (request.ReceiveQueuingMessage port time_out) channel suited = by channel.content
+  where
+    by : (content : Content) → CanHave (request.ReceiveQueuingMessage port time_out) (used configuration now number (Receive time_out) channel content).answer.out
+    by (Queued messages) =
+        received_can (CanHave (request.ReceiveQueuingMessage port time_out)) time_out
+        (first_waiter (sending_discipline configuration number) channel.senders) messages
+        (done_can (request.ReceiveQueuingMessage port time_out)) tt (λ later. later)
+    by (Sampled last) = tt
+channel_can configuration now number _ channel suited = absurd (true≢false (sym suited))
 
 -- returns
 

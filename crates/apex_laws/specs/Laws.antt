@@ -1,77 +1,27 @@
--- The laws that tie the pieces to the machine. Each is the contract of a function in `src/lib.rt`.
-use Rattle.std.specs.Prelude.{◌≡◌, ◌↔◌, ◌<◌, ◌+◌, ℕ, ℤ, pos, length, List, [], ◌∷◌, Option, Some, None, IsTrue, IsFalse, Contains, not, is_some, ◌&&◌, Bool, true}
-use Rattle.apex_types.specs.declared.code.Code.TheVariants as code
-use Rattle.apex_types.specs.declared.record.Body.TheVariants.{Call, Disp, Ret, Tick}
-use Rattle.apex_types.specs.declared.record.Call.{Call as CallRecord}
+-- The laws that tie the pieces to the machine, for any services that are judged. Each is the contract of a function in
+-- `src/lib.rt`.
+use Rattle.std.specs.Prelude.{◌<◌, ◌≡◌, ◌↔◌, ℕ, List, [], ◌∷◌, Option, Some, None, IsTrue, IsFalse, Contains, not, is_some, ◌&&◌, Bool, true}
 use Rattle.apex_types.specs.declared.record.Ordered.{Ordered}
-use Rattle.apex_types.specs.declared.record.Out.TheVariants as out
-use Rattle.apex_types.specs.declared.record.Return.{Return}
-use Rattle.apex_types.specs.declared.record.Who.{Who}
-use Rattle.apex_types.specs.declared.request.Request.TheVariants as request
-use Rattle.apex_types.specs.declared.service.Service.TheVariants as service
-use Rattle.apex_types.specs.Requested.{service_of}
+use Rattle.apex_types.specs.declared.service.Service.{Service}
+use Rattle.apex_machine.specs.declared.state.Direction.{Direction}
+use Rattle.apex_machine.specs.declared.state.Direction.TheVariants as direction
 use Rattle.apex_machine.specs.declared.state.Process.{Process}
+use Rattle.apex_machine.specs.declared.state.WaitingSet.{WaitingSet}
+use Rattle.apex_machine.specs.declared.state.WaitingSet.TheVariants as set
+pub use Rattle.apex_machine.specs.Channels.{EndsAreApart}
+use Rattle.apex_machine.specs.Channels.{is_receiver, is_sender}
 use Rattle.apex_machine.specs.Choice.{IsChosen, IsReady, foremost, ready_entries}
-use Rattle.apex_machine.specs.Conditions.{condition_codes}
-use Rattle.apex_machine.specs.Configuration.{Configuration, first_core, has_core, limits_of}
+use Rattle.apex_machine.specs.Configuration.{Configuration}
 pub use Rattle.apex_machine.specs.Configuration.{WindowsAreConfigured}
-use Rattle.apex_machine.specs.Pieces.{Part, Piece, LocalStep, is_configured, part, touches}
-use Rattle.apex_machine.specs.Runs.{ArePlaced, Finds, PieceRun, Refusal}
-use Rattle.apex_machine.specs.State.{State, Table, cold_state, process_at, time_of}
-use Rattle.apex_machine.specs.Step.{Run, Step}
-use Rattle.apex_laws.specs.Sentences.{HasGivenWay, HasOutcomeDue, HasReturned, IsAffinityOf, IsCreationOf, IsDispatchOf, IsDormant, IsNormalModeOf, IsRefusedCallOf, IsStartOf, IsTickOf, OnlyChanges, WaitsUntil}
+use Rattle.apex_machine.specs.Demands.{LocalStepJudging}
+use Rattle.apex_machine.specs.Pieces.{Part, Piece, is_configured, part, touches}
+use Rattle.apex_machine.specs.Runs.{ArePlaced, FindsJudging, PieceRunJudging, Refusal}
+use Rattle.apex_machine.specs.State.{Blackboard, Buffer, Entry, Event, Mutex, Partition, Port, Semaphore, State, Table, cold_state, is_same, object_at, process_at}
+use Rattle.apex_machine.specs.Step.{RunJudging, StepJudging}
+use Rattle.apex_machine.specs.Views.{judge, view_in, view_of}
+use Rattle.apex_machine.specs.Waiting.{waits_at}
 
--- a record leads from a state to at most one next state
-abbrev pub AtMostOneNextState : Type 0
-AtMostOneNextState =
-    (configuration : Configuration) (state : State) (ordered : Ordered) (one other : State)
-    → Step configuration state ordered one → Step configuration state ordered other → one ≡ other
-
--- where each piece that the next record touches makes its local step, the machine has a step, to the state whose parts the
--- pieces reached; the parts of the other pieces stay
-abbrev pub PiecesCompose : Type 0
-PiecesCompose =
-    (configuration : Configuration) (state : State) (ordered : Ordered) (reached : Piece → Part)
-    → WindowsAreConfigured configuration → ordered.pos ≡ state.count
-    → ((piece : Piece) → IsTrue (is_configured configuration piece) → IsTrue (touches piece ordered)
-    → LocalStep configuration (part piece state) ordered (reached piece))
-    → (next : State) × Step configuration state ordered next
-    × ((piece : Piece) → IsTrue (is_configured configuration piece) → IsTrue (touches piece ordered) → part piece next ≡ reached piece)
-    × ((piece : Piece) → IsTrue (is_configured configuration piece) → IsFalse (touches piece ordered) → part piece next ≡ part piece state)
-
--- where the machine has a step, each piece that the record touches makes its local step
-abbrev pub PiecesFollow : Type 0
-PiecesFollow =
-    (configuration : Configuration) (state : State) (ordered : Ordered) (next : State) → Step configuration state ordered next
-    → (piece : Piece) → IsTrue (is_configured configuration piece) → IsTrue (touches piece ordered)
-    → LocalStep configuration (part piece state) ordered (part piece next)
-
--- runs of all pieces over the records that touch them are one run of the machine, whose parts the pieces reached
-abbrev pub OneRun : Type 0
-OneRun =
-    (configuration : Configuration) (state : State) (records : List Ordered) (reached : Piece → Part)
-    → WindowsAreConfigured configuration → ArePlaced state.count records
-    → ((piece : Piece) → IsTrue (is_configured configuration piece) → PieceRun configuration piece (part piece state) records (reached piece))
-    → (final : State) × Run configuration state records final
-    × ((piece : Piece) → IsTrue (is_configured configuration piece) → part piece final ≡ reached piece)
-
--- a run of the machine is a run of each piece
-abbrev pub RunOfEach : Type 0
-RunOfEach =
-    (configuration : Configuration) (state : State) (records : List Ordered) (final : State) → Run configuration state records final
-    → (piece : Piece) → IsTrue (is_configured configuration piece) → PieceRun configuration piece (part piece state) records (part piece final)
-
--- a piece that refuses nothing has a run over all the records
-abbrev pub SilentPieceRuns : Type 0
-SilentPieceRuns =
-    (configuration : Configuration) (piece : Piece) (old : Part) (records : List Ordered) → Finds configuration piece old records None
-    → (final : Part) × PieceRun configuration piece old records final
-
--- a piece has at most one first refusal
-abbrev pub OneFirstRefusal : Type 0
-OneFirstRefusal =
-    (configuration : Configuration) (piece : Piece) (old : Part) (records : List Ordered) (one other : Option Refusal)
-    → Finds configuration piece old records one → Finds configuration piece old records other → one ≡ other
+-- the tie of the states that a run reaches
 
 -- the numbers of a table are distinct
 abbrev pub are_distinct : Table → Bool
@@ -82,14 +32,161 @@ are_distinct (entry ∷ entries) = not (is_some (process_at entries entry.0)) &&
 abbrev pub AreDistinct : State → Type 0
 AreDistinct state = (number : ℕ) → IsTrue (are_distinct (state.partitions number).table)
 
--- the numbers of every table are distinct in the cold state, a step keeps them so, and so they are after every run
-abbrev pub TablesStayDistinct : Type 0
-TablesStayDistinct =
-    ((configuration : Configuration) → AreDistinct (cold_state configuration))
-    × ((configuration : Configuration) (state : State) (ordered : Ordered) (next : State) → Step configuration state ordered next
-    → AreDistinct state → AreDistinct next)
-    × ((configuration : Configuration) (records : List Ordered) (final : State) → Run configuration (cold_state configuration) records final
-    → AreDistinct final)
+-- a fact about each entry of a waiting set
+abbrev pub AllEntries : (Entry → Type 0) → List Entry → Type 0
+AllEntries Fact [] = Unit {0}
+AllEntries Fact (entry ∷ entries) = Fact entry × AllEntries Fact entries
+
+-- the entries that an object has, if it is created
+abbrev pub entries_in : {Object : Type 0} → (Object → List Entry) → Option Object → List Entry
+entries_in entries_of None = []
+entries_in entries_of (Some object) = entries_of object
+
+-- the entries of a waiting set of a partition; a channel's is no partition's
+abbrev pub entries_at : Partition → WaitingSet → List Entry
+entries_at partition (set.BufferSenders number) = entries_in (λ (buffer : Buffer). buffer.senders) (object_at partition.buffers number)
+entries_at partition (set.BufferReceivers number) = entries_in (λ (buffer : Buffer). buffer.receivers) (object_at partition.buffers number)
+entries_at partition (set.BlackboardReaders number) = entries_in (λ (blackboard : Blackboard). blackboard.readers) (object_at partition.blackboards number)
+entries_at partition (set.SemaphoreWaiters number) = entries_in (λ (semaphore : Semaphore). semaphore.waiters) (object_at partition.semaphores number)
+entries_at partition (set.EventWaiters number) = entries_in (λ (event : Event). event.waiters) (object_at partition.events number)
+entries_at partition (set.MutexWaiters number) = entries_in (λ (mutex : Mutex). mutex.waiters) (object_at partition.mutexes number)
+entries_at partition (set.ChannelSenders channel) = []
+entries_at partition (set.ChannelReceivers channel) = []
+
+-- who stands in a waiting set is of a partition that is at home there, and waits in that set
+abbrev pub IsTied : (ℕ → Type 0) → WaitingSet → (ℕ → Partition) → Entry → Type 0
+IsTied Home wanted partitions entry =
+    Home entry.who.part × IsTrue (waits_at wanted (process_at (partitions entry.who.part).table entry.who.proc))
+
+-- a queuing port is at the end of its channel that is its partition's
+abbrev pub IsAtEnd : Configuration → ℕ → Direction → ℕ → Type 0
+IsAtEnd configuration partition direction.Source channel = IsTrue (is_sender configuration channel partition)
+IsAtEnd configuration partition direction.Destination channel = IsTrue (is_receiver configuration channel partition)
+
+-- a fact about each port
+abbrev pub AllPorts : (Port → Type 0) → List (ℕ × Port) → Type 0
+AllPorts Fact [] = Unit {0}
+AllPorts Fact (entry ∷ entries) = Fact entry.1 × AllPorts Fact entries
+
+-- the tie: numbers are distinct; who stands in a waiting set of a partition is a process of it, and who stands in one of a
+-- channel is of the partition at that end, and each waits there; each queuing port is at its end of its channel
+pub record AreTied (configuration : Configuration) (state : State) : Type 0 where
+  pub distinct : AreDistinct state
+  pub objects : (number : ℕ) (wanted : WaitingSet) → AllEntries (IsTied (λ home. home ≡ number) wanted state.partitions) (entries_at (state.partitions number) wanted)
+  pub senders : (number : ℕ) → AllEntries (IsTied (λ home. IsTrue (is_sender configuration number home)) (set.ChannelSenders number) state.partitions) (state.channels number).senders
+  pub receivers : (number : ℕ) → AllEntries (IsTied (λ home. IsTrue (is_receiver configuration number home)) (set.ChannelReceivers number) state.partitions) (state.channels number).receivers
+  pub ports : (number : ℕ) → AllPorts (λ port. IsAtEnd configuration number port.direction port.channel) (state.partitions number).queuing_ports
+
+-- the cold state is tied, a step keeps a state tied, and so does a run
+abbrev pub StaysTied : Type 0
+StaysTied =
+    ((configuration : Configuration) → AreTied configuration (cold_state configuration))
+    × ((judged : Service → Bool) (configuration : Configuration) (state : State) (ordered : Ordered) (next : State)
+    → AreTied configuration state → StepJudging judged configuration state ordered next → AreTied configuration next)
+    × ((judged : Service → Bool) (configuration : Configuration) (records : List Ordered) (state final : State)
+    → AreTied configuration state → RunJudging judged configuration state records final → AreTied configuration final)
+
+-- the order of the entries in the waiting sets of the states that a run reaches
+
+-- a fact about each two entries of a set, of which the second stands behind the first
+abbrev pub AllPairs : (Entry → Entry → Type 0) → List Entry → Type 0
+AllPairs Fact [] = Unit {0}
+AllPairs Fact (entry ∷ entries) = AllEntries (Fact entry) entries × AllPairs Fact entries
+
+-- one entry is earlier than another: its place is smaller, and it is of another process
+pub record IsEarlier (one other : Entry) : Type 0 where
+  pub place : one.place < other.place
+  pub differs : IsFalse (is_same one.who other.who)
+
+-- a waiting set is in order: its places rise, no process stands in it twice, and all places are below the next one
+pub record IsInOrder (count : ℕ) (entries : List Entry) : Type 0 where
+  pub pairs : AllPairs IsEarlier entries
+  pub below : AllEntries (λ entry. entry.place < count) entries
+
+-- every waiting set is in order
+pub record SetsAreInOrder (state : State) : Type 0 where
+  pub objects : (number : ℕ) (wanted : WaitingSet) → IsInOrder state.count (entries_at (state.partitions number) wanted)
+  pub senders : (number : ℕ) → IsInOrder state.count (state.channels number).senders
+  pub receivers : (number : ℕ) → IsInOrder state.count (state.channels number).receivers
+
+-- the cold state's waiting sets are in order, a step from a tied state keeps them so, and so does a run
+abbrev pub StaysInOrder : Type 0
+StaysInOrder =
+    ((configuration : Configuration) → SetsAreInOrder (cold_state configuration))
+    × ((judged : Service → Bool) (configuration : Configuration) (state : State) (ordered : Ordered) (next : State)
+    → AreTied configuration state → SetsAreInOrder state → StepJudging judged configuration state ordered next → SetsAreInOrder next)
+    × ((judged : Service → Bool) (configuration : Configuration) (records : List Ordered) (state final : State)
+    → AreTied configuration state → SetsAreInOrder state → RunJudging judged configuration state records final → SetsAreInOrder final)
+
+-- steps
+
+-- a record leads from a state to at most one next state
+abbrev pub AtMostOneNextState : Type 0
+AtMostOneNextState =
+    (judged : Service → Bool) (configuration : Configuration) (state : State) (ordered : Ordered) (one other : State)
+    → StepJudging judged configuration state ordered one → StepJudging judged configuration state ordered other → one ≡ other
+
+-- where each piece that the next record touches makes its local step, the machine has a step, to the state whose parts the
+-- pieces reached; the parts of the other pieces stay
+abbrev pub PiecesCompose : Type 0
+PiecesCompose =
+    (judged : Service → Bool) (configuration : Configuration) (state : State) (ordered : Ordered) (reached : Piece → Part)
+    → WindowsAreConfigured configuration → AreTied configuration state → ordered.pos ≡ state.count
+    → ((piece : Piece) → IsTrue (is_configured configuration piece) → IsTrue (touches configuration piece ordered)
+    → LocalStepJudging judged configuration (part piece state) ordered (reached piece))
+    → (next : State) × StepJudging judged configuration state ordered next
+    × ((piece : Piece) → IsTrue (is_configured configuration piece) → IsTrue (touches configuration piece ordered) → part piece next ≡ reached piece)
+    × ((piece : Piece) → IsTrue (is_configured configuration piece) → IsFalse (touches configuration piece ordered) → part piece next ≡ part piece state)
+
+-- where the machine has a step, each piece that the record touches makes its local step
+abbrev pub PiecesFollow : Type 0
+PiecesFollow =
+    (judged : Service → Bool) (configuration : Configuration) (state : State) (ordered : Ordered) (next : State)
+    → EndsAreApart configuration → AreTied configuration state → StepJudging judged configuration state ordered next
+    → (piece : Piece) → IsTrue (is_configured configuration piece) → IsTrue (touches configuration piece ordered)
+    → LocalStepJudging judged configuration (part piece state) ordered (part piece next)
+
+-- runs
+
+-- runs of all pieces over the records that touch them are one run of the machine, whose parts the pieces reached
+abbrev pub OneRun : Type 0
+OneRun =
+    (judged : Service → Bool) (configuration : Configuration) (state : State) (records : List Ordered) (reached : Piece → Part)
+    → WindowsAreConfigured configuration → AreTied configuration state → ArePlaced state.count records
+    → ((piece : Piece) → IsTrue (is_configured configuration piece) → PieceRunJudging judged configuration piece (part piece state) records (reached piece))
+    → (final : State) × RunJudging judged configuration state records final
+    × ((piece : Piece) → IsTrue (is_configured configuration piece) → part piece final ≡ reached piece)
+
+-- a run of the machine is a run of each piece
+abbrev pub RunOfEach : Type 0
+RunOfEach =
+    (judged : Service → Bool) (configuration : Configuration) (state : State) (records : List Ordered) (final : State)
+    → EndsAreApart configuration → AreTied configuration state → RunJudging judged configuration state records final
+    → (piece : Piece) → IsTrue (is_configured configuration piece) → PieceRunJudging judged configuration piece (part piece state) records (part piece final)
+
+-- a piece that refuses nothing has a run over all the records
+abbrev pub SilentPieceRuns : Type 0
+SilentPieceRuns =
+    (judged : Service → Bool) (configuration : Configuration) (piece : Piece) (old : Part) (records : List Ordered)
+    → FindsJudging judged configuration piece old records None
+    → (final : Part) × PieceRunJudging judged configuration piece old records final
+
+-- a piece has at most one first refusal
+abbrev pub OneFirstRefusal : Type 0
+OneFirstRefusal =
+    (judged : Service → Bool) (configuration : Configuration) (piece : Piece) (old : Part) (records : List Ordered) (one other : Option Refusal)
+    → FindsJudging judged configuration piece old records one → FindsJudging judged configuration piece old records other → one ≡ other
+
+-- views
+
+-- the piece that judges a record gives the view that the record has in the machine's run; no other piece gives one
+abbrev pub ViewIsOfTheRun : Type 0
+ViewIsOfTheRun =
+    (state : State) (ordered : Ordered) (piece : Piece)
+    → (piece ≡ judge ordered → view_in (part piece state) ordered ≡ Some (view_of state ordered))
+    × (¬ (piece ≡ judge ordered) → view_in (part piece state) ordered ≡ None)
+
+-- the choice
 
 -- the choice is the ready process before which no other goes, and none where none is ready
 abbrev pub ChoiceIsTheSentence : Type 0
@@ -97,117 +194,3 @@ ChoiceIsTheSentence =
     (core : ℕ) (table : Table) → IsTrue (are_distinct table)
     → ((entry : ℕ × Process) → (foremost (ready_entries core table) ≡ Some entry) ↔ IsChosen core table entry)
     × ((foremost (ready_entries core table) ≡ None) ↔ ((entry : ℕ × Process) → Contains table entry → ¬ IsReady core entry.1))
-
--- what a record does is what the sentences say
-
--- a tick of one of the cores
-abbrev pub TickIsTheSentence : Type 0
-TickIsTheSentence =
-    (configuration : Configuration) (state : State) (ordered : Ordered) (woken : List Who) (next : State)
-    → Step configuration state ordered next → ordered.rec.body ≡ Tick woken → ordered.core < length state.cores
-    → IsTickOf configuration ordered.core ordered.pos state next
-
--- a dispatch of one of the cores
-abbrev pub DispatchIsTheSentence : Type 0
-DispatchIsTheSentence =
-    (configuration : Configuration) (state : State) (ordered : Ordered) (who : Option Who) (next : State)
-    → Step configuration state ordered next → ordered.rec.body ≡ Disp who → ordered.core < length state.cores
-    → IsDispatchOf ordered.core who state next
-
--- a return: nothing is due any more to the one who returns, and nothing else changes
-abbrev pub ReturnIsTheSentence : Type 0
-ReturnIsTheSentence =
-    (configuration : Configuration) (state : State) (ordered : Ordered) (ret : Return) (next : State)
-    → Step configuration state ordered next → ordered.rec.body ≡ Ret ret → OnlyChanges HasReturned ret.who state next
-
--- a call with an error condition
-abbrev pub RefusalIsTheSentence : Type 0
-RefusalIsTheSentence =
-    (configuration : Configuration) (state : State) (ordered : Ordered) (call : CallRecord) (next : State)
-    → Step configuration state ordered next → ordered.rec.body ≡ Call call
-    → ¬ (condition_codes configuration call.who (state.partitions call.who.part) call.request ≡ [])
-    → IsRefusedCallOf call.who (service_of call.request) (condition_codes configuration call.who (state.partitions call.who.part) call.request)
-    (time_of state.cores ordered.core) state next
-
--- CREATE_PROCESS that is done: the number claimed is the new process's, which runs on the partition's first core
-abbrev pub CreationIsTheSentence : Type 0
-CreationIsTheSentence =
-    (configuration : Configuration) (state : State) (ordered : Ordered) (call : CallRecord) (name : List ℕ) (priority period : ℤ) (next : State)
-    → Step configuration state ordered next → ordered.rec.body ≡ Call call
-    → call.request ≡ request.CreateProcess name priority period → call.claim.out ≡ out.Answer code.NoError
-    → (number : ℕ) × (call.claim.val ≡ Some (pos number))
-    × IsCreationOf call.who (record { part = call.who.part; proc = number }) name priority (first_core configuration call.who.part)
-    (time_of state.cores ordered.core) state next
-
--- GET_MY_ID that is done: the caller's number is due to it, and nothing else changes
-abbrev pub OwnNumberIsTheSentence : Type 0
-OwnNumberIsTheSentence =
-    (configuration : Configuration) (state : State) (ordered : Ordered) (call : CallRecord) (next : State)
-    → Step configuration state ordered next → ordered.rec.body ≡ Call call
-    → call.request ≡ request.GetMyId → call.claim.out ≡ out.Answer code.NoError
-    → OnlyChanges (HasOutcomeDue (record { service = service.GetMyId; code = code.NoError; val = Some (pos call.who.proc); bytes = [] })
-    (time_of state.cores ordered.core)) call.who state next
-
--- GET_TIME that is done: its core's time is due to the caller, and nothing else changes
-abbrev pub TimeIsTheSentence : Type 0
-TimeIsTheSentence =
-    (configuration : Configuration) (state : State) (ordered : Ordered) (call : CallRecord) (next : State)
-    → Step configuration state ordered next → ordered.rec.body ≡ Call call
-    → call.request ≡ request.GetTime → call.claim.out ≡ out.Answer code.NoError
-    → OnlyChanges (HasOutcomeDue (record { service = service.GetTime; code = code.NoError; val = Some (pos (time_of state.cores ordered.core)); bytes = [] })
-    (time_of state.cores ordered.core)) call.who state next
-
--- STOP_SELF: the caller is dormant, and nothing else changes
-abbrev pub StopIsTheSentence : Type 0
-StopIsTheSentence =
-    (configuration : Configuration) (state : State) (ordered : Ordered) (call : CallRecord) (next : State)
-    → Step configuration state ordered next → ordered.rec.body ≡ Call call → call.request ≡ request.StopSelf
-    → OnlyChanges (IsDormant (time_of state.cores ordered.core)) call.who state next
-
--- TIMED_WAIT that waits: its delay is above 0, the caller waits until its core's time is the delay later, and nothing else
--- changes
-abbrev pub WaitIsTheSentence : Type 0
-WaitIsTheSentence =
-    (configuration : Configuration) (state : State) (ordered : Ordered) (call : CallRecord) (delay : ℤ) (next : State)
-    → Step configuration state ordered next → ordered.rec.body ≡ Call call
-    → call.request ≡ request.TimedWait delay → call.claim.out ≡ out.Waits
-    → (ticks : ℕ) × (delay ≡ pos ticks) × (0 < ticks)
-    × OnlyChanges (WaitsUntil (time_of state.cores ordered.core + ticks) (time_of state.cores ordered.core)) call.who state next
-
--- TIMED_WAIT that is over at once: its delay is 0, the caller gives way to the others of its priority, and nothing else
--- changes
-abbrev pub GivingWayIsTheSentence : Type 0
-GivingWayIsTheSentence =
-    (configuration : Configuration) (state : State) (ordered : Ordered) (call : CallRecord) (delay : ℤ) (next : State)
-    → Step configuration state ordered next → ordered.rec.body ≡ Call call
-    → call.request ≡ request.TimedWait delay → call.claim.out ≡ out.Answer code.NoError
-    → (delay ≡ pos 0) × OnlyChanges (HasGivenWay ordered.pos (time_of state.cores ordered.core)) call.who state next
-
--- INITIALIZE_PROCESS_CORE_AFFINITY that is done, for another process than the caller: the core is one of the partition's, and
--- the process runs on it from now on
-abbrev pub AffinityIsTheSentence : Type 0
-AffinityIsTheSentence =
-    (configuration : Configuration) (state : State) (ordered : Ordered) (call : CallRecord) (process core : ℤ) (next : State)
-    → Step configuration state ordered next → ordered.rec.body ≡ Call call
-    → call.request ≡ request.InitializeProcessCoreAffinity process core → call.claim.out ≡ out.Answer code.NoError
-    → ¬ (process ≡ pos call.who.proc)
-    → (target : ℕ) × (process ≡ pos target) × (on : ℕ) × (core ≡ pos on)
-    × IsTrue (has_core on (limits_of configuration call.who.part))
-    × IsAffinityOf call.who (record { part = call.who.part; proc = target }) on (time_of state.cores ordered.core) state next
-
--- START that is done, in a state of distinct numbers
-abbrev pub StartIsTheSentence : Type 0
-StartIsTheSentence =
-    (configuration : Configuration) (state : State) (ordered : Ordered) (call : CallRecord) (process : ℤ) (next : State)
-    → AreDistinct state → Step configuration state ordered next → ordered.rec.body ≡ Call call
-    → call.request ≡ request.Start process → call.claim.out ≡ out.Answer code.NoError
-    → (target : ℕ) × (process ≡ pos target)
-    × IsStartOf call.who (record { part = call.who.part; proc = target }) ordered.pos (time_of state.cores ordered.core) state next
-
--- SET_PARTITION_MODE that is done, in a state of distinct numbers: the mode asked for is NORMAL, which is 3
-abbrev pub NormalModeIsTheSentence : Type 0
-NormalModeIsTheSentence =
-    (configuration : Configuration) (state : State) (ordered : Ordered) (call : CallRecord) (asked : ℤ) (next : State)
-    → AreDistinct state → Step configuration state ordered next → ordered.rec.body ≡ Call call
-    → call.request ≡ request.SetPartitionMode asked → call.claim.out ≡ out.Never
-    → (asked ≡ pos 3) × IsNormalModeOf call.who ordered.pos (time_of state.cores ordered.core) state next

@@ -1,2 +1,10 @@
 pub mod Laws
-pub mod Sentences
+pub mod ObjectSentences
+pub mod CallSentences
+pub mod ObjectLaws
+pub mod ProcessSentences
+pub mod ProcessLaws
+pub mod Worked
+pub mod WorkedFacts
+pub mod RecordSentences
+pub mod RecordLaws

@@ -1,13 +1,15 @@
 //! The laws over the definitions: the pieces that judge a recording side by side are together the machine, and what the
 //! machine does is what plain sentences say.
 //!
-//! Each law is the contract of a function without code. Promises: at most one next state; local steps of the touched
-//! pieces are the machine's step, and the other way round; runs of the pieces are one run of the machine; the choice is
-//! the ready process before which no other goes; the numbers of a table stay distinct; and each kind of record, with each
-//! service that is judged, changes what its sentence names and nothing else.
+//! Each law is the contract of a function without code. The laws that tie the pieces to the machine hold for any services
+//! that are judged: for those of today, and for all.
 #![tactic(auto)]
 
-ghost use Rattle.apex_laws.specs.Laws.{AffinityIsTheSentence, AtMostOneNextState, ChoiceIsTheSentence, CreationIsTheSentence, DispatchIsTheSentence, GivingWayIsTheSentence, NormalModeIsTheSentence, OneFirstRefusal, OneRun, OwnNumberIsTheSentence, PiecesCompose, PiecesFollow, RefusalIsTheSentence, ReturnIsTheSentence, RunOfEach, SilentPieceRuns, StartIsTheSentence, StopIsTheSentence, TablesStayDistinct, TickIsTheSentence, TimeIsTheSentence, WaitIsTheSentence};
+ghost use Rattle.apex_laws.specs.Laws.{AtMostOneNextState, ChoiceIsTheSentence, OneFirstRefusal, OneRun, PiecesCompose, PiecesFollow, RunOfEach, SilentPieceRuns, StaysInOrder, StaysTied, ViewIsOfTheRun};
+ghost use Rattle.apex_laws.specs.ObjectLaws.{BlackboardIsTheSentence, ChannelIsTheSentence, EventIsTheSentence, FirstIsTheSentence, MutexIsTheSentence, ObjectCallIsTheSentence, OrderIsApart, QueueIsTheSentence, SamplingIsTheSentence, SemaphoreIsTheSentence};
+ghost use Rattle.apex_laws.specs.RecordLaws.{CallIsTheSentence, DispatchIsTheSentence, RefusalIsTheSentence, ReturnIsTheSentence, SetIsTheSentence, TickIsTheSentence};
+ghost use Rattle.apex_laws.specs.WorkedFacts.{LawfulFacts, WorkedFacts};
+ghost use Rattle.apex_laws.specs.ProcessLaws.{AnswerIsTheSentence, CallerIsTheSentence, CreationIsTheSentence, DueIsTheSentence, ReleaseIsTheSentence, SettingIsTheSentence, StoppingIsTheSentence, WakingIsTheSentence};
 
 /// A record leads from a state to at most one next state.
 pub fn at_most_one_next_state()
@@ -23,6 +25,23 @@ pub fn pieces_compose()
 /// Where the machine has a step, each piece that the record touches makes its local step.
 pub fn pieces_follow()
     ensures { PiecesFollow }
+{}
+
+/// The cold state is tied: numbers are distinct, who stands in a waiting set waits there, ports are at their ends. A step
+/// keeps a state tied, and so does a run.
+pub fn stays_tied()
+    ensures { StaysTied }
+{}
+
+/// The waiting sets of the cold state are in order: places rise, no process stands twice, all places are below the next one. A
+/// step from a tied state keeps them in order, and so does a run.
+pub fn stays_in_order()
+    ensures { StaysInOrder }
+{}
+
+/// The entries of a waiting set that is in order stand at places of their own.
+pub fn order_is_apart()
+    ensures { OrderIsApart }
 {}
 
 /// Runs of all pieces over the records that touch them are one run of the machine, whose parts the pieces reached.
@@ -45,19 +64,110 @@ pub fn one_first_refusal()
     ensures { OneFirstRefusal }
 {}
 
+/// The piece that judges a record gives the view that the record has in the machine's run, and no other piece gives one.
+pub fn view_is_of_the_run()
+    ensures { ViewIsOfTheRun }
+{}
+
 /// The choice is the ready process before which no other goes, and none where none is ready.
 pub fn choice_is_the_sentence()
     ensures { ChoiceIsTheSentence }
 {}
 
-/// The numbers of each partition's processes are distinct in the cold state, in each step's next state, and so after
-/// every run.
-pub fn tables_stay_distinct()
-    ensures { TablesStayDistinct }
+/// The first of a waiting set is the entry that no other precedes, and there is none only in an empty set.
+pub fn first_is_the_sentence()
+    ensures { FirstIsTheSentence }
 {}
 
-/// A tick releases exactly the processes of its core whose wait is over at the core's new time, adds one to that time, and
-/// changes nothing else.
+/// Sending to and receiving from a buffer or a queuing channel is what the sentences say.
+pub fn queue_is_the_sentence()
+    ensures { QueueIsTheSentence }
+{}
+
+/// Displaying, reading and clearing a blackboard is what the sentences say.
+pub fn blackboard_is_the_sentence()
+    ensures { BlackboardIsTheSentence }
+{}
+
+/// Waiting for and signalling a semaphore is what the sentences say.
+pub fn semaphore_is_the_sentence()
+    ensures { SemaphoreIsTheSentence }
+{}
+
+/// Setting, resetting and waiting for an event is what the sentences say.
+pub fn event_is_the_sentence()
+    ensures { EventIsTheSentence }
+{}
+
+/// Acquiring and releasing a mutex is what the sentences say.
+pub fn mutex_is_the_sentence()
+    ensures { MutexIsTheSentence }
+{}
+
+/// Writing and reading a sampling channel is what the sentences say.
+pub fn sampling_is_the_sentence()
+    ensures { SamplingIsTheSentence }
+{}
+
+/// The use of a channel of its kind is what the sentences say.
+pub fn channel_is_the_sentence()
+    ensures { ChannelIsTheSentence }
+{}
+
+/// The services of objects use and change exactly the object that they name, and creations add exactly one, as the sentences
+/// say.
+pub fn object_call_is_the_sentence()
+    ensures { ObjectCallIsTheSentence }
+{}
+
+/// What a service sets in the processes of its partition is what the sentences say: affinity, start, suspension, resumption,
+/// priority, the entry into NORMAL, and the priorities of the owners of mutexes.
+pub fn setting_is_the_sentence()
+    ensures { SettingIsTheSentence }
+{}
+
+/// A process falls due where its core is its own and the time has come to its due time.
+pub fn due_is_the_sentence()
+    ensures { DueIsTheSentence }
+{}
+
+/// A wait that falls due ends as the sentences say.
+pub fn release_is_the_sentence()
+    ensures { ReleaseIsTheSentence }
+{}
+
+/// A wait that a call ends ends as the sentences say.
+pub fn waking_is_the_sentence()
+    ensures { WakingIsTheSentence }
+{}
+
+/// A process that is stopped is dormant, and nothing of its wait, its suspension or its outcome is left.
+pub fn stopping_is_the_sentence()
+    ensures { StoppingIsTheSentence }
+{}
+
+/// A caller waits, is stopped, or has its outcome due, as the sentences say.
+pub fn caller_is_the_sentence()
+    ensures { CallerIsTheSentence }
+{}
+
+/// A created process is dormant, on the partition's first core.
+pub fn creation_is_the_sentence()
+    ensures { CreationIsTheSentence }
+{}
+
+/// What the services of process management and time give their callers is what the sentences say.
+pub fn answer_is_the_sentence()
+    ensures { AnswerIsTheSentence }
+{}
+
+/// A dispatch gives its core to the process that it names, or to none, and changes nothing else.
+pub fn dispatch_is_the_sentence()
+    ensures { DispatchIsTheSentence }
+{}
+
+/// A tick releases exactly the processes that fall due at its core's new time, which leave their waiting sets; it adds one to
+/// that time, and changes nothing else.
 pub fn tick_is_the_sentence()
     ensures { TickIsTheSentence }
 {}
@@ -73,57 +183,24 @@ pub fn refusal_is_the_sentence()
     ensures { RefusalIsTheSentence }
 {}
 
-/// START that is done makes a dormant process alive with its base priority: ready at this place in NORMAL, and else waiting
-/// for NORMAL. NO_ERROR is due to the caller, and nothing else changes.
-pub fn start_is_the_sentence()
-    ensures { StartIsTheSentence }
+/// A call keeps those in a waiting set whose wait it doesn't end, and puts a caller that waits there at its end.
+pub fn set_is_the_sentence()
+    ensures { SetIsTheSentence }
 {}
 
-/// SET_PARTITION_MODE that is done asks for NORMAL: the partition is in NORMAL, the caller is dormant, whoever waited for
-/// NORMAL is ready at this place, and nothing else changes.
-pub fn normal_mode_is_the_sentence()
-    ensures { NormalModeIsTheSentence }
+/// Any call changes its caller, the processes of its partition, the processes that it names elsewhere, the objects of its
+/// partition, the channel that it goes through and the waiting sets as the sentences say, and nothing else.
+pub fn call_is_the_sentence()
+    ensures { CallIsTheSentence }
 {}
 
-/// A dispatch gives its core to the process that it names, or to none, and changes nothing else.
-pub fn dispatch_is_the_sentence()
-    ensures { DispatchIsTheSentence }
+/// What the definitions make of small recordings is what they are known to do.
+pub fn worked_facts()
+    ensures { WorkedFacts }
 {}
 
-/// CREATE_PROCESS that is done puts a dormant process of this name and priority under a new number, on the partition's first
-/// core. The number is due to the caller, and nothing else changes.
-pub fn creation_is_the_sentence()
-    ensures { CreationIsTheSentence }
-{}
-
-/// GET_MY_ID that is done makes the caller's number due to it, and changes nothing else.
-pub fn own_number_is_the_sentence()
-    ensures { OwnNumberIsTheSentence }
-{}
-
-/// INITIALIZE_PROCESS_CORE_AFFINITY that is done puts another process on a core of the partition. NO_ERROR is due to the
-/// caller, and nothing else changes.
-pub fn affinity_is_the_sentence()
-    ensures { AffinityIsTheSentence }
-{}
-
-/// GET_TIME that is done makes the time of its caller's core due to it, and changes nothing else.
-pub fn time_is_the_sentence()
-    ensures { TimeIsTheSentence }
-{}
-
-/// STOP_SELF makes its caller dormant, and changes nothing else.
-pub fn stop_is_the_sentence()
-    ensures { StopIsTheSentence }
-{}
-
-/// TIMED_WAIT with a delay above 0 lets its caller wait until its core's time is the delay later, and changes nothing else.
-pub fn wait_is_the_sentence()
-    ensures { WaitIsTheSentence }
-{}
-
-/// TIMED_WAIT with a delay of 0 puts its caller behind the others of its priority, makes NO_ERROR due to it, and changes
-/// nothing else.
-pub fn giving_way_is_the_sentence()
-    ensures { GivingWayIsTheSentence }
+/// Calls that hand on a mutex, send, wait for a full channel and read a sampled message are lawful where all services are
+/// judged: so steps of them exist.
+pub fn lawful_facts()
+    ensures { LawfulFacts }
 {}

@@ -1,6 +1,5 @@
--- The state after a record: what each process, partition and core becomes by what the record claims.
-use Rattle.std.specs.Prelude.{ℕ, suc, ◌+◌, List, [], ◌∷◌, ◌++◌, Option, Some, None, Bool, true, false, ℤ, pos, negsuc, nat_eq, ◌&&◌, if◌then◌else◌}
-use Rattle.apex_types.specs.declared.code.Code.{Code}
+-- The state after a record: what each process, partition, channel and core becomes by what the record claims.
+use Rattle.std.specs.Prelude.{ℕ, suc, ◌+◌, List, [], ◌∷◌, ◌++◌, Option, Some, None, Bool, true, false, ℤ, pos, negsuc, nat_eq, if◌then◌else◌}
 use Rattle.apex_types.specs.declared.code.Code.TheVariants as code
 use Rattle.apex_types.specs.declared.record.Body.{Body}
 use Rattle.apex_types.specs.declared.record.Body.TheVariants.{Call, Ret, Disp, Tick}
@@ -11,15 +10,21 @@ use Rattle.apex_types.specs.declared.record.Out.TheVariants as out
 use Rattle.apex_types.specs.declared.record.Who.{Who}
 use Rattle.apex_types.specs.declared.request.Request.{Request}
 use Rattle.apex_types.specs.declared.request.Request.TheVariants as request
-use Rattle.apex_types.specs.declared.service.Service.TheVariants as service
-use Rattle.apex_types.specs.Requested.{service_of}
 use Rattle.apex_machine.specs.declared.state.CoreState.{CoreState}
-use Rattle.apex_machine.specs.declared.state.Outcome.{Outcome}
+use Rattle.apex_machine.specs.declared.state.Mode.{Mode}
+use Rattle.apex_machine.specs.declared.state.Mode.TheVariants as mode
 use Rattle.apex_machine.specs.declared.state.Process.{Process}
-use Rattle.apex_machine.specs.declared.state.Wait.TheVariants as wait
-use Rattle.apex_machine.specs.Configuration.{Configuration, first_core}
-use Rattle.apex_machine.specs.State.{Partition, State, Table, is_named, each_process, time_of, at_core}
-use Rattle.apex_machine.specs.Services.{set_by, mode_by, new_process, renews, wait_of}
+use Rattle.apex_machine.specs.declared.state.WaitingSet.{WaitingSet}
+use Rattle.apex_machine.specs.declared.state.WaitingSet.TheVariants as set
+use Rattle.apex_machine.specs.Arguments.{discipline_given, natural_of}
+use Rattle.apex_machine.specs.Channels.{QueuingPort, SamplingPort, queuing_port, sampling_port}
+use Rattle.apex_machine.specs.Configuration.{Configuration, first_core, period_of}
+use Rattle.apex_machine.specs.Objects.{acquired, buffer_received, buffer_sent, cleared, displayed, event_reset, event_set, mutex_released, semaphore_waited, signalled}
+use Rattle.apex_machine.specs.Ports.{channel_effect, use_of}
+pub use Rattle.apex_machine.specs.Processes.{caller_after, caller_with, outcome_of, released}
+use Rattle.apex_machine.specs.Processes.{gift_of, new_process, set_by, stopped, woken_by}
+use Rattle.apex_machine.specs.State.{Blackboard, Buffer, Channel, Content, Entry, Event, Mutex, Partition, Port, Semaphore, State, Table, at_core, change_at, each_object, each_process, is_named, time_of}
+use Rattle.apex_machine.specs.Waiting.{first_waiter, set_after, stops}
 
 -- whether a call was carried out: it waits, it does not return, or it answered NO_ERROR
 abbrev pub is_done : Out → Bool
@@ -28,59 +33,160 @@ is_done out.Never = true
 is_done (out.Answer code.NoError) = true
 is_done (out.Answer _) = false
 
--- the wait of a process ends at a tick: TIMED_WAIT answers NO_ERROR, and the process is ready from this place on
-abbrev pub released : ℕ → Process → Process
-released place process = record process {
-  wait = wait.Nothing;
-  ready_position = place;
-  due = Some (record { service = service.TimedWait; code = code.NoError; val = None; bytes = [] });
-}
+-- processes
 
--- the outcome that a call claims, as it is due to the caller
-abbrev pub outcome_of : CallRecord → Code → Outcome
-outcome_of call code = record { service = service_of call.request; code = code; val = call.claim.val; bytes = call.claim.bytes }
-
--- the caller after its call: it waits, it is dormant, or its outcome is due
-abbrev pub caller_with : ℕ → ℕ → CallRecord → Out → Process → Process
-caller_with place now call out.Waits process = record process { wait = wait_of call.request now }
-caller_with place now call out.Never process = record process { alive = false }
-caller_with place now call (out.Answer code) process = record process {
-  ready_position = if renews call.request && is_done (out.Answer code) then place else process.ready_position;
-  due = Some (outcome_of call code);
-}
-
--- the caller, with its core's time noted
-abbrev pub caller_after : ℕ → ℕ → CallRecord → Process → Process
-caller_after place now call process = record (caller_with place now call call.claim.out process) { called_at = now }
+-- the mode after a call: only NORMAL can be entered
+abbrev pub mode_by : Request → Mode → Mode
+mode_by (request.SetPartitionMode next) current = mode.Normal
+mode_by _ current = current
 
 -- a process of the caller's partition after what the call sets there
-abbrev pub adjusted : ℕ → Partition → CallRecord → ℕ → Process → Process
-adjusted place partition call number process =
-    if is_done call.claim.out then set_by place partition.mode call.request number process else process
+abbrev pub adjusted : ℕ → ℕ → List CoreState → Partition → CallRecord → ℕ → Process → Process
+adjusted place period cores partition call number process =
+    if is_done call.claim.out then set_by place period cores partition call.who.proc call.request number process else process
 
--- a process of the caller's partition after the call
-abbrev pub called : ℕ → ℕ → Partition → CallRecord → ℕ → Process → Process
-called place now partition call number process =
-    let changed = adjusted place partition call number process in
-    if nat_eq number call.who.proc then caller_after place now call changed else changed
+-- a process whose wait a call may have ended
+abbrev pub roused : ℕ → CallRecord → Who → Process → Process
+roused place call who process = if is_named who call.claim.woken then woken_by place (gift_of call.request) process else process
 
--- the process that a call creates, under the number that it claims
-abbrev pub numbered : Option ℤ → Process → Table
-numbered None process = []
-numbered (Some (pos number)) process = (number, process) ∷ []
-numbered (Some (negsuc n)) process = []
+-- a process of the caller's partition after the call: the caller; a process that it stops; any other, whose wait it may end
+abbrev pub called : ℕ → ℕ → ℕ → List CoreState → Partition → CallRecord → ℕ → Process → Process
+called place now period cores partition call number process =
+    let changed = adjusted place period cores partition call number process in
+    let who : Who = record { part = call.who.part; proc = number } in
+    if nat_eq number call.who.proc then caller_after place now call changed
+    else if stops call who then stopped changed
+    else roused place call who changed
+
+-- what is created, under the number that a call claims
+abbrev pub numbered : {Object : Type 0} → Option ℤ → Object → List (ℕ × Object)
+numbered None object = []
+numbered (Some (pos number)) object = (number, object) ∷ []
+numbered (Some (negsuc n)) object = []
 
 -- what a call adds to the table of its caller's partition: a created process, on this core
 abbrev pub created_by : ℕ → CallRecord → Request → Table
 created_by core call (request.CreateProcess name priority period) =
-    if is_done call.claim.out then numbered call.claim.val (new_process core name priority) else []
+    if is_done call.claim.out then numbered call.claim.val (new_process core name priority period) else []
 created_by core call _ = []
 
--- the caller's partition after a call at this place and time; the first core is where a created process runs
-abbrev pub partition_called : ℕ → ℕ → ℕ → CallRecord → Partition → Partition
-partition_called core place now call partition = record {
+-- objects
+
+-- a created sampling port, as it is configured
+abbrev pub new_sampling_port : List ℕ → Option ℤ → Option SamplingPort → List (ℕ × Port)
+new_sampling_port name claimed None = []
+new_sampling_port name claimed (Some port) =
+    numbered claimed (record { name = name; size = port.size; direction = port.direction; channel = port.channel })
+
+-- a created queuing port, as it is configured
+abbrev pub new_queuing_port : List ℕ → Option ℤ → Option QueuingPort → List (ℕ × Port)
+new_queuing_port name claimed None = []
+new_queuing_port name claimed (Some port) =
+    numbered claimed (record { name = name; size = port.size; direction = port.direction; channel = port.channel })
+
+-- a created buffer holds nothing   (CREATE_BUFFER, section 3)
+abbrev pub new_buffer : List ℕ → ℤ → ℤ → ℤ → Buffer
+new_buffer name size capacity discipline = record {
+  name = name;
+  size = natural_of size;
+  capacity = natural_of capacity;
+  discipline = discipline_given discipline;
+  messages = [];
+  senders = [];
+  receivers = [];
+}
+
+-- a created blackboard is empty   (CREATE_BLACKBOARD, section 3)
+abbrev pub new_blackboard : List ℕ → ℤ → Blackboard
+new_blackboard name size = record { name = name; size = natural_of size; message = None; readers = [] }
+
+-- a created semaphore has the value that is given   (CREATE_SEMAPHORE, section 3)
+abbrev pub new_semaphore : List ℕ → ℤ → ℤ → ℤ → Semaphore
+new_semaphore name value maximum discipline =
+    record { name = name; maximum = natural_of maximum; discipline = discipline_given discipline; value = natural_of value; waiters = [] }
+
+-- a created event is down   (CREATE_EVENT, section 3)
+abbrev pub new_event : List ℕ → Event
+new_event name = record { name = name; up = false; waiters = [] }
+
+-- a created mutex is free   (CREATE_MUTEX, section 3)
+abbrev pub new_mutex : List ℕ → ℤ → ℤ → Mutex
+new_mutex name priority discipline =
+    record { name = name; priority = natural_of priority; discipline = discipline_given discipline; owner = None; count = 0; waiters = [] }
+
+-- the objects and ports of the caller's partition after a call that is done, waiting sets aside: what is created stands under
+-- the number that is claimed, and the object that is used is as its rule leaves it
+abbrev pub objects_by : Configuration → Who → Option ℤ → Request → Partition → Partition
+objects_by configuration who claimed (request.CreateBuffer name size capacity discipline) partition =
+    record partition { buffers = partition.buffers ++ numbered claimed (new_buffer name size capacity discipline) }
+objects_by configuration who claimed (request.SendBuffer buffer length time_out message) partition = record partition {
+  buffers = change_at (natural_of buffer) (λ found. record found { messages = (buffer_sent message time_out found).next }) partition.buffers;
+}
+objects_by configuration who claimed (request.ReceiveBuffer buffer time_out) partition = record partition {
+  buffers = change_at (natural_of buffer) (λ found. record found { messages = (buffer_received time_out found).next }) partition.buffers;
+}
+objects_by configuration who claimed (request.CreateBlackboard name size) partition =
+    record partition { blackboards = partition.blackboards ++ numbered claimed (new_blackboard name size) }
+objects_by configuration who claimed (request.DisplayBlackboard blackboard length message) partition = record partition {
+  blackboards = change_at (natural_of blackboard) (λ found. record found { message = (displayed message found.readers).next }) partition.blackboards;
+}
+objects_by configuration who claimed (request.ClearBlackboard blackboard) partition =
+    record partition { blackboards = change_at (natural_of blackboard) (λ found. record found { message = cleared.next }) partition.blackboards }
+objects_by configuration who claimed (request.CreateSemaphore name value maximum discipline) partition =
+    record partition { semaphores = partition.semaphores ++ numbered claimed (new_semaphore name value maximum discipline) }
+objects_by configuration who claimed (request.WaitSemaphore semaphore time_out) partition = record partition {
+  semaphores = change_at (natural_of semaphore) (λ found. record found { value = (semaphore_waited time_out found.value).next }) partition.semaphores;
+}
+objects_by configuration who claimed (request.SignalSemaphore semaphore) partition = record partition {
+  semaphores = change_at (natural_of semaphore)
+      (λ found. record found { value = (signalled found.maximum (first_waiter found.discipline found.waiters) found.value).next }) partition.semaphores;
+}
+objects_by configuration who claimed (request.CreateEvent name) partition =
+    record partition { events = partition.events ++ numbered claimed (new_event name) }
+objects_by configuration who claimed (request.SetEvent event) partition =
+    record partition { events = change_at (natural_of event) (λ found. record found { up = (event_set found.waiters).next }) partition.events }
+objects_by configuration who claimed (request.ResetEvent event) partition =
+    record partition { events = change_at (natural_of event) (λ found. record found { up = event_reset.next }) partition.events }
+objects_by configuration who claimed (request.CreateMutex name priority discipline) partition =
+    record partition { mutexes = partition.mutexes ++ numbered claimed (new_mutex name priority discipline) }
+objects_by configuration who claimed (request.AcquireMutex mutex time_out) partition =
+    record partition { mutexes = change_at (natural_of mutex) (λ found. (acquired who.proc time_out found).next) partition.mutexes }
+objects_by configuration who claimed (request.ReleaseMutex mutex) partition = record partition {
+  mutexes = change_at (natural_of mutex) (λ found. (mutex_released (first_waiter found.discipline found.waiters) found).next) partition.mutexes;
+}
+objects_by configuration who claimed (request.CreateSamplingPort name size direction refresh) partition =
+    record partition { sampling_ports = partition.sampling_ports ++ new_sampling_port name claimed (sampling_port configuration who.part name) }
+objects_by configuration who claimed (request.CreateQueuingPort name size capacity both) partition =
+    record partition { queuing_ports = partition.queuing_ports ++ new_queuing_port name claimed (queuing_port configuration who.part name) }
+objects_by configuration who claimed _ partition = partition
+
+-- each waiting set of a partition changed
+abbrev pub each_set : (WaitingSet → List Entry → List Entry) → Partition → Partition
+each_set change partition = record partition {
+  buffers = each_object (λ number found. record found {
+    senders = change (set.BufferSenders number) found.senders;
+    receivers = change (set.BufferReceivers number) found.receivers;
+  }) partition.buffers;
+  blackboards = each_object (λ number found. record found { readers = change (set.BlackboardReaders number) found.readers }) partition.blackboards;
+  semaphores = each_object (λ number found. record found { waiters = change (set.SemaphoreWaiters number) found.waiters }) partition.semaphores;
+  events = each_object (λ number found. record found { waiters = change (set.EventWaiters number) found.waiters }) partition.events;
+  mutexes = each_object (λ number found. record found { waiters = change (set.MutexWaiters number) found.waiters }) partition.mutexes;
+}
+
+-- partitions
+
+-- the objects and ports of the caller's partition after a call, with their waiting sets
+abbrev pub objects_called : Configuration → ℕ → CallRecord → Partition → Partition
+objects_called configuration place call partition =
+    each_set (set_after place (Call call))
+    (if is_done call.claim.out then objects_by configuration call.who call.claim.val call.request partition else partition)
+
+-- the caller's partition after a call at this place and core
+abbrev pub partition_called : Configuration → List CoreState → ℕ → ℕ → CallRecord → Partition → Partition
+partition_called configuration cores place core call partition = record (objects_called configuration place call partition) {
   mode = if is_done call.claim.out then mode_by call.request partition.mode else partition.mode;
-  table = each_process (called place now partition call) partition.table ++ created_by core call call.request;
+  table = each_process (called place (time_of cores core) (period_of configuration call.who.part) cores partition call) partition.table
+      ++ created_by (first_core configuration call.who.part) call call.request;
 }
 
 -- a process that a tick may have woken
@@ -92,22 +198,45 @@ ticked place partition woken number process =
 abbrev pub returned : ℕ → ℕ → Process → Process
 returned returner number process = if nat_eq number returner then record process { due = None } else process
 
--- a partition after a record
+-- a partition after a record: a call of another partition can only end waits of its processes
 abbrev pub partition_by : Configuration → List CoreState → ℕ → ℕ → ℕ → Body → Partition → Partition
 partition_by configuration cores place core number (Disp who) partition = partition
 partition_by configuration cores place core number (Tick woken) partition =
-    record partition { table = each_process (ticked place number woken) partition.table }
+    record (each_set (set_after place (Tick woken)) partition) { table = each_process (ticked place number woken) partition.table }
 partition_by configuration cores place core number (Ret ret) partition =
     if nat_eq ret.who.part number then record partition { table = each_process (returned ret.who.proc) partition.table } else partition
 partition_by configuration cores place core number (Call call) partition =
     if nat_eq call.who.part number
-    then partition_called (first_core configuration number) place (time_of cores core) call partition
-    else partition
+    then partition_called configuration cores place core call partition
+    else record partition { table = each_process (λ other process. roused place call (record { part = number; proc = other }) process) partition.table }
 
 -- a partition after an ordered record
 abbrev pub partition_after : Configuration → List CoreState → ℕ → Ordered → Partition → Partition
 partition_after configuration cores number ordered partition =
     partition_by configuration cores ordered.pos ordered.core number ordered.rec.body partition
+
+-- channels
+
+-- whether this is the channel, if there is one
+abbrev pub is_channel : ℕ → Option ℕ → Bool
+is_channel number None = false
+is_channel number (Some channel) = nat_eq channel number
+
+-- what a channel holds after a record at this time of its core: only a call through it changes that
+abbrev pub content_by : Configuration → ℕ → ℕ → Body → Channel → Content
+content_by configuration now number (Call call) channel =
+    if is_channel number call.claim.chan then (channel_effect configuration now number (use_of call.request) channel).next else channel.content
+content_by configuration now number _ channel = channel.content
+
+-- a channel after a record at this time of its core
+abbrev pub channel_after : Configuration → ℕ → ℕ → Ordered → Channel → Channel
+channel_after configuration now number ordered channel = record {
+  content = content_by configuration now number ordered.rec.body channel;
+  senders = set_after ordered.pos ordered.rec.body (set.ChannelSenders number) channel.senders;
+  receivers = set_after ordered.pos ordered.rec.body (set.ChannelReceivers number) channel.receivers;
+}
+
+-- cores
 
 -- the cores after a record: a dispatch gives the core to a process, a tick adds one to its time
 abbrev pub cores_by : ℕ → Body → List CoreState → List CoreState
@@ -126,4 +255,5 @@ after configuration state ordered = record {
   count = suc state.count;
   cores = cores_after ordered state.cores;
   partitions = λ number. partition_after configuration state.cores number ordered (state.partitions number);
+  channels = λ number. channel_after configuration (time_of state.cores ordered.core) number ordered (state.channels number);
 }

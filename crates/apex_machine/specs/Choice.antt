@@ -1,5 +1,5 @@
 -- Which process a core is to run.
-use Rattle.std.specs.Prelude.{◌≡◌, ◌⊎◌, ◌<◌, ℕ, [], ◌∷◌, Option, Some, None, Bool, true, false, nat_eq, nat_lt, ◌&&◌, ◌||◌, if◌then◌else◌, filter, option_map, IsTrue, Contains}
+use Rattle.std.specs.Prelude.{◌≡◌, ◌⊎◌, ◌<◌, ℕ, [], ◌∷◌, Option, Some, None, Bool, true, false, not, nat_eq, nat_lt, ◌&&◌, ◌||◌, if◌then◌else◌, filter, option_map, IsTrue, IsFalse, Contains}
 use Rattle.apex_types.specs.declared.record.Who.{Who}
 use Rattle.apex_machine.specs.declared.state.Process.{Process}
 use Rattle.apex_machine.specs.declared.state.Wait.{Wait}
@@ -10,12 +10,11 @@ use Rattle.apex_machine.specs.State.{Partition, State, Table, time_of}
 -- whether a wait is none
 abbrev pub waits_for_nothing : Wait → Bool
 waits_for_nothing wait.Nothing = true
-waits_for_nothing wait.NormalMode = false
-waits_for_nothing (wait.Until time) = false
+waits_for_nothing _ = false
 
 -- the test whether a process is ready on a core
 abbrev pub is_ready : ℕ → Process → Bool
-is_ready core process = process.alive && (waits_for_nothing process.wait && nat_eq process.affinity core)
+is_ready core process = process.alive && (not process.suspended && (waits_for_nothing process.wait && nat_eq process.affinity core))
 
 -- the test whether one ready process goes before another
 abbrev pub goes_before : ℕ × Process → ℕ × Process → Bool
@@ -53,9 +52,11 @@ choice configuration state core = choice_of (window_at configuration core (time_
 
 -- the rule of the choice, in sentences that share nothing with the tests above
 
--- a process is ready on a core: it is not dormant, it waits for nothing, and the core is its own   (process states, section 2)
+-- a process is ready on a core: it is not dormant, not suspended, it waits for nothing, and the core is its own   (process
+-- states, section 2)
 pub record IsReady (core : ℕ) (process : Process) : Type 0 where
   pub alive : IsTrue process.alive
+  pub goes_on : IsFalse process.suspended
   pub waits : process.wait ≡ wait.Nothing
   pub affinity : process.affinity ≡ core
 

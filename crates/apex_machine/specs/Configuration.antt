@@ -1,6 +1,7 @@
--- What a module's configuration says: cores, frame, skew, partitions with their limits, windows.
+-- What a module's configuration says: cores, frame, skew, partitions with their limits, windows, channels.
 use Rattle.std.specs.Prelude.{◌≡◌, IsTrue, ℕ, ◌+◌, ◌%◌, List, [], ◌∷◌, Option, Some, None, Bool, false, ◌&&◌, nat_eq, nat_le, nat_lt, if◌then◌else◌, is_some}
 use Rattle.std.specs.List.{list_any}
+use Rattle.apex_types.specs.declared.discipline.Discipline.{Discipline}
 
 -- a partition's window: from its start on, for its length, the core is the partition's in each major frame
 pub record Window : Type 0 where
@@ -21,6 +22,29 @@ pub record PartitionLimits : Type 0 where
   pub events : ℕ
   pub mutexes : ℕ
 
+-- an end of a channel: the port of a partition that has this name   (interpartition communication, section 2)
+pub record ChannelEnd : Type 0 where
+  pub partition : ℕ
+  pub port : List ℕ
+
+-- a sampling channel: its message's greatest size, its refresh period, one source and some destinations
+pub record SamplingChannel : Type 0 where
+  pub number : ℕ
+  pub size : ℕ
+  pub refresh : ℕ
+  pub source : ChannelEnd
+  pub destinations : List ChannelEnd
+
+-- a queuing channel: the greatest size of its messages, how many it holds, and its two ends, each with its port's discipline
+pub record QueuingChannel : Type 0 where
+  pub number : ℕ
+  pub size : ℕ
+  pub capacity : ℕ
+  pub source : ChannelEnd
+  pub source_discipline : Discipline
+  pub destination : ChannelEnd
+  pub destination_discipline : Discipline
+
 -- a module: its partitions stand in rising order of their numbers
 pub record Configuration : Type 0 where
   pub cores : ℕ
@@ -28,6 +52,8 @@ pub record Configuration : Type 0 where
   pub skew : ℕ
   pub partitions : List PartitionLimits
   pub windows : List Window
+  pub sampling : List SamplingChannel
+  pub queuing : List QueuingChannel
 
 -- whether a window of this core holds this time within the major frame
 abbrev pub is_within : ℕ → ℕ → Window → Bool
@@ -54,10 +80,6 @@ limits_of configuration number = limits_among number configuration.partitions
 -- whether a partition of this number is configured
 abbrev pub has_partition : Configuration → ℕ → Bool
 has_partition configuration number = is_some (limits_of configuration number)
-
--- no channel is configured
-abbrev pub has_channel : Configuration → ℕ → Bool
-has_channel configuration number = false
 
 -- whether a partition is configured and this is one of its cores
 abbrev pub has_core : ℕ → Option PartitionLimits → Bool
@@ -91,6 +113,15 @@ process_limit configuration number = process_limit_in (limits_of configuration n
 abbrev pub period_in : Option PartitionLimits → ℕ
 period_in None = 1
 period_in (Some limits) = limits.period
+
+-- how many objects of a kind may be created, by the limits of the partition, if it is configured
+abbrev pub object_limit_in : (PartitionLimits → ℕ) → Option PartitionLimits → ℕ
+object_limit_in kind None = 0
+object_limit_in kind (Some limits) = kind limits
+
+-- how many objects of a kind a partition may create
+abbrev pub object_limit : Configuration → (PartitionLimits → ℕ) → ℕ → ℕ
+object_limit configuration kind number = object_limit_in kind (limits_of configuration number)
 
 -- a partition's period
 abbrev pub period_of : Configuration → ℕ → ℕ

@@ -1,24 +1,23 @@
--- What each service gives its caller where no error condition holds, and what it sets in its partition.
-use Rattle.std.specs.Prelude.{◌≡◌, ℕ, ◌+◌, List, [], Option, Some, None, Bool, true, false, ℤ, pos, negsuc, not, is_none, nat_eq, nat_lt, nat_le, ◌&&◌, if◌then◌else◌}
-use Rattle.apex_types.specs.declared.code.Code.TheVariants as code
-use Rattle.apex_types.specs.declared.record.Out.{Out}
-use Rattle.apex_types.specs.declared.record.Out.TheVariants as out
+-- Which calls are judged, and what each service gives its caller where no error condition holds.
+use Rattle.std.specs.Prelude.{ℕ, ◌+◌, [], ◌∷◌, Option, Some, None, Bool, true, false, ℤ, pos, not, nat_eq, nat_le, ◌&&◌, ◌||◌, if◌then◌else◌}
 use Rattle.apex_types.specs.declared.record.Who.{Who}
 use Rattle.apex_types.specs.declared.request.Request.{Request}
 use Rattle.apex_types.specs.declared.request.Request.TheVariants as request
 use Rattle.apex_types.specs.declared.service.Service.{Service}
 use Rattle.apex_types.specs.declared.service.Service.TheVariants as service
-use Rattle.apex_machine.specs.declared.state.Mode.{Mode}
-use Rattle.apex_machine.specs.declared.state.Mode.TheVariants as mode
 use Rattle.apex_machine.specs.declared.state.Process.{Process}
-use Rattle.apex_machine.specs.declared.state.Wait.{Wait}
-use Rattle.apex_machine.specs.declared.state.Wait.TheVariants as wait
-use Rattle.apex_machine.specs.Conditions.{is_normal, is_normal_mode}
-use Rattle.apex_machine.specs.State.{Table, process_at}
+pub use Rattle.apex_machine.specs.Answer.{Answer, HasValue, Value, Nothing, Number, NewNumber, NamesExactly, done, done_with, never, waiting}
+pub use Rattle.apex_machine.specs.Arguments.{is_aperiodic, is_number, is_over, natural_of}
+use Rattle.apex_machine.specs.Answer.{waking}
+use Rattle.apex_machine.specs.Arguments.{is_normal_mode}
+use Rattle.apex_machine.specs.Conditions.{created, is_for_mutex, is_suspension, of_caller, owns_mutex}
+use Rattle.apex_machine.specs.Objects.{acquired, board_read, buffer_received, buffer_sent, displayed, event_set, event_waited, mutex_released, semaphore_waited, signalled}
+use Rattle.apex_machine.specs.State.{Partition, Table, given_object, is_free_object, is_free_process, process_at}
+use Rattle.apex_machine.specs.Waiting.{first_waiter}
 
 -- the profile
 
--- the services that are judged; a call of any other stands outside the profile
+-- the services that are judged today; a call of any other stands outside the profile
 abbrev pub is_built : Service → Bool
 is_built service.CreateProcess = true
 is_built service.InitializeProcessCoreAffinity = true
@@ -30,143 +29,94 @@ is_built service.GetTime = true
 is_built service.SetPartitionMode = true
 is_built _ = false
 
--- whether a period is none
-abbrev pub is_aperiodic : ℤ → Bool
-is_aperiodic (pos n) = nat_eq n 0
-is_aperiodic (negsuc n) = true
+-- whether a process waits for a mutex
+abbrev pub waits_for_mutex : Table → ℕ → Bool
+waits_for_mutex table number = of_caller (λ process. is_for_mutex process.wait) (process_at table number)
 
--- where no error condition holds: a periodic process, STOP_SELF by the initialising process, and a mode other than NORMAL
--- stand outside the profile
-abbrev pub in_profile : Who → Request → Bool
-in_profile who (request.CreateProcess name priority period) = is_aperiodic period
-in_profile who request.StopSelf = not (nat_eq who.proc 0)
-in_profile who (request.SetPartitionMode mode) = is_normal_mode mode
-in_profile who _ = true
+-- where no error condition holds, these stand outside the profile, for any services that are judged: a periodic process,
+-- unless PERIODIC_WAIT is judged; a stop of a mutex's owner, or of the initialising process by itself; SUSPEND and
+-- SET_PRIORITY of a process that owns a mutex or waits for one; and a mode other than NORMAL
+abbrev pub in_profile : (Service → Bool) → Who → Partition → Request → Bool
+in_profile judged who partition (request.CreateProcess name priority period) = is_aperiodic period || judged service.PeriodicWait
+in_profile judged who partition (request.Stop process) = not (owns_mutex partition.mutexes (natural_of process))
+in_profile judged who partition request.StopSelf = not (nat_eq who.proc 0) && not (owns_mutex partition.mutexes who.proc)
+in_profile judged who partition (request.Suspend process) =
+    not (owns_mutex partition.mutexes (natural_of process)) && not (waits_for_mutex partition.table (natural_of process))
+in_profile judged who partition (request.SetPriority process priority) =
+    not (owns_mutex partition.mutexes (natural_of process)) && not (waits_for_mutex partition.table (natural_of process))
+in_profile judged who partition (request.SetPartitionMode mode) = is_normal_mode mode
+in_profile judged who partition _ = true
+
+-- releases of periodic processes
+
+-- the period, of a process that has one
+abbrev pub period_in : Option ℕ → ℕ
+period_in None = 0
+period_in (Some period) = period
+
+-- the next release of a periodic process: its period after the last one
+abbrev pub next_release : Process → ℕ
+next_release process = process.last_release + period_in process.period
+
+-- whether a process has come to its next release
+abbrev pub is_released : ℕ → Option Process → Bool
+is_released now None = false
+is_released now (Some process) = nat_le (next_release process) now
 
 -- what the caller gets
 
--- which value goes with an outcome: none, this number, or any number for the new process that no process has
-pub data Value : Type 0 where
-  Nothing : Value
-  Number : (number : ℤ) → Value
-  NewNumber : Value
+-- an answer of an object that is created
+abbrev pub answer_by : {Object : Type 0} → Option Object → (Object → Answer) → Answer
+answer_by None gives = done
+answer_by (Some object) gives = gives object
 
--- what a service gives where no error condition holds: the outcome, its value, its message, and whose waits end
-pub record Answer : Type 0 where
-  pub out : Out
-  pub val : Value
-  pub bytes : List ℕ
-  pub woken : List Who
+-- what RESUME gives: the wait of a process that suspended itself ends
+abbrev pub resuming : Who → Option Process → Answer
+resuming who None = done
+resuming who (Some process) = if is_suspension process.wait then waking (who ∷ []) else done
 
--- the service is done at once, with this value
-abbrev pub done_with : Value → Answer
-done_with value = record { out = out.Answer code.NoError; val = value; bytes = []; woken = [] }
+-- a process of the caller's partition, by the number that the caller gives
+abbrev pub fellow : Who → ℤ → Who
+fellow who process = record { part = who.part; proc = natural_of process }
 
--- the call does not return
-abbrev pub never : Answer
-never = record { out = out.Never; val = Nothing; bytes = []; woken = [] }
-
--- the caller waits
-abbrev pub waiting : Answer
-waiting = record { out = out.Waits; val = Nothing; bytes = []; woken = [] }
-
--- a delay of 0 is over at once
-abbrev pub is_over : ℤ → Bool
-is_over (pos n) = nat_eq n 0
-is_over (negsuc n) = false
-
--- CREATE_PROCESS gives a new number, GET_MY_ID the caller's, GET_TIME its core's time; TIMED_WAIT waits, but for a delay of
--- 0; STOP_SELF and SET_PARTITION_MODE to NORMAL do not return   (process and time management, section 3)
-abbrev pub answer_of : ℕ → Who → Request → Answer
-answer_of now who (request.CreateProcess name priority period) = done_with NewNumber
-answer_of now who request.GetMyId = done_with (Number (pos who.proc))
-answer_of now who request.GetTime = done_with (Number (pos now))
-answer_of now who (request.TimedWait delay) = if is_over delay then done_with Nothing else waiting
-answer_of now who request.StopSelf = never
-answer_of now who (request.SetPartitionMode mode) = never
-answer_of now who _ = done_with Nothing
-
--- a new number is 1 to 2,147,483,647, and no process has it
-abbrev pub is_new_number : Table → Option ℤ → Bool
-is_new_number table None = false
-is_new_number table (Some (negsuc n)) = false
-is_new_number table (Some (pos n)) = nat_lt 0 n && (nat_le n 2147483647 && is_none (process_at table n))
-
--- whether a claimed value is the one that goes with the outcome
-abbrev pub HasValue : Table → Value → Option ℤ → Type 0
-HasValue table Nothing claimed = claimed ≡ None
-HasValue table (Number number) claimed = claimed ≡ Some number
-HasValue table NewNumber claimed = is_new_number table claimed ≡ true
-
--- what a service sets in its partition
-
--- a process that runs on this core from now on
-abbrev pub moved_to : ℕ → Process → Process
-moved_to core process = record process { affinity = core }
-
--- START sets the current priority back; the process is ready at once in NORMAL, and else waits for NORMAL
-abbrev pub started : ℕ → Mode → Process → Process
-started place mode process = record process {
-  current_priority = process.base_priority;
-  alive = true;
-  wait = if is_normal mode then wait.Nothing else wait.NormalMode;
-  ready_position = place;
-}
-
--- whether a wait is that for NORMAL
-abbrev pub waits_for_normal : Wait → Bool
-waits_for_normal wait.NormalMode = true
-waits_for_normal wait.Nothing = false
-waits_for_normal (wait.Until time) = false
-
--- NORMAL makes those ready that wait for it
-abbrev pub after_normal : ℕ → Process → Process
-after_normal place process = if waits_for_normal process.wait then record process { wait = wait.Nothing; ready_position = place } else process
-
--- whether a caller's number is this process's
-abbrev pub is_number : ℤ → ℕ → Bool
-is_number (pos n) number = nat_eq n number
-is_number (negsuc n) number = false
-
--- a caller's number that is not below 0; no condition lets another through where this is used
-abbrev pub natural_of : ℤ → ℕ
-natural_of (pos n) = n
-natural_of (negsuc n) = 0
-
--- what a call sets in the processes of its partition, beside its caller's wait and outcome:
--- INITIALIZE_PROCESS_CORE_AFFINITY the core of its target, START its target, SET_PARTITION_MODE those that wait for NORMAL
-abbrev pub set_by : ℕ → Mode → Request → ℕ → Process → Process
-set_by place mode (request.InitializeProcessCoreAffinity process core) number x =
-    if is_number process number then moved_to (natural_of core) x else x
-set_by place mode (request.Start process) number x = if is_number process number then started place mode x else x
-set_by place mode (request.SetPartitionMode next) number x = after_normal place x
-set_by place mode _ number x = x
-
--- the mode after a call: only NORMAL can be entered
-abbrev pub mode_by : Request → Mode → Mode
-mode_by (request.SetPartitionMode next) current = mode.Normal
-mode_by _ current = current
-
--- a created process is dormant, on the partition's first core
-abbrev pub new_process : ℕ → List ℕ → ℤ → Process
-new_process core name priority = record {
-  name = name;
-  base_priority = natural_of priority;
-  current_priority = natural_of priority;
-  affinity = core;
-  alive = false;
-  wait = wait.Nothing;
-  ready_position = 0;
-  due = None;
-  called_at = 0;
-}
-
--- a call that renews its caller's ready position: TIMED_WAIT with a delay of 0
-abbrev pub renews : Request → Bool
-renews (request.TimedWait delay) = is_over delay
-renews _ = false
-
--- what a caller waits for that began to wait at this time of its core
-abbrev pub wait_of : Request → ℕ → Wait
-wait_of (request.TimedWait (pos delay)) now = wait.Until (now + delay)
-wait_of _ now = wait.Nothing
+-- what each service gives, at its caller's core's time   (section 3): a creation a new number, GET_MY_ID the caller's,
+-- GET_TIME the time; a wait with a time-out or a delay of 0 is over at once, PERIODIC_WAIT where the next release is reached;
+-- STOP_SELF and SET_PARTITION_MODE to NORMAL do not return
+abbrev pub answer_of : ℕ → Who → Partition → Request → Answer
+answer_of now who partition (request.CreateProcess name priority period) = done_with (NewNumber (is_free_process partition.table))
+answer_of now who partition request.StopSelf = never
+answer_of now who partition (request.SuspendSelf time_out) = if is_over time_out then done else waiting
+answer_of now who partition (request.Resume process) = resuming (fellow who process) (created partition.table process)
+answer_of now who partition request.GetMyId = done_with (Number (pos who.proc))
+answer_of now who partition (request.TimedWait delay) = if is_over delay then done else waiting
+answer_of now who partition request.PeriodicWait = if is_released now (process_at partition.table who.proc) then done else waiting
+answer_of now who partition request.GetTime = done_with (Number (pos now))
+answer_of now who partition (request.SetPartitionMode mode) = never
+answer_of now who partition (request.CreateBuffer name size capacity discipline) = done_with (NewNumber (is_free_object partition.buffers))
+answer_of now who partition (request.SendBuffer buffer length time_out message) =
+    answer_by (given_object partition.buffers buffer) (λ found. (buffer_sent message time_out found).answer)
+answer_of now who partition (request.ReceiveBuffer buffer time_out) =
+    answer_by (given_object partition.buffers buffer) (λ found. (buffer_received time_out found).answer)
+answer_of now who partition (request.CreateBlackboard name size) = done_with (NewNumber (is_free_object partition.blackboards))
+answer_of now who partition (request.DisplayBlackboard blackboard length message) =
+    answer_by (given_object partition.blackboards blackboard) (λ found. (displayed message found.readers).answer)
+answer_of now who partition (request.ReadBlackboard blackboard time_out) =
+    answer_by (given_object partition.blackboards blackboard) (λ found. (board_read time_out found.message).answer)
+answer_of now who partition (request.CreateSemaphore name value maximum discipline) = done_with (NewNumber (is_free_object partition.semaphores))
+answer_of now who partition (request.WaitSemaphore semaphore time_out) =
+    answer_by (given_object partition.semaphores semaphore) (λ found. (semaphore_waited time_out found.value).answer)
+answer_of now who partition (request.SignalSemaphore semaphore) =
+    answer_by (given_object partition.semaphores semaphore)
+    (λ found. (signalled found.maximum (first_waiter found.discipline found.waiters) found.value).answer)
+answer_of now who partition (request.CreateEvent name) = done_with (NewNumber (is_free_object partition.events))
+answer_of now who partition (request.SetEvent event) = answer_by (given_object partition.events event) (λ found. (event_set found.waiters).answer)
+answer_of now who partition (request.WaitEvent event time_out) =
+    answer_by (given_object partition.events event) (λ found. (event_waited time_out found.up).answer)
+answer_of now who partition (request.CreateMutex name priority discipline) = done_with (NewNumber (is_free_object partition.mutexes))
+answer_of now who partition (request.AcquireMutex mutex time_out) =
+    answer_by (given_object partition.mutexes mutex) (λ found. (acquired who.proc time_out found).answer)
+answer_of now who partition (request.ReleaseMutex mutex) =
+    answer_by (given_object partition.mutexes mutex) (λ found. (mutex_released (first_waiter found.discipline found.waiters) found).answer)
+answer_of now who partition (request.CreateSamplingPort name size direction refresh) = done_with (NewNumber (is_free_object partition.sampling_ports))
+answer_of now who partition (request.CreateQueuingPort name size capacity both) = done_with (NewNumber (is_free_object partition.queuing_ports))
+answer_of now who partition _ = done

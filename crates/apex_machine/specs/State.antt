@@ -1,27 +1,110 @@
 -- The state of the machine between two records, and the cold state in which every run begins.
-use Rattle.std.specs.Prelude.{ℕ, zero, suc, List, [], ◌∷◌, Option, Some, None, Bool, true, false, nat_eq, ◌&&◌, ◌||◌, replicate, if◌then◌else◌}
+use Rattle.std.specs.Prelude.{ℕ, zero, suc, List, [], ◌∷◌, Option, Some, None, Bool, true, false, ℤ, pos, negsuc, nat_eq, ◌&&◌, ◌||◌, replicate, is_none, is_some, if◌then◌else◌}
+use Rattle.apex_types.specs.declared.discipline.Discipline.{Discipline}
 use Rattle.apex_types.specs.declared.record.Who.{Who}
 use Rattle.apex_machine.specs.declared.state.CoreState.{CoreState}
+use Rattle.apex_machine.specs.declared.state.Direction.{Direction}
 use Rattle.apex_machine.specs.declared.state.Mode.{Mode}
 use Rattle.apex_machine.specs.declared.state.Mode.TheVariants as mode
 use Rattle.apex_machine.specs.declared.state.Process.{Process}
 use Rattle.apex_machine.specs.declared.state.Wait.TheVariants as wait
 use Rattle.apex_machine.specs.Configuration.{Configuration, first_core}
+use Rattle.apex_machine.specs.Channels.{queuing_of}
 
 -- the processes of a partition under their numbers, in the order of their creation; number 0 is the initialising process
 abbrev pub Table : Type 0
 Table = List (ℕ × Process)
 
--- a partition: its operating mode and its processes   (partition modes, section 2)
+-- an entry of a waiting set: who waits, with the priority and at the place of its call; a sender waits with its message
+pub record Entry : Type 0 where
+  pub who : Who
+  pub priority : ℕ
+  pub place : ℕ
+  pub message : List ℕ
+
+-- a buffer: the messages that it holds, the oldest first, and those that wait to send and to receive   (buffers, section 3)
+pub record Buffer : Type 0 where
+  pub name : List ℕ
+  pub size : ℕ
+  pub capacity : ℕ
+  pub discipline : Discipline
+  pub messages : List (List ℕ)
+  pub senders : List Entry
+  pub receivers : List Entry
+
+-- a blackboard: the message on it, if it isn't empty, and those that wait to read   (blackboards, section 3)
+pub record Blackboard : Type 0 where
+  pub name : List ℕ
+  pub size : ℕ
+  pub message : Option (List ℕ)
+  pub readers : List Entry
+
+-- a counting semaphore: its value, its maximum, and those that wait   (semaphores, section 3)
+pub record Semaphore : Type 0 where
+  pub name : List ℕ
+  pub maximum : ℕ
+  pub discipline : Discipline
+  pub value : ℕ
+  pub waiters : List Entry
+
+-- an event: whether it is up, and those that wait for it   (events, section 3)
+pub record Event : Type 0 where
+  pub name : List ℕ
+  pub up : Bool
+  pub waiters : List Entry
+
+-- a mutex: its priority, the process that owns it, how often it was acquired, and those that wait   (mutexes, section 3)
+pub record Mutex : Type 0 where
+  pub name : List ℕ
+  pub priority : ℕ
+  pub discipline : Discipline
+  pub owner : Option ℕ
+  pub count : ℕ
+  pub waiters : List Entry
+
+-- a created port: the greatest size of its messages, its direction and its channel   (ports, section 3)
+pub record Port : Type 0 where
+  pub name : List ℕ
+  pub size : ℕ
+  pub direction : Direction
+  pub channel : ℕ
+
+-- a partition: its operating mode, its processes, and its objects and ports of each kind under their numbers   (section 2)
 pub record Partition : Type 0 where
   pub mode : Mode
   pub table : Table
+  pub buffers : List (ℕ × Buffer)
+  pub blackboards : List (ℕ × Blackboard)
+  pub semaphores : List (ℕ × Semaphore)
+  pub events : List (ℕ × Event)
+  pub mutexes : List (ℕ × Mutex)
+  pub sampling_ports : List (ℕ × Port)
+  pub queuing_ports : List (ℕ × Port)
 
--- how many records were judged, the cores, and the partitions by number
+-- a message with the time at which it was written
+pub record Stamped : Type 0 where
+  pub message : List ℕ
+  pub stamp : ℕ
+
+-- what a channel holds: a sampling channel the message last written, a queuing channel its messages, the oldest first
+pub data Content : Type 0 where
+  Sampled : (last : Option Stamped) → Content
+  Queued : (messages : List (List ℕ)) → Content
+
+-- a channel: what it holds, and those that wait at its two ends
+pub record Channel : Type 0 where
+  pub content : Content
+  pub senders : List Entry
+  pub receivers : List Entry
+
+-- how many records were judged, the cores, and the partitions and channels by number
 pub record State : Type 0 where
   pub count : ℕ
   pub cores : List CoreState
   pub partitions : ℕ → Partition
+  pub channels : ℕ → Channel
+
+-- names of processes
 
 -- whether these are the same process of the same partition
 abbrev pub is_same : Who → Who → Bool
@@ -37,6 +120,8 @@ abbrev pub names_one_of : ℕ → List Who → Bool
 names_one_of partition [] = false
 names_one_of partition (who ∷ others) = nat_eq who.part partition || names_one_of partition others
 
+-- processes and objects by number
+
 -- the process of a number, if it is created
 abbrev pub process_at : Table → ℕ → Option Process
 process_at [] number = None
@@ -46,6 +131,35 @@ process_at (entry ∷ entries) number = if nat_eq number entry.0 then Some entry
 abbrev pub each_process : (ℕ → Process → Process) → Table → Table
 each_process change [] = []
 each_process change (entry ∷ entries) = (entry.0, change entry.0 entry.1) ∷ each_process change entries
+
+-- the object of a number, if it is created
+abbrev pub object_at : {Object : Type 0} → List (ℕ × Object) → ℕ → Option Object
+object_at [] number = None
+object_at (entry ∷ entries) number = if nat_eq number entry.0 then Some entry.1 else object_at entries number
+
+-- the objects with each of them changed
+abbrev pub each_object : {Object : Type 0} → (ℕ → Object → Object) → List (ℕ × Object) → List (ℕ × Object)
+each_object change [] = []
+each_object change (entry ∷ entries) = (entry.0, change entry.0 entry.1) ∷ each_object change entries
+
+-- the objects with the one of this number changed
+abbrev pub change_at : {Object : Type 0} → ℕ → (Object → Object) → List (ℕ × Object) → List (ℕ × Object)
+change_at number change objects = each_object (λ other object. if nat_eq other number then change object else object) objects
+
+-- the object of a number that a caller gives, if it is created
+abbrev pub given_object : {Object : Type 0} → List (ℕ × Object) → ℤ → Option Object
+given_object objects (pos number) = object_at objects number
+given_object objects (negsuc n) = None
+
+-- whether no process has a number
+abbrev pub is_free_process : Table → ℕ → Bool
+is_free_process table number = is_none (process_at table number)
+
+-- whether no object of a kind has a number
+abbrev pub is_free_object : {Object : Type 0} → List (ℕ × Object) → ℕ → Bool
+is_free_object objects number = is_none (object_at objects number)
+
+-- cores
 
 -- the time of a core, in ticks
 abbrev pub time_of : List CoreState → ℕ → ℕ
@@ -65,14 +179,20 @@ at_core change core [] = []
 at_core change zero (state ∷ states) = change state ∷ states
 at_core change (suc core) (state ∷ states) = state ∷ at_core change core states
 
+-- the cold state
+
 -- the initialising process: ready from the start, on the partition's first core, with priority 0
 abbrev pub initialising_process : ℕ → Process
 initialising_process core = record {
   name = [];
   base_priority = 0;
   current_priority = 0;
+  retained_priority = 0;
   affinity = core;
+  period = None;
+  last_release = 0;
   alive = true;
+  suspended = false;
   wait = wait.Nothing;
   ready_position = 0;
   due = None;
@@ -84,7 +204,22 @@ abbrev pub cold_partition : Configuration → ℕ → Partition
 cold_partition configuration number = record {
   mode = mode.ColdStart;
   table = (0, initialising_process (first_core configuration number)) ∷ [];
+  buffers = [];
+  blackboards = [];
+  semaphores = [];
+  events = [];
+  mutexes = [];
+  sampling_ports = [];
+  queuing_ports = [];
 }
+
+-- what a channel holds before the first record: nothing
+abbrev pub cold_content : Configuration → ℕ → Content
+cold_content configuration number = if is_some (queuing_of configuration number) then Queued [] else Sampled None
+
+-- a channel before the first record: empty, whether or not its ports are created
+abbrev pub cold_channel : Configuration → ℕ → Channel
+cold_channel configuration number = record { content = cold_content configuration number; senders = []; receivers = [] }
 
 -- a core before the first record: no tick has passed, and no dispatch has given it to a process
 abbrev pub cold_core : CoreState
@@ -94,10 +229,11 @@ cold_core = record { time = 0; occupant = None }
 abbrev pub cold_cores : Configuration → List CoreState
 cold_cores configuration = replicate configuration.cores cold_core
 
--- the state before the first record: all times are 0, all cores idle, all partitions cold
+-- the state before the first record: all times are 0, all cores idle, all partitions cold, all channels empty
 abbrev pub cold_state : Configuration → State
 cold_state configuration = record {
   count = 0;
   cores = cold_cores configuration;
   partitions = λ number. cold_partition configuration number;
+  channels = λ number. cold_channel configuration number;
 }

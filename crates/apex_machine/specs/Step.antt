@@ -1,4 +1,5 @@
 -- A step of the machine: what a record must claim, and the state that it then leads to. A run is one step after another.
+-- Each is said for any services that are judged, and then for those of today.
 use Rattle.std.specs.Prelude.{◌≡◌, ◌⊎◌, ℕ, ◌+◌, ◌≤◌, List, [], ◌∷◌, Option, Some, None, Bool, false, nat_eq, nat_le, ◌&&◌, IsTrue}
 use Rattle.apex_types.specs.declared.code.Code.{Code}
 use Rattle.apex_types.specs.declared.record.Body.{Body}
@@ -11,18 +12,21 @@ use Rattle.apex_types.specs.declared.record.Out.TheVariants as out
 use Rattle.apex_types.specs.declared.record.Return.{Return}
 use Rattle.apex_types.specs.declared.record.Who.{Who}
 use Rattle.apex_types.specs.declared.request.Request.{Request}
+use Rattle.apex_types.specs.declared.service.Service.{Service}
 use Rattle.apex_types.specs.Requested.{service_of}
 use Rattle.apex_machine.specs.declared.state.CoreState.{CoreState}
 use Rattle.apex_machine.specs.declared.state.Outcome.{Outcome}
 use Rattle.apex_machine.specs.declared.state.Process.{Process}
 use Rattle.apex_machine.specs.declared.state.Wait.{Wait}
 use Rattle.apex_machine.specs.declared.state.Wait.TheVariants as wait
-use Rattle.apex_machine.specs.Configuration.{Configuration, has_partition, has_channel}
-use Rattle.apex_machine.specs.State.{State, Table, is_named, process_at, time_of, occupant_of}
-use Rattle.apex_machine.specs.Choice.{choice}
-use Rattle.apex_machine.specs.Conditions.{condition_codes}
-use Rattle.apex_machine.specs.Services.{Answer, HasValue, answer_of, is_built, in_profile}
 use Rattle.apex_machine.specs.After.{after}
+use Rattle.apex_machine.specs.Channels.{has_channel}
+use Rattle.apex_machine.specs.Choice.{choice}
+use Rattle.apex_machine.specs.Configuration.{Configuration, has_partition}
+use Rattle.apex_machine.specs.Ports.{channel_effect, channel_of, suits_use, use_of}
+use Rattle.apex_machine.specs.ServiceConditions.{condition_codes}
+use Rattle.apex_machine.specs.Services.{Answer, HasValue, NamesExactly, answer_of, in_profile, is_built}
+use Rattle.apex_machine.specs.State.{Channel, Partition, State, Table, is_named, process_at, time_of, occupant_of}
 
 -- names
 
@@ -48,18 +52,21 @@ abbrev pub KeepsSkew : ℕ → ℕ → List CoreState → Type 0
 KeepsSkew time skew [] = Unit {0}
 KeepsSkew time skew (state ∷ states) = (time ≤ state.time + skew) × KeepsSkew time skew states
 
--- a wait is over once its core's time has come to it
+-- a wait is over once its core's time has come to its due time, if it has one
 abbrev pub due_by : ℕ → Wait → Bool
-due_by time wait.Nothing = false
-due_by time wait.NormalMode = false
+due_by time (wait.FirstRelease due) = nat_le due time
 due_by time (wait.Until due) = nat_le due time
+due_by time (wait.PeriodicRelease due) = nat_le due time
+due_by time (wait.Suspended (Some due)) = nat_le due time
+due_by time (wait.At set (Some due)) = nat_le due time
+due_by time _ = false
 
 -- whether a process of this core falls due at this time
 abbrev pub falls_due : ℕ → ℕ → Option Process → Bool
 falls_due core time None = false
 falls_due core time (Some process) = nat_eq process.affinity core && due_by time process.wait
 
--- of this partition exactly those are named that fall due   (TIMED_WAIT, section 3)
+-- of this partition exactly those are named that fall due   (process and time management, section 3)
 abbrev pub NamesThoseDue : ℕ → ℕ → ℕ → Table → List Who → Type 0
 NamesThoseDue partition core time table woken =
     (number : ℕ) → is_named (record { part = partition; proc = number }) woken ≡ falls_due core time (process_at table number)
@@ -76,17 +83,17 @@ abbrev pub HasPriority : ℕ → Option Process → Type 0
 HasPriority priority None = ⊥
 HasPriority priority (Some process) = process.current_priority ≡ priority
 
--- the outcome that is due to a process, if it is there and one is
+-- the outcome that is due to a process, if one is
 abbrev pub due_of : Option Process → Option Outcome
 due_of None = None
 due_of (Some process) = process.due
 
--- a code is one of these
+-- the code is one of these
 abbrev pub IsAmong : List Code → Code → Type 0
 IsAmong [] code = ⊥
 IsAmong (other ∷ others) code = (code ≡ other) ⊎ IsAmong others code
 
--- an outcome is one of these codes
+-- the outcome is one of these codes
 abbrev pub HasCode : List Code → Out → Type 0
 HasCode codes out.Waits = ⊥
 HasCode codes out.Never = ⊥
@@ -100,18 +107,29 @@ pub record IsRefused (codes : List Code) (claim : Claim) : Type 0 where
   pub bytes : claim.bytes ≡ []
   pub woken : claim.woken ≡ []
 
--- where none holds: the outcome of the service, with its value, its message and those whose waits end
-pub record IsAnswered (table : Table) (answer : Answer) (claim : Claim) : Type 0 where
+-- where none holds and no channel is used: the outcome of the service, with its value, its message and those whose waits end
+pub record IsAnswered (answer : Answer) (claim : Claim) : Type 0 where
   pub chan : claim.chan ≡ None
   pub out : claim.out ≡ answer.out
-  pub val : HasValue table answer.val claim.val
+  pub val : HasValue answer.val claim.val
   pub bytes : claim.bytes ≡ answer.bytes
-  pub woken : claim.woken ≡ answer.woken
+  pub woken : NamesExactly answer.woken claim.woken
 
--- the outcome of a call on which these error conditions hold, or none
-abbrev pub HasOutcome : List Code → Table → Answer → Claim → Type 0
-HasOutcome [] table answer claim = IsAnswered table answer claim
-HasOutcome (code ∷ codes) table answer claim = IsRefused (code ∷ codes) claim
+-- where none holds and a channel is used, which is the port's and of the service's kind: the outcome that the channel gives
+pub record IsThrough (channel : ℕ) (suited : Bool) (answer : Answer) (claim : Claim) : Type 0 where
+  pub chan : claim.chan ≡ Some channel
+  pub kind : IsTrue suited
+  pub out : claim.out ≡ answer.out
+  pub val : HasValue answer.val claim.val
+  pub bytes : claim.bytes ≡ answer.bytes
+  pub woken : NamesExactly answer.woken claim.woken
+
+-- the outcome of a call, by the codes of its error conditions, the channel that it goes to, what its partition answers, and
+-- whether a channel suits it and what that channel answers
+abbrev pub HasOutcome : List Code → Option ℕ → Answer → (ℕ → Bool) → (ℕ → Answer) → Claim → Type 0
+HasOutcome [] None answer suited through claim = IsAnswered answer claim
+HasOutcome [] (Some channel) answer suited through claim = IsThrough channel (suited channel) (through channel) claim
+HasOutcome (code ∷ codes) channel answer suited through claim = IsRefused (code ∷ codes) claim
 
 -- a demand that stands only where no error condition holds
 abbrev pub WhereNone : List Code → Type 0 → Type 0
@@ -119,12 +137,19 @@ WhereNone [] Demanded = Demanded
 WhereNone (code ∷ codes) Demanded = Unit {0}
 
 -- the call's service is judged, and where no error condition holds the call is within the profile
-abbrev pub IsWithinProfile : List Code → Who → Request → Type 0
-IsWithinProfile codes who request = IsTrue (is_built (service_of request)) × WhereNone codes (IsTrue (in_profile who request))
+abbrev pub IsWithinProfile : (Service → Bool) → List Code → Who → Partition → Request → Type 0
+IsWithinProfile judged codes who partition request =
+    IsTrue (judged (service_of request)) × WhereNone codes (IsTrue (in_profile judged who partition request))
+
+-- what a channel answers to a call at this time of the caller's core
+abbrev pub channel_answer : Configuration → ℕ → Request → (ℕ → Channel) → ℕ → Answer
+channel_answer configuration now request channels number = (channel_effect configuration now number (use_of request) (channels number)).answer
 
 -- what a return gives back
 abbrev pub outcome_returned : Return → Outcome
 outcome_returned ret = record { service = ret.service; code = ret.code; val = ret.val; bytes = ret.bytes }
+
+-- lawful records
 
 -- a dispatch names the choice
 pub record IsLawfulDispatch (configuration : Configuration) (state : State) (core : ℕ) (who : Option Who) : Type 0 where
@@ -141,15 +166,19 @@ pub record IsLawfulTick (configuration : Configuration) (state : State) (core : 
 
 -- a call comes from the occupant, which is the choice and to which no outcome is due; it claims its current priority and
 -- an outcome that the service can have
-pub record IsLawfulCall (configuration : Configuration) (state : State) (core : ℕ) (call : CallRecord) : Type 0 where
+pub record IsLawfulCall (judged : Service → Bool) (configuration : Configuration) (state : State) (core : ℕ) (call : CallRecord) : Type 0 where
   pub names : IsTrue (has_partition configuration call.who.part) × AllConfigured configuration call.claim.woken × ChannelConfigured configuration call.claim.chan
   pub occupant : occupant_of state.cores core ≡ Some call.who
   pub choice : choice configuration state core ≡ Some call.who
   pub due : HasNoneDue (process_at (state.partitions call.who.part).table call.who.proc)
-  pub profile : IsWithinProfile (condition_codes configuration call.who (state.partitions call.who.part) call.request) call.who call.request
+  pub profile : IsWithinProfile judged (condition_codes configuration call.who (state.partitions call.who.part) call.request)
+      call.who (state.partitions call.who.part) call.request
   pub prio : HasPriority call.claim.prio (process_at (state.partitions call.who.part).table call.who.proc)
   pub outcome : HasOutcome (condition_codes configuration call.who (state.partitions call.who.part) call.request)
-      (state.partitions call.who.part).table (answer_of (time_of state.cores core) call.who call.request) call.claim
+      (channel_of (state.partitions call.who.part) call.request)
+      (answer_of (time_of state.cores core) call.who (state.partitions call.who.part) call.request)
+      (λ number. suits_use (use_of call.request) (state.channels number))
+      (channel_answer configuration (time_of state.cores core) call.request state.channels) call.claim
 
 -- a return comes from the occupant, which is the choice, and gives back the outcome that is due
 pub record IsLawfulReturn (configuration : Configuration) (state : State) (core : ℕ) (ret : Return) : Type 0 where
@@ -158,24 +187,35 @@ pub record IsLawfulReturn (configuration : Configuration) (state : State) (core 
   pub choice : choice configuration state core ≡ Some ret.who
   pub due : due_of (process_at (state.partitions ret.who.part).table ret.who.proc) ≡ Some (outcome_returned ret)
 
--- what a record claims is so
-abbrev pub IsLawfulBody : Configuration → State → ℕ → Body → Type 0
-IsLawfulBody configuration state core (Disp who) = IsLawfulDispatch configuration state core who
-IsLawfulBody configuration state core (Tick woken) = IsLawfulTick configuration state core woken
-IsLawfulBody configuration state core (Call call) = IsLawfulCall configuration state core call
-IsLawfulBody configuration state core (Ret ret) = IsLawfulReturn configuration state core ret
+-- what a record of each kind claims is so
+abbrev pub IsLawfulBody : (Service → Bool) → Configuration → State → ℕ → Body → Type 0
+IsLawfulBody judged configuration state core (Disp who) = IsLawfulDispatch configuration state core who
+IsLawfulBody judged configuration state core (Tick woken) = IsLawfulTick configuration state core woken
+IsLawfulBody judged configuration state core (Call call) = IsLawfulCall judged configuration state core call
+IsLawfulBody judged configuration state core (Ret ret) = IsLawfulReturn configuration state core ret
 
 -- a record is lawful in a state where it stands at the next place and what it claims is so
-pub record IsLawful (configuration : Configuration) (state : State) (ordered : Ordered) : Type 0 where
+pub record IsLawful (judged : Service → Bool) (configuration : Configuration) (state : State) (ordered : Ordered) : Type 0 where
   pub placed : ordered.pos ≡ state.count
-  pub claims : IsLawfulBody configuration state ordered.core ordered.rec.body
+  pub claims : IsLawfulBody judged configuration state ordered.core ordered.rec.body
+
+-- steps and runs
 
 -- the step of a record: it is lawful, and the next state is the one that its claims give
-abbrev pub Step : Configuration → State → Ordered → State → Type 0
-Step configuration state ordered next = IsLawful configuration state ordered × (next ≡ after configuration state ordered)
+abbrev pub StepJudging : (Service → Bool) → Configuration → State → Ordered → State → Type 0
+StepJudging judged configuration state ordered next =
+    IsLawful judged configuration state ordered × (next ≡ after configuration state ordered)
 
--- a run: one step after another
+-- one step after another
+abbrev pub RunJudging : (Service → Bool) → Configuration → State → List Ordered → State → Type 0
+RunJudging judged configuration state [] final = final ≡ state
+RunJudging judged configuration state (ordered ∷ others) final =
+    (next : State) × StepJudging judged configuration state ordered next × RunJudging judged configuration next others final
+
+-- a step, with the services that are judged today
+abbrev pub Step : Configuration → State → Ordered → State → Type 0
+Step configuration state ordered next = StepJudging is_built configuration state ordered next
+
+-- a run, with the services that are judged today
 abbrev pub Run : Configuration → State → List Ordered → State → Type 0
-Run configuration state [] final = final ≡ state
-Run configuration state (ordered ∷ others) final =
-    (next : State) × Step configuration state ordered next × Run configuration next others final
+Run configuration state records final = RunJudging is_built configuration state records final

@@ -6,4 +6,4 @@
 
 mod state;
 
-pub use state::{CoreState, Mode, Outcome, Process, Wait};
+pub use state::{CoreState, Direction, Mode, Outcome, Process, Wait, WaitingSet};

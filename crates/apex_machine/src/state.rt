@@ -1,6 +1,6 @@
 // The plain data of a state.
 
-use apex_types::{Code, CoreId, Message, Name, Service, Who};
+use apex_types::{ChanId, Code, CoreId, Message, Name, Service, Who};
 
 /// The operating mode of a partition.
 #[derive(Clone, Copy, Debug, PartialEq, Eq)]
@@ -11,15 +11,43 @@ pub enum Mode {
     Normal,
 }
 
-/// What a process waits for.
+/// The direction of a port.
+#[derive(Clone, Copy, Debug, PartialEq, Eq)]
+pub enum Direction {
+    Source,
+    Destination,
+}
+
+/// A waiting set, by the object of the process's own partition, or by the channel, at which its processes wait.
+#[derive(Clone, Copy, Debug, PartialEq, Eq)]
+pub enum WaitingSet {
+    BufferSenders(u32),
+    BufferReceivers(u32),
+    BlackboardReaders(u32),
+    SemaphoreWaiters(u32),
+    EventWaiters(u32),
+    MutexWaiters(u32),
+    ChannelSenders(ChanId),
+    ChannelReceivers(ChanId),
+}
+
+/// What a process waits for. A time is that of its own core, in ticks.
 #[derive(Clone, Copy, Debug, PartialEq, Eq)]
 pub enum Wait {
     /// It waits for nothing.
     Nothing,
     /// It was started before its partition is in the mode NORMAL.
     NormalMode,
-    /// It waits until its core's time is this many ticks.
+    /// It is periodic, and waits for its first release at this time.
+    FirstRelease(u64),
+    /// It waits until this time.
     Until(u64),
+    /// It waits for its next release at this time.
+    PeriodicRelease(u64),
+    /// It suspended itself: it waits until it is resumed, or until this time.
+    Suspended(Option<u64>),
+    /// It stands in a waiting set, until it is woken or until this time.
+    At(WaitingSet, Option<u64>),
 }
 
 /// What a service owes its caller: the return that has to come before the caller's next call.
@@ -39,10 +67,18 @@ pub struct Process {
     /// The priority given at its creation; the initialising process has 0.
     pub base_priority: u8,
     pub current_priority: u8,
+    /// The current priority that it had when it became the owner of a mutex.
+    pub retained_priority: u8,
     /// The core on which it runs.
     pub affinity: CoreId,
+    /// None where it is aperiodic.
+    pub period: Option<u64>,
+    /// The release for which it last waited, or which it last found reached.
+    pub last_release: u64,
     /// False where it is dormant.
     pub alive: bool,
+    /// Another process suspended it, and none resumed it since.
+    pub suspended: bool,
     pub wait: Wait,
     /// The place of the record at which it last became ready, or was put behind the others of its priority.
     pub ready_position: u64,

@@ -6,6 +6,7 @@
 
 mod cause;
 mod code;
+mod discipline;
 mod number;
 mod record;
 mod request;
@@ -14,6 +15,7 @@ mod text;
 
 pub use cause::Cause;
 pub use code::Code;
+pub use discipline::Discipline;
 pub use number::{ChanId, CoreId, PartId, Place, ProcId};
 pub use record::{Body, Call, Claim, Ordered, Out, Pair, Record, Return, Who, Woken};
 pub use request::Request;

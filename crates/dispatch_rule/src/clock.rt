@@ -132,7 +132,8 @@ impl Clock {
         };
     }
 
-    fn states(&self) -> &[CoreState]
+    /// The cores, in the order of their numbers.
+    pub fn states(&self) -> &[CoreState]
         ensures { result.now ≡ self.now.cores }
     {
         &self.cores[..self.count]

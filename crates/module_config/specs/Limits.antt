@@ -40,6 +40,11 @@ pub record IsWithinLimits (configuration : Configuration) : Type 0 where
 abbrev pub CoresAreOfModule : Configuration → Type 0
 CoresAreOfModule configuration = (number core : ℕ) → IsTrue (has_core core (limits_of configuration number)) → core < configuration.cores
 
+-- no channel is configured
+pub record HasNoChannel (configuration : Configuration) : Type 0 where
+  pub sampling : configuration.sampling ≡ []
+  pub queuing : configuration.queuing ≡ []
+
 -- the parts of a configuration go together: no number twice, each window on a core of its partition, no overlap
 pub record IsConsistent (configuration : Configuration) : Type 0 where
   pub not_too_large : is_too_large configuration ≡ false

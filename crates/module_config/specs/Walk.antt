@@ -92,7 +92,7 @@ abbrev pub windows_at : ℕ → ℕ → Option Data → Result (List Window) Con
 windows_at count frame None = Ok []
 windows_at count frame (Some value) = list_of is_table value >>= each_item (window_in count frame)
 
--- what a table configures, each key judged by itself; keys of other names say nothing
+-- what a table configures, each key judged by itself; keys of other names say nothing, and no channel is configured yet
 abbrev pub walk : Members → Result Configuration ConfigFault
 walk keys =
     integer_at 1 16 (get_member (codes "cores") keys) >>= (λ cores.
@@ -100,4 +100,4 @@ walk keys =
     ticks_at (get_member (codes "skew") keys) >>= (λ skew.
     partitions_at cores (get_member (codes "partition") keys) >>= (λ partitions.
     windows_at cores frame (get_member (codes "window") keys) >>= (λ windows.
-    Ok (record { cores = cores; frame = frame; skew = skew; partitions = partitions; windows = windows }))))))
+    Ok (record { cores = cores; frame = frame; skew = skew; partitions = partitions; windows = windows; sampling = []; queuing = [] }))))))

@@ -2,11 +2,12 @@
 
 ghost use Rattle.std.specs.Prelude.{◌≡◌, ◌≤◌, ◌<◌, IfOk, IfSome, Bool, true, length, slice_index};
 ghost use Rattle.toml.specs.View.{table_view};
-ghost use Rattle.apex_machine.specs.Configuration.{window_at, window_among, has_partition, has_channel, WindowsAreConfigured, first_core, process_limit, period_of};
+ghost use Rattle.apex_machine.specs.Configuration.{window_at, window_among, has_partition, WindowsAreConfigured, first_core, process_limit, period_of};
+ghost use Rattle.apex_machine.specs.Channels.{has_channel};
 ghost use Rattle.apex_machine.specs.Conditions.{is_core};
 ghost use Rattle.module_config.specs.Keys.{Gives};
 ghost use Rattle.module_config.specs.Reading.{configuration_of, configuration_under};
-ghost use Rattle.module_config.specs.Limits.{partition_numbers, CoresAreOfModule, IsWithinLimits, IsConsistent};
+ghost use Rattle.module_config.specs.Limits.{partition_numbers, CoresAreOfModule, HasNoChannel, IsWithinLimits, IsConsistent};
 
 use crate::fault::ConfigFault;
 use crate::layout::{Layout, read_layout};
@@ -94,12 +95,13 @@ impl Config {
 
     /// Tells what every configuration keeps: its limits; partitions in rising order, windows of configured partitions
     /// that share no tick; so that each window is a configured partition's, and each core of a partition one of the
-    /// module's. Does nothing.
+    /// module's. No channel is configured yet. Does nothing.
     pub fn keeps_limits(&self)
         ensures limits { IsWithinLimits self.now }
         ensures consistent { IsConsistent self.now }
         ensures windows { WindowsAreConfigured self.now }
         ensures cores { CoresAreOfModule self.now }
+        ensures channels { HasNoChannel self.now }
     {
         let _ = &self.cores;
     }
@@ -170,6 +172,8 @@ impl Config {
     pub fn has_channel(&self, chan: ChanId) -> bool
         ensures { result ≡ has_channel self.now chan }
     {
+        // No configuration has a channel yet, as is known where one of its fields is used.
+        let _ = &self.cores;
         false
     }
 

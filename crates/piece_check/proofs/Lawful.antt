@@ -1,6 +1,6 @@
 -- What a lawful call asks for can be held: a process that it creates has a new number and a priority in range, and a core that
 -- it gives is one.
-use Rattle.std.proofs.Common.{◌≡◌, ◌≢◌, ◌<◌, ◌≤◌, ℕ, List, [], ◌∷◌, ◌++◌, Bool, true, false, not, IsTrue, inl, inr, ℤ, pos, negsuc, refl, sym, arith}
+use Rattle.std.proofs.Common.{◌≡◌, ◌≢◌, ◌<◌, ◌≤◌, ℕ, List, [], ◌∷◌, ◌++◌, Bool, true, false, not, IsTrue, None, inl, inr, ℤ, pos, negsuc, refl, sym, arith}
 use Rattle.std.proofs.lemmas.Bool.Decides.{nat_tests}
 use Rattle.apex_types.specs.declared.code.Code.{Code}
 use Rattle.apex_types.specs.declared.code.Code.TheVariants as error
@@ -13,14 +13,17 @@ use Rattle.apex_types.specs.declared.request.Request.{Request}
 use Rattle.apex_types.specs.declared.request.Request.TheVariants as request
 use Rattle.apex_machine.specs.declared.state.CoreState.{CoreState}
 use Rattle.apex_machine.specs.Configuration.{Configuration}
-use Rattle.apex_machine.specs.State.{Partition, Table, time_of}
-use Rattle.apex_machine.specs.Conditions.{when, condition_codes, is_core}
-use Rattle.apex_machine.specs.Services.{Answer, answer_of}
+use Rattle.apex_machine.specs.State.{Partition, time_of}
+use Rattle.apex_machine.specs.Conditions.{when, is_core}
+use Rattle.apex_machine.specs.ServiceConditions.{condition_codes}
+use Rattle.apex_machine.specs.Services.{Answer, answer_of, is_built}
 use Rattle.apex_machine.specs.After.{is_done}
 use Rattle.apex_machine.specs.Step.{IsAmong, HasCode}
-use Rattle.apex_machine.specs.Pieces.{AllHold, outcome_demands, own_call_demands}
+use Rattle.apex_machine.specs.Demands.{AllHold, outcome_demands, own_call_demands}
+use Rattle.apex_types.specs.Requested.{service_of}
 use Rattle.module_config.specs.Limits.{CoresAreOfModule}
 use Rattle.process_state.specs.Sound.{IsSound, AsksSoundly, is_core_number}
+use Rattle.piece_check.proofs.Judged.{no_channel, nobody, wakes_nobody}
 
 -- none of the codes is NO_ERROR
 abbrev AreErrors : List Code → Type 0
@@ -53,10 +56,11 @@ refused_not_done codes (out.Answer error.InvalidMode) errors has done = cc
 refused_not_done codes (out.Answer error.TimedOut) errors has done = cc
 
 -- where it is carried out, no error condition holds
-none_where_done : (codes : List Code) (table : Table) (answer : Answer) (claim : Claim) → AreErrors codes
-    → AllHold (outcome_demands codes table answer claim) → IsTrue (is_done claim.out) → (codes ≡ []) × AllHold (outcome_demands [] table answer claim)
-none_where_done [] table answer claim errors hold done = (refl, hold)
-none_where_done (code ∷ codes) table answer claim errors hold done = absurd (refused_not_done (code ∷ codes) claim.out errors hold.0 done)
+none_where_done : (codes : List Code) (number : ℕ) (asked : Request) (answer : Answer) (claim : Claim) → AreErrors codes
+    → AllHold (outcome_demands codes None number asked answer claim) → IsTrue (is_done claim.out)
+    → (codes ≡ []) × AllHold (outcome_demands [] None number asked answer claim)
+none_where_done [] number asked answer claim errors hold done = (refl, hold)
+none_where_done (code ∷ codes) number asked answer claim errors hold done = absurd (refused_not_done (code ∷ codes) claim.out errors hold.1.0 done)
 
 nil_left : (codes others : List Code) → codes ++ others ≡ [] → codes ≡ []
 nil_left [] others e = refl
@@ -71,14 +75,14 @@ when_not true code e = refl
 when_not false code e = cc
 
 -- the codes of INITIALIZE_PROCESS_CORE_AFFINITY, by whether each condition holds
-moves : (absent normal : Bool) (passes : Bool) (table : Table) (answer : Answer) (claim : Claim)
-    → AllHold (outcome_demands (when absent error.InvalidParam ++ when normal error.InvalidMode ++ when (not passes) error.InvalidConfig) table answer claim)
+moves : (absent normal : Bool) (passes : Bool) (number : ℕ) (asked : Request) (answer : Answer) (claim : Claim)
+    → AllHold (outcome_demands (when absent error.InvalidParam ++ when normal error.InvalidMode ++ when (not passes) error.InvalidConfig) None number asked answer claim)
     → IsTrue (is_done claim.out) → IsTrue passes
-moves absent normal passes table answer claim hold done =
+moves absent normal passes number asked answer claim hold done =
     let one = AreErrors-when absent error.InvalidParam (λ e. cc) in
     let two = AreErrors-append _ _ one (AreErrors-when normal error.InvalidMode (λ e. cc)) in
     let three = AreErrors-append _ _ two (AreErrors-when (not passes) error.InvalidConfig (λ e. cc)) in
-    let none = none_where_done _ table answer claim three hold done in
+    let none = none_where_done _ number asked answer claim three hold done in
     when_not passes error.InvalidConfig (nil_right _ _ none.0)
 
 -- a core of a partition is one
@@ -90,35 +94,48 @@ core_is configuration number (pos core) few of_module has =
 core_is configuration number (negsuc core) few of_module has = cc
 
 -- the codes of CREATE_PROCESS, by whether each condition holds
-creates : (normal named full : Bool) (passes : Bool) (no_period no_fit : Bool) (table : Table) (answer : Answer) (claim : Claim)
+creates : (normal named full : Bool) (passes : Bool) (no_period no_fit : Bool) (number : ℕ) (asked : Request) (answer : Answer) (claim : Claim)
     → AllHold (outcome_demands (when normal error.InvalidMode ++ when named error.NoAction ++ when full error.InvalidConfig
-    ++ when (not passes) error.InvalidParam ++ when no_period error.InvalidParam ++ when no_fit error.InvalidConfig) table answer claim)
-    → IsTrue (is_done claim.out) → IsTrue passes × AllHold (outcome_demands [] table answer claim)
-creates normal named full passes no_period no_fit table answer claim hold done =
+    ++ when (not passes) error.InvalidParam ++ when no_period error.InvalidParam ++ when no_fit error.InvalidConfig) None number asked answer claim)
+    → IsTrue (is_done claim.out) → IsTrue passes × AllHold (outcome_demands [] None number asked answer claim)
+creates normal named full passes no_period no_fit number asked answer claim hold done =
     let one = AreErrors-when normal error.InvalidMode (λ e. cc) in
     let two = AreErrors-append _ _ one (AreErrors-when named error.NoAction (λ e. cc)) in
     let three = AreErrors-append _ _ two (AreErrors-when full error.InvalidConfig (λ e. cc)) in
     let four = AreErrors-append _ _ three (AreErrors-when (not passes) error.InvalidParam (λ e. cc)) in
     let five = AreErrors-append _ _ four (AreErrors-when no_period error.InvalidParam (λ e. cc)) in
     let six = AreErrors-append _ _ five (AreErrors-when no_fit error.InvalidConfig (λ e. cc)) in
-    let none = none_where_done _ table answer claim six hold done in
+    let none = none_where_done _ number asked answer claim six hold done in
     (when_not passes error.InvalidParam (nil_right _ _ (nil_left _ _ (nil_left _ _ none.0))), none.1)
 
-asks_soundly : (configuration : Configuration) (now : ℕ) (who : Who) (partition : Partition) (call : CallRecord) (asked : Request)
+asks_soundly : (configuration : Configuration) (number now : ℕ) (who : Who) (partition : Partition) (call : CallRecord) (asked : Request)
     → configuration.cores ≤ 16 → CoresAreOfModule configuration
-    → AllHold (outcome_demands (condition_codes configuration who partition asked) partition.table (answer_of now who asked) call.claim)
+    → AllHold (outcome_demands (condition_codes configuration who partition asked) None number asked (answer_of now who partition asked) call.claim)
     → AsksSoundly partition.table call asked
-asks_soundly configuration now who partition call (request.CreateProcess name priority period) few of_module hold =
-    λ done. let both = creates _ _ _ _ _ _ partition.table (answer_of now who (request.CreateProcess name priority period)) call.claim hold done in
-    (both.1.1.0, both.0)
-asks_soundly configuration now who partition call (request.InitializeProcessCoreAffinity process core) few of_module hold =
+asks_soundly configuration number now who partition call (request.CreateProcess name priority period) few of_module hold =
+    λ done. let both = creates _ _ _ _ _ _ number (request.CreateProcess name priority period) (answer_of now who partition (request.CreateProcess name priority period)) call.claim hold done in
+    (both.1.1.1.0, both.0)
+asks_soundly configuration number now who partition call (request.InitializeProcessCoreAffinity process core) few of_module hold =
     λ done. core_is configuration who.part core few of_module
-    (moves _ _ _ partition.table (answer_of now who (request.InitializeProcessCoreAffinity process core)) call.claim hold done)
-asks_soundly configuration now who partition call _ few of_module hold = tt
+    (moves _ _ _ number (request.InitializeProcessCoreAffinity process core) (answer_of now who partition (request.InitializeProcessCoreAffinity process core)) call.claim hold done)
+asks_soundly configuration number now who partition call _ few of_module hold = tt
+
+-- a call whose outcome wakes nobody names nobody
+names_none : (codes : List Code) (number : ℕ) (asked : Request) (answer : Answer) (claim : Claim) → answer.woken ≡ []
+    → AllHold (outcome_demands codes None number asked answer claim) → claim.woken ≡ []
+names_none [] number asked answer claim none hold =
+    let exactly = rw none at hold.1.1.1.1.0 in nobody claim.woken exactly
+names_none (code ∷ codes) number asked answer claim none hold = hold.1.1.1.1.0
 
 -- a lawful call of one of the partition's processes can be carried out
 pub IsSound_lawful : (configuration : Configuration) (number : ℕ) (cores : List CoreState) (partition : Partition) (core : ℕ) (call : CallRecord)
     → configuration.cores ≤ 16 → CoresAreOfModule configuration
-    → AllHold (own_call_demands configuration number cores partition core call) → IsSound partition.table call
+    → AllHold (own_call_demands is_built configuration number cores partition core call) → IsSound partition.table call
 IsSound_lawful configuration number cores partition core call few of_module hold =
-    asks_soundly configuration (time_of cores core) call.who partition call call.request few of_module hold.1.1.1.1.1.1
+    let judged : is_built (service_of call.request) ≡ true = hold.1.1.1.0.0 in
+    let outcome = rw (no_channel partition call.request judged) at hold.1.1.1.1.1 in
+    record {
+      judged = judged;
+      wakes_none = names_none _ number call.request _ call.claim (wakes_nobody (time_of cores core) call.who partition call.request judged) outcome;
+      asks = asks_soundly configuration number (time_of cores core) call.who partition call call.request few of_module outcome;
+    }

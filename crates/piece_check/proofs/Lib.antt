@@ -2,3 +2,5 @@ pub mod Naming
 pub mod Lawful
 pub mod Numbering
 pub mod Parting
+pub mod Judged
+pub mod Passing

@@ -1,5 +1,6 @@
 -- The cores of a part: how many there are, and how their times grow.
-use Rattle.std.proofs.Common.{◌≡◌, ◌∙◌, ℕ, zero, suc, ◌+◌, ◌≤◌, List, [], ◌∷◌, length, refl, ap, arith}
+use Rattle.std.proofs.Common.{◌≡◌, ◌∙◌, ℕ, zero, suc, ◌+◌, ◌≤◌, List, [], ◌∷◌, ◌<◌, length, map, refl, ap, sym, arith}
+use Rattle.std.proofs.lemmas.List.{length-map}
 use Rattle.std.specs.Prelude.{replicate}
 use Rattle.apex_types.specs.declared.record.Body.{Body}
 use Rattle.apex_types.specs.declared.record.Body.TheVariants.{Call, Ret, Disp, Tick}
@@ -8,8 +9,9 @@ use Rattle.apex_machine.specs.declared.state.CoreState.{CoreState}
 use Rattle.apex_machine.specs.Configuration.{Configuration}
 use Rattle.apex_machine.specs.State.{time_of, at_core, cold_core}
 use Rattle.apex_machine.specs.After.{cores_by}
-use Rattle.apex_machine.specs.Pieces.{Part, ModulePart, PartitionPart, part_after}
-use Rattle.piece_check.specs.Parts.{HasCores, NoTimeAbove}
+use Rattle.apex_machine.specs.Pieces.{Part, ChannelPart, ModulePart, PartitionPart, one_more, part_after, times_by}
+use Rattle.process_state.specs.Timely.{TimesFit}
+use Rattle.piece_check.specs.Parts.{HasCores, NoTimeAbove, core_at}
 
 -- cold cores stand at time 0
 pub cold_time : (count core : ℕ) → time_of (replicate count cold_core) core ≤ 0
@@ -48,11 +50,33 @@ time_by at (Ret ret) cores core = omega arith
 time_by at (Disp who) cores core = dispatch_time who at cores core
 time_by at (Tick woken) cores core = tick_time at cores core
 
+length-one_more : (core : ℕ) (times : List ℕ) → length (one_more core times) ≡ length times
+length-one_more core [] = refl
+length-one_more zero (time ∷ times) = refl
+length-one_more (suc core) (time ∷ times) = ap suc (length-one_more core times)
+
+length-times_by : (core : ℕ) (body : Body) (times : List ℕ) → length (times_by core body times) ≡ length times
+length-times_by core (Tick woken) times = length-one_more core times
+length-times_by core _ times = refl
+
+one_more_time : (at : ℕ) (times : List ℕ) (core : ℕ) → time_of (map core_at (one_more at times)) core ≤ time_of (map core_at times) core + 1
+one_more_time at [] core = omega arith
+one_more_time zero (time ∷ times) zero = omega arith
+one_more_time zero (time ∷ times) (suc core) = omega arith
+one_more_time (suc at) (time ∷ times) zero = omega arith
+one_more_time (suc at) (time ∷ times) (suc core) = one_more_time at times core
+
+times_by_time : (at : ℕ) (body : Body) (times : List ℕ) (core : ℕ) → time_of (map core_at (times_by at body times)) core ≤ time_of (map core_at times) core + 1
+times_by_time at (Tick woken) times core = one_more_time at times core
+times_by_time at _ times core = omega arith
+
 -- a record leaves the number of cores, and adds to a time one at most
 pub HasCores_after : (count : ℕ) (configuration : Configuration) (old : Part) (ordered : Ordered) → HasCores count old
     → HasCores count (part_after configuration old ordered)
 HasCores_after count configuration (ModulePart cores) ordered has = length-cores_by ordered.core ordered.rec.body cores ∙ has
 HasCores_after count configuration (PartitionPart number cores partition) ordered has = length-cores_by ordered.core ordered.rec.body cores ∙ has
+HasCores_after count configuration (ChannelPart number times channel) ordered has =
+    length-map (times_by ordered.core ordered.rec.body times) core_at ∙ length-times_by ordered.core ordered.rec.body times ∙ sym (length-map times core_at) ∙ has
 
 pub NoTimeAbove_after : (place : ℕ) (configuration : Configuration) (old : Part) (ordered : Ordered) → NoTimeAbove place old
     → NoTimeAbove (place + 1) (part_after configuration old ordered)
@@ -60,3 +84,11 @@ NoTimeAbove_after place configuration (ModulePart cores) ordered behind =
     λ core. omega (arith, time_by ordered.core ordered.rec.body cores core, behind core)
 NoTimeAbove_after place configuration (PartitionPart number cores partition) ordered behind =
     λ core. omega (arith, time_by ordered.core ordered.rec.body cores core, behind core)
+NoTimeAbove_after place configuration (ChannelPart number times channel) ordered behind =
+    λ core. omega (arith, times_by_time ordered.core ordered.rec.body times core, behind core)
+
+-- times that are not above a place are those of a recording
+pub TimesFit_behind : (place : ℕ) (cores : List CoreState) → place < 68719476720 → ((core : ℕ) → time_of cores core ≤ place) → TimesFit cores
+TimesFit_behind place [] below behind = tt
+TimesFit_behind place (state ∷ cores) below behind =
+    (omega (arith, below, behind 0), TimesFit_behind place cores below (λ core. behind (suc core)))

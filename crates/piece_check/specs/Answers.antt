@@ -1,17 +1,18 @@
 -- What a service gives its caller, as the code holds it.
 use Rattle.std.specs.Prelude.{[], pos}
 use Rattle.apex_machine.specs.Services.{Answer as ServiceAnswer, Value, Nothing, Number, NewNumber}
+use Rattle.apex_machine.specs.State.{Partition, is_free_process}
 use Rattle.piece_check.specs.declared.outcome.Answer.{Answer}
 use Rattle.piece_check.specs.declared.outcome.Due.{Due}
 use Rattle.piece_check.specs.declared.outcome.Due.TheVariants as due
 
--- the value that goes with an outcome
-abbrev pub value_of : Due → Value
-value_of due.Nothing = Nothing
-value_of (due.Number number) = Number (pos number)
-value_of (due.Time now) = Number (pos now)
-value_of due.NewNumber = NewNumber
+-- the value that goes with an outcome in this partition
+abbrev pub value_of : Partition → Due → Value
+value_of partition due.Nothing = Nothing
+value_of partition (due.Number number) = Number (pos number)
+value_of partition (due.Time now) = Number (pos now)
+value_of partition due.NewNumber = NewNumber (is_free_process partition.table)
 
 -- no service that is judged gives a message, or ends another's wait
-abbrev pub given : Answer → ServiceAnswer
-given answer = record { out = answer.out; val = value_of answer.val; bytes = []; woken = [] }
+abbrev pub given : Partition → Answer → ServiceAnswer
+given partition answer = record { out = answer.out; val = value_of partition answer.val; bytes = []; woken = [] }

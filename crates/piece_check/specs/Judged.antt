@@ -3,7 +3,8 @@ use Rattle.std.specs.Prelude.{ℕ, List, Result, MatchResult}
 use Rattle.apex_types.specs.declared.cause.Cause.{Cause}
 use Rattle.apex_types.specs.declared.record.Body.{Body}
 use Rattle.apex_machine.specs.Configuration.{Configuration}
-use Rattle.apex_machine.specs.Pieces.{Demand, AllHold, FirstFails, module_demands, partition_demands}
+use Rattle.apex_machine.specs.Demands.{Demand, AllHold, FirstFails, module_demands, partition_demands}
+use Rattle.apex_machine.specs.Services.{is_built}
 use Rattle.piece_check.specs.declared.module_piece.ModulePiece.{ModulePiece}
 use Rattle.piece_check.specs.declared.partition_piece.PartitionPiece.{PartitionPiece}
 
@@ -17,4 +18,4 @@ asked_by_module configuration piece core body = module_demands configuration pie
 
 -- what a partition's piece demands of a record of this core
 abbrev pub asked_by_partition : Configuration → PartitionPiece → ℕ → Body → List {1} Demand
-asked_by_partition configuration piece core body = partition_demands configuration piece.number piece.clock.cores piece.table core body
+asked_by_partition configuration piece core body = partition_demands is_built configuration piece.number piece.clock.cores piece.table core body

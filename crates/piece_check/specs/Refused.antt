@@ -2,7 +2,7 @@
 use Rattle.std.specs.Prelude.{◌≡◌, ◌≢◌, ℕ, List}
 use Rattle.apex_types.specs.declared.cause.Cause.{Cause}
 use Rattle.apex_types.specs.declared.cause.Cause.TheVariants as cause
-use Rattle.apex_machine.specs.Pieces.{Demand, FirstFails}
+use Rattle.apex_machine.specs.Demands.{Demand, FirstFails}
 use Rattle.piece_check.specs.declared.fault.PieceFault.{PieceFault}
 use Rattle.piece_check.specs.declared.fault.PieceFault.TheVariants.{Unlawful, OutsideProfile, Memory}
 

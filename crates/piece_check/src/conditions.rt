@@ -2,8 +2,11 @@
 
 ghost use Rattle.std.specs.Prelude.{◌≡◌, ◌<◌, ◌≤◌, ◌+◌, ◌++◌, ◌↔◌, [], IsTrue, length};
 ghost use Rattle.std.specs.Option.{option_copied};
+ghost use Rattle.apex_types.specs.Requested.{service_of};
 ghost use Rattle.apex_machine.specs.Conditions as services;
 ghost use Rattle.apex_machine.specs.Conditions.{when};
+ghost use Rattle.apex_machine.specs.ServiceConditions.{condition_codes};
+ghost use Rattle.apex_machine.specs.Services.{is_built};
 ghost use Rattle.apex_machine.specs.Step.{IsAmong, HasCode};
 
 use crate::arguments::{
@@ -95,11 +98,13 @@ fn is_among(codes: &[Code], code: Code) -> bool
     false
 }
 
-/// The error conditions that hold for a call of one of the partition's processes.
+/// The error conditions that hold for a call of one of the partition's processes, of a service that is judged.
 pub(crate) fn conditions_of(config: &Config, table: &ProcTable, call: &Call) -> Conditions
-    ensures { result ≡ services.condition_codes config.now call.now.who table.now call.now.request }
+    requires { IsTrue (is_built (service_of call.now.request)) }
+    ensures { result ≡ condition_codes config.now call.now.who table.now call.now.request }
 {
     let initialising = call.who.proc.number() == 0;
+    let may_not_wait = initialising || table.owns_mutex(call.who.proc);
     match &call.request {
         Request::CreateProcess {
             name,
@@ -113,7 +118,7 @@ pub(crate) fn conditions_of(config: &Config, table: &ProcTable, call: &Call) -> 
         Request::GetMyId => Conditions::none().with(initialising, Code::InvalidMode),
         Request::TimedWait { delay } => Conditions::none()
             .with(is_negative(*delay), Code::InvalidParam)
-            .with(initialising, Code::InvalidMode),
+            .with(may_not_wait, Code::InvalidMode),
         Request::SetPartitionMode { mode } => Conditions::none()
             .with(!is_mode(*mode), Code::InvalidParam)
             .with(

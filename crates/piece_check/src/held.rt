@@ -2,10 +2,12 @@
 
 ghost use Rattle.std.specs.Prelude.{◌≡◌, ◌<◌, OnOk, OnErr, length};
 ghost use Rattle.apex_machine.specs.State.{time_of};
-ghost use Rattle.apex_machine.specs.Pieces.{AllHold, demands, part_after};
+ghost use Rattle.apex_machine.specs.Demands.{AllHold, demands};
+ghost use Rattle.apex_machine.specs.Pieces.{part_after};
 ghost use Rattle.piece_check.specs.Held.{part_of};
 ghost use Rattle.piece_check.specs.Judged.{Judges};
 ghost use Rattle.piece_check.specs.Parts.{IsCall, cores_of};
+ghost use Rattle.process_state.specs.Timely.{TimesFit};
 
 use crate::module_piece::ModulePiece;
 use crate::partition_piece::PartitionPiece;
@@ -38,6 +40,7 @@ impl Held {
     pub(crate) fn apply(&mut self, config: &Config, ordered: &Ordered) -> Result<(), AllocError>
         requires core { ordered.now.core < length (cores_of (part_of self.old)) }
         requires time { time_of (cores_of (part_of self.old)) ordered.now.core < 68719476720 }
+        requires times { TimesFit (cores_of (part_of self.old)) }
         requires lawful { AllHold (demands config.now (part_of self.old) ordered.now) }
         ensures ok { OnOk result (part_of self.new ≡ part_after config.now (part_of self.old) ordered.now) }
         ensures unchanged { OnErr result (self.new ≡ self.old) }

@@ -4,7 +4,7 @@ ghost use Rattle.std.specs.Prelude.{◌≡◌, ◌<◌, is_none, length};
 ghost use Rattle.apex_types.specs.declared.record.Body.TheVariants as body;
 ghost use Rattle.apex_machine.specs.State.{time_of};
 ghost use Rattle.apex_machine.specs.After.{cores_after};
-ghost use Rattle.apex_machine.specs.Pieces.{window_now};
+ghost use Rattle.apex_machine.specs.Demands.{window_now};
 ghost use Rattle.piece_check.specs.Judged.{Judges, asked_by_module};
 
 use crate::names::{all_configured, channel_configured, one_configured};

@@ -1,14 +1,19 @@
 // The outcome that a call claims.
 
-ghost use Rattle.std.specs.Prelude.{◌≡◌, ◌≢◌, ◌↔◌, [], IsTrue};
+ghost use Rattle.std.specs.Prelude.{◌≡◌, ◌≢◌, ◌↔◌, ℕ, [], None, Option, IsTrue};
+ghost use Rattle.apex_types.specs.Requested.{service_of};
+ghost use Rattle.apex_types.specs.declared.request.Request.{Request as RequestValue};
 ghost use Rattle.apex_machine.specs.Services as services;
 ghost use Rattle.apex_machine.specs.Services.{HasValue};
-ghost use Rattle.apex_machine.specs.Pieces.{outcome_demands};
+ghost use Rattle.apex_machine.specs.Demands.{outcome_demands};
+ghost use Rattle.apex_machine.specs.Ports.{channel_of};
+ghost use Rattle.apex_machine.specs.State.{Partition};
 ghost use Rattle.piece_check.specs.Answers.{given, value_of};
 ghost use Rattle.piece_check.specs.Judged.{Judges};
 
 use crate::arguments::is_over;
 use crate::conditions::Conditions;
+use crate::names::names_nobody;
 use apex_types::{Call, Cause, Claim, Code, Out, ProcId, Request, Who};
 use process_state::ProcTable;
 
@@ -36,7 +41,7 @@ pub(crate) struct Answer {
 impl Answer {
     // The service is done at once, with this value.
     fn done_with(val: Due) -> Answer
-        ensures { given result ≡ services.done_with (value_of val) }
+        ensures { (partition : Partition) → given partition result ≡ services.done_with (value_of partition val) }
     {
         Answer {
             out: Out::Answer(Code::NoError),
@@ -55,9 +60,10 @@ impl Answer {
     }
 }
 
-/// What a service gives its caller, when its core's time is `now`, where no error condition holds.
+/// What a service that is judged gives its caller, when its core's time is `now`, where no error condition holds.
 fn answer_of(now: u64, who: Who, request: &Request) -> Answer
-    ensures { given result ≡ services.answer_of now who request.now }
+    requires { IsTrue (services.is_built (service_of request.now)) }
+    ensures { (partition : Partition) → given partition result ≡ services.answer_of now who partition request.now }
 {
     match request {
         Request::CreateProcess { .. } => Answer::done_with(Due::NewNumber),
@@ -77,7 +83,7 @@ fn answer_of(now: u64, who: Who, request: &Request) -> Answer
 
 /// Whether a claimed value is the one that goes with the outcome.
 fn has_value(table: &ProcTable, due: Due, claimed: Option<i64>) -> bool
-    ensures { IsTrue result ↔ HasValue table.now.table (value_of due) claimed }
+    ensures { IsTrue result ↔ HasValue (value_of table.now due) claimed }
 {
     match due {
         Due::Nothing => claimed.is_none(),
@@ -87,32 +93,32 @@ fn has_value(table: &ProcTable, due: Due, claimed: Option<i64>) -> bool
     }
 }
 
-/// Judges the outcome of a call on which these error conditions hold: one of their codes and nothing else, or where none
-/// holds what the service gives when its core's time is `now`.
+/// Judges the outcome of a call of a service that is judged, on which these error conditions hold: no channel, and one of
+/// their codes and nothing else, or where none holds what the service gives when its core's time is `now`.
 pub(crate) fn judge_outcome(
     conditions: &Conditions,
     table: &ProcTable,
     now: u64,
     call: &Call,
 ) -> Result<(), Cause>
-    ensures { Judges (outcome_demands conditions.now table.now.table (services.answer_of now call.now.who call.now.request) call.now.claim) result }
+    requires { IsTrue (services.is_built (service_of call.now.request)) }
+    ensures { (number : ℕ) → Judges (outcome_demands conditions.now (channel_of table.now call.now.request) number call.now.request (services.answer_of now call.now.who table.now call.now.request) call.now.claim) result }
 {
     if conditions.is_empty() {
         judge_answered(table, answer_of(now, call.who, &call.request), &call.claim)
     } else {
-        judge_refused(
-            conditions,
-            table,
-            answer_of(now, call.who, &call.request),
-            &call.claim,
-        )
+        judge_refused(conditions, &call.claim)
     }
 }
 
-// No error condition holds: the outcome, the value and the message are the service's, and so are those whose wait ends.
+// No error condition holds, and the service goes through no channel: the outcome, the value and the message are the
+// service's, and so are those whose wait ends.
 fn judge_answered(table: &ProcTable, answer: Answer, claim: &Claim) -> Result<(), Cause>
-    ensures { Judges (outcome_demands [] table.now.table (given answer) claim.now) result }
+    ensures { (number : ℕ) (asked : RequestValue) → Judges (outcome_demands [] None number asked (given table.now answer) claim.now) result }
 {
+    if claim.chan.is_some() {
+        return Err(Cause::Chan);
+    }
     if claim.out != answer.out {
         return Err(Cause::Out);
     }
@@ -122,22 +128,20 @@ fn judge_answered(table: &ProcTable, answer: Answer, claim: &Claim) -> Result<()
     if !claim.bytes.as_bytes().is_empty() {
         return Err(Cause::Data);
     }
-    if !claim.woken.as_slice().is_empty() {
+    if !names_nobody(claim.woken.as_slice()) {
         return Err(Cause::Woken);
     }
     Ok(())
 }
 
 // Some error condition holds: one of the codes, and nothing else.
-fn judge_refused(
-    conditions: &Conditions,
-    table: &ProcTable,
-    answer: Answer,
-    claim: &Claim,
-) -> Result<(), Cause>
+fn judge_refused(conditions: &Conditions, claim: &Claim) -> Result<(), Cause>
     requires { conditions.now ≢ [] }
-    ensures { Judges (outcome_demands conditions.now table.now.table (given answer) claim.now) result }
+    ensures { (channel : Option ℕ) (number : ℕ) (asked : RequestValue) (answer : services.Answer) → Judges (outcome_demands conditions.now channel number asked answer claim.now) result }
 {
+    if claim.chan.is_some() {
+        return Err(Cause::Chan);
+    }
     if !conditions.has_code(claim.out) {
         return Err(Cause::Out);
     }

@@ -5,16 +5,23 @@ ghost use Rattle.std.specs.Option.{option_copied};
 ghost use Rattle.apex_types.specs.declared.record.Body.TheVariants as body;
 ghost use Rattle.apex_machine.specs.State.{process_at, time_of};
 ghost use Rattle.apex_machine.specs.Step.{HasNoneDue, HasPriority, due_of};
-ghost use Rattle.apex_machine.specs.Pieces.{AllHold, FirstFails, IsRunning, own_call_demands, foreign_call_demands, part_after, window_now};
+ghost use Rattle.apex_machine.specs.Demands.{AllHold, IsRunning, WakesHere, own_call_demands, foreign_call_demands, window_now};
+ghost use Rattle.apex_machine.specs.After.{partition_by};
+ghost use Rattle.apex_machine.specs.Pieces.{part_after};
+ghost use Rattle.apex_machine.specs.Services.{is_built};
 ghost use Rattle.piece_check.specs.Held.{partition_part};
 ghost use Rattle.piece_check.specs.Judged.{Judges, asked_by_partition};
 ghost use Rattle.piece_check.specs.Parts.{IsCall};
+ghost use Rattle.process_state.specs.Sound.{IsSound};
+ghost use Rattle.process_state.specs.Timely.{TimesFit};
 
 use crate::conditions::conditions_of;
 use crate::outcome::judge_outcome;
-use crate::profile::is_within;
-use apex_machine::Outcome;
-use apex_types::{Body, Call, Cause, CoreId, Ordered, PartId, ProcId, Return, Service, Who, Woken};
+use crate::profile::{is_built, is_within};
+use apex_machine::{Outcome, WaitingSet};
+use apex_types::{
+    Body, Call, Cause, CoreId, Ordered, PartId, ProcId, Request, Return, Service, Who, Woken,
+};
 use dispatch_rule::{Clock, owns_window};
 use module_config::Config;
 use process_state::ProcTable;
@@ -39,7 +46,7 @@ impl PartitionPiece {
                 if call.who.part == self.number {
                     self.judge_own_call(config, ordered.core, call)
                 } else {
-                    Err(self.judge_foreign_call(config, ordered.core, call))
+                    self.judge_foreign_call(config, ordered.core, call)
                 }
             }
             Body::Ret(ret) => self.judge_return(config, ordered.core, ret),
@@ -54,6 +61,7 @@ impl PartitionPiece {
     pub(crate) fn apply(&mut self, config: &Config, ordered: &Ordered) -> Result<(), AllocError>
         requires core { ordered.now.core < length self.old.clock.cores }
         requires time { time_of self.old.clock.cores ordered.now.core < 68719476720 }
+        requires times { TimesFit self.old.clock.cores }
         requires lawful { AllHold (asked_by_partition config.now self.old ordered.now.core ordered.now.rec.body) }
         ensures ok { OnOk result (partition_part self.new ≡ part_after config.now (partition_part self.old) ordered.now) }
         ensures unchanged { OnErr result (self.new ≡ self.old) }
@@ -62,11 +70,7 @@ impl PartitionPiece {
         config.keeps_limits();
         match &ordered.rec.body {
             Body::Call(call) => {
-                if call.who.part == self.number {
-                    let now = self.clock.now(ordered.core);
-                    let first_core = config.first_core(self.number);
-                    self.table.call(first_core, ordered.pos, now, call)?;
-                }
+                self.apply_call(config, ordered, call)?;
             }
             Body::Ret(ret) => {
                 if ret.who.part == self.number {
@@ -80,6 +84,30 @@ impl PartitionPiece {
             }
         }
         Ok(())
+    }
+
+    // What a call makes of the processes: one of the partition's own sets what it sets, another ends the waits of those
+    // that it names.
+    fn apply_call(
+        &mut self,
+        config: &Config,
+        ordered: &Ordered,
+        call: &Call,
+    ) -> Result<(), AllocError>
+        requires times { TimesFit self.old.clock.cores }
+        requires sound { call.now.who.part ≡ self.old.number → IsSound self.old.table.table call.now }
+        ensures ok { OnOk result (self.new ≡ record self.old { table = partition_by config.now self.old.clock.cores ordered.now.pos ordered.now.core self.old.number (body.Call call.now) self.old.table }) }
+        ensures unchanged { OnErr result (self.new ≡ self.old) }
+    {
+        if call.who.part == self.number {
+            let first_core = config.first_core(self.number);
+            let period = config.period(self.number);
+            let cores = self.clock.states();
+            self.table
+                .call(first_core, period, cores, ordered.pos, ordered.core, call)
+        } else {
+            self.table.rouse(self.number, ordered.pos, call)
+        }
     }
 
     // In the partition's windows a dispatch names its choice.
@@ -114,7 +142,7 @@ impl PartitionPiece {
 
     // A call of one of the partition's processes.
     fn judge_own_call(&self, config: &Config, core: CoreId, call: &Call) -> Result<(), Cause>
-        ensures { Judges (own_call_demands config.now self.now.number self.now.clock.cores self.now.table core call.now) result }
+        ensures { Judges (own_call_demands is_built config.now self.now.number self.now.clock.cores self.now.table core call.now) result }
     {
         if !self.is_in_window(config, core) {
             return Err(Cause::Window);
@@ -125,28 +153,47 @@ impl PartitionPiece {
         if !self.has_none_due(call.who.proc) {
             return Err(Cause::Return);
         }
+        if !is_built(call.request.service()) {
+            return Err(Cause::OutsideProfile);
+        }
         let conditions = conditions_of(config, &self.table, call);
-        if !is_within(&conditions, call.who, &call.request) {
+        if !is_within(&conditions, &self.table, call.who, &call.request) {
             return Err(Cause::OutsideProfile);
         }
         if !self.has_priority(call.who.proc, call.claim.prio) {
             return Err(Cause::Prio);
         }
-        if call.claim.chan.is_some() {
-            return Err(Cause::Chan);
-        }
         judge_outcome(&conditions, &self.table, self.clock.now(core), call)
     }
 
-    // A call of another partition's process: no service that is judged wakes a process elsewhere.
-    fn judge_foreign_call(&self, config: &Config, core: CoreId, call: &Call) -> Cause
-        ensures { FirstFails (foreign_call_demands config.now self.now.number self.now.clock.cores self.now.table core call.now) result }
+    // A call of another partition's process ends only waits at the end of a queuing channel that is this partition's.
+    fn judge_foreign_call(&self, config: &Config, core: CoreId, call: &Call) -> Result<(), Cause>
+        ensures { Judges (foreign_call_demands config.now self.now.number self.now.clock.cores self.now.table core call.now) result }
     {
         if self.is_in_window(config, core) && !self.is_running(core, call.who) {
-            Cause::Choice
-        } else {
-            Cause::Woken
+            return Err(Cause::Choice);
         }
+        if !self.wakes_here(call) {
+            return Err(Cause::Woken);
+        }
+        Ok(())
+    }
+
+    // Whether a call of another partition ends only waits at its channel: a send of those that wait to receive, a receive
+    // of those that wait to send.
+    fn wakes_here(&self, call: &Call) -> bool
+        ensures { IsTrue result ↔ WakesHere call.now.request call.now.claim.chan self.now.number self.now.table.table call.now.claim.woken }
+    {
+        let Some(channel) = call.claim.chan else {
+            return false;
+        };
+        let wanted = match &call.request {
+            Request::SendQueuingMessage { .. } => WaitingSet::ChannelReceivers(channel),
+            Request::ReceiveQueuingMessage { .. } => WaitingSet::ChannelSenders(channel),
+            _ => return false,
+        };
+        self.table
+            .all_wait_at(wanted, self.number, call.claim.woken.as_slice())
     }
 
     // A return gives back the outcome that is due.

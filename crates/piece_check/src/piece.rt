@@ -2,7 +2,9 @@
 
 ghost use Rattle.std.specs.Prelude.{◌≡◌, ◌<◌, ◌+◌, ◌↔◌, ◌⊎◌, Err, IsTrue, IfOk, OnOk, OnErr, IfErr, false, length};
 ghost use Rattle.apex_machine.specs.State.{cold_state};
-ghost use Rattle.apex_machine.specs.Pieces.{LocalStep, demands, OfPartition, part, pieces, touched_by, touches};
+ghost use Rattle.apex_machine.specs.Configuration.{Configuration};
+ghost use Rattle.apex_machine.specs.Demands.{LocalStep, demands};
+ghost use Rattle.apex_machine.specs.Pieces.{OfPartition, part, pieces, touched_by, touches};
 ghost use Rattle.piece_check.specs.Parts.{HasCores, IsCall, NoTimeAbove, piece_at};
 ghost use Rattle.piece_check.specs.Refused.{IsRefused, refusal_for};
 
@@ -35,18 +37,20 @@ impl Model for Piece {
     ghost view = { λ piece. record { part = part_of piece.held; spent = piece.spent } };
 }
 
-/// How many pieces there are: the module, and one for each partition.
+/// How many pieces there are: the module, and one for each partition. No channel is configured yet.
 pub fn count(config: &Config) -> usize
     ensures { result ≡ length (pieces config.now) }
 {
+    config.keeps_limits();
     config.partition_count() + 1
 }
 
 /// Whether a record touches the piece of this number: the module is piece 0, then come the partitions.
 pub fn touches(config: &Config, piece: usize, ordered: &Ordered) -> bool
     requires { piece < length (pieces config.now) }
-    ensures { result ≡ touches (piece_at config.now piece) ordered.now }
+    ensures { result ≡ touches config.now (piece_at config.now piece) ordered.now }
 {
+    config.keeps_limits();
     if piece == 0 {
         return true;
     }
@@ -56,7 +60,7 @@ pub fn touches(config: &Config, piece: usize, ordered: &Ordered) -> bool
 // Whether a record touches the partition of this number: each tick and each dispatch does, its own calls and returns do,
 // and a call that names one of its processes.
 fn is_touched(number: PartId, body: &Body) -> bool
-    ensures { result ≡ touched_by body.now (OfPartition number) }
+    ensures { (configuration : Configuration) → result ≡ touched_by configuration body.now (OfPartition number) }
 {
     match body {
         Body::Disp(_) | Body::Tick(_) => true,
@@ -78,6 +82,7 @@ impl Piece {
         ensures cores { IfOk result (λ started. HasCores config.now.cores started.part) }
         ensures behind { IfOk result (λ started. NoTimeAbove 0 started.part) }
     {
+        config.keeps_limits();
         let clock = Clock::new(config.cores(), config.skew());
         if piece == 0 {
             let held = Held::Module(ModulePiece { clock });

@@ -1,23 +1,31 @@
 // The profile: the services that are judged, and how they may be used.
 
 ghost use Rattle.std.specs.Prelude.{◌≡◌, ◌↔◌, IsTrue};
+ghost use Rattle.apex_types.specs.Requested.{service_of};
 ghost use Rattle.apex_machine.specs.Services as services;
-ghost use Rattle.apex_machine.specs.Step.{IsWithinProfile};
+ghost use Rattle.apex_machine.specs.Step.{WhereNone};
 
 use crate::arguments::{is_aperiodic, is_normal_mode};
 use crate::conditions::Conditions;
 use apex_types::{Request, Service, Who};
+use process_state::ProcTable;
 
-/// Whether a call stands within the profile, where these error conditions hold: its service is judged, and where none
-/// holds it is used as the profile has it.
-pub(crate) fn is_within(conditions: &Conditions, who: Who, request: &Request) -> bool
-    ensures { IsTrue result ↔ IsWithinProfile conditions.now who request.now }
+/// Whether a call of a service that is judged stands within the profile, where these error conditions hold: where none
+/// holds the service is used as the profile has it.
+pub(crate) fn is_within(
+    conditions: &Conditions,
+    table: &ProcTable,
+    who: Who,
+    request: &Request,
+) -> bool
+    requires { IsTrue (services.is_built (service_of request.now)) }
+    ensures { IsTrue result ↔ WhereNone conditions.now (IsTrue (services.in_profile services.is_built who table.now request.now)) }
 {
-    is_built(request.service()) && (!conditions.is_empty() || in_profile(who, request))
+    !conditions.is_empty() || in_profile(table, who, request)
 }
 
 /// Whether a service is judged.
-fn is_built(service: Service) -> bool
+pub(crate) fn is_built(service: Service) -> bool
     ensures { result ≡ services.is_built service }
 {
     match service {
@@ -33,13 +41,17 @@ fn is_built(service: Service) -> bool
     }
 }
 
-/// Whether a request on which no error condition holds is used as the profile has it.
-fn in_profile(who: Who, request: &Request) -> bool
-    ensures { result ≡ services.in_profile who request.now }
+/// Whether a request on which no error condition holds is used as the profile has it: a periodic process wants a service
+/// that is judged, and neither the initialising process nor the owner of a mutex stops itself.
+fn in_profile(table: &ProcTable, who: Who, request: &Request) -> bool
+    requires { IsTrue (services.is_built (service_of request.now)) }
+    ensures { result ≡ services.in_profile services.is_built who table.now request.now }
 {
     match request {
-        Request::CreateProcess { period, .. } => is_aperiodic(*period),
-        Request::StopSelf => who.proc.number() != 0,
+        Request::CreateProcess { period, .. } => {
+            is_aperiodic(*period) || is_built(Service::PeriodicWait)
+        }
+        Request::StopSelf => who.proc.number() != 0 && !table.owns_mutex(who.proc),
         Request::SetPartitionMode { mode } => is_normal_mode(*mode),
         _ => true,
     }

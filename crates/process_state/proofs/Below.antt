@@ -3,7 +3,10 @@ use Rattle.std.proofs.Common.{◌≡◌, ℕ, zero, suc, ◌+◌, add-one, [], �
 use Rattle.std.specs.Map.{values_of}
 use Rattle.indexmap.specs.Layout.{set_value_at}
 use Rattle.apex_machine.specs.declared.state.Process.{Process}
+use Rattle.apex_machine.specs.declared.state.Mode.{Mode}
+use Rattle.apex_machine.specs.declared.state.Mode.TheVariants as mode
 use Rattle.apex_machine.specs.State.{Table, each_process}
+use Rattle.process_state.specs.Partitions.{partition_of}
 
 -- the table with the processes before a place changed
 abbrev pub each_below : (Process → Process) → ℕ → Table → Table
@@ -50,3 +53,11 @@ pub length-each_below : (change : Process → Process) (place : ℕ) (table : Ta
 length-each_below change place [] = refl
 length-each_below change zero (entry ∷ entries) = refl
 length-each_below change (suc place) (entry ∷ entries) = ap suc (length-each_below change place entries)
+
+-- past the last place the partition is in NORMAL, with all changed
+pub all_entered : (change : Process → Process) (place : ℕ) (old_mode new_mode : Mode) (table entries : Table) → new_mode ≡ mode.Normal
+    → entries ≡ each_below change place table → length table ≤ place
+    → partition_of new_mode entries ≡ record (partition_of old_mode table) { mode = mode.Normal; table = each_process (λ number. change) table }
+all_entered change place old_mode new_mode table entries is_normal so_far past =
+    let all = each_below-past change place table entries so_far past in
+    λ i. partition_of (is_normal i) (all i)

@@ -1,57 +1,74 @@
 -- A partition after a call: what the call sets there, and what becomes of its caller.
-use Rattle.std.proofs.Common.{◌≡◌, ℕ, Bool, true, false, nat_eq, [], ◌∷◌, ◌++◌, Option, Some, None, ℤ, pos, negsuc, is_some, if◌then◌else◌, Bor, refl, sym, ap, ◌∙◌, arith}
+use Rattle.std.proofs.Common.{◌≡◌, ℕ, Bool, true, false, ◌&&◌, nat_eq, List, [], ◌∷◌, ◌++◌, Option, Some, None, ℤ, pos, negsuc, is_some, if◌then◌else◌, Bor, refl, sym, ap, subst, ◌∙◌, arith}
 use Rattle.std.proofs.lemmas.Bool.Decides.{nat_tests}
 use Rattle.std.specs.Option.{option_copied}
 use Rattle.apex_types.specs.declared.record.Call.{Call as CallRecord}
+use Rattle.apex_types.specs.declared.record.Who.{Who}
 use Rattle.apex_types.specs.declared.request.Request.{Request}
 use Rattle.apex_types.specs.declared.request.Request.TheVariants as request
+use Rattle.apex_types.specs.declared.record.Body.TheVariants as body
+use Rattle.apex_types.specs.Requested.{service_of}
+use Rattle.apex_machine.specs.declared.state.CoreState.{CoreState}
+use Rattle.apex_machine.specs.declared.state.Mode.{Mode}
 use Rattle.apex_machine.specs.declared.state.Process.{Process}
-use Rattle.apex_machine.specs.State.{Partition, Table, each_process, process_at}
-use Rattle.apex_machine.specs.Services.{is_new_number, mode_by, new_process, set_by}
-use Rattle.apex_machine.specs.After.{adjusted, called, caller_after, created_by, is_done, numbered, partition_called}
+use Rattle.apex_machine.specs.Configuration.{Configuration, first_core, period_of}
+use Rattle.apex_machine.specs.State.{Partition, Table, each_process, is_free_process, process_at, time_of}
+use Rattle.apex_machine.specs.Answer.{is_new}
+use Rattle.apex_machine.specs.Processes.{caller_after, new_process, set_by}
+use Rattle.apex_machine.specs.Services.{is_built}
+use Rattle.apex_machine.specs.Waiting.{set_after, stop_of, stops}
+use Rattle.apex_machine.specs.After.{adjusted, called, created_by, each_set, is_done, mode_by, numbered, objects_by, objects_called, partition_called}
 use Rattle.process_state.specs.Changes.{only, with_each}
+use Rattle.process_state.specs.Partitions.{partition_of}
 use Rattle.process_state.specs.Sound.{AsksSoundly, IsSound}
-use Rattle.process_state.proofs.Carried.{append-nothing}
+use Rattle.process_state.proofs.Carried.{append-nothing, carried}
 use Rattle.process_state.proofs.Numbers.{new-absent}
 use Rattle.process_state.proofs.Tables.{each_process-append, each_process-congr, each_process-same, each_process-twice, only-absent}
 
+-- the mode once a call has set it, if it was carried out
+abbrev mode_between : CallRecord → Mode → Mode
+mode_between call mode = if is_done call.claim.out then mode_by call.request mode else mode
+
 -- the partition between: the call has set what it sets, and its caller is as it was
-pub record IsAdjusted (place core : ℕ) (call : CallRecord) (old between : Partition) : Type 0 where
-  pub mode : between.mode ≡ (if is_done call.claim.out then mode_by call.request old.mode else old.mode)
-  pub table : between.table ≡ each_process (adjusted place old call) old.table ++ created_by core call call.request
-
-pub adjusted-done : (place core : ℕ) (call : CallRecord) (old between : Partition) → is_done call.claim.out ≡ true
-    → between.mode ≡ mode_by call.request old.mode
-    → between.table ≡ each_process (set_by place old.mode call.request) old.table ++ created_by core call call.request
-    → IsAdjusted place core call old between
-adjusted-done place core call old between done mode table = record {
-  mode = rw done mode;
-  table = table ∙ ap (λ t. t ++ created_by core call call.request)
-      (each_process-congr _ (adjusted place old call) (λ number process. rw done refl) old.table);
+abbrev pub between : ℕ → ℕ → ℕ → List CoreState → CallRecord → Partition → Partition
+between place period first cores call old = record old {
+  mode = mode_between call old.mode;
+  table = each_process (adjusted place period cores old call) old.table ++ created_by first call call.request;
 }
 
-creates-none : (core : ℕ) (call : CallRecord) (asked : Request) → is_done call.claim.out ≡ false → created_by core call asked ≡ []
-creates-none core call (request.CreateProcess name priority period) refused = rw refused refl
-creates-none core call _ refused = refl
+pub adjusted-done : (place period first : ℕ) (cores : List CoreState) (call : CallRecord) (old new : Partition) → is_done call.claim.out ≡ true
+    → new ≡ carried place period first cores call call.request old → new ≡ between place period first cores call old
+adjusted-done place period first cores call old new done is =
+    let mode : mode_by call.request old.mode ≡ mode_between call old.mode = rw done refl in
+    let table : each_process (set_by place period cores old call.who.proc call.request) old.table ≡ each_process (adjusted place period cores old call) old.table
+    = each_process-congr _ (adjusted place period cores old call) (λ number process. rw done refl) old.table in
+    is ∙ (λ i. record old { mode = mode i; table = table i ++ created_by first call call.request })
 
-pub adjusted-not : (place core : ℕ) (call : CallRecord) (old : Partition) → is_done call.claim.out ≡ false → IsAdjusted place core call old old
-adjusted-not place core call old refused = record {
-  mode = rw refused refl;
-  table = rw (creates-none core call call.request refused)
-      (sym (append-nothing _ ∙ each_process-same (adjusted place old call) (λ number process. rw refused refl) old.table));
-}
+creates-none : (first : ℕ) (call : CallRecord) (asked : Request) → is_done call.claim.out ≡ false → created_by first call asked ≡ []
+creates-none first call (request.CreateProcess name priority period) refused = rw refused refl
+creates-none first call _ refused = refl
+
+pub adjusted-not : (place period first : ℕ) (cores : List CoreState) (call : CallRecord) (old : Partition) → is_done call.claim.out ≡ false
+    → old ≡ between place period first cores call old
+adjusted-not place period first cores call old refused =
+    let mode : old.mode ≡ mode_between call old.mode = rw refused refl in
+    let table : old.table ≡ each_process (adjusted place period cores old call) old.table ++ created_by first call call.request
+    = rw (creates-none first call call.request refused)
+    (sym (append-nothing _ ∙ each_process-same (adjusted place period cores old call) (λ number process. rw refused refl) old.table)) in
+    λ i. record old { mode = mode i; table = table i }
 
 -- no created process has the number of a caller that stands in the table
-creates-apart : (core : ℕ) (call : CallRecord) (asked : Request) (table : Table) (caller : ℕ) → AsksSoundly table call asked
-    → is_some (process_at table caller) ≡ true → process_at (created_by core call asked) caller ≡ None
-creates-apart core call (request.CreateProcess name priority period) table caller sound stands = by (is_done call.claim.out) refl
+creates-apart : (first : ℕ) (call : CallRecord) (asked : Request) (table : Table) (caller : ℕ) → AsksSoundly table call asked
+    → is_some (process_at table caller) ≡ true → process_at (created_by first call asked) caller ≡ None
+creates-apart first call (request.CreateProcess name priority period) table caller sound stands = by (is_done call.claim.out) refl
   where
-    one : (claimed : Option ℤ) → is_new_number table claimed ≡ true → process_at (numbered claimed (new_process core name priority)) caller ≡ None
+    one : (claimed : Option ℤ) → is_new (is_free_process table) claimed ≡ true
+        → process_at (numbered claimed (new_process first name priority period)) caller ≡ None
     one None new = refl
     one (Some (negsuc n)) new = refl
     one (Some (pos n)) new = apart (nat_eq caller n) refl
       where
-        apart : (b : Bool) → nat_eq caller n ≡ b → process_at ((n, new_process core name priority) ∷ []) caller ≡ None
+        apart : (b : Bool) → nat_eq caller n ≡ b → process_at ((n, new_process first name priority period) ∷ []) caller ≡ None
         apart true e =
             let same : caller ≡ n = grind (arith, nat_tests) in
             let none : process_at table caller ≡ None = rw same (new-absent table n new) in
@@ -59,10 +76,10 @@ creates-apart core call (request.CreateProcess name priority period) table calle
         apart false e = rw e refl
 
     by : (b : Bool) → is_done call.claim.out ≡ b
-        → process_at (if b then numbered call.claim.val (new_process core name priority) else []) caller ≡ None
+        → process_at (if b then numbered call.claim.val (new_process first name priority period) else []) caller ≡ None
     by true done = one call.claim.val ((sound done).0)
     by false refused = refl
-creates-apart core call _ table caller sound stands = refl
+creates-apart first call _ table caller sound stands = refl
 
 absent-each : (change : ℕ → Process → Process) (table : Table) (number : ℕ) → process_at table number ≡ None
     → process_at (each_process change table) number ≡ None
@@ -82,38 +99,143 @@ none-some : (found : Option Process) → is_some found ≡ false → found ≡ N
 none-some None h = refl
 none-some (Some process) h = cc
 
+-- what a judged service leaves alone
+
+-- no judged service stops another process
+stops-nobody : (asked : Request) → is_built (service_of asked) ≡ true → stop_of asked ≡ None
+stops-nobody (request.Stop process) judged = cc
+stops-nobody _ judged = refl
+
+stops-not : (call : CallRecord) (who : Who) → stop_of call.request ≡ None → stops call who ≡ false
+stops-not call who none = rw none (neither _ _)
+  where
+    neither : (a b : Bool) → a && (b && false) ≡ false
+    neither true true = refl
+    neither true false = refl
+    neither false b = refl
+
+-- nor changes an object or a port
+objects_by-judged : (configuration : Configuration) (who : Who) (claimed : Option ℤ) (asked : Request) (partition : Partition)
+    → is_built (service_of asked) ≡ true → objects_by configuration who claimed asked partition ≡ partition
+objects_by-judged configuration who claimed (request.CreateProcess name priority period) partition judged = refl
+objects_by-judged configuration who claimed (request.InitializeProcessCoreAffinity process core) partition judged = refl
+objects_by-judged configuration who claimed (request.Start process) partition judged = refl
+objects_by-judged configuration who claimed request.StopSelf partition judged = refl
+objects_by-judged configuration who claimed request.GetMyId partition judged = refl
+objects_by-judged configuration who claimed (request.TimedWait delay) partition judged = refl
+objects_by-judged configuration who claimed request.GetTime partition judged = refl
+objects_by-judged configuration who claimed (request.SetPartitionMode mode) partition judged = refl
+objects_by-judged configuration who claimed _ partition judged = cc
+
+objects-stay : (configuration : Configuration) (place : ℕ) (call : CallRecord) (mode : Mode) (table : Table) → is_built (service_of call.request) ≡ true
+    → partition_of mode table ≡ objects_called configuration place call (partition_of mode table)
+objects-stay configuration place call mode table judged =
+    ap (each_set (set_after place (body.Call call)))
+    (sym (by (is_done call.claim.out) (objects_by-judged configuration call.who call.claim.val call.request (partition_of mode table) judged)))
+  where
+    by : (b : Bool) {used kept : Partition} → used ≡ kept → (if b then used else kept) ≡ kept
+    by true same = same
+    by false same = refl
+
+-- a process after the call: the caller, or another, which no judged service stops or wakes
+called-is : (place now period : ℕ) (cores : List CoreState) (call : CallRecord) (old : Partition) (number : ℕ) (process : Process)
+    → IsSound old.table call
+    → (if nat_eq number call.who.proc then caller_after place now call (adjusted place period cores old call number process)
+    else adjusted place period cores old call number process)
+    ≡ called place now period cores old call number process
+called-is place now period cores call old number process sound =
+    rw (stops-not call (record { part = call.who.part; proc = number }) (stops-nobody call.request sound.judged), sound.wakes_none) refl
+
+-- each process after the call, by the change of the caller
+called-each : (place now period : ℕ) (cores : List CoreState) (call : CallRecord) (old : Partition) (change : Process → Process)
+    → IsSound old.table call → ((process : Process) → change process ≡ caller_after place now call process)
+    → each_process (only call.who.proc change) (each_process (adjusted place period cores old call) old.table)
+    ≡ each_process (called place now period cores old call) old.table
+called-each place now period cores call old change sound same =
+    each_process-twice (adjusted place period cores old call) (only call.who.proc change) old.table
+    ∙ each_process-congr _ (called place now period cores old call)
+    (λ number process. rw (same (adjusted place period cores old call number process)) (called-is place now period cores call old number process sound)) old.table
+
+-- the partition after the call, by its table
+whole : (configuration : Configuration) (place core period first : ℕ) (cores : List CoreState) (call : CallRecord) (mode : Mode) (table : Table)
+    → first_core configuration call.who.part ≡ first → period_of configuration call.who.part ≡ period → is_built (service_of call.request) ≡ true
+    → partition_of (mode_between call mode)
+    (each_process (called place (time_of cores core) period cores (partition_of mode table) call) table ++ created_by first call call.request)
+    ≡ partition_called configuration cores place core call (partition_of mode table)
+whole configuration place core period first cores call mode table first_is period_is judged =
+    let objects = objects-stay configuration place call mode table judged in
+    let own : first ≡ first_core configuration call.who.part = sym first_is in
+    let ticks : period ≡ period_of configuration call.who.part = sym period_is in
+    λ i. record (objects i) {
+      mode = mode_between call mode;
+      table = each_process (called place (time_of cores core) (ticks i) cores (partition_of mode table) call) table ++ created_by (own i) call call.request;
+    }
+
 -- a caller that stands in the table has become what its call makes of it
-pub called-stands : (core place now : ℕ) (call : CallRecord) (old between new : Partition) (change : Process → Process) (found : Option (Bor Process))
-    → IsAdjusted place core call old between → IsSound old.table call
-    → option_copied found ≡ process_at old.table call.who.proc → is_some found ≡ true
-    → ((process : Process) → change process ≡ caller_after place now call process)
-    → new ≡ with_each (only call.who.proc change) between → new ≡ partition_called core place now call old
-called-stands core place now call old between new change found adjusts sound looked stands same is =
-    let there : is_some (process_at old.table call.who.proc) ≡ true = ap is_some (sym looked) ∙ copied-some found ∙ stands in
-    let created : Table = created_by core call call.request in
-    let table : each_process (only call.who.proc change) between.table ≡ each_process (called place now old call) old.table ++ created =
-    ap (each_process (only call.who.proc change)) adjusts.table
-    ∙ each_process-append (only call.who.proc change) (each_process (adjusted place old call) old.table) created
+pub called-stands : (configuration : Configuration) (place core period first : ℕ) (cores : List CoreState) (call : CallRecord) (mode : Mode) (table : Table)
+    (middle new : Partition) (change : Process → Process) (found : Option (Bor Process))
+    → first_core configuration call.who.part ≡ first → period_of configuration call.who.part ≡ period
+    → middle ≡ between place period first cores call (partition_of mode table) → IsSound table call
+    → option_copied found ≡ process_at table call.who.proc → is_some found ≡ true
+    → ((process : Process) → change process ≡ caller_after place (time_of cores core) call process)
+    → new ≡ with_each (only call.who.proc change) middle → new ≡ partition_called configuration cores place core call (partition_of mode table)
+called-stands configuration place core period first cores call mode table middle new change found first_is period_is adjusts sound looked stands same is =
+    let there : is_some (process_at table call.who.proc) ≡ true = ap is_some (sym looked) ∙ copied-some found ∙ stands in
+    let created : Table = created_by first call call.request in
+    let each : each_process (only call.who.proc change) (each_process (adjusted place period cores (partition_of mode table) call) table ++ created)
+    ≡ each_process (called place (time_of cores core) period cores (partition_of mode table) call) table ++ created
+    = each_process-append (only call.who.proc change) (each_process (adjusted place period cores (partition_of mode table) call) table) created
     ∙ ap (λ t. t ++ each_process (only call.who.proc change) created)
-    (each_process-twice (adjusted place old call) (only call.who.proc change) old.table
-    ∙ each_process-congr _ (called place now old call) (λ number process. rw (same (adjusted place old call number process)) refl) old.table)
-    ∙ ap (λ t. each_process (called place now old call) old.table ++ t)
-    (only-absent call.who.proc change created (creates-apart core call call.request old.table call.who.proc sound there)) in
-    rw (is, adjusts.mode, table) refl
+    (called-each place (time_of cores core) period cores call (partition_of mode table) change sound same)
+    ∙ ap (λ t. each_process (called place (time_of cores core) period cores (partition_of mode table) call) table ++ t)
+    (only-absent call.who.proc change created (creates-apart first call call.request table call.who.proc sound.asks there)) in
+    is ∙ ap (with_each (only call.who.proc change)) adjusts ∙ ap (partition_of (mode_between call mode)) each
+    ∙ whole configuration place core period first cores call mode table first_is period_is sound.judged
 
 -- of a caller that does not, nothing becomes
-pub called-absent : (core place now : ℕ) (call : CallRecord) (old between : Partition) (found : Option (Bor Process))
-    → IsAdjusted place core call old between
+pub called-absent : (configuration : Configuration) (place core period first : ℕ) (cores : List CoreState) (call : CallRecord) (mode : Mode) (table : Table)
+    (middle : Partition) (found : Option (Bor Process))
+    → first_core configuration call.who.part ≡ first → period_of configuration call.who.part ≡ period
+    → middle ≡ between place period first cores call (partition_of mode table) → IsSound table call
+    → option_copied found ≡ process_at table call.who.proc → is_some found ≡ false
+    → middle ≡ partition_called configuration cores place core call (partition_of mode table)
+called-absent configuration place core period first cores call mode table middle found first_is period_is adjusts sound looked absent =
+    let none : process_at table call.who.proc ≡ None = none-some _ (ap is_some (sym looked) ∙ copied-some found ∙ absent) in
+    let change : Process → Process = caller_after place (time_of cores core) call in
+    let none_too : process_at (each_process (adjusted place period cores (partition_of mode table) call) table) call.who.proc ≡ None
+    = absent-each (adjusted place period cores (partition_of mode table) call) table call.who.proc none in
+    let each : each_process (adjusted place period cores (partition_of mode table) call) table
+    ≡ each_process (called place (time_of cores core) period cores (partition_of mode table) call) table
+    = sym (only-absent call.who.proc change (each_process (adjusted place period cores (partition_of mode table) call) table) none_too)
+    ∙ called-each place (time_of cores core) period cores call (partition_of mode table) change sound (λ process. refl) in
+    adjusts ∙ ap (λ t. partition_of (mode_between call mode) (t ++ created_by first call call.request)) each
+    ∙ whole configuration place core period first cores call mode table first_is period_is sound.judged
+
+-- the same of a partition that a table is seen as
+
+pub called-stands-in : (configuration : Configuration) (place core period first : ℕ) (cores : List CoreState) (call : CallRecord) (mode : Mode) (table : Table)
+    (old middle new : Partition) (change : Process → Process) (found : Option (Bor Process)) → partition_of mode table ≡ old
+    → first_core configuration call.who.part ≡ first → period_of configuration call.who.part ≡ period
+    → middle ≡ between place period first cores call old → IsSound old.table call
+    → option_copied found ≡ process_at old.table call.who.proc → is_some found ≡ true
+    → ((process : Process) → change process ≡ caller_after place (time_of cores core) call process)
+    → new ≡ with_each (only call.who.proc change) middle → new ≡ partition_called configuration cores place core call old
+called-stands-in configuration place core period first cores call mode table old middle new change found view first_is period_is adjusts sound looked stands same is =
+    let P : Partition → Type 0 = λ seen. middle ≡ between place period first cores call seen → IsSound seen.table call
+    → option_copied found ≡ process_at seen.table call.who.proc → new ≡ partition_called configuration cores place core call seen in
+    subst P view
+    (λ adjusts_it sound_it looked_it. called-stands configuration place core period first cores call mode table middle new change found first_is period_is adjusts_it sound_it looked_it stands same is)
+    adjusts sound looked
+
+pub called-absent-in : (configuration : Configuration) (place core period first : ℕ) (cores : List CoreState) (call : CallRecord) (mode : Mode) (table : Table)
+    (old middle : Partition) (found : Option (Bor Process)) → partition_of mode table ≡ old
+    → first_core configuration call.who.part ≡ first → period_of configuration call.who.part ≡ period
+    → middle ≡ between place period first cores call old → IsSound old.table call
     → option_copied found ≡ process_at old.table call.who.proc → is_some found ≡ false
-    → between ≡ partition_called core place now call old
-called-absent core place now call old between found adjusts looked absent =
-    let none : process_at old.table call.who.proc ≡ None = none-some _ (ap is_some (sym looked) ∙ copied-some found ∙ absent) in
-    let change : Process → Process = caller_after place now call in
-    let none_too : process_at (each_process (adjusted place old call) old.table) call.who.proc ≡ None = absent-each (adjusted place old call) old.table call.who.proc none in
-    let table : each_process (adjusted place old call) old.table ≡ each_process (called place now old call) old.table =
-    sym (only-absent call.who.proc change (each_process (adjusted place old call) old.table) none_too)
-    ∙ each_process-twice (adjusted place old call) (only call.who.proc change) old.table
-    ∙ each_process-congr _ (called place now old call) (λ number process. refl) old.table in
-    let whole : between.table ≡ each_process (called place now old call) old.table ++ created_by core call call.request =
-    adjusts.table ∙ ap (λ t. t ++ created_by core call call.request) table in
-    λ i. record { mode = adjusts.mode i; table = whole i }
+    → middle ≡ partition_called configuration cores place core call old
+called-absent-in configuration place core period first cores call mode table old middle found view first_is period_is adjusts sound looked absent =
+    let P : Partition → Type 0 = λ seen. middle ≡ between place period first cores call seen → IsSound seen.table call
+    → option_copied found ≡ process_at seen.table call.who.proc → middle ≡ partition_called configuration cores place core call seen in
+    subst P view
+    (λ adjusts_it sound_it looked_it. called-absent configuration place core period first cores call mode table middle found first_is period_is adjusts_it sound_it looked_it absent)
+    adjusts sound looked

@@ -4,24 +4,39 @@ use Rattle.std.proofs.lemmas.Bool.Decides.{nat_tests}
 use Rattle.apex_types.specs.declared.record.Call.{Call as CallRecord}
 use Rattle.apex_types.specs.declared.request.Request.{Request}
 use Rattle.apex_types.specs.declared.request.Request.TheVariants as request
+use Rattle.apex_types.specs.Requested.{service_of}
+use Rattle.apex_machine.specs.declared.state.CoreState.{CoreState}
 use Rattle.apex_machine.specs.declared.state.Process.{Process}
-use Rattle.apex_machine.specs.State.{Partition, Table, each_process}
+use Rattle.apex_machine.specs.declared.state.Mode.TheVariants as mode
+use Rattle.apex_machine.specs.State.{Partition, Table, each_process, is_free_process, time_of}
+use Rattle.apex_machine.specs.Answer.{is_new}
 use Rattle.apex_machine.specs.Conditions.{is_priority}
-use Rattle.apex_machine.specs.Services.{is_new_number, mode_by, new_process, set_by}
-use Rattle.apex_machine.specs.After.{created_by, is_done}
-use Rattle.process_state.specs.Changes.{named, with_each}
+use Rattle.apex_machine.specs.Arguments.{natural_of}
+use Rattle.apex_machine.specs.Processes.{after_normal, new_process, set_by, started}
+use Rattle.apex_machine.specs.Services.{is_built}
+use Rattle.apex_machine.specs.After.{created_by, is_done, mode_by}
+use Rattle.process_state.specs.Changes.{moved_to, named, only, with_each}
 use Rattle.process_state.specs.Numbers.{NumbersFit, number_of}
 use Rattle.process_state.specs.Sound.{AsksSoundly}
-use Rattle.process_state.proofs.Tables.{each_process-same, partition_of}
+use Rattle.process_state.proofs.Tables.{each_process-congr, each_process-same, nat_eq-swap, with_table}
 
 pub append-nothing : (table : Table) → table ++ [] ≡ table
 append-nothing [] = refl
 append-nothing (entry ∷ entries) = ap (λ rest. entry ∷ rest) (append-nothing entries)
 
--- a change by a number that no process of a table can have
+-- a change of a process by a caller's number that is its own
+
+pub named-found : (change : Process → Process) (given : ℤ) (number : ℕ) (partition : Partition) → number_of given ≡ Some number
+    → with_each (only number change) partition ≡ with_each (named given change) partition
+named-found change (pos n) number partition found =
+    let same : n ≡ number = grind (arith, nat_tests) in
+    ap (with_table partition) (each_process-congr _ _ (λ other process. rw (same, nat_eq-swap number other) refl) partition.table)
+named-found change (negsuc n) number partition found = cc
+
+-- a change by any other number
 pub named-none : (change : Process → Process) (given : ℤ) (partition : Partition) → number_of given ≡ None → NumbersFit partition.table
     → partition ≡ with_each (named given change) partition
-named-none change (pos n) partition none fit = ap (partition_of partition.mode) (sym (stays partition.table fit))
+named-none change (pos n) partition none fit = ap (with_table partition) (sym (stays partition.table fit))
   where
     apart : (number : ℕ) → number < 2 ^ 32 → nat_eq n number ≡ false
     apart number bound = grind (arith, nat_tests)
@@ -30,33 +45,49 @@ named-none change (pos n) partition none fit = ap (partition_of partition.mode) 
     stays [] h = refl
     stays (entry ∷ entries) h = rw (apart entry.0 h.0, stays entries h.1) refl
 named-none change (negsuc n) partition none fit =
-    ap (partition_of partition.mode) (sym (each_process-same _ (λ number process. refl) partition.table))
+    ap (with_table partition) (sym (each_process-same _ (λ number process. refl) partition.table))
 
--- a partition as a call leaves it, by the mode and the table that it sets
-pub record Carries (place core : ℕ) (call : CallRecord) (asked : Request) (old : Partition) (new : Partition) : Type 0 where
-  pub mode : new.mode ≡ mode_by asked old.mode
-  pub table : new.table ≡ each_process (set_by place old.mode asked) old.table ++ created_by core call asked
+-- a partition once a call has set in it what it sets, beside what becomes of its caller
+abbrev pub carried : ℕ → ℕ → ℕ → List CoreState → CallRecord → Request → Partition → Partition
+carried place period first cores call asked old = record old {
+  mode = mode_by asked old.mode;
+  table = each_process (set_by place period cores old call.who.proc asked) old.table ++ created_by first call asked;
+}
 
--- a service that sets nothing beside its caller
-pub carried-none : (place core : ℕ) (call : CallRecord) (asked : Request) (old : Partition)
-    → ((name : List ℕ) (priority period : ℤ) → asked ≡ request.CreateProcess name priority period → ⊥)
+-- the table of a service that changes each process so, and creates none
+table-set : (place period first : ℕ) (cores : List CoreState) (call : CallRecord) (asked : Request) (old : Partition) (set : ℕ → Process → Process)
+    → created_by first call asked ≡ [] → ((number : ℕ) (process : Process) → set number process ≡ set_by place period cores old call.who.proc asked number process)
+    → each_process set old.table ≡ each_process (set_by place period cores old call.who.proc asked) old.table ++ created_by first call asked
+table-set place period first cores call asked old set none same = rw none (each_process-congr _ _ same old.table ∙ sym (append-nothing _))
+
+-- a judged service that sets nothing beside its caller
+pub carried-none : (place period first : ℕ) (cores : List CoreState) (call : CallRecord) (asked : Request) (old : Partition)
+    → is_built (service_of asked) ≡ true
+    → ((name : List ℕ) (priority own : ℤ) → asked ≡ request.CreateProcess name priority own → ⊥)
     → ((process core : ℤ) → asked ≡ request.InitializeProcessCoreAffinity process core → ⊥)
     → ((process : ℤ) → asked ≡ request.Start process → ⊥)
     → ((mode : ℤ) → asked ≡ request.SetPartitionMode mode → ⊥)
-    → Carries place core call asked old old
-carried-none place core call (request.CreateProcess name priority period) old not_create not_move not_start not_mode = absurd (not_create name priority period refl)
-carried-none place core call (request.InitializeProcessCoreAffinity process on) old not_create not_move not_start not_mode = absurd (not_move process on refl)
-carried-none place core call (request.Start process) old not_create not_move not_start not_mode = absurd (not_start process refl)
-carried-none place core call (request.SetPartitionMode mode) old not_create not_move not_start not_mode = absurd (not_mode mode refl)
-carried-none place core call _ old not_create not_move not_start not_mode = record {
-  mode = refl;
-  table = sym (append-nothing _ ∙ each_process-same _ (λ number process. refl) old.table);
-}
+    → old ≡ carried place period first cores call asked old
+carried-none place period first cores call (request.CreateProcess name priority own) old judged not_create not_move not_start not_mode = absurd (not_create name priority own refl)
+carried-none place period first cores call (request.InitializeProcessCoreAffinity process on) old judged not_create not_move not_start not_mode = absurd (not_move process on refl)
+carried-none place period first cores call (request.Start process) old judged not_create not_move not_start not_mode = absurd (not_start process refl)
+carried-none place period first cores call (request.SetPartitionMode mode) old judged not_create not_move not_start not_mode = absurd (not_mode mode refl)
+carried-none place period first cores call request.StopSelf old judged not_create not_move not_start not_mode = same-table
+  where
+    same-table : old ≡ carried place period first cores call request.StopSelf old
+    same-table = ap (with_table old) (sym (append-nothing _ ∙ each_process-same _ (λ number process. refl) old.table))
+carried-none place period first cores call request.GetMyId old judged not_create not_move not_start not_mode =
+    ap (with_table old) (sym (append-nothing _ ∙ each_process-same _ (λ number process. refl) old.table))
+carried-none place period first cores call (request.TimedWait delay) old judged not_create not_move not_start not_mode =
+    ap (with_table old) (sym (append-nothing _ ∙ each_process-same _ (λ number process. refl) old.table))
+carried-none place period first cores call request.GetTime old judged not_create not_move not_start not_mode =
+    ap (with_table old) (sym (append-nothing _ ∙ each_process-same _ (λ number process. refl) old.table))
+carried-none place period first cores call _ old judged not_create not_move not_start not_mode = cc
 
 -- CREATE_PROCESS
 
 -- the number that a sound call claims for its process
-claims-number : (table : Table) (claimed : Option ℤ) (found : Option ℕ) (number : ℕ) → is_new_number table claimed ≡ true
+claims-number : (table : Table) (claimed : Option ℤ) (found : Option ℕ) (number : ℕ) → is_new (is_free_process table) claimed ≡ true
     → MatchOption claimed (found ≡ None) (λ given. found ≡ number_of given) → found ≡ Some number → claimed ≡ Some (pos number)
 claims-number table None found number new is there = cc
 claims-number table (Some (negsuc n)) found number new is there = cc
@@ -69,18 +100,42 @@ priority-kept : (priority : ℤ) → is_priority priority ≡ true → pos (nat_
 priority-kept (pos n) h = refl
 priority-kept (negsuc n) h = cc
 
-pub carried-create : (place core : ℕ) (call : CallRecord) (name : List ℕ) (priority period : ℤ) (old : Partition) (found : Option ℕ) (number cast : ℕ)
+pub carried-create : (place period first : ℕ) (cores : List CoreState) (call : CallRecord) (name : List ℕ) (priority own : ℤ) (old new : Partition)
+    (found : Option ℕ) (number cast : ℕ)
+    → new ≡ with_table old (old.table ++ (number, new_process first name (pos cast) own) ∷ [])
     → cast ≡ nat_abs priority
-    → is_done call.claim.out ≡ true → AsksSoundly old.table call (request.CreateProcess name priority period)
+    → is_done call.claim.out ≡ true → AsksSoundly old.table call (request.CreateProcess name priority own)
     → MatchOption call.claim.val (found ≡ None) (λ given. found ≡ number_of given) → found ≡ Some number
-    → old.table ++ (number, new_process core name (pos cast)) ∷ []
-    ≡ each_process (set_by place old.mode (request.CreateProcess name priority period)) old.table
-    ++ created_by core call (request.CreateProcess name priority period)
-carried-create place core call name priority period old found number cast kept done sound is there =
+    → new ≡ carried place period first cores call (request.CreateProcess name priority own) old
+carried-create place period first cores call name priority own old new found number cast is_new_one kept done sound is there =
     let facts = sound done in
-    ap (λ (p : ℤ). old.table ++ (number, new_process core name p) ∷ []) (ap pos kept ∙ priority-kept priority facts.1)
+    let table : old.table ++ (number, new_process first name (pos cast) own) ∷ []
+    ≡ each_process (set_by place period cores old call.who.proc (request.CreateProcess name priority own)) old.table
+    ++ created_by first call (request.CreateProcess name priority own)
+    = ap (λ (p : ℤ). old.table ++ (number, new_process first name p own) ∷ []) (ap pos kept ∙ priority-kept priority facts.1)
     ∙ (rw (
       claims-number old.table call.claim.val found number facts.0 is there,
       done,
-      each_process-same (set_by place old.mode (request.CreateProcess name priority period)) (λ other process. refl) old.table,
-    ) refl)
+      each_process-same (set_by place period cores old call.who.proc (request.CreateProcess name priority own)) (λ other process. refl) old.table,
+    ) refl) in
+    is_new_one ∙ ap (with_table old) table
+
+-- START, and INITIALIZE_PROCESS_CORE_AFFINITY, of the process that the caller names
+
+pub carried-start : (place period first : ℕ) (cores : List CoreState) (call : CallRecord) (given : ℤ) (old new : Partition)
+    → new ≡ with_each (named given (λ found. started place period (time_of cores found.affinity) old.mode found)) old
+    → new ≡ carried place period first cores call (request.Start given) old
+carried-start place period first cores call given old new is = is ∙ ap (with_table old) (sym (append-nothing _))
+
+pub carried-move : (place period first : ℕ) (cores : List CoreState) (call : CallRecord) (given core : ℤ) (old new : Partition)
+    → new ≡ with_each (named given (moved_to (natural_of core))) old
+    → new ≡ carried place period first cores call (request.InitializeProcessCoreAffinity given core) old
+carried-move place period first cores call given core old new is = is ∙ ap (with_table old) (sym (append-nothing _))
+
+-- SET_PARTITION_MODE to NORMAL
+
+pub carried-mode : (place period first : ℕ) (cores : List CoreState) (call : CallRecord) (given : ℤ) (old new : Partition)
+    → new ≡ record old { mode = mode.Normal; table = each_process (λ number process. after_normal place period (time_of cores process.affinity) process) old.table }
+    → new ≡ carried place period first cores call (request.SetPartitionMode given) old
+carried-mode place period first cores call given old new is =
+    is ∙ ap (λ (t : Table). record old { mode = mode.Normal; table = t }) (sym (append-nothing _))

@@ -8,3 +8,7 @@ pub mod Below
 pub mod Ticks
 pub mod Carried
 pub mod Called
+pub mod Releases
+pub mod Times
+pub mod Waiters
+pub mod Gifts

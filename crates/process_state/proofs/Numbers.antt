@@ -2,9 +2,9 @@
 use Rattle.std.proofs.Common.{◌≡◌, ℕ, zero, suc, ◌<◌, ◌≤◌, ◌^◌, true, is_none, nat_le, nat_lt, Option, Some, None, ℤ, pos, negsuc, refl, arith}
 use Rattle.std.proofs.lemmas.Bool.Decides.{nat_tests}
 use Rattle.apex_machine.specs.declared.state.Process.{Process}
-use Rattle.apex_machine.specs.State.{Table, process_at}
+use Rattle.apex_machine.specs.State.{Table, is_free_process, process_at}
 use Rattle.apex_machine.specs.Conditions.{created}
-use Rattle.apex_machine.specs.Services.{is_new_number}
+use Rattle.apex_machine.specs.Answer.{is_new}
 use Rattle.process_state.specs.Numbers.{NumbersFit, number_of}
 use Rattle.process_state.proofs.Tables.{absent-above}
 use Rattle.process_state.proofs.Booleans.{both-left, both-right}
@@ -14,11 +14,11 @@ none_of None h = refl
 none_of (Some process) h = cc
 
 -- no process has a new number
-pub new-absent : (table : Table) (number : ℕ) → is_new_number table (Some (pos number)) ≡ true → process_at table number ≡ None
+pub new-absent : (table : Table) (number : ℕ) → is_new (is_free_process table) (Some (pos number)) ≡ true → process_at table number ≡ None
 new-absent table number new = none_of _ (both-right _ _ (both-right _ _ new))
 
 -- a new number fits
-pub new-fits : (table : Table) (number : ℕ) → is_new_number table (Some (pos number)) ≡ true → number < 2 ^ 32
+pub new-fits : (table : Table) (number : ℕ) → is_new (is_free_process table) (Some (pos number)) ≡ true → number < 2 ^ 32
 new-fits table number new =
     let least : nat_le number 2147483647 ≡ true = both-left (nat_le number 2147483647) _ (both-right (nat_lt 0 number) _ new) in
     grind (arith, nat_tests)

@@ -8,6 +8,7 @@ use Rattle.apex_machine.specs.declared.state.Mode.{Mode}
 use Rattle.apex_machine.specs.State.{Partition, Table, each_process, process_at}
 use Rattle.process_state.specs.Changes.{only, with_each}
 use Rattle.process_state.specs.Numbers.{NumbersFit}
+use Rattle.process_state.specs.Partitions.{partition_of}
 
 -- what a look-up finds is the process at the number
 pub lookup-process_at : (number : ℕ) (entries : Table) → lookup (nat_eq number) entries ≡ process_at entries number
@@ -103,8 +104,9 @@ absent-above (entry ∷ entries) number fit above =
 
 -- of a partition
 
-abbrev pub partition_of : Mode → Table → Partition
-partition_of mode table = record { mode = mode; table = table }
+-- the partition with another table
+abbrev pub with_table : Partition → Table → Partition
+with_table partition table = record partition { table = table }
 
 -- a partition whose table has this process written at its number
 pub partition-written : (mode : Mode) (number : ℕ) (change : Process → Process) (old written : Process) (entries next : Table)

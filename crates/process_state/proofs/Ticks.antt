@@ -1,12 +1,12 @@
--- The processes whose waits end at a tick, one after another.
-use Rattle.std.proofs.Common.{◌≡◌, ℕ, Bool, true, false, ◌||◌, nat_eq, List, [], ◌∷◌, ◌++◌, if◌then◌else◌, refl, sym, ap, ◌∙◌, arith}
+-- The processes whose waits end at a tick or by a call, one after another.
+use Rattle.std.proofs.Common.{◌≡◌, ℕ, Bool, true, false, ◌||◌, ◌&&◌, not, nat_eq, List, [], ◌∷◌, ◌++◌, if◌then◌else◌, refl, sym, ap, ◌∙◌, arith}
 use Rattle.std.proofs.lemmas.Bool.Decides.{nat_tests}
 use Rattle.apex_types.specs.declared.record.Who.{Who}
 use Rattle.apex_machine.specs.declared.state.Process.{Process}
 use Rattle.apex_machine.specs.State.{Partition, is_named, is_same}
-use Rattle.apex_machine.specs.After.{released, ticked}
 use Rattle.process_state.specs.Changes.{only, with_each}
-use Rattle.process_state.proofs.Tables.{each_process-congr, each_process-same, each_process-twice, partition_of}
+use Rattle.process_state.proofs.Booleans.{both-left, both-right}
+use Rattle.process_state.proofs.Tables.{each_process-congr, each_process-same, each_process-twice, with_table}
 
 either-grouped : (a b c : Bool) → (a || b) || c ≡ a || (b || c)
 either-grouped true b c = refl
@@ -21,45 +21,86 @@ is_named-push who [] other = by (is_same who other)
 is_named-push who (first ∷ named) other =
     rw (is_named-push who named other, either-grouped (is_same who first) (is_named who named) (is_same who other)) refl
 
+-- a change of those processes of a partition that a list names
+abbrev pub each_named : ℕ → List Who → (Process → Process) → ℕ → Process → Process
+each_named part named change number process = if is_named (record { part = part; proc = number }) named then change process else process
+
 -- nobody is named at first
-pub ticked-none : (place part : ℕ) (partition : Partition) → partition ≡ with_each (ticked place part []) partition
-ticked-none place part partition = ap (partition_of partition.mode) (sym (each_process-same _ (λ number process. refl) partition.table))
+pub named-none-yet : (part : ℕ) (change : Process → Process) (partition : Partition) → partition ≡ with_each (each_named part [] change) partition
+named-none-yet part change partition = ap (with_table partition) (sym (each_process-same _ (λ number process. refl) partition.table))
 
--- one more of this partition is released
-pub ticked-more : (place part : ℕ) (named : List Who) (who : Who) (partition : Partition) → nat_eq who.part part ≡ true
-    → with_each (only who.proc (released place)) (with_each (ticked place part named) partition)
-    ≡ with_each (ticked place part (named ++ who ∷ [])) partition
-ticked-more place part named who partition here =
-    ap (partition_of partition.mode)
-    (each_process-twice (ticked place part named) (only who.proc (released place)) partition.table
-    ∙ each_process-congr _ _ one partition.table)
+-- a process that one walk has not changed, and the next one changes
+once : (a d : Bool) (change : Process → Process) (process : Process) → (d ≡ true → a ≡ false)
+    → (if d then change (if a then change process else process) else (if a then change process else process)) ≡ (if a || d then change process else process)
+once true true change process apart = let impossible : true ≡ false = apart refl in cc
+once true false change process apart = refl
+once false true change process apart = refl
+once false false change process apart = refl
+
+-- nobody of this number is named where this one is not
+unnamed : (part number : ℕ) (named : List Who) (who : Who) → nat_eq part who.part ≡ true → is_named who named ≡ false
+    → nat_eq number who.proc ≡ true → is_named (record { part = part; proc = number }) named ≡ false
+unnamed part number named who here new same =
+    let part_is : part ≡ who.part = grind (arith, nat_tests) in
+    let number_is : number ≡ who.proc = grind (arith, nat_tests) in
+    let whole : record { part = part; proc = number } ≡ who = λ i. record { part = part_is i; proc = number_is i } in
+    rw whole new
+
+-- a change of each process that is named: of one more of this partition, which is not named before
+pub named-more : (part : ℕ) (named : List Who) (who : Who) (change : Process → Process) (partition : Partition) → nat_eq who.part part ≡ true
+    → is_named who named ≡ false
+    → with_each (only who.proc change) (with_each (each_named part named change) partition)
+    ≡ with_each (each_named part (named ++ who ∷ []) change) partition
+named-more part named who change partition here new =
+    ap (with_table partition)
+    (each_process-twice (each_named part named change) (only who.proc change) partition.table ∙ each_process-congr _ _ one partition.table)
   where
-    by : (a d : Bool) (process : Process)
-        → (if d then released place (if a then released place process else process) else (if a then released place process else process))
-        ≡ (if a || d then released place process else process)
-    by true true process = refl
-    by true false process = refl
-    by false true process = refl
-    by false false process = refl
-
     one : (number : ℕ) (process : Process)
-        → only who.proc (released place) number (ticked place part named number process) ≡ ticked place part (named ++ who ∷ []) number process
+        → only who.proc change number (each_named part named change number process) ≡ each_named part (named ++ who ∷ []) change number process
     one number process =
         let here_too : nat_eq part who.part ≡ true = grind (arith, nat_tests) in
         rw (is_named-push (record { part = part; proc = number }) named who, here_too)
-        (by (is_named (record { part = part; proc = number }) named) (nat_eq number who.proc) process)
+        (once (is_named (record { part = part; proc = number }) named) (nat_eq number who.proc) change process (unnamed part number named who here_too new))
 
--- one of another partition changes nothing
-pub ticked-other : (place part : ℕ) (named : List Who) (who : Who) (partition : Partition) → nat_eq who.part part ≡ false
-    → with_each (ticked place part named) partition ≡ with_each (ticked place part (named ++ who ∷ [])) partition
-ticked-other place part named who partition there = ap (partition_of partition.mode) (each_process-congr _ _ one partition.table)
+-- one who is named before, or is of another partition, changes nothing
+pub named-same : (part : ℕ) (named : List Who) (who : Who) (change : Process → Process) (partition : Partition)
+    → nat_eq who.part part && not (is_named who named) ≡ false
+    → with_each (each_named part named change) partition ≡ with_each (each_named part (named ++ who ∷ []) change) partition
+named-same part named who change partition not_new = ap (with_table partition) (each_process-congr _ _ one partition.table)
   where
-    by : (a : Bool) (process : Process) → (if a then released place process else process) ≡ (if a || false then released place process else process)
-    by true process = refl
-    by false process = refl
+    by : (a d : Bool) (process : Process) → (d ≡ true → a ≡ true) → (if a then change process else process) ≡ (if a || d then change process else process)
+    by true d process was = refl
+    by false true process was = let impossible : false ≡ true = was refl in cc
+    by false false process was = refl
 
-    one : (number : ℕ) (process : Process) → ticked place part named number process ≡ ticked place part (named ++ who ∷ []) number process
+    second : (a b : Bool) → a ≡ true → a && not b ≡ false → b ≡ true
+    second true true h k = refl
+    second true false h k = cc
+    second false b h k = cc
+
+    before : (number : ℕ) → nat_eq part who.part && nat_eq number who.proc ≡ true → is_named (record { part = part; proc = number }) named ≡ true
+    before number same =
+        let part_same : nat_eq part who.part ≡ true = both-left _ _ same in
+        let number_same : nat_eq number who.proc ≡ true = both-right (nat_eq part who.part) _ same in
+        let part_is : part ≡ who.part = grind (arith, nat_tests) in
+        let number_is : number ≡ who.proc = grind (arith, nat_tests) in
+        let here : nat_eq who.part part ≡ true = grind (arith, nat_tests) in
+        let whole : record { part = part; proc = number } ≡ who = λ i. record { part = part_is i; proc = number_is i } in
+        rw whole (second _ _ here not_new)
+
+    one : (number : ℕ) (process : Process) → each_named part named change number process ≡ each_named part (named ++ who ∷ []) change number process
     one number process =
-        let there_too : nat_eq part who.part ≡ false = grind (arith, nat_tests) in
-        rw (is_named-push (record { part = part; proc = number }) named who, there_too)
-        (by (is_named (record { part = part; proc = number }) named) process)
+        rw (is_named-push (record { part = part; proc = number }) named who)
+        (by (is_named (record { part = part; proc = number }) named) (nat_eq part who.part && nat_eq number who.proc) process (before number))
+
+-- what a test of one more process says
+
+pub is_here : (part : ℕ) (named : List Who) (who : Who) → nat_eq who.part part && not (is_named who named) ≡ true → nat_eq who.part part ≡ true
+is_here part named who new = both-left _ _ new
+
+pub is_new : (part : ℕ) (named : List Who) (who : Who) → nat_eq who.part part && not (is_named who named) ≡ true → is_named who named ≡ false
+is_new part named who new = negated _ (both-right (nat_eq who.part part) _ new)
+  where
+    negated : (b : Bool) → not b ≡ true → b ≡ false
+    negated true h = cc
+    negated false h = refl

@@ -1,10 +1,11 @@
 -- Changes of one process of a table, and of one partition's table.
-use Rattle.std.specs.Prelude.{ℕ, Option, Some, None, false, nat_eq, if◌then◌else◌, ℤ}
+use Rattle.std.specs.Prelude.{ℕ, Option, Some, None, nat_eq, if◌then◌else◌, ℤ}
 use Rattle.apex_machine.specs.declared.state.Outcome.{Outcome}
 use Rattle.apex_machine.specs.declared.state.Process.{Process}
 use Rattle.apex_machine.specs.declared.state.Wait.{Wait}
+use Rattle.apex_machine.specs.Arguments.{is_number}
+use Rattle.apex_machine.specs.Processes.{stopped}
 use Rattle.apex_machine.specs.State.{Partition, each_process}
-use Rattle.apex_machine.specs.Services.{is_number}
 
 -- the partition with each process changed
 abbrev pub with_each : (ℕ → Process → Process) → Partition → Partition
@@ -18,9 +19,13 @@ only chosen change number process = if nat_eq number chosen then change process 
 abbrev pub named : ℤ → (Process → Process) → ℕ → Process → Process
 named given change number process = if is_number given number then change process else process
 
+-- a process that runs on this core from now on
+abbrev pub moved_to : ℕ → Process → Process
+moved_to core process = record process { affinity = core }
+
 -- a caller that is dormant after its call
 abbrev pub stopped_self : ℕ → Process → Process
-stopped_self now process = record process { alive = false; called_at = now }
+stopped_self now process = record (stopped process) { called_at = now }
 
 -- a caller that waits after its call
 abbrev pub waiting_for : ℕ → Wait → Process → Process

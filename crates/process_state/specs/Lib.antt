@@ -1,6 +1,9 @@
 pub mod Numbers
+pub mod Partitions
 pub mod Changes
 pub mod Due
 pub mod Settled
 pub mod Sound
+pub mod Timely
 pub mod Ranks
+pub mod Gifts

@@ -1,8 +1,10 @@
 // What becomes of a caller by its call.
 
-ghost use Rattle.std.specs.Prelude.{◌≡◌, ◌<◌, IfOk};
+ghost use Rattle.std.specs.Prelude.{◌≡◌, ◌<◌, ℕ, IfOk, IsTrue, Option};
+ghost use Rattle.apex_types.specs.Requested.{service_of};
 ghost use Rattle.apex_machine.specs.declared.state.Process.{Process as ProcessValue};
-ghost use Rattle.apex_machine.specs.Services as services;
+ghost use Rattle.apex_machine.specs.Processes as processes;
+ghost use Rattle.apex_machine.specs.Services.{is_built};
 ghost use Rattle.apex_machine.specs.After as after;
 ghost use Rattle.process_state.specs.Settled.{settled};
 
@@ -34,7 +36,7 @@ pub fn is_done(out: Out) -> bool
     }
 }
 
-/// What becomes of the caller of this call, at this place and at its core's time `now`.
+/// What becomes of the caller of this call of a service that is judged, at this place and at its core's time `now`.
 ///
 /// AllocError where memory for the outcome's message is refused; an empty message takes none.
 pub fn settling_of(
@@ -43,7 +45,8 @@ pub fn settling_of(
     now: u64,
     call: &Call,
 ) -> Result<Settling, AllocError>
-    requires { now < 68719476720 }
+    requires time { now < 68719476720 }
+    requires judged { IsTrue (is_built (service_of call.now.request)) }
     ensures { IfOk result (λ settling. (process : ProcessValue) → settled now settling process ≡ after.caller_after place now call.now process) }
 {
     match call.claim.out {
@@ -74,10 +77,11 @@ fn outcome_of(alloc: Global, call: &Call, code: Code) -> Result<Outcome, AllocEr
     })
 }
 
-// What a caller waits for that began to wait when its core's time was `now`.
+// What a caller of a service that is judged waits for, that began to wait when its core's time was `now`.
 fn wait_of(request: &Request, now: u64) -> Wait
-    requires { now < 68719476720 }
-    ensures { result ≡ services.wait_of request.now now }
+    requires time { now < 68719476720 }
+    requires judged { IsTrue (is_built (service_of request.now)) }
+    ensures { (chan : Option ℕ) (process : ProcessValue) → result ≡ processes.wait_of request.now chan now process }
 {
     match request {
         Request::TimedWait { delay } => {
@@ -91,12 +95,13 @@ fn wait_of(request: &Request, now: u64) -> Wait
     }
 }
 
-// Whether the request renews its caller's ready position: TIMED_WAIT with a delay of 0.
+// Whether the request renews its caller's ready position: TIMED_WAIT with a delay of 0, and PERIODIC_WAIT.
 fn renews(request: &Request) -> bool
-    ensures { result ≡ services.renews request.now }
+    ensures { result ≡ processes.renews request.now }
 {
     match request {
         Request::TimedWait { delay } => *delay == 0,
+        Request::PeriodicWait => true,
         _ => false,
     }
 }

@@ -6,9 +6,11 @@
 #![tactic(auto)]
 
 mod caller;
+mod gift;
 mod number;
 mod order;
 mod process;
 mod table;
+mod wait;
 
 pub use table::ProcTable;

@@ -1,31 +1,28 @@
 // Which processes are ready, fall due or are named, and which goes before another.
 
-ghost use Rattle.std.specs.Prelude.{◌≡◌, ℕ, Some, MatchOption, if◌then◌else◌};
+ghost use Rattle.std.specs.Prelude.{◌≡◌, ◌&&◌, ℕ, Some, MatchOption, if◌then◌else◌, nat_eq, not};
 ghost use Rattle.apex_machine.specs.declared.state.Process.{Process as ProcessValue};
 ghost use Rattle.apex_machine.specs.Choice as choice;
 ghost use Rattle.apex_machine.specs.State as state;
 ghost use Rattle.apex_machine.specs.Step as step;
 ghost use Rattle.process_state.specs.Ranks.{rank_of};
 
-use apex_machine::{Process, Wait};
-use apex_types::{CoreId, ProcId, Who};
+use crate::wait;
+use apex_machine::Process;
+use apex_types::{CoreId, PartId, ProcId, Who};
 
-/// Whether the process is ready on this core: it is not dormant, waits for nothing and runs there.
+/// Whether the process is ready on this core: it is neither dormant nor suspended, waits for nothing and runs there.
 pub fn is_ready(process: &Process, core: CoreId) -> bool
     ensures { result ≡ choice.is_ready core process.now }
 {
-    process.alive && process.wait == Wait::Nothing && process.affinity == core
+    process.alive && !process.suspended && wait::is_none(process.wait) && process.affinity == core
 }
 
 /// Whether the process's wait is over once its core, this one, comes to this time, in ticks.
 pub fn falls_due(process: &Process, core: CoreId, time: u64) -> bool
     ensures { result ≡ step.falls_due core time (Some process.now) }
 {
-    process.affinity == core
-        && match process.wait {
-            Wait::Nothing | Wait::NormalMode => false,
-            Wait::Until(due) => due <= time,
-        }
+    process.affinity == core && wait::is_due(process.wait, time)
 }
 
 /// By what ready processes are put in their order: the priority, the ready position and the number of one of them.
@@ -80,4 +77,11 @@ pub fn is_named(who: Who, named: &[Who]) -> bool
     ensures { result ≡ state.is_named who named.now }
 {
     named.iter().any(|other| who == *other)
+}
+
+/// Whether this process is of this partition, and not among those named before.
+pub fn is_newly_named(who: Who, part: PartId, before: &[Who]) -> bool
+    ensures { result ≡ nat_eq who.part part && not (state.is_named who before.now) }
+{
+    who.part == part && !is_named(who, before)
 }

@@ -1,11 +1,12 @@
 // The changes of one process.
 
-ghost use Rattle.std.specs.Prelude.{◌≡◌, None, pos, IfOk};
+ghost use Rattle.std.specs.Prelude.{◌≡◌, ◌<◌, ◌≤◌, None, pos, IfOk};
+ghost use Rattle.apex_machine.specs.Arguments.{period_given};
+ghost use Rattle.apex_machine.specs.Processes as processes;
 ghost use Rattle.apex_machine.specs.State.{initialising_process};
-ghost use Rattle.apex_machine.specs.Services.{new_process, moved_to, started, after_normal};
-ghost use Rattle.apex_machine.specs.After as after;
-ghost use Rattle.process_state.specs.Changes.{stopped_self, waiting_for, answered};
+ghost use Rattle.process_state.specs.Changes.{answered, moved_to, stopped_self, waiting_for};
 
+use crate::wait;
 use apex_machine::{Mode, Outcome, Process, Wait};
 use apex_types::{Code, CoreId, Message, Name, Place, Service};
 use std::alloc::{AllocError, Global};
@@ -18,8 +19,12 @@ pub fn initialising(alloc: Global, core: CoreId) -> Process
         name: Name::empty(alloc),
         base_priority: 0,
         current_priority: 0,
+        retained_priority: 0,
         affinity: core,
+        period: None,
+        last_release: 0,
         alive: true,
+        suspended: false,
         wait: Wait::Nothing,
         ready_position: 0,
         due: None,
@@ -27,27 +32,39 @@ pub fn initialising(alloc: Global, core: CoreId) -> Process
     }
 }
 
-/// A process as it is created: dormant, on this core, with its base priority.
+/// A process as it is created: dormant, on this core, with its base priority; aperiodic where the period is below 0.
 pub fn created(
     alloc: Global,
     core: CoreId,
     name: &Name,
     priority: u8,
+    period: i64,
 ) -> Result<Process, AllocError>
-    ensures { IfOk result (λ process. process ≡ new_process core name.now (pos priority)) }
+    ensures { IfOk result (λ process. process ≡ processes.new_process core name.now (pos priority) period) }
 {
     let bytes = Vec::from_slice(alloc, name.as_bytes())?;
     Ok(Process {
         name: Name::new(bytes),
         base_priority: priority,
         current_priority: priority,
+        retained_priority: priority,
         affinity: core,
+        period: own_period(period),
+        last_release: 0,
         alive: false,
+        suspended: false,
         wait: Wait::Nothing,
         ready_position: 0,
         due: None,
         called_at: 0,
     })
+}
+
+// The period of a process by the one that its creator gives, both in ticks: none where that is below 0.
+fn own_period(given: i64) -> Option<u64>
+    ensures { result ≡ period_given given }
+{
+    if given < 0 { None } else { Some(given as u64) }
 }
 
 /// The process runs on this core from now on.
@@ -57,41 +74,75 @@ pub fn move_to(process: &mut Process, core: CoreId)
     process.affinity = core;
 }
 
-/// The process is started at this place, in this mode of its partition.
-pub fn start(process: &mut Process, place: Place, mode: Mode)
-    ensures { process.new ≡ started place mode process.old }
+/// The process is started at this place, when its core's time is `now`, in this mode of its partition; the period is the
+/// partition's, in ticks.
+pub fn start(process: &mut Process, place: Place, period: u64, now: u64, mode: Mode)
+    requires least { 1 ≤ period }
+    requires most { period ≤ 4294967295 }
+    requires time { now < 68719476720 }
+    ensures { process.new ≡ processes.started place period now mode process.old }
 {
     process.current_priority = process.base_priority;
     process.alive = true;
     process.wait = match mode {
-        Mode::Normal => Wait::Nothing,
+        Mode::Normal => wait::on_entry(period, now, process.period),
         Mode::Idle | Mode::ColdStart | Mode::WarmStart => Wait::NormalMode,
     };
     process.ready_position = place.number();
 }
 
-/// The partition's mode becomes NORMAL at this place.
-pub fn enter_normal(process: &mut Process, place: Place)
-    ensures { process.new ≡ after_normal place process.old }
+/// The partition's mode becomes NORMAL at this place, when the process's core's time is `now`; the period is the
+/// partition's, in ticks.
+pub fn enter_normal(process: &mut Process, place: Place, period: u64, now: u64)
+    requires least { 1 ≤ period }
+    requires most { period ≤ 4294967295 }
+    requires time { now < 68719476720 }
+    ensures { process.new ≡ processes.after_normal place period now process.old }
 {
-    if process.wait == Wait::NormalMode {
-        process.wait = Wait::Nothing;
+    if wait::is_for_normal(process.wait) {
+        process.wait = wait::on_entry(period, now, process.period);
         process.ready_position = place.number();
     }
 }
 
-/// The process's wait ends at a tick: TIMED_WAIT owes it NO_ERROR. Takes no memory.
+/// The process's wait ends at a tick, at this place. Takes no memory.
 pub fn release(process: &mut Process, alloc: Global, place: Place)
-    ensures { process.new ≡ after.released place process.old }
+    ensures { process.new ≡ processes.released place process.old }
 {
+    let code = wait::code_when_due(process.wait);
+    end_wait(process, place, code, Message::empty(alloc));
+}
+
+/// The process's wait ends by a call at this place, which hands over this message.
+pub fn wake(process: &mut Process, place: Place, message: Message)
+    ensures { process.new ≡ processes.woken_by place message process.old }
+{
+    end_wait(process, place, Code::NoError, message);
+}
+
+// The process's wait ends at this place; where a service began it, the outcome of the service has this code and message.
+fn end_wait(process: &mut Process, place: Place, code: Code, bytes: Message)
+    ensures { process.new ≡ processes.wait_ended place (processes.owed (processes.service_of_wait process.old.wait) code bytes) process.old }
+{
+    process.last_release = wait::release_reached(process.wait, process.last_release);
+    process.due = owed(wait::service_of(process.wait), code, bytes);
     process.wait = Wait::Nothing;
     process.ready_position = place.number();
-    process.due = Some(Outcome {
-        service: Service::TimedWait,
-        code: Code::NoError,
-        val: None,
-        bytes: Message::empty(alloc),
-    });
+}
+
+// The outcome of a service, if it owes one.
+fn owed(service: Option<Service>, code: Code, bytes: Message) -> Option<Outcome>
+    ensures { result ≡ processes.owed service code bytes }
+{
+    match service {
+        Some(service) => Some(Outcome {
+            service,
+            code,
+            val: None,
+            bytes,
+        }),
+        None => None,
+    }
 }
 
 /// The outcome that was due has been returned.
@@ -106,6 +157,9 @@ pub fn stop_self(process: &mut Process, now: u64)
     ensures { process.new ≡ stopped_self now process.old }
 {
     process.alive = false;
+    process.suspended = false;
+    process.wait = Wait::Nothing;
+    give_back(process);
     process.called_at = now;
 }
 

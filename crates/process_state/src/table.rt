@@ -2,12 +2,15 @@
 
 ghost use Rattle.std.specs.Prelude.{◌≡◌, ◌∷◌, ◌↔◌, [], IfOk, IsTrue};
 ghost use Rattle.std.specs.Option.{option_copied};
-ghost use Rattle.apex_machine.specs.State.{initialising_process, process_at};
+ghost use Rattle.apex_machine.specs.State.{initialising_process, is_free_process, process_at};
 ghost use Rattle.apex_machine.specs.Choice.{choice_in};
-ghost use Rattle.apex_machine.specs.Conditions.{created, created_count, has_name};
-ghost use Rattle.apex_machine.specs.Services as services;
+ghost use Rattle.apex_machine.specs.Answer.{is_new};
+ghost use Rattle.apex_machine.specs.Conditions.{created, created_count, has_name, owns_mutex};
+ghost use Rattle.apex_machine.specs.Demands.{AllWaitAt};
 ghost use Rattle.apex_machine.specs.Step as step;
+ghost use Rattle.apex_machine.specs.Waiting.{waits_at};
 ghost use Rattle.process_state.specs.Due.{DueAreNamed, NamedFallDue};
+ghost use Rattle.process_state.specs.Partitions.{partition_of};
 
 mod changes;
 mod records;
@@ -15,14 +18,16 @@ mod records;
 use crate::number::process_number;
 use crate::order::{Rank, falls_due, first_of, is_named, is_ready};
 use crate::process::initialising;
-use apex_machine::{Mode, Process};
+use crate::wait;
+use apex_machine::{Mode, Process, WaitingSet};
 use apex_types::{CoreId, Name, PartId, ProcId, Who};
 use indexmap::IndexMap;
 use std::alloc::{AllocError, Global};
 use std::marker::Model;
 
 /// The processes of one partition, in the order of their creation, and the partition's mode. A contract sees the
-/// partition of the definitions. Process number 0 is the initialising process.
+/// partition of the definitions; it has no object and no port, since no service that creates one is judged yet. Process
+/// number 0 is the initialising process.
 #[derive(Drop)]
 pub struct ProcTable {
     mode: Mode,
@@ -32,10 +37,11 @@ pub struct ProcTable {
 impl Model for ProcTable {
     ghost use Rattle.apex_machine.specs.State.{Partition};
     ghost use Rattle.process_state.specs.Numbers.{NumbersFit};
+    ghost use Rattle.process_state.specs.Partitions.{partition_of};
 
     ghost Value = { Partition };
 
-    ghost view = { λ table. record { mode = table.mode; table = table.processes.entries } };
+    ghost view = { λ table. partition_of table.mode table.processes.entries };
 
     ghost invariant = { λ table. NumbersFit table.processes.entries };
 }
@@ -45,7 +51,7 @@ impl ProcTable {
     ///
     /// AllocError where memory is refused.
     pub fn new(alloc: Global, first_core: CoreId) -> Result<ProcTable, AllocError>
-        ensures { IfOk result (λ table. table ≡ record { mode = Mode.ColdStart; table = (0, initialising_process first_core) ∷ [] }) }
+        ensures { IfOk result (λ table. table ≡ partition_of Mode.ColdStart ((0, initialising_process first_core) ∷ [])) }
     {
         let mut processes = IndexMap::new(alloc);
         processes.insert(ProcId::new(0), initialising(alloc, first_core))?;
@@ -127,7 +133,7 @@ impl ProcTable {
 
     /// Whether a claimed value is a number that a new process can take: 1 to 2,147,483,647, and no process has it.
     pub fn is_new_number(&self, claimed: Option<i64>) -> bool
-        ensures { result ≡ services.is_new_number self.now.table claimed }
+        ensures { result ≡ is_new (is_free_process self.now.table) claimed }
     {
         match claimed {
             Some(number) => {
@@ -135,6 +141,34 @@ impl ProcTable {
                     && number <= 2_147_483_647
                     && self.proc(ProcId::new(number as u32)).is_none()
             }
+            None => false,
+        }
+    }
+
+    /// Whether a process owns a mutex: none does, since no mutex is created yet.
+    pub fn owns_mutex(&self, _number: ProcId) -> bool
+        ensures { result ≡ owns_mutex self.now.mutexes _number }
+    {
+        // That no mutex is held is known where one of the fields is used.
+        let _ = &self.processes;
+        false
+    }
+
+    /// Whether each process of this partition that the list names waits in this set.
+    pub fn all_wait_at(&self, wanted: WaitingSet, part: PartId, woken: &[Who]) -> bool
+        ensures { IsTrue result ↔ AllWaitAt wanted part self.now.table woken.now }
+    {
+        woken
+            .iter()
+            .all(|who| who.part != part || self.waits_at(wanted, who.proc))
+    }
+
+    // Whether a process of this number stands that waits in this set.
+    fn waits_at(&self, wanted: WaitingSet, number: ProcId) -> bool
+        ensures { result ≡ waits_at wanted (process_at self.now.table number) }
+    {
+        match self.proc(number) {
+            Some(process) => process.alive && wait::is_in(process.wait, wanted),
             None => false,
         }
     }

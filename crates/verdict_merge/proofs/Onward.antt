@@ -5,7 +5,8 @@ use Rattle.apex_types.specs.declared.cause.Cause.{Cause}
 use Rattle.apex_types.specs.declared.cause.Cause.TheVariants as cause
 use Rattle.apex_types.specs.declared.record.Ordered.{Ordered}
 use Rattle.apex_machine.specs.Configuration.{Configuration}
-use Rattle.apex_machine.specs.Pieces.{Piece, Part, part, pieces, touches, demands, FirstFails, LocalStep}
+use Rattle.apex_machine.specs.Demands.{FirstFails, LocalStep, demands}
+use Rattle.apex_machine.specs.Pieces.{Piece, Part, part, pieces, touches}
 use Rattle.apex_machine.specs.Runs.{Finds, FindsNext, Refusal}
 use Rattle.apex_machine.specs.State.{cold_state}
 use Rattle.piece_check.specs.declared.fault.PieceFault.{PieceFault}
@@ -25,18 +26,18 @@ pub begins : (configuration : Configuration) (piece : Piece) (whole : List Order
 begins configuration piece whole found finds = finds
 
 pub passes : (configuration : Configuration) (piece : Piece) (whole : List Ordered) (now next : Part) (ordered : Ordered) (rest : List Ordered)
-    → GoesOn configuration piece whole now (ordered ∷ rest) → touches piece ordered ≡ true → LocalStep configuration now ordered next
+    → GoesOn configuration piece whole now (ordered ∷ rest) → touches configuration piece ordered ≡ true → LocalStep configuration now ordered next
     → GoesOn configuration piece whole next rest
 passes configuration piece whole now next ordered rest goes touched step found finds =
     goes found (subst (λ b. FindsNext b configuration now ordered (λ m. Finds configuration piece m rest found) found) (sym touched) (inl (next, step, finds)))
 
 pub skips : (configuration : Configuration) (piece : Piece) (whole : List Ordered) (now : Part) (ordered : Ordered) (rest : List Ordered)
-    → GoesOn configuration piece whole now (ordered ∷ rest) → touches piece ordered ≡ false → GoesOn configuration piece whole now rest
+    → GoesOn configuration piece whole now (ordered ∷ rest) → touches configuration piece ordered ≡ false → GoesOn configuration piece whole now rest
 skips configuration piece whole now ordered rest goes untouched found finds =
     goes found (subst (λ b. FindsNext b configuration now ordered (λ m. Finds configuration piece m rest found) found) (sym untouched) finds)
 
 pub refuses : (configuration : Configuration) (piece : Piece) (whole : List Ordered) (now : Part) (ordered : Ordered) (rest : List Ordered) (cause : Cause)
-    → GoesOn configuration piece whole now (ordered ∷ rest) → touches piece ordered ≡ true → FirstFails (demands configuration now ordered) cause
+    → GoesOn configuration piece whole now (ordered ∷ rest) → touches configuration piece ordered ≡ true → FirstFails (demands configuration now ordered) cause
     → Finds configuration piece (part piece (cold_state configuration)) whole (Some (record { pos = ordered.pos; cause = cause }))
 refuses configuration piece whole now ordered rest cause goes touched fails =
     let found : Option Refusal = Some (record { pos = ordered.pos; cause = cause }) in
@@ -44,7 +45,7 @@ refuses configuration piece whole now ordered rest cause goes touched fails =
 
 -- the refusal of a step, if it is no want of memory, is what the piece finds
 pub finds_refused : (configuration : Configuration) (piece : Piece) (whole : List Ordered) (now : Part) (ordered : Ordered) (rest : List Ordered) (fault : PieceFault)
-    → GoesOn configuration piece whole now (ordered ∷ rest) → touches piece ordered ≡ true → fault ≢ Memory
+    → GoesOn configuration piece whole now (ordered ∷ rest) → touches configuration piece ordered ≡ true → fault ≢ Memory
     → IsRefused (demands configuration now ordered) ordered.pos fault
     → Finds configuration piece (part piece (cold_state configuration)) whole (Some (record { pos = ordered.pos; cause = cause_of fault }))
 finds_refused configuration piece whole now ordered rest (Unlawful at why) goes touched kept (same, inside, fails) =

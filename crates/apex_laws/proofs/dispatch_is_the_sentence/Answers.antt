@@ -1,4 +1,4 @@
-use Rattle.apex_laws.proofs.Dispatches.{dispatch_is_the_sentence}
+use Rattle.apex_laws.proofs.Records.{dispatch_is_the_sentence}
 use Rattle.apex_laws.proofs.dispatch_is_the_sentence.Goals as goal
 
 pub returns : goal.returns

@@ -1,4 +1,4 @@
-use Rattle.apex_laws.proofs.Returns.{return_is_the_sentence}
+use Rattle.apex_laws.proofs.Records.{return_is_the_sentence}
 use Rattle.apex_laws.proofs.return_is_the_sentence.Goals as goal
 
 pub returns : goal.returns

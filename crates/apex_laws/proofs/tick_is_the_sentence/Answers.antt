@@ -1,4 +1,4 @@
-use Rattle.apex_laws.proofs.Ticks.{tick_is_the_sentence}
+use Rattle.apex_laws.proofs.Records.{tick_is_the_sentence}
 use Rattle.apex_laws.proofs.tick_is_the_sentence.Goals as goal
 
 pub returns : goal.returns

@@ -1,21 +1,23 @@
 // The changes of a partition, one at a time.
 
-ghost use Rattle.std.specs.Prelude.{◌≡◌, ◌++◌, ◌∷◌, [], Some, pos, IsTrue, OnOk, OnErr};
-ghost use Rattle.apex_machine.specs.State.{each_process};
-ghost use Rattle.apex_machine.specs.Services.{after_normal, is_new_number, moved_to, new_process, started};
-ghost use Rattle.apex_machine.specs.After.{released, returned};
-ghost use Rattle.process_state.specs.Changes.{answered, named, only, stopped_self, waiting_for, with_each};
+ghost use Rattle.std.specs.Prelude.{◌≡◌, ◌<◌, ◌++◌, ◌∷◌, [], Some, pos, IsTrue, OnOk, OnErr};
+ghost use Rattle.apex_machine.specs.Answer.{is_new};
+ghost use Rattle.apex_machine.specs.Processes.{after_normal, new_process, released, started, woken_by};
+ghost use Rattle.apex_machine.specs.State.{each_process, is_free_process, time_of};
+ghost use Rattle.apex_machine.specs.After.{returned};
+ghost use Rattle.process_state.specs.Changes.{answered, moved_to, named, only, stopped_self, waiting_for, with_each};
+ghost use Rattle.process_state.specs.Timely.{IsTimely, TimesFit};
 
 use super::ProcTable;
 use crate::number::process_number;
 use crate::process;
-use apex_machine::{Mode, Outcome, Wait};
-use apex_types::{CoreId, Name, Place, ProcId};
+use apex_machine::{CoreState, Mode, Outcome, Wait};
+use apex_types::{CoreId, Message, Name, Place, ProcId};
 use std::alloc::AllocError;
 
 impl ProcTable {
-    /// Adds a new process behind the others: dormant, on the partition's first core. The caller sees to it that no process
-    /// has its number.
+    /// Adds a new process behind the others: dormant, on the partition's first core; aperiodic where the period is below 0.
+    /// The caller sees to it that no process has its number.
     ///
     /// AllocError where memory is refused; nothing has changed then.
     pub fn create(
@@ -24,13 +26,14 @@ impl ProcTable {
         number: ProcId,
         name: &Name,
         priority: u8,
+        period: i64,
     ) -> Result<(), AllocError>
-        requires new { IsTrue (is_new_number self.old.table (Some (pos number))) }
-        ensures added { OnOk result (self.new ≡ record self.old { table = self.old.table ++ (number, new_process first_core name.now (pos priority)) ∷ [] }) }
+        requires new { IsTrue (is_new (is_free_process self.old.table) (Some (pos number))) }
+        ensures added { OnOk result (self.new ≡ record self.old { table = self.old.table ++ (number, new_process first_core name.now (pos priority) period) ∷ [] }) }
         ensures unchanged { OnErr result (self.new ≡ self.old) }
     {
         let alloc = *self.processes.allocator();
-        let created = process::created(alloc, first_core, name, priority)?;
+        let created = process::created(alloc, first_core, name, priority, period)?;
         self.processes.insert(number, created)?;
         Ok(())
     }
@@ -55,35 +58,45 @@ impl ProcTable {
         }
     }
 
-    /// START of this process, at this place. Takes no memory.
-    pub fn start(&mut self, process: ProcId, place: Place)
-        ensures { self.new ≡ with_each (only process (started place self.old.mode)) self.old }
+    /// START of this process, at this place and at these times of the cores; the period is the partition's, in ticks. Takes
+    /// no memory.
+    pub fn start(&mut self, process: ProcId, place: Place, period: u64, cores: &[CoreState])
+        requires { IsTimely period cores.now }
+        ensures { self.new ≡ with_each (only process (λ found. started place period (time_of cores.now found.affinity) self.old.mode found)) self.old }
     {
         let mode = self.mode;
         if let Some(process) = self.processes.get_mut(&process) {
-            process::start(process, place, mode);
+            let now = time_at(cores, process.affinity);
+            process::start(process, place, period, now, mode);
         }
     }
 
-    /// START of the process that a caller names by this number, at this place: of none, where there is none. Takes no memory.
-    pub fn start_named(&mut self, given: i64, place: Place)
-        ensures { self.new ≡ with_each (named given (started place self.old.mode)) self.old }
+    /// The same of the process that a caller names by this number: of none, where there is none. Takes no memory.
+    pub fn start_named(&mut self, given: i64, place: Place, period: u64, cores: &[CoreState])
+        requires { IsTimely period cores.now }
+        ensures { self.new ≡ with_each (named given (λ found. started place period (time_of cores.now found.affinity) self.old.mode found)) self.old }
     {
         // What is known of each table, that its numbers fit 32 bits, is known where one of its fields is used.
         let _ = &self.processes;
         if let Some(process) = process_number(given) {
-            self.start(process, place);
+            self.start(process, place, period, cores);
         }
     }
 
-    /// SET_PARTITION_MODE to NORMAL, at this place: each process that waits for NORMAL is ready. Takes no memory.
-    pub fn normal(&mut self, place: Place)
-        ensures mode { self.new.mode ≡ Mode.Normal }
-        ensures table { self.new.table ≡ each_process (λ number. after_normal place) self.old.table }
+    /// SET_PARTITION_MODE to NORMAL, at this place and at these times of the cores: each process that waits for NORMAL
+    /// enters it. The period is the partition's, in ticks. Takes no memory.
+    pub fn normal(&mut self, place: Place, period: u64, cores: &[CoreState])
+        requires { IsTimely period cores.now }
+        ensures { self.new ≡ record self.old {
+          mode = Mode.Normal;
+          table = each_process (λ number process. after_normal place period (time_of cores.now process.affinity) process) self.old.table;
+        } }
     {
         self.mode = Mode::Normal;
         for index in 0..self.processes.len() {
-            process::enter_normal(&mut self.processes[index], place);
+            let process = &mut self.processes[index];
+            let now = time_at(cores, process.affinity);
+            process::enter_normal(process, place, period, now);
         }
     }
 
@@ -125,6 +138,15 @@ impl ProcTable {
         }
     }
 
+    /// The wait of this process ends by a call, at this place, which hands over this message. Takes no memory.
+    pub fn wake(&mut self, process: ProcId, place: Place, message: Message)
+        ensures { self.new ≡ with_each (only process (woken_by place message)) self.old }
+    {
+        if let Some(process) = self.processes.get_mut(&process) {
+            process::wake(process, place, message);
+        }
+    }
+
     /// The outcome that was due to this process has been returned. Takes no memory.
     pub fn ret(&mut self, returner: ProcId)
         ensures { self.new ≡ record self.old { table = each_process (returned returner) self.old.table } }
@@ -132,5 +154,24 @@ impl ProcTable {
         if let Some(process) = self.processes.get_mut(&returner) {
             process::give_back(process);
         }
+    }
+}
+
+// The time of a core, in ticks, or 0 where there is no such core.
+pub(super) fn time_at(cores: &[CoreState], core: CoreId) -> u64
+    requires { TimesFit cores.now }
+    ensures value { result ≡ time_of cores.now core }
+    ensures below { result < 68719476720 }
+{
+    time_among(cores, core)
+}
+
+#[tactic(auto, using(crate::proofs::Times::time_of_there, crate::proofs::Times::time_of_past))]
+fn time_among(cores: &[CoreState], core: CoreId) -> u64
+    ensures { result ≡ time_of cores.now core }
+{
+    match cores.get(core.number() as usize) {
+        Some(state) => state.time,
+        None => 0,
     }
 }

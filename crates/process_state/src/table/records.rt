@@ -1,42 +1,57 @@
 // What a call and a tick make of a partition.
 
-ghost use Rattle.std.specs.Prelude.{◌≡◌, ◌<◌, ◌++◌, true, OnOk, OnErr};
-ghost use Rattle.apex_machine.specs.State.{each_process};
-ghost use Rattle.apex_machine.specs.Services.{mode_by, set_by};
+ghost use Rattle.std.specs.Prelude.{◌≡◌, ◌++◌, ℕ, List, true, OnOk, OnErr, IsTrue};
+ghost use Rattle.apex_types.specs.Requested.{service_of};
+ghost use Rattle.apex_types.specs.declared.record.Body.TheVariants as body;
+ghost use Rattle.apex_machine.specs.declared.state.CoreState.{CoreState as CoreValue};
+ghost use Rattle.apex_machine.specs.Configuration as configured;
+ghost use Rattle.apex_machine.specs.Configuration.{Configuration};
+ghost use Rattle.apex_machine.specs.State.{each_process, time_of};
+ghost use Rattle.apex_machine.specs.Processes.{gift_of, set_by};
+ghost use Rattle.apex_machine.specs.Services.{is_built};
 ghost use Rattle.apex_machine.specs.After as after;
 ghost use Rattle.process_state.specs.Changes.{only, with_each};
 ghost use Rattle.process_state.specs.Settled.{settled};
 ghost use Rattle.process_state.specs.Sound.{IsSound};
+ghost use Rattle.process_state.specs.Timely.{IsTimely};
 
 use super::ProcTable;
+use super::changes::time_at;
 use crate::caller::{Settling, is_done, settling_of};
+use crate::gift::gifts_of;
 use crate::number::claimed_number;
+use crate::order::is_newly_named;
+use apex_machine::CoreState;
 use apex_types::{Call, CoreId, PartId, Place, ProcId, Request, Who};
 use std::alloc::AllocError;
 
 impl ProcTable {
-    /// A call, at this place and at its core's time `now`: what it sets in the partition, and what becomes of its caller.
-    /// A process that it creates runs on the first core.
+    /// A call of one of the partition's processes on this core, at this place and at these times of the cores: what it sets
+    /// in the partition, and what becomes of its caller. The period is the partition's, in ticks. A process that it creates
+    /// runs on the first core.
     ///
     /// AllocError where memory is refused; nothing has changed then.
     pub fn call(
         &mut self,
         first_core: CoreId,
+        period: u64,
+        cores: &[CoreState],
         place: Place,
-        now: u64,
+        core: CoreId,
         call: &Call,
     ) -> Result<(), AllocError>
-        requires time { now < 68719476720 }
+        requires timely { IsTimely period cores.now }
         requires sound { IsSound self.old.table call.now }
-        ensures ok { OnOk result (self.new ≡ after.partition_called first_core place now call.now self.old) }
+        ensures ok { OnOk result ((configuration : Configuration) → configured.first_core configuration call.now.who.part ≡ first_core → configured.period_of configuration call.now.who.part ≡ period → self.new ≡ after.partition_called configuration cores.now place core call.now self.old) }
         ensures unchanged { OnErr result (self.new ≡ self.old) }
     {
         let alloc = *self.processes.allocator();
+        let now = time_at(cores, core);
         let settling = settling_of(alloc, place, now, call)?;
         // Looked up before the call creates a process, which a caller that is not there may name as itself.
         let stands = self.proc(call.who.proc).is_some();
         if is_done(call.claim.out) {
-            self.carry_out(first_core, place, call)?;
+            self.carry_out(first_core, period, cores, place, call)?;
         }
         if stands {
             self.settle(call.who.proc, now, settling);
@@ -44,36 +59,74 @@ impl ProcTable {
         Ok(())
     }
 
+    /// A call of another partition, at this place, that ends the waits of those that it names of this one: each gets the
+    /// message that the call hands over.
+    ///
+    /// AllocError where memory for the messages is refused; nothing has changed then.
+    pub fn rouse(&mut self, part: PartId, place: Place, call: &Call) -> Result<(), AllocError>
+        ensures ok { OnOk result (self.new ≡ with_each (λ number process. after.roused place call.now (record { part = part; proc = number }) process) self.old) }
+        ensures unchanged { OnErr result (self.new ≡ self.old) }
+    {
+        let alloc = *self.processes.allocator();
+        let woken = call.claim.woken.as_slice();
+        let mut gifts = gifts_of(alloc, &call.request, woken.len())?;
+        for (index, who) in woken.iter().enumerate() {
+            if is_newly_named(*who, part, &woken[..index]) {
+                if let Some(gift) = gifts.pop() {
+                    self.wake(who.proc, place, gift);
+                }
+            }
+        }
+        Ok(())
+    }
+
     /// A tick that ends the waits of these processes, at this place; those of other partitions stay out. Takes no memory.
     pub fn tick(&mut self, part: PartId, place: Place, woken: &[Who])
-        ensures { self.new ≡ record self.old { table = each_process (after.ticked place part woken.now) self.old.table } }
+        ensures { (configuration : Configuration) (cores : List CoreValue) (core : ℕ) → self.new ≡ after.partition_by configuration cores place core part (body.Tick woken.now) self.old }
     {
-        for who in woken {
-            if who.part == part {
+        // That no waiting set is held is known where one of the fields is used.
+        let _ = &self.processes;
+        for (index, who) in woken.iter().enumerate() {
+            // A wait ends once, also where a list names its process twice.
+            if is_newly_named(*who, part, &woken[..index]) {
                 self.release(who.proc, place);
             }
         }
     }
 
     // What a call that is carried out sets in its partition, beside what becomes of its caller.
-    fn carry_out(&mut self, first_core: CoreId, place: Place, call: &Call) -> Result<(), AllocError>
+    fn carry_out(
+        &mut self,
+        first_core: CoreId,
+        period: u64,
+        cores: &[CoreState],
+        place: Place,
+        call: &Call,
+    ) -> Result<(), AllocError>
+        requires timely { IsTimely period cores.now }
         requires done { after.is_done call.now.claim.out ≡ true }
         requires sound { IsSound self.old.table call.now }
-        ensures mode { OnOk result (self.new.mode ≡ mode_by call.now.request self.old.mode) }
-        ensures table { OnOk result (self.new.table ≡ each_process (set_by place self.old.mode call.now.request) self.old.table ++ after.created_by first_core call.now call.now.request) }
+        ensures ok { OnOk result (self.new ≡ record self.old {
+          mode = after.mode_by call.now.request self.old.mode;
+          table = each_process (set_by place period cores.now self.old call.now.who.proc call.now.request) self.old.table ++ after.created_by first_core call.now call.now.request;
+        }) }
         ensures unchanged { OnErr result (self.new ≡ self.old) }
     {
         match &call.request {
-            Request::CreateProcess { name, priority, .. } => {
+            Request::CreateProcess {
+                name,
+                priority,
+                period: own_period,
+            } => {
                 if let Some(number) = claimed_number(call.claim.val) {
-                    self.create(first_core, number, name, *priority as u8)?;
+                    self.create(first_core, number, name, *priority as u8, *own_period)?;
                 }
             }
             Request::InitializeProcessCoreAffinity { process, core } => {
                 self.set_affinity_named(*process, CoreId::new(*core as u8));
             }
-            Request::Start { process } => self.start_named(*process, place),
-            Request::SetPartitionMode { .. } => self.normal(place),
+            Request::Start { process } => self.start_named(*process, place, period, cores),
+            Request::SetPartitionMode { .. } => self.normal(place, period, cores),
             _ => {}
         }
         Ok(())

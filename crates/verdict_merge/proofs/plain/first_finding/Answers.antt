@@ -2,7 +2,8 @@ use Rattle.std.proofs.Common.{◌≡◌, ◌≢◌, ◌≤◌, ◌<◌, ◌+◌,
 use Rattle.std.proofs.lemmas.List.{drop_all}
 use Rattle.std.proofs.Math.Seq.{drop-cons}
 use Rattle.apex_types.specs.declared.record.Ordered.{Ordered}
-use Rattle.apex_machine.specs.Pieces.{LocalStep, touches}
+use Rattle.apex_machine.specs.Demands.{LocalStep}
+use Rattle.apex_machine.specs.Pieces.{touches}
 use Rattle.apex_machine.specs.Runs.{ArePlaced, AreOfCores, Finds}
 use Rattle.piece_check.specs.declared.fault.PieceFault.TheVariants.{Memory}
 use Rattle.piece_check.specs.Parts.{HasCores, NoTimeAbove, piece_at}
@@ -26,7 +27,7 @@ returns-in-Err c =
     let piece = piece_at config c.args.number in
     let cut = from_here records index ordered (omega arith) c.ordered-item.is in
     let goes = subst (GoesOn config piece records c.loop-ordered.piece.part) cut c.loop-ordered.invariant.onward in
-    let touched : touches piece ordered ≡ true = cc in
+    let touched : touches config piece ordered ≡ true = cc in
     first_of config c.args.number piece records (c.in-Err.fault ≢ Memory) (record { pos = ordered.pos; piece = c.args.number; cause = cause_of c.in-Err.fault })
     c.found.result c.found.ensures
     (λ kept. (refl, finds_refused config piece records c.loop-ordered.piece.part ordered (drop (suc index) records) c.in-Err.fault goes touched kept c.in-Err.ensures.refused))
@@ -50,7 +51,7 @@ loop-ordered-preserved c =
     let after = on (index + 1) (sym (add-one index)) in
     elim c.if-touches.branch [
       | then-touches+in-Ok-step w ↦
-          let touched : touches piece ordered ≡ true = cc in
+          let touched : touches config piece ordered ≡ true = cc in
           let step : LocalStep config now ordered next = subst (λ held. LocalStep config now ordered held.part) (sym w.piece-is) w.in-Ok-step.ensures.ok in
           let more = passes config piece records now next ordered behind goes touched step in
           record {
@@ -62,7 +63,7 @@ loop-ordered-preserved c =
                 (subst (λ held. NoTimeAbove (ordered.pos + 1) held.part) (sym w.piece-is) w.in-Ok-step.ensures.behind);
           }
       | else-touches w ↦
-          let touched : touches piece ordered ≡ false = cc in
+          let touched : touches config piece ordered ≡ false = cc in
           let same = subst (λ held. GoesOn config piece records held.part behind) (sym w.piece-is) (skips config piece records now ordered behind goes touched) in
           let earlier : NoTimeAbove index next = subst (λ held. NoTimeAbove index held.part) (sym w.piece-is) c.loop-ordered.invariant.behind in
           record {

@@ -1,6 +1,8 @@
 -- The part is then the part after the record, which has as many cores, and times of one more at most.
+use Rattle.std.proofs.Common.{◌<◌, arith}
 use Rattle.piece_check.specs.Held.{part_of}
-use Rattle.piece_check.proofs.Parting.{HasCores_after, NoTimeAbove_after}
+use Rattle.piece_check.specs.Parts.{cores_of}
+use Rattle.piece_check.proofs.Parting.{HasCores_after, NoTimeAbove_after, TimesFit_behind}
 use Rattle.piece_check.proofs.piece.Piece.step.Goals as goal
 
 pub returns-in-Ok-clause-cores : goal.returns-in-Ok-clause-cores
@@ -14,3 +16,9 @@ returns-in-Ok-clause-behind c =
     let behind = rw (← c.self.view_is) at c.requires.behind in
     rw c.in-Ok.ensures.ok
     (NoTimeAbove_after c.args.ordered.now.pos c.args.config.now (part_of c.self.inside.held) c.args.ordered.now behind)
+
+pub apply-requires-clause-times : goal.apply-requires-clause-times
+apply-requires-clause-times c =
+    let behind = rw (← c.self.view_is) at c.requires.behind in
+    let bound : c.args.ordered.now.pos < 68719476720 = omega (arith, c.number-place.ensures.number, c.number-place.ensures.bound) in
+    TimesFit_behind c.args.ordered.now.pos (cores_of (part_of c.self.inside.held)) bound behind

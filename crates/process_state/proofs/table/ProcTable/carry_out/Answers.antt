@@ -1,21 +1,30 @@
-use Rattle.std.proofs.Common.{◌∙◌, ap, rules, nat_abs, FitsSigned, w64}
+use Rattle.std.proofs.Common.{refl, rules, FitsSigned, w64}
 use Rattle.std.proofs.lemmas.Int.{to_z-of_z}
-use Rattle.apex_machine.specs.State.{Partition}
-use Rattle.process_state.proofs.Carried.{carried-create, carried-none}
+use Rattle.process_state.proofs.Carried.{carried-create, carried-none, carried-start}
 use Rattle.process_state.proofs.table.ProcTable.carry_out.Goals as goal
 
-pub returns-in_ok-create-in-CreateProcess-clause-table :
-    goal.returns-in_ok-create-in-CreateProcess-clause-table
-returns-in_ok-create-in-CreateProcess-clause-table c =
-    let sound = rw c.in-CreateProcess.is at c.requires.sound in
+pub returns-in_ok-create-in-CreateProcess-clause-ok :
+    goal.returns-in_ok-create-in-CreateProcess-clause-ok
+returns-in_ok-create-in-CreateProcess-clause-ok c =
+    let sound = rw c.in-CreateProcess.is at c.requires.sound.asks in
     let fits : FitsSigned w64 c.in-CreateProcess.priority = search rules in
-    let kept = ap nat_abs (to_z-of_z w64 c.in-CreateProcess.priority fits) in
+    let fits_too : FitsSigned w64 c.in-CreateProcess.own_period = search rules in
+    let added = simp to_z-of_z at c.in_ok-create-in-CreateProcess.ensures.added in
     rw c.in-CreateProcess.is
-    (ap (λ (p : Partition). p.table) c.in_ok-create-in-CreateProcess.ensures.added
-    ∙ carried-create c.args.place c.args.first_core c.args.call.now c.in-CreateProcess.name c.in-CreateProcess.priority c.in-CreateProcess.period
-    c.args.self.now c.claimed_number.result c.in-Some.number _ kept c.requires.done sound c.claimed_number.ensures c.in-Some.is)
+    (carried-create c.args.place c.args.period c.args.first_core c.args.cores.now c.args.call.now c.in-CreateProcess.name c.in-CreateProcess.priority c.in-CreateProcess.own_period
+    c.args.self.now _ c.claimed_number.result c.in-Some.number _ added refl c.requires.done sound c.claimed_number.ensures c.in-Some.is)
+
+pub returns-in-Start-clause-ok : goal.returns-in-Start-clause-ok
+returns-in-Start-clause-ok c =
+    let fits : FitsSigned w64 c.in-Start.process = search rules in
+    let started = simp to_z-of_z at c.start_named.ensures in
+    rw c.in-Start.is
+    (carried-start c.args.place c.args.period c.args.first_core c.args.cores.now c.args.call.now c.in-Start.process c.args.self.now _ started)
 
 pub returns-in_default : goal.returns-in_default
 returns-in_default c =
-    let carried = carried-none c.args.place c.args.first_core c.args.call.now c.args.call.now.request c.args.self.now c.in_default.not-CreateProcess c.in_default.not-InitializeProcessCoreAffinity c.in_default.not-Start c.in_default.not-SetPartitionMode in
-    record { mode = carried.mode; table = carried.table; unchanged = tt }
+    record {
+      ok = carried-none c.args.place c.args.period c.args.first_core c.args.cores.now c.args.call.now c.args.call.now.request c.args.self.now c.requires.sound.judged
+          c.in_default.not-CreateProcess c.in_default.not-InitializeProcessCoreAffinity c.in_default.not-Start c.in_default.not-SetPartitionMode;
+      unchanged = tt;
+    }

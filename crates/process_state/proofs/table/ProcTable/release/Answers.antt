@@ -1,6 +1,6 @@
 -- The one process of the number is changed in place, and the numbers stay.
 use Rattle.std.proofs.Common.{refl}
-use Rattle.apex_machine.specs.After.{released}
+use Rattle.apex_machine.specs.Processes.{released}
 use Rattle.process_state.proofs.Tables.{NumbersFit-written, partition-kept, partition-written}
 use Rattle.process_state.proofs.table.ProcTable.release.Goals as goal
 use Rattle.process_state.proofs.table.ProcTable.release.Goals.{in-Some, in_default}

@@ -1,6 +1,6 @@
 -- The one process of the number is changed in place, and the numbers stay.
 use Rattle.std.proofs.Common.{refl}
-use Rattle.apex_machine.specs.Services.{moved_to}
+use Rattle.process_state.specs.Changes.{moved_to}
 use Rattle.process_state.proofs.Tables.{NumbersFit-written, partition-kept, partition-written}
 use Rattle.process_state.proofs.table.ProcTable.set_affinity.Goals as goal
 use Rattle.process_state.proofs.table.ProcTable.set_affinity.Goals.{in-Some, in_default}

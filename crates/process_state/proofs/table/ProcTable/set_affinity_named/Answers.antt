@@ -1,6 +1,6 @@
 use Rattle.std.proofs.Common.{sym, ◌∙◌}
 use Rattle.std.proofs.lemmas.Int.{to_z-of_z}
-use Rattle.apex_machine.specs.Services.{moved_to}
+use Rattle.process_state.specs.Changes.{moved_to}
 use Rattle.process_state.proofs.Carried.{named-none}
 use Rattle.process_state.proofs.table.ProcTable.set_affinity_named.Goals as goal
 

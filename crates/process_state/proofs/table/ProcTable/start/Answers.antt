@@ -1,6 +1,8 @@
 -- The one process of the number is changed in place, and the numbers stay.
-use Rattle.std.proofs.Common.{refl}
-use Rattle.apex_machine.specs.Services.{started}
+use Rattle.std.proofs.Common.{ℕ, ap, refl, ◌∙◌}
+use Rattle.apex_machine.specs.declared.state.Process.{Process}
+use Rattle.apex_machine.specs.Processes.{started}
+use Rattle.apex_machine.specs.State.{time_of}
 use Rattle.process_state.proofs.Tables.{NumbersFit-written, partition-kept, partition-written}
 use Rattle.process_state.proofs.table.ProcTable.start.Goals as goal
 use Rattle.process_state.proofs.table.ProcTable.start.Goals.{in-Some, in_default}
@@ -16,7 +18,7 @@ pub returns : goal.returns
 returns c =
     elim c.match-get_mut.branch [
       | in-Some w ↦ rw (w.self-inside-is, ← c.self.view_is)
-          (partition-written _ c.args.process (started c.args.place c.self.inside.mode) _ _ _ _ c.get_mut.ensures.unique w.in-Some.ensures.value w.start.ensures (c.get_mut.follows.holds w.start.new.process).0)
+          (partition-written _ c.args.process (λ (found : Process). started c.args.place c.args.period (time_of c.args.cores.now found.affinity) c.self.inside.mode found) _ _ _ _ c.get_mut.ensures.unique w.in-Some.ensures.value (w.start.ensures ∙ ap (λ (now : ℕ). started c.args.place c.args.period now c.self.inside.mode w.in-Some.process.now) w.time_at-now.ensures.value) (c.get_mut.follows.holds w.start.new.process).0)
       | in_default w ↦ rw (w.self-inside-is, ← c.self.view_is)
-          (partition-kept _ c.args.process (started c.args.place c.self.inside.mode) _ _ (rw w.in_default.is at c.get_mut.ensures.value) (rw c.get_mut.follows.holds-at-none refl))
+          (partition-kept _ c.args.process (λ (found : Process). started c.args.place c.args.period (time_of c.args.cores.now found.affinity) c.self.inside.mode found) _ _ (rw w.in_default.is at c.get_mut.ensures.value) (rw c.get_mut.follows.holds-at-none refl))
     ]

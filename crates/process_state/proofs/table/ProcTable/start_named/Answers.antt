@@ -1,6 +1,8 @@
 use Rattle.std.proofs.Common.{sym, ◌∙◌}
 use Rattle.std.proofs.lemmas.Int.{to_z-of_z}
-use Rattle.apex_machine.specs.Services.{started}
+use Rattle.apex_machine.specs.declared.state.Process.{Process}
+use Rattle.apex_machine.specs.Processes.{started}
+use Rattle.apex_machine.specs.State.{time_of}
 use Rattle.process_state.proofs.Carried.{named-none}
 use Rattle.process_state.proofs.table.ProcTable.start_named.Goals as goal
 
@@ -8,4 +10,4 @@ pub returns-in_default : goal.returns-in_default
 returns-in_default c =
     let fits = c.ranges.given in
     let none = simp to_z-of_z at (sym c.process_number.ensures ∙ c.in_default.is) in
-    rw (← c.self.view_is) (named-none (started c.args.place c.self.inside.mode) c.args.given _ none c.self.invariant)
+    rw (← c.self.view_is) (named-none (λ (found : Process). started c.args.place c.args.period (time_of c.args.cores.now found.affinity) c.self.inside.mode found) c.args.given _ none c.self.invariant)

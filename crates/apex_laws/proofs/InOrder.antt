@@ -1,0 +1,220 @@
+-- The entries of every waiting set stay in order.
+use Rattle.std.proofs.Common.{◌≡◌, ℕ, suc, ◌<◌, List, [], ◌∷◌, ◌++◌, Bool, true, false, cond, nat_eq, IsTrue, refl, sym, subst, ◌∙◌, inl, inr, arith, true≢false}
+use Rattle.std.proofs.lemmas.Bool.{cases_Bool}
+use Rattle.apex_types.specs.declared.record.Body.{Body}
+use Rattle.apex_types.specs.declared.record.Body.TheVariants.{Call, Ret, Disp, Tick}
+use Rattle.apex_types.specs.declared.record.Call.{Call as CallRecord}
+use Rattle.apex_types.specs.declared.record.Ordered.{Ordered}
+use Rattle.apex_types.specs.declared.record.Who.{Who}
+use Rattle.apex_types.specs.declared.service.Service.{Service}
+use Rattle.apex_machine.specs.declared.state.Process.{Process}
+use Rattle.apex_machine.specs.declared.state.WaitingSet.{WaitingSet}
+use Rattle.apex_machine.specs.declared.state.WaitingSet.TheVariants as set
+use Rattle.apex_machine.specs.After.{each_set, is_done, objects_by, partition_by, partition_called, returned, roused, ticked}
+use Rattle.apex_machine.specs.Channels.{is_receiver, is_sender}
+use Rattle.apex_machine.specs.Configuration.{Configuration}
+use Rattle.apex_machine.specs.Demands.{stands_in}
+use Rattle.apex_machine.specs.State.{Entry, Partition, State, cold_state, each_process, is_named, is_same}
+use Rattle.apex_machine.specs.Step.{IsLawfulBody, RunJudging, StepJudging}
+use Rattle.apex_machine.specs.Waiting.{ends_wait, enters, entry_of, set_after, without}
+use Rattle.apex_laws.specs.Laws.{AllEntries, AllPairs, SetsAreInOrder, AreTied, IsEarlier, IsInOrder, IsTied, StaysInOrder, entries_at}
+use Rattle.apex_laws.specs.ObjectLaws.{AreApart, OrderIsApart}
+use Rattle.apex_laws.proofs.Booleans.{neither_first, neither_later}
+use Rattle.apex_laws.proofs.Demanded.{caller_stands_not}
+use Rattle.apex_laws.proofs.Objects.{each_set_has, objects_have}
+use Rattle.apex_laws.proofs.Stays.{called_sets, same_sets, step_tied}
+use Rattle.apex_laws.proofs.Waiters.{all_push, all_weaker, all_without}
+use Rattle.apex_laws.proofs.Whos.{same_is, same_itself}
+
+-- one set
+
+-- those who stay
+pairs_without : (Fact : Entry → Entry → Type 0) (leaves : Who → Bool) (entries : List Entry) → AllPairs Fact entries → AllPairs Fact (without leaves entries)
+pairs_without Fact leaves [] all = tt
+pairs_without Fact leaves (entry ∷ entries) all =
+    elim (leaves entry.who) as (λ gone. AllPairs Fact (cond gone (without leaves entries) (entry ∷ without leaves entries))) [
+      | true ↦ pairs_without Fact leaves entries all.1
+      | false ↦ (all_without (Fact entry) (Fact entry) leaves (λ other stays fact. fact) entries all.0, pairs_without Fact leaves entries all.1)
+    ]
+
+-- one more at the end
+pairs_push : (Fact : Entry → Entry → Type 0) (entries : List Entry) (entry : Entry) → AllPairs Fact entries → AllEntries (λ other. Fact other entry) entries
+    → AllPairs Fact (entries ++ entry ∷ [])
+pairs_push Fact [] entry all last = (tt, tt)
+pairs_push Fact (other ∷ entries) entry all last = (all_push (Fact other) entries entry all.0 last.0, pairs_push Fact entries entry all.1 last.1)
+
+-- a process that stands in no entry is another than that of each entry
+is_other : (who : Who) (other : Who) → is_same who other ≡ false → is_same other who ≡ false
+is_other who other differs = elim (cases_Bool (is_same other who)) [
+  | inl same ↦ absurd (true≢false (sym (subst (λ one. is_same who one ≡ true) (sym (same_is other who same)) (same_itself who)) ∙ differs))
+  | inr apart ↦ apart
+]
+
+others : (who : Who) (entries : List Entry) → stands_in who entries ≡ false → AllEntries (λ other. is_same other.who who ≡ false) entries
+others who [] none = tt
+others who (entry ∷ entries) none = (is_other who entry.who (neither_first _ _ none), others who entries (neither_later _ _ none))
+
+-- each entry of a set is earlier than the next caller's
+earlier : (count : ℕ) (entry : Entry) → entry.place ≡ count → (entries : List Entry) → AllEntries (λ other. other.place < count) entries
+    → AllEntries (λ other. is_same other.who entry.who ≡ false) entries → AllEntries (λ other. IsEarlier other entry) entries
+earlier count entry at [] below differ = tt
+earlier count entry at (other ∷ entries) below differ =
+    let first : other.place < count = below.0 in
+    (record { place = omega (arith, first, at); differs = differ.0 }, earlier count entry at entries below.1 differ.1)
+
+-- a set without those who leave
+order_without : (count : ℕ) (leaves : Who → Bool) (entries : List Entry) → IsInOrder count entries → IsInOrder count (without leaves entries)
+order_without count leaves entries order = record {
+  pairs = pairs_without IsEarlier leaves entries order.pairs;
+  below = all_without (λ entry. entry.place < count) (λ entry. entry.place < count) leaves (λ entry stays fact. fact) entries order.below;
+}
+
+-- one record later
+order_later : (count : ℕ) (entries : List Entry) → IsInOrder count entries → IsInOrder (suc count) entries
+order_later count entries order = record {
+  pairs = order.pairs;
+  below = all_weaker (λ entry. entry.place < count) (λ entry. entry.place < suc count) (λ entry below. omega (arith, below)) entries order.below;
+}
+
+-- the set with a caller that enters it
+order_push : (count : ℕ) (entry : Entry) (entries : List Entry) → entry.place ≡ count → IsInOrder count entries
+    → AllEntries (λ other. is_same other.who entry.who ≡ false) entries → IsInOrder (suc count) (entries ++ entry ∷ [])
+order_push count entry entries at order differ = record {
+  pairs = pairs_push IsEarlier entries entry order.pairs (earlier count entry at entries order.below differ);
+  below = all_push (λ other. other.place < suc count) entries entry (order_later count entries order).below (omega (arith, at));
+}
+
+-- a caller that enters stands there not yet
+abbrev EntersNew : Body → List Entry → Type 0
+EntersNew (Call call) entries = stands_in call.who entries ≡ false
+EntersNew _ entries = Unit {0}
+
+-- a set after a record
+set_in_order : (count place : ℕ) (body : Body) (wanted : WaitingSet) (entries : List Entry) → place ≡ count → EntersNew body entries → IsInOrder count entries
+    → IsInOrder (suc count) (set_after place body wanted entries)
+set_in_order count place (Disp who) wanted entries at new order = order_later count entries order
+set_in_order count place (Ret ret) wanted entries at new order = order_later count entries order
+set_in_order count place (Tick woken) wanted entries at new order =
+    order_later count (without (λ who. is_named who woken) entries) (order_without count (λ who. is_named who woken) entries order)
+set_in_order count place (Call call) wanted entries at new order =
+    let rest = order_without count (ends_wait call) entries order in
+    elim (enters call wanted) as (λ here. IsInOrder (suc count) (cond here (without (ends_wait call) entries ++ entry_of place call ∷ []) (without (ends_wait call) entries))) [
+      | true ↦ order_push count (entry_of place call) (without (ends_wait call) entries) at rest
+          (all_without (λ other. is_same other.who call.who ≡ false) (λ other. is_same other.who call.who ≡ false) (ends_wait call) (λ other stays fact. fact) entries (others call.who entries new))
+      | false ↦ order_later count (without (ends_wait call) entries) rest
+    ]
+
+-- the empty set
+none_in_order : (count : ℕ) → IsInOrder count []
+none_in_order count = record { pairs = tt; below = tt }
+
+-- every set
+
+-- the caller of a lawful call stands in no set of a partition
+new_here : (judged : Service → Bool) (configuration : Configuration) (state : State) (core : ℕ) (body : Body) → AreTied configuration state
+    → IsLawfulBody judged configuration state core body → (Home : ℕ → Type 0) (wanted : WaitingSet) (entries : List Entry)
+    → AllEntries (IsTied Home wanted state.partitions) entries → EntersNew body entries
+new_here judged configuration state core (Call call) tied law Home wanted entries all = caller_stands_not judged configuration state core call tied law Home wanted entries all
+new_here judged configuration state core (Disp who) tied law Home wanted entries all = tt
+new_here judged configuration state core (Tick woken) tied law Home wanted entries all = tt
+new_here judged configuration state core (Ret ret) tied law Home wanted entries all = tt
+
+-- the sets of the objects that a call used, or created
+used_in_order : (count : ℕ) (configuration : Configuration) (call : CallRecord) (partition : Partition) (wanted : WaitingSet)
+    → (IsInOrder count (entries_at partition wanted) × (stands_in call.who (entries_at partition wanted) ≡ false))
+    → (IsInOrder count (entries_at (cond (is_done call.claim.out) (objects_by configuration call.who call.claim.val call.request partition) partition) wanted)
+    × (stands_in call.who (entries_at (cond (is_done call.claim.out) (objects_by configuration call.who call.claim.val call.request partition) partition) wanted) ≡ false))
+used_in_order count configuration call partition wanted both =
+    elim (is_done call.claim.out) as (λ done. IsInOrder count (entries_at (cond done (objects_by configuration call.who call.claim.val call.request partition) partition) wanted)
+    × (stands_in call.who (entries_at (cond done (objects_by configuration call.who call.claim.val call.request partition) partition) wanted) ≡ false)) [
+      | true ↦ objects_have (λ entries. IsInOrder count entries × (stands_in call.who entries ≡ false)) (none_in_order count, refl) configuration call.who call.claim.val call.request partition wanted both
+      | false ↦ both
+    ]
+
+-- the sets of a partition after a record
+partition_in_order : (judged : Service → Bool) (configuration : Configuration) (state : State) (place core : ℕ) (body : Body) → place ≡ state.count → AreTied configuration state
+    → IsLawfulBody judged configuration state core body → SetsAreInOrder state → (number : ℕ) (wanted : WaitingSet)
+    → IsInOrder (suc state.count) (entries_at (partition_by configuration state.cores place core number body (state.partitions number)) wanted)
+partition_in_order judged configuration state place core (Disp who) at tied law order number wanted = order_later state.count (entries_at (state.partitions number) wanted) (order.objects number wanted)
+partition_in_order judged configuration state place core (Ret ret) at tied law order number wanted =
+    let later = order_later state.count (entries_at (state.partitions number) wanted) (order.objects number wanted) in
+    elim (nat_eq ret.who.part number) as (λ own. IsInOrder (suc state.count) (entries_at (cond own
+    (record (state.partitions number) { table = each_process (returned ret.who.proc) (state.partitions number).table }) (state.partitions number)) wanted)) [
+      | true ↦ subst (IsInOrder (suc state.count)) (sym (same_sets (state.partitions number) (each_process (returned ret.who.proc) (state.partitions number).table) wanted)) later
+      | false ↦ later
+    ]
+partition_in_order judged configuration state place core (Tick woken) at tied law order number wanted =
+    subst (IsInOrder (suc state.count)) (sym (same_sets (each_set (set_after place (Tick woken)) (state.partitions number)) (each_process (ticked place number woken) (state.partitions number).table) wanted))
+    (each_set_has (IsInOrder (suc state.count)) (none_in_order (suc state.count)) (set_after place (Tick woken)) (state.partitions number) wanted
+    (set_in_order state.count place (Tick woken) wanted (entries_at (state.partitions number) wanted) at tt (order.objects number wanted)))
+partition_in_order judged configuration state place core (Call call) at tied law order number wanted =
+    let foreign : ℕ → Process → Process = λ other process. roused place call (record { part = number; proc = other }) process in
+    elim (nat_eq call.who.part number) as (λ own. IsInOrder (suc state.count) (entries_at (cond own
+    (partition_called configuration state.cores place core call (state.partitions number))
+    (record (state.partitions number) { table = each_process foreign (state.partitions number).table })) wanted)) [
+      | true ↦
+          let objects : Partition = cond (is_done call.claim.out) (objects_by configuration call.who call.claim.val call.request (state.partitions number)) (state.partitions number) in
+          let used = used_in_order state.count configuration call (state.partitions number) wanted
+          (order.objects number wanted, caller_stands_not judged configuration state core call tied law (λ home. home ≡ number) wanted (entries_at (state.partitions number) wanted) (tied.objects number wanted)) in
+          subst (IsInOrder (suc state.count)) (sym (called_sets configuration state place core call (state.partitions number) wanted))
+          (each_set_has (IsInOrder (suc state.count)) (none_in_order (suc state.count)) (set_after place (Call call)) objects wanted
+          (set_in_order state.count place (Call call) wanted (entries_at objects wanted) at used.1 used.0))
+      | false ↦
+          subst (IsInOrder (suc state.count)) (sym (same_sets (state.partitions number) (each_process foreign (state.partitions number).table) wanted))
+          (order_later state.count (entries_at (state.partitions number) wanted) (order.objects number wanted))
+    ]
+
+-- the whole state
+
+pub step_in_order : (judged : Service → Bool) (configuration : Configuration) (state : State) (ordered : Ordered) (next : State)
+    → AreTied configuration state → SetsAreInOrder state → StepJudging judged configuration state ordered next → SetsAreInOrder next
+step_in_order judged configuration state ordered next tied order step =
+    let place = ordered.pos in
+    let core = ordered.core in
+    let body = ordered.rec.body in
+    let law = step.0.claims in
+    let at = step.0.placed in
+    subst SetsAreInOrder (sym step.1) (record {
+      objects = λ number wanted. partition_in_order judged configuration state place core body at tied law order number wanted;
+      senders = λ number. set_in_order state.count place body (set.ChannelSenders number) (state.channels number).senders at
+          (new_here judged configuration state core body tied law (λ home. IsTrue (is_sender configuration number home)) (set.ChannelSenders number) (state.channels number).senders (tied.senders number))
+          (order.senders number);
+      receivers = λ number. set_in_order state.count place body (set.ChannelReceivers number) (state.channels number).receivers at
+          (new_here judged configuration state core body tied law (λ home. IsTrue (is_receiver configuration number home)) (set.ChannelReceivers number) (state.channels number).receivers (tied.receivers number))
+          (order.receivers number);
+    })
+
+pub run_in_order : (judged : Service → Bool) (configuration : Configuration) (records : List Ordered) (state final : State)
+    → AreTied configuration state → SetsAreInOrder state → RunJudging judged configuration state records final → SetsAreInOrder final
+run_in_order judged configuration [] state final tied order run = subst SetsAreInOrder (sym run) order
+run_in_order judged configuration (ordered ∷ others) state final tied order run =
+    run_in_order judged configuration others run.0 final (step_tied judged configuration state ordered run.0 tied run.1)
+    (step_in_order judged configuration state ordered run.0 tied order run.1) run.2
+
+cold_in_order : (configuration : Configuration) (number : ℕ) (wanted : WaitingSet) → IsInOrder 0 (entries_at ((cold_state configuration).partitions number) wanted)
+cold_in_order configuration number (set.BufferSenders object) = none_in_order 0
+cold_in_order configuration number (set.BufferReceivers object) = none_in_order 0
+cold_in_order configuration number (set.BlackboardReaders object) = none_in_order 0
+cold_in_order configuration number (set.SemaphoreWaiters object) = none_in_order 0
+cold_in_order configuration number (set.EventWaiters object) = none_in_order 0
+cold_in_order configuration number (set.MutexWaiters object) = none_in_order 0
+cold_in_order configuration number (set.ChannelSenders channel) = none_in_order 0
+cold_in_order configuration number (set.ChannelReceivers channel) = none_in_order 0
+
+pub stays_in_order : StaysInOrder
+stays_in_order = (
+  λ configuration. record { objects = cold_in_order configuration; senders = λ number. none_in_order 0; receivers = λ number. none_in_order 0 },
+  step_in_order,
+  run_in_order,
+)
+
+-- sets in order are apart
+apart_from : (entry : Entry) (entries : List Entry) → AllEntries (IsEarlier entry) entries → AllEntries (λ other. ¬ (entry.place ≡ other.place)) entries
+apart_from entry entries all = all_weaker (IsEarlier entry) (λ other. ¬ (entry.place ≡ other.place)) (λ other earlier same. absurd (omega (arith, earlier.place, same))) entries all
+
+pairs_apart : (entries : List Entry) → AllPairs IsEarlier entries → AreApart entries
+pairs_apart [] all = tt
+pairs_apart (entry ∷ entries) all = (apart_from entry entries all.0, pairs_apart entries all.1)
+
+pub order_is_apart : OrderIsApart
+order_is_apart count entries order = pairs_apart entries order.pairs

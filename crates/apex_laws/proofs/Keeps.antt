@@ -1,0 +1,312 @@
+-- A process that a lawful record doesn't wake or stop goes on waiting where it waits.
+use Rattle.std.proofs.Common.{◌≡◌, ℕ, zero, suc, List, [], ◌∷◌, ◌++◌, Bool, true, false, cond, nat_eq, ℤ, pos, negsuc, Option, Some, None, option_map, refl, sym, ap, subst, ◌∙◌, inl, inr, true≢false}
+use Rattle.std.proofs.lemmas.Bool.{and_from, and_parts, cases_Bool, eqb-true}
+use Rattle.apex_types.specs.declared.code.Code.TheVariants as code
+use Rattle.apex_types.specs.declared.record.Body.{Body}
+use Rattle.apex_types.specs.declared.record.Body.TheVariants.{Call, Ret, Disp, Tick}
+use Rattle.apex_types.specs.declared.record.Call.{Call as CallRecord}
+use Rattle.apex_types.specs.declared.record.Out.{Out}
+use Rattle.apex_types.specs.declared.record.Out.TheVariants as out
+use Rattle.apex_types.specs.declared.record.Who.{Who}
+use Rattle.apex_types.specs.declared.request.Request.{Request}
+use Rattle.apex_types.specs.declared.request.Request.TheVariants as request
+use Rattle.apex_types.specs.declared.service.Service.{Service}
+use Rattle.apex_machine.specs.declared.state.CoreState.{CoreState}
+use Rattle.apex_machine.specs.declared.state.Process.{Process}
+use Rattle.apex_machine.specs.declared.state.Wait.{Wait}
+use Rattle.apex_machine.specs.declared.state.Wait.TheVariants as wait
+use Rattle.apex_machine.specs.declared.state.WaitingSet.{WaitingSet}
+use Rattle.apex_machine.specs.After.{adjusted, called, caller_after, created_by, is_done, partition_by, returned, roused, ticked}
+use Rattle.apex_machine.specs.Arguments.{is_number, natural_of}
+use Rattle.apex_machine.specs.Conditions.{created, start_codes}
+use Rattle.apex_machine.specs.Configuration.{Configuration, first_core, period_of}
+use Rattle.apex_machine.specs.Objects.{is_owner}
+use Rattle.apex_machine.specs.Ports.{channel_of, suits_use, use_of}
+use Rattle.apex_machine.specs.Processes.{after_normal, by_mutex, entry_wait, on_ownership, set_by, started, wait_in, wait_of, waits_for_normal, due_of_call, time_out_of}
+use Rattle.apex_machine.specs.ServiceConditions.{condition_codes}
+use Rattle.apex_machine.specs.Services.{answer_of}
+use Rattle.apex_machine.specs.State.{Mutex, Partition, State, Table, each_process, given_object, is_named, process_at, time_of}
+use Rattle.apex_machine.specs.Step.{IsLawfulBody, IsLawfulCall, channel_answer}
+use Rattle.apex_machine.specs.Waiting.{ends_wait, enters, is_in, is_the_set, is_waiting, set_of, stops, waits_at}
+use Rattle.apex_machine.specs.Demands.{window_now}
+use Rattle.apex_laws.specs.Laws.{AreTied}
+use Rattle.apex_laws.proofs.Booleans.{is_itself, neither_first, neither_later}
+use Rattle.apex_laws.proofs.Callers.{chosen_stands, ready_waits_not}
+use Rattle.apex_laws.proofs.Codes.{are_errors, done_is_lawful}
+use Rattle.apex_laws.proofs.Ends.{no_condition}
+use Rattle.apex_laws.proofs.Tables.{at_each}
+use Rattle.apex_laws.proofs.Whos.{same_who}
+use Rattle.apex_laws.proofs.Woken.{found}
+
+-- a process that waits
+
+-- a process that waits in a set stands and is alive
+pub record StandsWaiting (wanted : WaitingSet) (found : Option Process) : Type 0 where
+  pub process : Process
+  pub stands : found ≡ Some process
+  pub alive : process.alive ≡ true
+  pub waits : is_in wanted process.wait ≡ true
+
+pub waits_stands : (wanted : WaitingSet) (found : Option Process) → waits_at wanted found ≡ true → StandsWaiting wanted found
+waits_stands wanted None waits = absurd (true≢false (sym waits))
+waits_stands wanted (Some process) waits =
+    let parts = and_parts process.alive (is_in wanted process.wait) waits in
+    record { process = process; stands = refl; alive = parts.0; waits = parts.1 }
+
+-- a process that is found goes on waiting if it stays alive and keeps its wait
+goes_on : (wanted : WaitingSet) (found : Option Process) (new : Process) → found ≡ Some new → new.alive ≡ true → is_in wanted new.wait ≡ true → waits_at wanted found ≡ true
+goes_on wanted found new is alive waits = subst (λ one. waits_at wanted one ≡ true) (sym is) (and_from _ _ alive waits)
+
+-- what a call sets in a process leaves it alive, and leaves its wait
+
+-- a wait in a set isn't the wait for NORMAL
+not_for_normal : (wanted : WaitingSet) (one : Wait) → is_in wanted one ≡ true → waits_for_normal one ≡ false
+not_for_normal wanted (wait.At set due) waits = refl
+not_for_normal wanted _ waits = absurd (true≢false (sym waits))
+
+-- START isn't asked for this process
+abbrev pub IsNotStarted : Request → ℕ → Type 0
+IsNotStarted (request.Start process) number = is_number process number ≡ false
+IsNotStarted _ number = Unit {0}
+
+-- the priority of a mutex, given or taken back
+ownership_alive : (before after : Bool) (priority : ℕ) (x : Process) → (on_ownership before after priority x).alive ≡ x.alive
+ownership_alive false true priority x = refl
+ownership_alive true false priority x = refl
+ownership_alive true true priority x = refl
+ownership_alive false false priority x = refl
+
+ownership_wait : (before after : Bool) (priority : ℕ) (x : Process) → (on_ownership before after priority x).wait ≡ x.wait
+ownership_wait false true priority x = refl
+ownership_wait true false priority x = refl
+ownership_wait true true priority x = refl
+ownership_wait false false priority x = refl
+
+mutex_alive : (found : Option Mutex) (change : Mutex → Mutex) (number : ℕ) (x : Process) → (by_mutex found change number x).alive ≡ x.alive
+mutex_alive None change number x = refl
+mutex_alive (Some mutex) change number x = ownership_alive (is_owner mutex.owner number) (is_owner (change mutex).owner number) mutex.priority x
+
+mutex_wait : (found : Option Mutex) (change : Mutex → Mutex) (number : ℕ) (x : Process) → (by_mutex found change number x).wait ≡ x.wait
+mutex_wait None change number x = refl
+mutex_wait (Some mutex) change number x = ownership_wait (is_owner mutex.owner number) (is_owner (change mutex).owner number) mutex.priority x
+
+-- NORMAL leaves who is alive so
+normal_alive : (place period now : ℕ) (x : Process) → (after_normal place period now x).alive ≡ x.alive
+normal_alive place period now x =
+    elim (waits_for_normal x.wait) as (λ waits. (cond waits (record x { wait = entry_wait period now x.period; ready_position = place }) x).alive ≡ x.alive) [ true ↦ refl | false ↦ refl ]
+
+-- a change of one process
+one_alive : (own : Bool) (changed x : Process) → x.alive ≡ true → changed.alive ≡ true → (cond own changed x).alive ≡ true
+one_alive true changed x alive also = also
+one_alive false changed x alive also = alive
+
+one_wait : (own : Bool) (changed x : Process) → changed.wait ≡ x.wait → (cond own changed x).wait ≡ x.wait
+one_wait true changed x same = same
+one_wait false changed x same = refl
+
+set_by_alive : (place period : ℕ) (cores : List CoreState) (partition : Partition) (caller : ℕ) (asked : Request) (number : ℕ) (x : Process) → x.alive ≡ true
+    → (set_by place period cores partition caller asked number x).alive ≡ true
+set_by_alive place period cores partition caller (request.InitializeProcessCoreAffinity process core) number x alive =
+    one_alive (is_number process number) (record x { affinity = natural_of core }) x alive alive
+set_by_alive place period cores partition caller (request.Start process) number x alive =
+    one_alive (is_number process number) (started place period (time_of cores x.affinity) partition.mode x) x alive refl
+set_by_alive place period cores partition caller (request.Suspend process) number x alive =
+    one_alive (is_number process number) (record x { suspended = true }) x alive alive
+set_by_alive place period cores partition caller (request.Resume process) number x alive =
+    one_alive (is_number process number) (record x { suspended = false; ready_position = place }) x alive alive
+set_by_alive place period cores partition caller (request.SetPriority process priority) number x alive =
+    one_alive (is_number process number) (record x { current_priority = natural_of priority; ready_position = place }) x alive alive
+set_by_alive place period cores partition caller (request.SetPartitionMode next) number x alive = normal_alive place period (time_of cores x.affinity) x ∙ alive
+set_by_alive place period cores partition caller (request.AcquireMutex mutex time_out) number x alive = mutex_alive (given_object partition.mutexes mutex) _ number x ∙ alive
+set_by_alive place period cores partition caller (request.ReleaseMutex mutex) number x alive = mutex_alive (given_object partition.mutexes mutex) _ number x ∙ alive
+set_by_alive place period cores partition caller _ number x alive = alive
+
+pub set_by_wait : (place period : ℕ) (cores : List CoreState) (partition : Partition) (caller : ℕ) (asked : Request) (number : ℕ) (x : Process) → IsNotStarted asked number
+    → waits_for_normal x.wait ≡ false → (set_by place period cores partition caller asked number x).wait ≡ x.wait
+set_by_wait place period cores partition caller (request.InitializeProcessCoreAffinity process core) number x starts normal =
+    one_wait (is_number process number) (record x { affinity = natural_of core }) x refl
+set_by_wait place period cores partition caller (request.Start process) number x starts normal = rw starts refl
+set_by_wait place period cores partition caller (request.Suspend process) number x starts normal =
+    one_wait (is_number process number) (record x { suspended = true }) x refl
+set_by_wait place period cores partition caller (request.Resume process) number x starts normal =
+    one_wait (is_number process number) (record x { suspended = false; ready_position = place }) x refl
+set_by_wait place period cores partition caller (request.SetPriority process priority) number x starts normal =
+    one_wait (is_number process number) (record x { current_priority = natural_of priority; ready_position = place }) x refl
+set_by_wait place period cores partition caller (request.SetPartitionMode next) number x starts normal = rw normal refl
+set_by_wait place period cores partition caller (request.AcquireMutex mutex time_out) number x starts normal = mutex_wait (given_object partition.mutexes mutex) _ number x
+set_by_wait place period cores partition caller (request.ReleaseMutex mutex) number x starts normal = mutex_wait (given_object partition.mutexes mutex) _ number x
+set_by_wait place period cores partition caller _ number x starts normal = refl
+
+-- START starts nobody that is alive
+
+-- a number that isn't a process's
+not_number : (table : Table) (process : ℤ) (number : ℕ) (x : Process) → process_at table number ≡ Some x → x.alive ≡ true → start_codes (created table process) ≡ [] → is_number process number ≡ false
+not_number table (negsuc n) number x at alive none = refl
+not_number table (pos zero) number x at alive none = cc
+not_number table (pos (suc n)) number x at alive none =
+    elim (cases_Bool (nat_eq (suc n) number)) [
+      | inl same ↦
+          let codes : start_codes (Some x) ≡ [] = subst (λ one. start_codes one ≡ []) (subst (λ one. process_at table one ≡ Some x) (sym (eqb-true (suc n) number same)) at) none in
+          absurd (true≢false (sym alive ∙ no_condition x.alive code.NoAction codes))
+      | inr differs ↦ differs
+    ]
+
+not_started : (configuration : Configuration) (who : Who) (partition : Partition) (asked : Request) (number : ℕ) (x : Process) → process_at partition.table number ≡ Some x → x.alive ≡ true
+    → condition_codes configuration who partition asked ≡ [] → IsNotStarted asked number
+not_started configuration who partition (request.Start process) number x at alive none = not_number partition.table process number x at alive none
+not_started configuration who partition _ number x at alive none = tt
+
+-- after a call
+
+-- what a lawful call sets leaves a waiting process alive and waiting
+pub adjusted_waits : (judged : Service → Bool) (configuration : Configuration) (state : State) (place period core : ℕ) (call : CallRecord) → IsLawfulCall judged configuration state core call
+    → (number : ℕ) (x : Process) (wanted : WaitingSet) → process_at (state.partitions call.who.part).table number ≡ Some x → x.alive ≡ true → is_in wanted x.wait ≡ true
+    → ((adjusted place period state.cores (state.partitions call.who.part) call number x).alive ≡ true)
+    × (is_in wanted (adjusted place period state.cores (state.partitions call.who.part) call number x).wait ≡ true)
+adjusted_waits judged configuration state place period core call law number x wanted at alive waits =
+    elim (is_done call.claim.out) as (λ done. is_done call.claim.out ≡ done
+    → ((cond done (set_by place period state.cores (state.partitions call.who.part) call.who.proc call.request number x) x).alive ≡ true)
+    × (is_in wanted (cond done (set_by place period state.cores (state.partitions call.who.part) call.who.proc call.request number x) x).wait ≡ true)) [
+      | true ↦ λ done.
+          let none = done_is_lawful (condition_codes configuration call.who (state.partitions call.who.part) call.request) (channel_of (state.partitions call.who.part) call.request)
+          (answer_of (time_of state.cores core) call.who (state.partitions call.who.part) call.request) (λ number. suits_use (use_of call.request) (state.channels number))
+          (channel_answer configuration (time_of state.cores core) call.request state.channels) call.claim
+          (are_errors configuration call.who (state.partitions call.who.part) call.request) law.outcome done in
+          let starts = not_started configuration call.who (state.partitions call.who.part) call.request number x at alive none in (
+            set_by_alive place period state.cores (state.partitions call.who.part) call.who.proc call.request number x alive,
+            ap (is_in wanted) (set_by_wait place period state.cores (state.partitions call.who.part) call.who.proc call.request number x starts (not_for_normal wanted x.wait waits)) ∙ waits,
+          )
+      | false ↦ λ not_done. (alive, waits)
+    ] refl
+
+-- a process that stands is found in a longer table too
+pub found_in_front : (table more : Table) (number : ℕ) (x : Process) → process_at table number ≡ Some x → process_at (table ++ more) number ≡ Some x
+found_in_front [] more number x at = cc
+found_in_front (entry ∷ entries) more number x at =
+    elim (nat_eq number entry.0) as (λ same. cond same (Some entry.1) (process_at entries number) ≡ Some x → cond same (Some entry.1) (process_at (entries ++ more) number) ≡ Some x) [
+      | true ↦ λ at. at
+      | false ↦ λ at. found_in_front entries more number x at
+    ] at
+
+-- a process after its table was changed
+pub found_changed : (change : ℕ → Process → Process) (table more : Table) (number : ℕ) (x : Process) → process_at table number ≡ Some x
+    → process_at (each_process change table ++ more) number ≡ Some (change number x)
+found_changed change table more number x at =
+    found_in_front (each_process change table) more number (change number x) (at_each change table number ∙ ap (option_map (change number)) at)
+
+-- whether a record ends the wait of a process
+abbrev pub leaves : Body → Who → Bool
+leaves (Disp who) one = false
+leaves (Ret ret) one = false
+leaves (Tick woken) one = is_named one woken
+leaves (Call call) one = ends_wait call one
+
+-- a process of the caller's partition that the call doesn't wake or stop, and that isn't the caller
+called_waits : (judged : Service → Bool) (configuration : Configuration) (state : State) (place now core : ℕ) (call : CallRecord) → IsLawfulCall judged configuration state core call
+    → (number : ℕ) (x : Process) (wanted : WaitingSet) → process_at (state.partitions call.who.part).table number ≡ Some x → x.alive ≡ true → is_in wanted x.wait ≡ true
+    → nat_eq number call.who.proc ≡ false → ends_wait call (record { part = call.who.part; proc = number }) ≡ false
+    → let new = called place now (period_of configuration call.who.part) state.cores (state.partitions call.who.part) call number x in
+    (new.alive ≡ true) × (is_in wanted new.wait ≡ true)
+called_waits judged configuration state place now core call law number x wanted at alive waits other stays =
+    let named = neither_first (is_named (record { part = call.who.part; proc = number }) call.claim.woken) (stops call (record { part = call.who.part; proc = number })) stays in
+    let stopped = neither_later (is_named (record { part = call.who.part; proc = number }) call.claim.woken) (stops call (record { part = call.who.part; proc = number })) stays in
+    rw (other, stopped, named) (adjusted_waits judged configuration state place (period_of configuration call.who.part) core call law number x wanted at alive waits)
+
+-- a tick and a return
+
+returned_waits : (wanted : WaitingSet) (own : Bool) (x : Process) → x.alive ≡ true → is_in wanted x.wait ≡ true
+    → ((cond own (record x { due = None }) x).alive ≡ true) × (is_in wanted (cond own (record x { due = None }) x).wait ≡ true)
+returned_waits wanted true x alive waits = (alive, waits)
+returned_waits wanted false x alive waits = (alive, waits)
+
+-- a process goes on waiting at a lawful record that doesn't end its wait
+pub keeps_waiting : (judged : Service → Bool) (configuration : Configuration) (state : State) (place core : ℕ) (body : Body) → AreTied configuration state
+    → IsLawfulBody judged configuration state core body → (who : Who) (wanted : WaitingSet) → leaves body who ≡ false → waits_at wanted (found state.partitions who) ≡ true
+    → waits_at wanted (process_at (partition_by configuration state.cores place core who.part body (state.partitions who.part)).table who.proc) ≡ true
+keeps_waiting judged configuration state place core (Disp one) tied law who wanted stays waits = waits
+keeps_waiting judged configuration state place core (Tick woken) tied law who wanted stays waits =
+    let old = waits_stands wanted (found state.partitions who) waits in
+    let table = (state.partitions who.part).table in
+    let is : process_at (each_process (ticked place who.part woken) table) who.proc ≡ Some (ticked place who.part woken who.proc old.process) =
+    at_each (ticked place who.part woken) table who.proc ∙ ap (option_map (ticked place who.part woken who.proc)) old.stands in
+    let same : ticked place who.part woken who.proc old.process ≡ old.process = rw stays refl in
+    goes_on wanted (process_at (each_process (ticked place who.part woken) table) who.proc) old.process (is ∙ ap Some same) old.alive old.waits
+keeps_waiting judged configuration state place core (Ret ret) tied law who wanted stays waits =
+    let old = waits_stands wanted (found state.partitions who) waits in
+    let table = (state.partitions who.part).table in
+    elim (nat_eq ret.who.part who.part) as (λ own. waits_at wanted (process_at (cond own (record (state.partitions who.part) { table = each_process (returned ret.who.proc) table }) (state.partitions who.part)).table who.proc) ≡ true) [
+      | true ↦
+          let is : process_at (each_process (returned ret.who.proc) table) who.proc ≡ Some (returned ret.who.proc who.proc old.process) =
+          at_each (returned ret.who.proc) table who.proc ∙ ap (option_map (returned ret.who.proc who.proc)) old.stands in
+          let new = returned_waits wanted (nat_eq who.proc ret.who.proc) old.process old.alive old.waits in
+          goes_on wanted (process_at (each_process (returned ret.who.proc) table) who.proc) (returned ret.who.proc who.proc old.process) is new.0 new.1
+      | false ↦ waits
+    ]
+keeps_waiting judged configuration state place core (Call call) tied law who wanted stays waits =
+    let old = waits_stands wanted (found state.partitions who) waits in
+    elim (cases_Bool (nat_eq call.who.part who.part)) [
+      | inl own ↦
+          let here : call.who.part ≡ who.part = eqb-true call.who.part who.part own in
+          let same : who ≡ record { part = call.who.part; proc = who.proc } = same_who who (record { part = call.who.part; proc = who.proc }) (sym here) refl in
+          let at : process_at (state.partitions call.who.part).table who.proc ≡ Some old.process = subst (λ part. process_at (state.partitions part).table who.proc ≡ Some old.process) (sym here) old.stands in
+          let ready = chosen_stands (window_now configuration state.cores core) state.partitions core call.who (tied.distinct call.who.part) law.choice in
+          let other : nat_eq who.proc call.who.proc ≡ false = elim (cases_Bool (nat_eq who.proc call.who.proc)) [
+            | inl caller ↦ absurd (ready_waits_not core (found state.partitions call.who) wanted ready
+                (subst (λ one. waits_at wanted (found state.partitions one) ≡ true) (same_who who call.who (sym here) (eqb-true who.proc call.who.proc caller)) waits))
+            | inr differs ↦ differs
+          ] in
+          let new = called_waits judged configuration state place (time_of state.cores core) core call law who.proc old.process wanted at old.alive old.waits other
+          (subst (λ one. ends_wait call one ≡ false) same stays) in
+          let change = called place (time_of state.cores core) (period_of configuration call.who.part) state.cores (state.partitions call.who.part) call in
+          let is = found_changed change (state.partitions call.who.part).table (created_by (first_core configuration call.who.part) call call.request) who.proc old.process at in
+          subst (λ part. waits_at wanted (process_at (partition_by configuration state.cores place core part (Call call) (state.partitions part)).table who.proc) ≡ true) here
+          (rw (is_itself call.who.part) (goes_on wanted
+          (process_at (each_process change (state.partitions call.who.part).table ++ created_by (first_core configuration call.who.part) call call.request) who.proc)
+          (change who.proc old.process) is new.0 new.1))
+      | inr foreign ↦
+          let table = (state.partitions who.part).table in
+          let change : ℕ → Process → Process = λ number process. roused place call (record { part = who.part; proc = number }) process in
+          let named : is_named who call.claim.woken ≡ false = neither_first (is_named who call.claim.woken) (stops call who) stays in
+          let is : process_at (each_process change table) who.proc ≡ Some (change who.proc old.process) = at_each change table who.proc ∙ ap (option_map (change who.proc)) old.stands in
+          let same : change who.proc old.process ≡ old.process = rw named refl in
+          rw foreign (goes_on wanted (process_at (each_process change table) who.proc) old.process (is ∙ ap Some same) old.alive old.waits)
+    ]
+
+-- a caller that waits
+
+-- a caller that enters a set waits in it
+in_set : (wanted : WaitingSet) (set : Option WaitingSet) (due : Option ℕ) → is_the_set wanted set ≡ true → is_in wanted (wait_in set due) ≡ true
+in_set wanted None due is = absurd (true≢false (sym is))
+in_set wanted (Some set) due is = is
+
+waits_in : (wanted : WaitingSet) (asked : Request) (chan : Option ℕ) (now : ℕ) (x : Process) → is_the_set wanted (set_of asked chan) ≡ true → is_in wanted (wait_of asked chan now x) ≡ true
+waits_in wanted (request.TimedWait (pos delay)) chan now x is = absurd (true≢false (sym is))
+waits_in wanted (request.TimedWait (negsuc n)) chan now x is = absurd (true≢false (sym is))
+waits_in wanted request.PeriodicWait chan now x is = absurd (true≢false (sym is))
+waits_in wanted (request.SuspendSelf time_out) chan now x is = absurd (true≢false (sym is))
+waits_in wanted asked chan now x is = in_set wanted (set_of asked chan) (due_of_call (time_out_of asked) now) is
+
+-- the caller after a call that waits
+waiting_caller : (place now : ℕ) (call : CallRecord) (x : Process) (wanted : WaitingSet) (given : Out) → call.claim.out ≡ given → is_waiting given ≡ true → x.alive ≡ true
+    → is_the_set wanted (set_of call.request call.claim.chan) ≡ true
+    → ((caller_after place now call x).alive ≡ true) × (is_in wanted (caller_after place now call x).wait ≡ true)
+waiting_caller place now call x wanted out.Waits given waits alive is = rw given (alive, waits_in wanted call.request call.claim.chan now x is)
+waiting_caller place now call x wanted _ given waits alive is = absurd (true≢false (sym waits))
+
+pub entered_waits : (judged : Service → Bool) (configuration : Configuration) (state : State) (place core : ℕ) (call : CallRecord) → AreTied configuration state
+    → IsLawfulCall judged configuration state core call → (wanted : WaitingSet) → enters call wanted ≡ true
+    → waits_at wanted (process_at (partition_by configuration state.cores place core call.who.part (Call call) (state.partitions call.who.part)).table call.who.proc) ≡ true
+entered_waits judged configuration state place core call tied law wanted enters =
+    let partition = state.partitions call.who.part in
+    let ready = chosen_stands (window_now configuration state.cores core) state.partitions core call.who (tied.distinct call.who.part) law.choice in
+    let parts = and_parts (is_waiting call.claim.out) (is_the_set wanted (set_of call.request call.claim.chan)) enters in
+    let period = period_of configuration call.who.part in
+    let changed = adjusted place period state.cores partition call call.who.proc ready.process in
+    let alive : changed.alive ≡ true = one_alive (is_done call.claim.out) (set_by place period state.cores partition call.who.proc call.request call.who.proc ready.process) ready.process
+    ready.ready.alive (set_by_alive place period state.cores partition call.who.proc call.request call.who.proc ready.process ready.ready.alive) in
+    let new = waiting_caller place (time_of state.cores core) call changed wanted call.claim.out refl parts.0 alive parts.1 in
+    let change = called place (time_of state.cores core) period state.cores partition call in
+    let is = found_changed change partition.table (created_by (first_core configuration call.who.part) call call.request) call.who.proc ready.process ready.stands in
+    let caller : change call.who.proc ready.process ≡ caller_after place (time_of state.cores core) call changed = rw (is_itself call.who.proc) refl in
+    rw (is_itself call.who.part) (goes_on wanted (process_at (each_process change partition.table ++ created_by (first_core configuration call.who.part) call call.request) call.who.proc)
+    (caller_after place (time_of state.cores core) call changed) (is ∙ ap Some caller) new.0 new.1)

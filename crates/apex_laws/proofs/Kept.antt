@@ -1,0 +1,52 @@
+-- Waiting sets after a record, in sentences.
+use Rattle.std.proofs.Common.{◌≡◌, ◌⊎◌, ℕ, List, [], ◌∷◌, ◌++◌, Bool, true, false, cond, IsTrue, IsFalse, refl, sym, ap, ◌∙◌, inl, inr, true≢false}
+use Rattle.std.proofs.lemmas.Bool.{cases_Bool}
+use Rattle.apex_types.specs.declared.record.Body.TheVariants.{Call}
+use Rattle.apex_types.specs.declared.record.Call.{Call as CallRecord}
+use Rattle.apex_types.specs.declared.record.Who.{Who}
+use Rattle.apex_machine.specs.declared.state.WaitingSet.{WaitingSet}
+use Rattle.apex_machine.specs.State.{Entry}
+use Rattle.apex_machine.specs.Waiting.{ends_wait, enters, entry_of, set_after, without}
+use Rattle.apex_laws.specs.RecordLaws.{SetIsTheSentence}
+use Rattle.apex_laws.specs.RecordSentences.{IsSetAfterCall, KeepsOnly}
+
+-- those who stay are those that don't leave, where the test says who leaves
+pub keeps_only : (Leaves : Who → Type 0) (leaves : Who → Bool) → ((who : Who) → leaves who ≡ true → Leaves who) → ((who : Who) → leaves who ≡ false → ¬ Leaves who)
+    → (entries : List Entry) → KeepsOnly Leaves entries (without leaves entries)
+keeps_only Leaves leaves goes stays [] = refl
+keeps_only Leaves leaves goes stays (entry ∷ entries) =
+    let rest = keeps_only Leaves leaves goes stays entries in
+    elim (leaves entry.who) as (λ gone. leaves entry.who ≡ gone → KeepsOnly Leaves (entry ∷ entries) (cond gone (without leaves entries) (entry ∷ without leaves entries))) [
+      | true ↦ λ gone. inl (goes entry.who gone, rest)
+      | false ↦ λ kept. inr (without leaves entries, stays entry.who kept, refl, rest)
+    ] refl
+
+-- and they are no others
+pub only_kept : (leaves : Who → Bool) (entries new : List Entry) → KeepsOnly (λ who. IsTrue (leaves who)) entries new → new ≡ without leaves entries
+only_kept leaves [] new kept = kept
+only_kept leaves (entry ∷ entries) new (inl gone) = rw gone.0 (only_kept leaves entries new gone.1)
+only_kept leaves (entry ∷ entries) new (inr stays) =
+    let not_gone : leaves entry.who ≡ false = elim (cases_Bool (leaves entry.who)) [ inl gone ↦ absurd (stays.1 gone) | inr not_gone ↦ not_gone ] in
+    stays.2 ∙ ap (λ rest. entry ∷ rest) (only_kept leaves entries stays.0 stays.3) ∙ sym (ap (λ gone. cond gone (without leaves entries) (entry ∷ without leaves entries)) not_gone)
+
+-- a set after a call
+pub set_says : (place : ℕ) (call : CallRecord) (wanted : WaitingSet) (old new : List Entry) → new ≡ set_after place (Call call) wanted old → IsSetAfterCall place call wanted old new
+set_says place call wanted old new is = record {
+  rest = without (ends_wait call) old;
+  kept = keeps_only (λ who. IsTrue (ends_wait call who)) (ends_wait call) (λ who gone. gone) (λ who stays gone. true≢false (sym gone ∙ stays)) old;
+  entered = elim (enters call wanted) as (λ here. enters call wanted ≡ here → new ≡ cond here (without (ends_wait call) old ++ entry_of place call ∷ []) (without (ends_wait call) old)
+      → (IsTrue (enters call wanted) × (new ≡ without (ends_wait call) old ++ entry_of place call ∷ [])) ⊎ (IsFalse (enters call wanted) × (new ≡ without (ends_wait call) old))) [
+        | true ↦ λ here is. inl (here, is)
+        | false ↦ λ elsewhere is. inr (elsewhere, is)
+      ] refl is;
+}
+
+set_back : (place : ℕ) (call : CallRecord) (wanted : WaitingSet) (old new : List Entry) → IsSetAfterCall place call wanted old new → new ≡ set_after place (Call call) wanted old
+set_back place call wanted old new is = by is.entered
+  where
+    by : (IsTrue (enters call wanted) × (new ≡ is.rest ++ entry_of place call ∷ [])) ⊎ (IsFalse (enters call wanted) × (new ≡ is.rest)) → new ≡ set_after place (Call call) wanted old
+    by (inl here) = rw here.0 (here.1 ∙ ap (λ rest. rest ++ entry_of place call ∷ []) (only_kept (ends_wait call) old is.rest is.kept))
+    by (inr elsewhere) = rw elsewhere.0 (elsewhere.1 ∙ only_kept (ends_wait call) old is.rest is.kept)
+
+pub set_is_the_sentence : SetIsTheSentence
+set_is_the_sentence place call wanted old new = (set_says place call wanted old new, set_back place call wanted old new)

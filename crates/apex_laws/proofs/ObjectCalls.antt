@@ -1,0 +1,274 @@
+-- The services of objects use and change exactly the object that they name, by the sentences of its rule.
+use Rattle.std.proofs.Common.{◌≡◌, ℕ, List, [], ◌∷◌, ◌++◌, Bool, true, false, cond, not, nat_eq, nat_lt, ℤ, pos, negsuc, Option, Some, None, option_map, refl, sym, ap, subst, ◌∙◌}
+use Rattle.std.proofs.lemmas.Bool.{eqb-true}
+use Rattle.apex_types.specs.declared.code.Code.{Code}
+use Rattle.apex_types.specs.declared.code.Code.TheVariants as code
+use Rattle.apex_types.specs.declared.record.Who.{Who}
+use Rattle.apex_types.specs.declared.request.Request.TheVariants as request
+use Rattle.apex_machine.specs.declared.state.WaitingSet.TheVariants as set
+use Rattle.apex_machine.specs.After.{new_blackboard, new_buffer, new_event, new_mutex, new_queuing_port, new_sampling_port, new_semaphore, numbered}
+use Rattle.apex_machine.specs.Answer.{Answer, Effect, NewNumber, done, done_with}
+use Rattle.apex_machine.specs.Arguments.{is_length, is_longer, natural_of}
+use Rattle.apex_machine.specs.Channels.{QueuingPort, SamplingPort, queuing_port, sampling_port}
+use Rattle.apex_machine.specs.Conditions.{codes_for, creation_codes, is_queuing_port, is_sampling_port, is_taken, message_codes, of_caller, owns_another, time_out_codes, waiting_codes, when}
+use Rattle.apex_machine.specs.Objects.{acquired, board_read, buffer_received, buffer_sent, cleared, displayed, event_reset, event_set, event_waited, is_owner, mutex_released, semaphore_waited, signalled}
+use Rattle.apex_machine.specs.ServiceConditions.{object_codes}
+use Rattle.apex_machine.specs.Services.{answer_by}
+use Rattle.apex_machine.specs.State.{Blackboard, Buffer, Entry, Event, Mutex, Partition, Port, Semaphore, change_at, given_object, is_free_object, object_at, process_at}
+use Rattle.apex_machine.specs.Waiting.{first_waiter}
+use Rattle.apex_laws.specs.CallSentences.{Creates, OneBecomes, Operates}
+use Rattle.apex_laws.specs.ObjectSentences.{IsClearing, IsReleasing, IsResetting}
+use Rattle.apex_laws.specs.Laws.{entries_in}
+use Rattle.apex_laws.specs.ObjectLaws.{AreApart, ObjectCallIsTheSentence}
+use Rattle.apex_laws.proofs.Booleans.{cannot_hold, is_itself}
+use Rattle.apex_laws.proofs.Ends.{first_empty, is_created, second_empty}
+use Rattle.apex_laws.proofs.ObjectRules.{blackboard_is_the_sentence, event_is_the_sentence, mutex_is_the_sentence, queue_is_the_sentence, semaphore_is_the_sentence}
+use Rattle.apex_laws.proofs.Objects.{object_at_each}
+
+-- one object changes
+
+-- what is found of a number that isn't changed
+same_found : {Object : Type 0} (test : Bool) (change : Object → Object) (found : Option Object) → test ≡ false → option_map (λ object. cond test (change object) object) found ≡ found
+same_found test change None differs = refl
+same_found test change (Some object) differs = rw differs refl
+
+changes_one : {Object : Type 0} (number : ℕ) (change : Object → Object) (objects : List (ℕ × Object)) (found : Object) → object_at objects number ≡ Some found
+    → OneBecomes objects (change_at number change objects) number (change found)
+changes_one {Object} number change objects found at = record {
+  here = object_at_each (λ other (object : Object). cond (nat_eq other number) (change object) object) objects number
+      ∙ ap (option_map (λ (object : Object). cond (nat_eq number number) (change object) object)) at
+      ∙ ap (λ test. Some (cond test (change found) found)) (is_itself number);
+  others = λ other differs. object_at_each (λ one (object : Object). cond (nat_eq one number) (change object) object) objects other
+      ∙ same_found (nat_eq other number) change (object_at objects other) (cannot_hold (nat_eq other number) (λ same. differs (eqb-true other number same)));
+}
+
+-- a service of an object that is there
+acts : {Object Value : Type 0} (objects : List (ℕ × Object)) (given : ℤ) (found : Object) → given_object objects given ≡ Some found
+    → (Rule : Object → Effect Value → Type 0) (put : Object → Value → Object) (rule_of : Object → Effect Value) → Rule found (rule_of found)
+    → (answer : Answer) → answer ≡ (rule_of found).answer
+    → Operates objects (change_at (natural_of given) (λ object. put object (rule_of object).next) objects) given Rule put answer
+acts objects (negsuc n) found at Rule put rule_of rule answer gives = cc
+acts {Object} {Value} objects (pos number) found at Rule put rule_of rule answer gives = record {
+  number = number;
+  is = refl;
+  found = found;
+  stands = at;
+  effect = rule_of found;
+  rule = rule;
+  gives = gives;
+  becomes = changes_one number (λ object. put object (rule_of object).next) objects found at;
+}
+
+operates : {Object Value : Type 0} (objects : List (ℕ × Object)) (given : ℤ) (found : Object) → given_object objects given ≡ Some found
+    → (Rule : Object → Effect Value → Type 0) (put : Object → Value → Object) (rule_of : Object → Effect Value) → Rule found (rule_of found)
+    → Operates objects (change_at (natural_of given) (λ object. put object (rule_of object).next) objects) given Rule put (answer_by (given_object objects given) (λ object. (rule_of object).answer))
+operates {Object} {Value} objects given found at Rule put rule_of rule =
+    acts objects given found at Rule put rule_of rule (answer_by (given_object objects given) (λ object. (rule_of object).answer))
+    (ap (λ (one : Option Object). answer_by one (λ object. (rule_of object).answer)) at)
+
+-- a service that leaves its object
+looks_at : {Object Value : Type 0} (objects : List (ℕ × Object)) (given : ℤ) (found : Object) → given_object objects given ≡ Some found
+    → (Rule : Object → Effect Value → Type 0) (put : Object → Value → Object) (rule_of : Object → Effect Value) → Rule found (rule_of found) → put found (rule_of found).next ≡ found
+    → Operates objects objects given Rule put (answer_by (given_object objects given) (λ object. (rule_of object).answer))
+looks_at objects (negsuc n) found at Rule put rule_of rule same = cc
+looks_at {Object} {Value} objects (pos number) found at Rule put rule_of rule same = record {
+  number = number;
+  is = refl;
+  found = found;
+  stands = at;
+  effect = rule_of found;
+  rule = rule;
+  gives = ap (λ one. answer_by one (λ object. (rule_of object).answer)) at;
+  becomes = record { here = at ∙ ap Some (sym same); others = λ other differs. refl };
+}
+
+-- creations
+
+pushed : {Object : Type 0} (objects : List (ℕ × Object)) (number : ℕ) (new : Object) → object_at objects number ≡ None → object_at (objects ++ (number, new) ∷ []) number ≡ Some new
+pushed [] number new none = rw is_itself refl
+pushed {Object} (entry ∷ entries) number new none =
+    elim (nat_eq number entry.0) as (λ same. cond same (Some entry.1) (object_at entries number) ≡ None → cond same (Some entry.1) (object_at (entries ++ (number, new) ∷ []) number) ≡ Some new) [
+      | true ↦ λ none. (let some : ◌≡◌ {A = Option Object} (Some entry.1) None = none in cc)
+      | false ↦ λ none. pushed entries number new none
+    ] none
+
+beside : {Object : Type 0} (objects : List (ℕ × Object)) (number other : ℕ) (new : Object) → nat_eq other number ≡ false → object_at (objects ++ (number, new) ∷ []) other ≡ object_at objects other
+beside [] number other new differs = rw differs refl
+beside (entry ∷ entries) number other new differs =
+    elim (nat_eq other entry.0) as (λ same. cond same (Some entry.1) (object_at (entries ++ (number, new) ∷ []) other) ≡ cond same (Some entry.1) (object_at entries other)) [
+      | true ↦ refl
+      | false ↦ beside entries number other new differs
+    ]
+
+creates : {Object : Type 0} (objects : List (ℕ × Object)) (claimed : Option ℤ) (new : Object)
+    → Creates objects (objects ++ numbered claimed new) claimed new (done_with (NewNumber (is_free_object objects)))
+creates {Object} objects claimed new = record {
+  gives = refl;
+  put = λ number is none. subst (λ (one : Option ℤ). OneBecomes objects (objects ++ numbered one new) number new) (sym is) (record {
+    here = pushed objects number new none;
+    others = λ other differs. beside objects number other new (cannot_hold (nat_eq other number) (λ same. differs (eqb-true other number same)));
+  });
+}
+
+-- the object is there, where no condition holds
+
+object_there : {Object : Type 0} (who : Who) (partition : Partition) (found : Option Object) (time_out : ℤ) → object_codes who partition found time_out ≡ [] → (object : Object) × (found ≡ Some object)
+object_there who partition found time_out none =
+    let first = first_empty (codes_for found (λ object. [])) (time_out_codes time_out)
+    (first_empty (codes_for found (λ object. []) ++ time_out_codes time_out) (waiting_codes who partition time_out) none) in
+    let is = is_created found (λ object. []) first in
+    (is.0, is.1)
+
+mapped_there : {Object : Type 0} (size_of : Object → ℕ) (found : Option Object) (size : ℕ) → option_map size_of found ≡ Some size → (object : Object) × (found ≡ Some object)
+mapped_there size_of None size is = cc
+mapped_there size_of (Some object) size is = (object, refl)
+
+message_there : {Object : Type 0} (size_of : Object → ℕ) (found : Option Object) (length : ℤ) → message_codes (option_map size_of found) length ≡ [] → (object : Object) × (found ≡ Some object)
+message_there size_of found length none =
+    let is = is_created (option_map size_of found) (λ greatest. when (is_longer greatest length) code.InvalidParam)
+    (first_empty (codes_for (option_map size_of found) (λ greatest. when (is_longer greatest length) code.InvalidParam)) (when (not (is_length length)) code.InvalidParam) none) in
+    mapped_there size_of found is.0 is.1
+
+lone_there : {Object : Type 0} (found : Option Object) → codes_for found (λ object. []) ≡ [] → (object : Object) × (found ≡ Some object)
+lone_there found none = let is = is_created found (λ object. []) none in (is.0, is.1)
+
+-- the sets of an object that is there are apart
+given_entries : {Object : Type 0} (entries_of : Object → List Entry) (objects : List (ℕ × Object)) (given : ℤ) (found : Object) → given_object objects given ≡ Some found
+    → AreApart (entries_in entries_of (object_at objects (natural_of given))) → AreApart (entries_of found)
+given_entries entries_of objects (pos number) found at apart = subst (λ one. AreApart (entries_in entries_of one)) at apart
+given_entries entries_of objects (negsuc n) found at apart = cc
+
+-- what a blackboard and an event are after a look
+board_stays : (time_out : ℤ) (message : Option (List ℕ)) → (board_read time_out message).next ≡ message
+board_stays time_out None = refl
+board_stays time_out (Some message) = refl
+
+event_stays : (time_out : ℤ) (up : Bool) → (event_waited time_out up).next ≡ up
+event_stays time_out true = refl
+event_stays time_out false = refl
+
+-- a port that is configured
+sampling_there : (found : Option SamplingPort) (size direction refresh : ℤ) → when (not (is_sampling_port found size direction refresh)) code.InvalidConfig ≡ [] → (port : SamplingPort) × (found ≡ Some port)
+sampling_there None size direction refresh none = cc
+sampling_there (Some port) size direction refresh none = (port, refl)
+
+queuing_there : (found : Option QueuingPort) (size capacity both : ℤ) → when (not (is_queuing_port found size capacity both)) code.InvalidConfig ≡ [] → (port : QueuingPort) × (found ≡ Some port)
+queuing_there None size capacity both none = cc
+queuing_there (Some port) size capacity both none = (port, refl)
+
+pub object_call_is_the_sentence : ObjectCallIsTheSentence
+object_call_is_the_sentence configuration now who claimed (request.CreateBuffer name size capacity discipline) partition apart none =
+    (refl, creates partition.buffers claimed (new_buffer name size capacity discipline))
+object_call_is_the_sentence configuration now who claimed (request.SendBuffer buffer length time_out message) partition apart none =
+    let first = first_empty (message_codes (option_map (λ (found : Buffer). found.size) (given_object partition.buffers buffer)) length) (time_out_codes time_out)
+    (first_empty (message_codes (option_map (λ (found : Buffer). found.size) (given_object partition.buffers buffer)) length ++ time_out_codes time_out) (waiting_codes who partition time_out) none) in
+    let there = message_there (λ (found : Buffer). found.size) (given_object partition.buffers buffer) length first in
+    let found : Buffer = there.0 in (
+      refl,
+      operates partition.buffers buffer found there.1 _ (λ one messages. record one { messages = messages }) (buffer_sent message time_out)
+          ((queue_is_the_sentence.0 found.capacity message time_out found.discipline found.receivers found.messages (buffer_sent message time_out found)
+          (given_entries (λ (one : Buffer). one.receivers) partition.buffers buffer found there.1 (apart (set.BufferReceivers (natural_of buffer))))).0 refl),
+    )
+object_call_is_the_sentence configuration now who claimed (request.ReceiveBuffer buffer time_out) partition apart none =
+    let there = object_there who partition (given_object partition.buffers buffer) time_out none in
+    let found : Buffer = there.0 in (
+      refl,
+      operates partition.buffers buffer found there.1 _ (λ one messages. record one { messages = messages }) (buffer_received time_out)
+          ((queue_is_the_sentence.1 time_out found.discipline found.senders found.messages (buffer_received time_out found)
+          (given_entries (λ (one : Buffer). one.senders) partition.buffers buffer found there.1 (apart (set.BufferSenders (natural_of buffer))))).0 refl),
+    )
+object_call_is_the_sentence configuration now who claimed (request.CreateBlackboard name size) partition apart none =
+    (refl, creates partition.blackboards claimed (new_blackboard name size))
+object_call_is_the_sentence configuration now who claimed (request.DisplayBlackboard blackboard length message) partition apart none =
+    let there = message_there (λ (found : Blackboard). found.size) (given_object partition.blackboards blackboard) length none in
+    (refl, operates partition.blackboards blackboard there.0 there.1 _ (λ one message. record one { message = message }) (λ found. displayed message found.readers) refl)
+object_call_is_the_sentence configuration now who claimed (request.ReadBlackboard blackboard time_out) partition apart none =
+    let there = object_there who partition (given_object partition.blackboards blackboard) time_out none in
+    let found : Blackboard = there.0 in (
+      refl,
+      looks_at partition.blackboards blackboard found there.1 _ (λ one message. record one { message = message }) (λ found. board_read time_out found.message)
+          ((blackboard_is_the_sentence.1 time_out found.message (board_read time_out found.message)).0 refl) (λ i. record found { message = board_stays time_out found.message i }),
+    )
+object_call_is_the_sentence configuration now who claimed (request.ClearBlackboard blackboard) partition apart none =
+    let there = lone_there (given_object partition.blackboards blackboard) none in
+    (refl, acts partition.blackboards blackboard there.0 there.1 (λ found effect. IsClearing effect) (λ one message. record one { message = message }) (λ found. cleared) refl done refl)
+object_call_is_the_sentence configuration now who claimed (request.CreateSemaphore name value maximum discipline) partition apart none =
+    (refl, creates partition.semaphores claimed (new_semaphore name value maximum discipline))
+object_call_is_the_sentence configuration now who claimed (request.WaitSemaphore semaphore time_out) partition apart none =
+    let there = object_there who partition (given_object partition.semaphores semaphore) time_out none in
+    let found : Semaphore = there.0 in (
+      refl,
+      operates partition.semaphores semaphore found there.1 _ (λ one value. record one { value = value }) (λ found. semaphore_waited time_out found.value)
+          ((semaphore_is_the_sentence.0 time_out found.value (semaphore_waited time_out found.value)).0 refl),
+    )
+object_call_is_the_sentence configuration now who claimed (request.SignalSemaphore semaphore) partition apart none =
+    let there = lone_there (given_object partition.semaphores semaphore) none in
+    let found : Semaphore = there.0 in (
+      refl,
+      operates partition.semaphores semaphore found there.1 _ (λ one value. record one { value = value }) (λ found. signalled found.maximum (first_waiter found.discipline found.waiters) found.value)
+          ((semaphore_is_the_sentence.1 found.maximum found.discipline found.waiters found.value (signalled found.maximum (first_waiter found.discipline found.waiters) found.value)
+          (given_entries (λ (one : Semaphore). one.waiters) partition.semaphores semaphore found there.1 (apart (set.SemaphoreWaiters (natural_of semaphore))))).0 refl),
+    )
+object_call_is_the_sentence configuration now who claimed (request.CreateEvent name) partition apart none = (refl, creates partition.events claimed (new_event name))
+object_call_is_the_sentence configuration now who claimed (request.SetEvent event) partition apart none =
+    let there = lone_there (given_object partition.events event) none in
+    (refl, operates partition.events event there.0 there.1 _ (λ one up. record one { up = up }) (λ found. event_set found.waiters) refl)
+object_call_is_the_sentence configuration now who claimed (request.ResetEvent event) partition apart none =
+    let there = lone_there (given_object partition.events event) none in
+    (refl, acts partition.events event there.0 there.1 (λ found effect. IsResetting effect) (λ one up. record one { up = up }) (λ found. event_reset) refl done refl)
+object_call_is_the_sentence configuration now who claimed (request.WaitEvent event time_out) partition apart none =
+    let there = object_there who partition (given_object partition.events event) time_out none in
+    let found : Event = there.0 in (
+      refl,
+      looks_at partition.events event found there.1 _ (λ one up. record one { up = up }) (λ found. event_waited time_out found.up)
+          ((event_is_the_sentence.2 time_out found.up (event_waited time_out found.up)).0 refl) (λ i. record found { up = event_stays time_out found.up i }),
+    )
+object_call_is_the_sentence configuration now who claimed (request.CreateMutex name priority discipline) partition apart none =
+    (refl, creates partition.mutexes claimed (new_mutex name priority discipline))
+object_call_is_the_sentence configuration now who claimed (request.AcquireMutex mutex time_out) partition apart none =
+    let codes : Mutex → List Code = λ found. when (of_caller (λ process. nat_lt found.priority process.current_priority) (process_at partition.table who.proc)) code.InvalidMode in
+    let found_codes = codes_for (given_object partition.mutexes mutex) codes in
+    let second = found_codes ++ time_out_codes time_out in
+    let third = second ++ when (nat_eq who.proc 0) code.InvalidMode in
+    let there = is_created (given_object partition.mutexes mutex) codes
+    (first_empty found_codes (time_out_codes time_out) (first_empty second (when (nat_eq who.proc 0) code.InvalidMode) (first_empty third (when (owns_another partition.mutexes mutex who.proc) code.InvalidMode) none))) in
+    let found : Mutex = there.0 in (
+      refl,
+      operates partition.mutexes mutex found there.1 _ (λ one changed. changed) (acquired who.proc time_out)
+          ((mutex_is_the_sentence.0 who.proc time_out found (acquired who.proc time_out found)).0 refl),
+    )
+object_call_is_the_sentence configuration now who claimed (request.ReleaseMutex mutex) partition apart none =
+    let there = is_created (given_object partition.mutexes mutex) (λ found. when (not (is_owner found.owner who.proc)) code.InvalidMode) none in
+    let found : Mutex = there.0 in (
+      refl,
+      operates partition.mutexes mutex found there.1 (λ found effect. IsReleasing found effect) (λ one changed. changed) (λ found. mutex_released (first_waiter found.discipline found.waiters) found)
+          ((mutex_is_the_sentence.1 found (mutex_released (first_waiter found.discipline found.waiters) found)
+          (given_entries (λ (one : Mutex). one.waiters) partition.mutexes mutex found there.1 (apart (set.MutexWaiters (natural_of mutex))))).0 refl),
+    )
+object_call_is_the_sentence configuration now who claimed (request.CreateSamplingPort name size direction refresh) partition apart none =
+    let there = sampling_there (sampling_port configuration who.part name) size direction refresh
+    (second_empty (creation_codes partition (is_taken (λ (port : Port). port.name) name partition.sampling_ports) false) (when (not (is_sampling_port (sampling_port configuration who.part name) size direction refresh)) code.InvalidConfig) none) in
+    let port : SamplingPort = there.0 in
+    let new : Port = record { name = name; size = port.size; direction = port.direction; channel = port.channel } in (
+      refl,
+      (
+        port,
+        there.1,
+        subst (λ found. Creates partition.sampling_ports (partition.sampling_ports ++ new_sampling_port name claimed found) claimed new (done_with (NewNumber (is_free_object partition.sampling_ports))))
+            (sym there.1) (creates partition.sampling_ports claimed new),
+      ),
+    )
+object_call_is_the_sentence configuration now who claimed (request.CreateQueuingPort name size capacity both) partition apart none =
+    let there = queuing_there (queuing_port configuration who.part name) size capacity both
+    (second_empty (creation_codes partition (is_taken (λ (port : Port). port.name) name partition.queuing_ports) false) (when (not (is_queuing_port (queuing_port configuration who.part name) size capacity both)) code.InvalidConfig) none) in
+    let port : QueuingPort = there.0 in
+    let new : Port = record { name = name; size = port.size; direction = port.direction; channel = port.channel } in (
+      refl,
+      (
+        port,
+        there.1,
+        subst (λ found. Creates partition.queuing_ports (partition.queuing_ports ++ new_queuing_port name claimed found) claimed new (done_with (NewNumber (is_free_object partition.queuing_ports))))
+            (sym there.1) (creates partition.queuing_ports claimed new),
+      ),
+    )
+object_call_is_the_sentence configuration now who claimed _ partition apart none = refl

@@ -1,0 +1,399 @@
+-- What the rules compute of a process is exactly what the sentences say.
+use Rattle.std.proofs.Common.{◌≡◌, ℕ, ◌+◌, ◌*◌, ◌/◌, ◌%◌, ◌<◌, ◌≤◌, ℤ, pos, negsuc, List, [], Option, Some, None, Bool, true, false, cond, nat_eq, nat_le, IsTrue, refl, sym, ap, ◌∙◌, inl, inr, arith, true≢false, ◌&&◌}
+use Rattle.std.proofs.lemmas.Bool.{and_from, and_parts, eqb-true, eq-eqb, leb-true, cases_lt}
+use Rattle.std.proofs.Math.Nat.{mul-le-mul_right}
+use Rattle.apex_types.specs.declared.code.Code.{Code}
+use Rattle.apex_types.specs.declared.code.Code.TheVariants as code
+use Rattle.apex_types.specs.declared.record.Call.{Call as CallRecord}
+use Rattle.apex_types.specs.declared.record.Out.{Out}
+use Rattle.apex_types.specs.declared.record.Out.TheVariants as out
+use Rattle.apex_types.specs.declared.request.Request.{Request}
+use Rattle.apex_types.specs.declared.request.Request.TheVariants as request
+use Rattle.apex_machine.specs.declared.state.Mode.{Mode}
+use Rattle.apex_machine.specs.declared.state.Mode.TheVariants as mode
+use Rattle.apex_machine.specs.declared.state.Process.{Process}
+use Rattle.apex_machine.specs.declared.state.Wait.{Wait}
+use Rattle.apex_machine.specs.declared.state.Wait.TheVariants as wait
+use Rattle.apex_machine.specs.declared.state.WaitingSet.{WaitingSet}
+use Rattle.apex_machine.specs.Arguments.{is_number, is_over, natural_of}
+use Rattle.apex_machine.specs.Conditions.{is_normal}
+use Rattle.apex_machine.specs.Objects.{acquired, is_owner, mutex_released}
+use Rattle.apex_machine.specs.Processes.{after_normal, by_mutex, caller_after, caller_with, code_when_due, due_of_call, entry_wait, first_release, on_ownership, outcome_of, owed, released, release_taken, service_of_wait, wait_ended, renews, started, stopped, time_out_of, wait_in, wait_of, waits_for_normal, woken_by}
+use Rattle.apex_machine.specs.State.{Mutex, given_object, time_of}
+use Rattle.apex_machine.specs.Step.{due_by}
+use Rattle.apex_machine.specs.Waiting.{first_waiter, is_waiting, set_of}
+use Rattle.apex_laws.specs.ProcessLaws.{CallerIsTheSentence, DueIsTheSentence, ReleaseIsTheSentence, SettingIsTheSentence, StoppingIsTheSentence, WakingIsTheSentence}
+use Rattle.apex_laws.specs.ProcessSentences.{HasDueTime, IsBegun, IsCaller, IsEntry, IsFirstRelease, IsMutexChange, IsNormalEntered, IsOwnerChange, IsReleased, IsStarted, IsWoken, OnTarget, Renews, WaitsForOther, taking}
+use Rattle.apex_laws.proofs.Booleans.{cannot_hold}
+
+-- a target
+
+number_is : (process : ℤ) (number : ℕ) → is_number process number ≡ true → process ≡ pos number
+number_is (pos n) number is = ap pos (eqb-true n number is)
+number_is (negsuc n) number is = absurd (true≢false (sym is))
+
+number_by : (process : ℤ) (number : ℕ) → process ≡ pos number → is_number process number ≡ true
+number_by process number is = ap (λ one. is_number one number) is ∙ eq-eqb number number refl
+
+not_number : (process : ℤ) (number : ℕ) → ¬ (process ≡ pos number) → is_number process number ≡ false
+not_number process number differs = cannot_hold (is_number process number) (λ is. differs (number_is process number is))
+
+-- a service that changes its target alone
+on_target : (process : ℤ) (number : ℕ) (Changed : Type 0) (changed old new : Process) → ((new ≡ changed) → Changed) → (Changed → new ≡ changed)
+    → (new ≡ cond (is_number process number) changed old → OnTarget process number Changed old new) × (OnTarget process number Changed old new → new ≡ cond (is_number process number) changed old)
+on_target process number Changed changed old new says by = (
+  λ is. elim (is_number process number) as (λ own. is_number process number ≡ own → new ≡ cond own changed old → OnTarget process number Changed old new) [
+    | true ↦ λ own is. inl (number_is process number own, says is)
+    | false ↦ λ other is. inr (λ own. true≢false (sym (number_by process number own) ∙ other), is)
+  ] refl is,
+  back,
+)
+  where
+    back : OnTarget process number Changed old new → new ≡ cond (is_number process number) changed old
+    back (inl here) = rw (number_by process number here.0) (by here.1)
+    back (inr elsewhere) = rw (not_number process number elsewhere.0) elsewhere.1
+
+-- entry into NORMAL
+
+-- the first release is the least multiple above the time
+first_release_is : (period now : ℕ) → 0 < period → IsFirstRelease period now (first_release period now)
+first_release_is period now above =
+    let quotient : period * (now / period) + now % period ≡ now = omega arith in
+    let rest : now % period < period = omega arith in
+    let product : (now / period + 1) * period ≡ period * (now / period) + period = omega arith in
+    record { multiple = (now / period + 1, refl); above = omega arith; least = omega arith }
+
+-- one multiple of the period is a period or more below a later one
+multiples : (period a b : ℕ) → a < b → a * period + period ≤ b * period
+multiples period a b below =
+    let more : (a + 1) * period ≤ b * period = mul-le-mul_right period (omega arith) in
+    let product : (a + 1) * period ≡ a * period + period = omega arith in
+    omega arith
+
+-- there is one first release
+one_release : (period now one other : ℕ) → IsFirstRelease period now one → IsFirstRelease period now other → one ≡ other
+one_release period now one other first second =
+    let a : ℕ = first.multiple.0 in
+    let b : ℕ = second.multiple.0 in
+    let at : one ≡ a * period = first.multiple.1 in
+    let also : other ≡ b * period = second.multiple.1 in
+    elim (cases_lt a b) [
+      | inl below ↦ (let apart : a * period + period ≤ b * period = multiples period a b below in
+          let now_below : now < one = first.above in
+          let not_above : other ≤ now + period = second.least in
+          absurd (omega arith))
+      | inr above ↦ elim (cases_lt b a) [
+        | inl below ↦ (let apart : b * period + period ≤ a * period = multiples period b a below in
+            let now_below : now < other = second.above in
+            let not_above : one ≤ now + period = first.least in
+            absurd (omega arith))
+        | inr over ↦ (let same : a ≡ b = omega arith in at ∙ ap (λ count. count * period) same ∙ sym also)
+      ]
+    ]
+
+entry_says : (period now : ℕ) (own : Option ℕ) → 0 < period → IsEntry period now own (entry_wait period now own)
+entry_says period now None above = IsEntry.aperiodic refl refl
+entry_says period now (Some own) above = IsEntry.periodic own (first_release period now) refl (first_release_is period now above) refl
+
+entry_by : (period now : ℕ) (own : Option ℕ) (entry : Wait) → 0 < period → IsEntry period now own entry → entry ≡ entry_wait period now own
+entry_by period now own entry above (IsEntry.aperiodic none is) = is ∙ sym (ap (entry_wait period now) none)
+entry_by period now own entry above (IsEntry.periodic of time some first is) =
+    is ∙ ap wait.FirstRelease (one_release period now time (first_release period now) first (first_release_is period now above)) ∙ sym (ap (entry_wait period now) some)
+
+-- the test of NORMAL
+normal_is : (current : Mode) → is_normal current ≡ true → current ≡ mode.Normal
+normal_is mode.Normal is = refl
+normal_is mode.Idle is = absurd (true≢false (sym is))
+normal_is mode.ColdStart is = absurd (true≢false (sym is))
+normal_is mode.WarmStart is = absurd (true≢false (sym is))
+
+-- a process that is started
+started_says : (place period now : ℕ) (current : Mode) (old new : Process) → 0 < period → new ≡ started place period now current old → IsStarted place period now current old new
+started_says place period now current old new above is =
+    elim (is_normal current) as (λ normal. is_normal current ≡ normal → new ≡ record old { current_priority = old.base_priority; alive = true; wait = cond normal (entry_wait period now old.period) wait.NormalMode; ready_position = place }
+    → IsStarted place period now current old new) [
+      | true ↦ λ normal is. IsStarted.in_normal (entry_wait period now old.period) (normal_is current normal) (entry_says period now old.period above) is
+      | false ↦ λ not_normal is. IsStarted.before_normal (λ normal. true≢false (sym (ap is_normal normal) ∙ not_normal)) is
+    ] refl is
+
+started_by : (place period now : ℕ) (current : Mode) (old new : Process) → 0 < period → IsStarted place period now current old new → new ≡ started place period now current old
+started_by place period now current old new above (IsStarted.in_normal entry normal enters is) =
+    is ∙ ap (λ one. record old { current_priority = old.base_priority; alive = true; wait = one; ready_position = place })
+    (entry_by period now old.period entry above enters ∙ sym (ap (λ test. cond test (entry_wait period now old.period) wait.NormalMode) (ap is_normal normal)))
+started_by place period now current old new above (IsStarted.before_normal differs is) =
+    is ∙ ap (λ one. record old { current_priority = old.base_priority; alive = true; wait = one; ready_position = place })
+    (sym (ap (λ test. cond test (entry_wait period now old.period) wait.NormalMode) (cannot_hold (is_normal current) (λ normal. differs (normal_is current normal)))))
+
+-- the wait for NORMAL
+for_normal_is : (one : Wait) → waits_for_normal one ≡ true → one ≡ wait.NormalMode
+for_normal_is wait.NormalMode is = refl
+for_normal_is _ is = absurd (true≢false (sym is))
+
+normal_says : (place period now : ℕ) (old new : Process) → 0 < period → new ≡ after_normal place period now old → IsNormalEntered place period now old new
+normal_says place period now old new above is =
+    elim (waits_for_normal old.wait) as (λ waits. waits_for_normal old.wait ≡ waits → new ≡ cond waits (record old { wait = entry_wait period now old.period; ready_position = place }) old → IsNormalEntered place period now old new) [
+      | true ↦ λ waits is. IsNormalEntered.waited (entry_wait period now old.period) (for_normal_is old.wait waits) (entry_says period now old.period above) is
+      | false ↦ λ not_waiting is. IsNormalEntered.else_stays (λ waits. true≢false (sym (ap waits_for_normal waits) ∙ not_waiting)) is
+    ] refl is
+
+normal_by : (place period now : ℕ) (old new : Process) → 0 < period → IsNormalEntered place period now old new → new ≡ after_normal place period now old
+normal_by place period now old new above (IsNormalEntered.waited entry waits enters is) =
+    is ∙ ap (λ one. record old { wait = one; ready_position = place }) (entry_by period now old.period entry above enters)
+    ∙ sym (ap (λ test. cond test (record old { wait = entry_wait period now old.period; ready_position = place }) old) (ap waits_for_normal waits))
+normal_by place period now old new above (IsNormalEntered.else_stays differs is) =
+    is ∙ sym (ap (λ test. cond test (record old { wait = entry_wait period now old.period; ready_position = place }) old)
+    (cannot_hold (waits_for_normal old.wait) (λ waits. differs (for_normal_is old.wait waits))))
+
+-- owners of mutexes
+
+owner_is : (owner : Option ℕ) (number : ℕ) → is_owner owner number ≡ true → owner ≡ Some number
+owner_is None number is = absurd (true≢false (sym is))
+owner_is (Some owner) number is = ap Some (eqb-true owner number is)
+
+owner_by : (owner : Option ℕ) (number : ℕ) → owner ≡ Some number → is_owner owner number ≡ true
+owner_by owner number is = ap (λ one. is_owner one number) is ∙ eq-eqb number number refl
+
+not_owner : (owner : Option ℕ) (number : ℕ) → ¬ (owner ≡ Some number) → is_owner owner number ≡ false
+not_owner owner number differs = cannot_hold (is_owner owner number) (λ is. differs (owner_is owner number is))
+
+isnt_owner : (owner : Option ℕ) (number : ℕ) → is_owner owner number ≡ false → ¬ (owner ≡ Some number)
+isnt_owner owner number differs is = true≢false (sym (owner_by owner number is) ∙ differs)
+
+owner_says : (before after : Option ℕ) (priority number : ℕ) (old new : Process) (did does : Bool) → is_owner before number ≡ did → is_owner after number ≡ does
+    → new ≡ on_ownership did does priority old → IsOwnerChange before after priority number old new
+owner_says before after priority number old new false true was is_now is = IsOwnerChange.becomes_owner (isnt_owner before number was) (owner_is after number is_now) is
+owner_says before after priority number old new true false was is_now is = IsOwnerChange.was_owner (owner_is before number was) (isnt_owner after number is_now) is
+owner_says before after priority number old new true true was is_now is = IsOwnerChange.stays_owner (owner_is before number was) (owner_is after number is_now) is
+owner_says before after priority number old new false false was is_now is = IsOwnerChange.never_owner (isnt_owner before number was) (isnt_owner after number is_now) is
+
+owner_change_by : (before after : Option ℕ) (priority number : ℕ) (old new : Process) → IsOwnerChange before after priority number old new
+    → new ≡ on_ownership (is_owner before number) (is_owner after number) priority old
+owner_change_by before after priority number old new (IsOwnerChange.becomes_owner was is_now is) = rw (not_owner before number was, owner_by after number is_now) is
+owner_change_by before after priority number old new (IsOwnerChange.was_owner was is_now is) = rw (owner_by before number was, not_owner after number is_now) is
+owner_change_by before after priority number old new (IsOwnerChange.stays_owner was is_now is) = rw (owner_by before number was, owner_by after number is_now) is
+owner_change_by before after priority number old new (IsOwnerChange.never_owner was is_now is) = rw (not_owner before number was, not_owner after number is_now) is
+
+mutex_change : (found : Option Mutex) (change : Mutex → Mutex) (number : ℕ) (old new : Process)
+    → (new ≡ by_mutex found change number old → IsMutexChange found change number old new) × (IsMutexChange found change number old new → new ≡ by_mutex found change number old)
+mutex_change None change number old new = (λ is. is, λ is. is)
+mutex_change (Some mutex) change number old new = (
+  λ is. owner_says mutex.owner (change mutex).owner mutex.priority number old new (is_owner mutex.owner number) (is_owner (change mutex).owner number) refl refl is,
+  λ is. owner_change_by mutex.owner (change mutex).owner mutex.priority number old new is,
+)
+
+-- every service
+pub setting_is_the_sentence : SettingIsTheSentence
+setting_is_the_sentence place period cores partition caller (request.InitializeProcessCoreAffinity process core) number old new above =
+    on_target process number (new ≡ record old { affinity = natural_of core }) (record old { affinity = natural_of core }) old new (λ is. is) (λ is. is)
+setting_is_the_sentence place period cores partition caller (request.Start process) number old new above =
+    on_target process number (IsStarted place period (time_of cores old.affinity) partition.mode old new) (started place period (time_of cores old.affinity) partition.mode old) old new
+    (started_says place period (time_of cores old.affinity) partition.mode old new above) (started_by place period (time_of cores old.affinity) partition.mode old new above)
+setting_is_the_sentence place period cores partition caller (request.Suspend process) number old new above =
+    on_target process number (new ≡ record old { suspended = true }) (record old { suspended = true }) old new (λ is. is) (λ is. is)
+setting_is_the_sentence place period cores partition caller (request.Resume process) number old new above =
+    on_target process number (new ≡ record old { suspended = false; ready_position = place }) (record old { suspended = false; ready_position = place }) old new (λ is. is) (λ is. is)
+setting_is_the_sentence place period cores partition caller (request.SetPriority process priority) number old new above =
+    on_target process number (new ≡ record old { current_priority = natural_of priority; ready_position = place }) (record old { current_priority = natural_of priority; ready_position = place }) old new (λ is. is) (λ is. is)
+setting_is_the_sentence place period cores partition caller (request.SetPartitionMode next) number old new above =
+    (normal_says place period (time_of cores old.affinity) old new above, normal_by place period (time_of cores old.affinity) old new above)
+setting_is_the_sentence place period cores partition caller (request.AcquireMutex mutex time_out) number old new above =
+    mutex_change (given_object partition.mutexes mutex) (λ found. (acquired caller time_out found).next) number old new
+setting_is_the_sentence place period cores partition caller (request.ReleaseMutex mutex) number old new above =
+    mutex_change (given_object partition.mutexes mutex) (λ found. (mutex_released (first_waiter found.discipline found.waiters) found).next) number old new
+setting_is_the_sentence place period cores partition caller _ number old new above = (λ is. is, λ is. is)
+
+-- who falls due
+
+has_due : (one : Wait) (now : ℕ) → due_by now one ≡ true → (time : ℕ) × HasDueTime one time × (time ≤ now)
+has_due (wait.FirstRelease time) now due = (time, refl, leb-true time now due)
+has_due (wait.Until time) now due = (time, refl, leb-true time now due)
+has_due (wait.PeriodicRelease time) now due = (time, refl, leb-true time now due)
+has_due (wait.Suspended (Some time)) now due = (time, refl, leb-true time now due)
+has_due (wait.Suspended None) now due = absurd (true≢false (sym due))
+has_due (wait.At set (Some time)) now due = (time, refl, leb-true time now due)
+has_due (wait.At set None) now due = absurd (true≢false (sym due))
+has_due wait.Nothing now due = absurd (true≢false (sym due))
+has_due wait.NormalMode now due = absurd (true≢false (sym due))
+
+-- the time of a wait has come
+come : (time due now : ℕ) → time ≡ due → time ≤ now → nat_le due now ≡ true
+come time due now same below = let at : due ≤ now = omega (arith, same, below) in grind arith
+
+reached : (one : Wait) (time now : ℕ) → HasDueTime one time → time ≤ now → due_by now one ≡ true
+reached (wait.FirstRelease due) time now has below = come time due now has below
+reached (wait.Until due) time now has below = come time due now has below
+reached (wait.PeriodicRelease due) time now has below = come time due now has below
+reached (wait.Suspended (Some due)) time now has below = come time due now has below
+reached (wait.Suspended None) time now has below = absurd has
+reached (wait.At set (Some due)) time now has below = come time due now has below
+reached (wait.At set None) time now has below = absurd has
+reached wait.Nothing time now has below = absurd has
+reached wait.NormalMode time now has below = absurd has
+
+pub due_is_the_sentence : DueIsTheSentence
+due_is_the_sentence core now process = (
+  λ due.
+      let parts = and_parts (nat_eq process.affinity core) (due_by now process.wait) due in
+      let has = has_due process.wait now parts.1 in
+      record { affinity = eqb-true process.affinity core parts.0; time = has.0; due = has.1; reached = has.2 },
+  λ is. and_from _ _ (eq-eqb process.affinity core is.affinity) (reached process.wait is.time now is.due is.reached),
+)
+
+-- the end of a wait
+
+-- the end of a wait, by what the wait is
+
+ended : (place : ℕ) (old : Process) (one : Wait) → old.wait ≡ one → released place old ≡ wait_ended place (owed (service_of_wait one) (code_when_due one) []) (record old { wait = one })
+ended place old one at =
+    ap (λ (waits : Wait). wait_ended place (owed (service_of_wait waits) (code_when_due waits) []) (record old { wait = waits })) at
+
+woken_from : (place : ℕ) (message : List ℕ) (old : Process) (one : Wait) → old.wait ≡ one
+    → woken_by place message old ≡ wait_ended place (owed (service_of_wait one) code.NoError message) (record old { wait = one })
+woken_from place message old one at =
+    ap (λ (waits : Wait). wait_ended place (owed (service_of_wait waits) code.NoError message) (record old { wait = waits })) at
+
+-- a caller that waits in a set
+waits_in_set : (now : ℕ) (asked : Request) (chan : Option ℕ) (process : Process) (set : WaitingSet) → set_of asked chan ≡ Some set
+    → wait_of asked chan now process ≡ wait.At set (due_of_call (time_out_of asked) now)
+waits_in_set now (request.TimedWait (pos delay)) chan process set at = let none : ◌≡◌ {A = Option WaitingSet} None (Some set) = at in cc
+waits_in_set now (request.TimedWait (negsuc n)) chan process set at = let none : ◌≡◌ {A = Option WaitingSet} None (Some set) = at in cc
+waits_in_set now request.PeriodicWait chan process set at = let none : ◌≡◌ {A = Option WaitingSet} None (Some set) = at in cc
+waits_in_set now (request.SuspendSelf time_out) chan process set at = let none : ◌≡◌ {A = Option WaitingSet} None (Some set) = at in cc
+waits_in_set now asked chan process set at = ap (λ one. wait_in one (due_of_call (time_out_of asked) now)) at
+
+-- a caller that took a release
+taken : (place now : ℕ) (call : CallRecord) (old : Process) (asked : Request) → Renews asked
+    → record old { ready_position = place; last_release = release_taken asked old; due = Some (outcome_of call code.NoError); called_at = now }
+    ≡ record (taking asked old) { ready_position = place; due = Some (outcome_of call code.NoError); called_at = now }
+taken place now call old (request.TimedWait ticks) renews = refl
+taken place now call old request.PeriodicWait renews = refl
+taken place now call old _ renews = absurd renews
+
+-- a caller that is refused keeps its position and its release
+kept_so : (place now : ℕ) (call : CallRecord) (old : Process) (given : Code)
+    → record old { ready_position = cond (renews call.request && false) place old.ready_position; due = Some (outcome_of call given); called_at = now }
+    ≡ record old { due = Some (outcome_of call given); called_at = now }
+kept_so place now call old given =
+    ap (λ test. record old { ready_position = cond test place old.ready_position; due = Some (outcome_of call given); called_at = now }) (never (renews call.request))
+  where
+    never : (test : Bool) → (test && false) ≡ false
+    never true = refl
+    never false = refl
+
+released_says : (place : ℕ) (old new : Process) (one : Wait) (time : ℕ) → old.wait ≡ one → HasDueTime one time → new ≡ released place old → IsReleased place old new
+released_says place old new (wait.FirstRelease due) time at has is = IsReleased.first_release due at (is ∙ ended place old (wait.FirstRelease due) at)
+released_says place old new (wait.Until due) time at has is = IsReleased.delay due at (is ∙ ended place old (wait.Until due) at)
+released_says place old new (wait.PeriodicRelease due) time at has is = IsReleased.release due at (is ∙ ended place old (wait.PeriodicRelease due) at)
+released_says place old new (wait.Suspended due) time at has is = IsReleased.suspension due at (is ∙ ended place old (wait.Suspended due) at)
+released_says place old new (wait.At set due) time at has is = IsReleased.object set due at (is ∙ ended place old (wait.At set due) at)
+released_says place old new wait.Nothing time at has is = absurd has
+released_says place old new wait.NormalMode time at has is = absurd has
+
+released_by : (place : ℕ) (old new : Process) → IsReleased place old new → new ≡ released place old
+released_by place old new (IsReleased.first_release due at is) = is ∙ sym (ended place old (wait.FirstRelease due) at)
+released_by place old new (IsReleased.delay due at is) = is ∙ sym (ended place old (wait.Until due) at)
+released_by place old new (IsReleased.release due at is) = is ∙ sym (ended place old (wait.PeriodicRelease due) at)
+released_by place old new (IsReleased.suspension due at is) = is ∙ sym (ended place old (wait.Suspended due) at)
+released_by place old new (IsReleased.object set due at is) = is ∙ sym (ended place old (wait.At set due) at)
+
+pub release_is_the_sentence : ReleaseIsTheSentence
+release_is_the_sentence place time old new has = (released_says place old new old.wait time refl has, released_by place old new)
+
+woken_says : (place : ℕ) (message : List ℕ) (old new : Process) (one : Wait) → old.wait ≡ one → WaitsForOther one → new ≡ woken_by place message old → IsWoken place message old new
+woken_says place message old new (wait.Suspended due) at waits is = IsWoken.suspension due at (is ∙ woken_from place message old (wait.Suspended due) at)
+woken_says place message old new (wait.At set due) at waits is = IsWoken.object set due at (is ∙ woken_from place message old (wait.At set due) at)
+woken_says place message old new wait.Nothing at waits is = absurd waits
+woken_says place message old new wait.NormalMode at waits is = absurd waits
+woken_says place message old new (wait.FirstRelease due) at waits is = absurd waits
+woken_says place message old new (wait.Until due) at waits is = absurd waits
+woken_says place message old new (wait.PeriodicRelease due) at waits is = absurd waits
+
+woken_back : (place : ℕ) (message : List ℕ) (old new : Process) → IsWoken place message old new → new ≡ woken_by place message old
+woken_back place message old new (IsWoken.suspension due at is) = is ∙ sym (woken_from place message old (wait.Suspended due) at)
+woken_back place message old new (IsWoken.object set due at is) = is ∙ sym (woken_from place message old (wait.At set due) at)
+
+pub waking_is_the_sentence : WakingIsTheSentence
+waking_is_the_sentence place message old new waits = (woken_says place message old new old.wait refl waits, woken_back place message old new)
+
+pub stopping_is_the_sentence : StoppingIsTheSentence
+stopping_is_the_sentence old new = (λ is. is, λ is. is)
+
+-- the caller
+
+-- a call that renews
+renews_is : (asked : Request) → renews asked ≡ true → Renews asked
+renews_is (request.TimedWait (pos n)) is = ap pos (eqb-true n 0 is)
+renews_is (request.TimedWait (negsuc n)) is = absurd (true≢false (sym is))
+renews_is request.PeriodicWait is = tt
+renews_is _ is = absurd (true≢false (sym is))
+
+renews_by : (asked : Request) → Renews asked → renews asked ≡ true
+renews_by (request.TimedWait ticks) is = ap is_over is
+renews_by request.PeriodicWait is = refl
+renews_by _ is = absurd is
+
+-- a call that doesn't renew takes no release
+takes_none : (asked : Request) (process : Process) → ¬ Renews asked → release_taken asked process ≡ process.last_release
+takes_none request.PeriodicWait process not_renewing = absurd (not_renewing tt)
+takes_none _ process not_renewing = refl
+
+-- what is begun is what the rule says
+begun_is : (now : ℕ) (asked : Request) (chan : Option ℕ) (process : Process) (begun : Wait) → IsBegun now asked chan process begun → begun ≡ wait_of asked chan now process
+begun_is now asked chan process begun (IsBegun.delay ticks at is) = is ∙ sym (ap (λ one. wait_of one chan now process) at)
+begun_is now asked chan process begun (IsBegun.release at is) = is ∙ sym (ap (λ one. wait_of one chan now process) at)
+begun_is now asked chan process begun (IsBegun.suspension time_out at is) = is ∙ sym (ap (λ one. wait_of one chan now process) at)
+begun_is now asked chan process begun (IsBegun.object set at is) = is ∙ sym (waits_in_set now asked chan process set at)
+
+caller_says : (place now : ℕ) (call : CallRecord) (old new : Process) (given : Out) → call.claim.out ≡ given
+    → (IsTrue (is_waiting given) → IsBegun now call.request call.claim.chan old (wait_of call.request call.claim.chan now old))
+    → new ≡ record (caller_with place now call given old) { called_at = now } → IsCaller place now call old new
+caller_says place now call old new out.Waits at begins is = IsCaller.waits (wait_of call.request call.claim.chan now old) at (begins refl) is
+caller_says place now call old new out.Never at begins is = IsCaller.ends (stopped old) at refl is
+caller_says place now call old new (out.Answer code.NoError) at begins is =
+    elim (renews call.request) as (λ renewed. renews call.request ≡ renewed → new ≡ record old {
+      ready_position = cond (renewed && true) place old.ready_position;
+      last_release = release_taken call.request old;
+      due = Some (outcome_of call code.NoError);
+      called_at = now;
+    } → IsCaller place now call old new) [
+      | true ↦ λ renewed is. IsCaller.is_renewed at (renews_is call.request renewed) (is ∙ taken place now call old call.request (renews_is call.request renewed))
+      | false ↦ λ not_renewed is. IsCaller.is_answered at (λ renewed. true≢false (sym (renews_by call.request renewed) ∙ not_renewed))
+          (is ∙ ap (λ release. record old { last_release = release; due = Some (outcome_of call code.NoError); called_at = now }) (takes_none call.request old (λ renewed. true≢false (sym (renews_by call.request renewed) ∙ not_renewed))))
+    ] refl is
+caller_says place now call old new (out.Answer code.NoAction) at begins is = IsCaller.is_refused code.NoAction at (λ same. cc) (is ∙ kept_so place now call old code.NoAction)
+caller_says place now call old new (out.Answer code.NotAvailable) at begins is = IsCaller.is_refused code.NotAvailable at (λ same. cc) (is ∙ kept_so place now call old code.NotAvailable)
+caller_says place now call old new (out.Answer code.InvalidParam) at begins is = IsCaller.is_refused code.InvalidParam at (λ same. cc) (is ∙ kept_so place now call old code.InvalidParam)
+caller_says place now call old new (out.Answer code.InvalidConfig) at begins is = IsCaller.is_refused code.InvalidConfig at (λ same. cc) (is ∙ kept_so place now call old code.InvalidConfig)
+caller_says place now call old new (out.Answer code.InvalidMode) at begins is = IsCaller.is_refused code.InvalidMode at (λ same. cc) (is ∙ kept_so place now call old code.InvalidMode)
+caller_says place now call old new (out.Answer code.TimedOut) at begins is = IsCaller.is_refused code.TimedOut at (λ same. cc) (is ∙ kept_so place now call old code.TimedOut)
+
+caller_by : (place now : ℕ) (call : CallRecord) (old new : Process) → IsCaller place now call old new → new ≡ caller_after place now call old
+caller_by place now call old new (IsCaller.waits begun at begins is) =
+    is ∙ ap (λ one. record old { wait = one; called_at = now }) (begun_is now call.request call.claim.chan old begun begins)
+    ∙ sym (ap (λ given. record (caller_with place now call given old) { called_at = now }) at)
+caller_by place now call old new (IsCaller.ends one at is_stopped is) =
+    is ∙ ap (λ (process : Process). let one : Process = record process { called_at = now } in one) is_stopped ∙ sym (ap (λ given. record (caller_with place now call given old) { called_at = now }) at)
+caller_by place now call old new (IsCaller.is_renewed at renewed is) =
+    is ∙ sym (taken place now call old call.request renewed)
+    ∙ ap (λ test. record old { ready_position = cond (test && true) place old.ready_position; last_release = release_taken call.request old; due = Some (outcome_of call code.NoError); called_at = now }) (sym (renews_by call.request renewed))
+    ∙ sym (ap (λ given. record (caller_with place now call given old) { called_at = now }) at)
+caller_by place now call old new (IsCaller.is_answered at not_renewing is) =
+    is ∙ ap (λ release. record old { last_release = release; due = Some (outcome_of call code.NoError); called_at = now }) (sym (takes_none call.request old not_renewing))
+    ∙ ap (λ test. record old { ready_position = cond (test && true) place old.ready_position; last_release = release_taken call.request old; due = Some (outcome_of call code.NoError); called_at = now })
+    (sym (cannot_hold (renews call.request) (λ renewed. not_renewing (renews_is call.request renewed))))
+    ∙ sym (ap (λ given. record (caller_with place now call given old) { called_at = now }) at)
+caller_by place now call old new (IsCaller.is_refused given at differs is) =
+    is ∙ refused_so place now call old given differs ∙ sym (ap (λ one. record (caller_with place now call one old) { called_at = now }) at)
+  where
+    refused_so : (place now : ℕ) (call : CallRecord) (old : Process) (given : Code) → ¬ (given ≡ code.NoError)
+        → record old { due = Some (outcome_of call given); called_at = now } ≡ record (caller_with place now call (out.Answer given) old) { called_at = now }
+    refused_so place now call old code.NoError differs = absurd (differs refl)
+    refused_so place now call old code.NoAction differs = sym (kept_so place now call old code.NoAction)
+    refused_so place now call old code.NotAvailable differs = sym (kept_so place now call old code.NotAvailable)
+    refused_so place now call old code.InvalidParam differs = sym (kept_so place now call old code.InvalidParam)
+    refused_so place now call old code.InvalidConfig differs = sym (kept_so place now call old code.InvalidConfig)
+    refused_so place now call old code.InvalidMode differs = sym (kept_so place now call old code.InvalidMode)
+    refused_so place now call old code.TimedOut differs = sym (kept_so place now call old code.TimedOut)
+
+pub caller_is_the_sentence : CallerIsTheSentence
+caller_is_the_sentence place now call old new begins = (caller_says place now call old new call.claim.out refl begins, caller_by place now call old new)

@@ -1,0 +1,379 @@
+-- A step keeps a state tied, and so does a run.
+use Rattle.std.proofs.Common.{◌≡◌, ℕ, List, [], ◌∷◌, ◌++◌, Bool, true, false, cond, nat_eq, Option, Some, None, IsTrue, refl, sym, subst, ◌∙◌, true≢false, ◌&&◌}
+use Rattle.std.proofs.lemmas.Bool.{and_parts, eqb-true, eq-eqb}
+use Rattle.apex_types.specs.declared.code.Code.{Code}
+use Rattle.apex_types.specs.declared.record.Body.{Body}
+use Rattle.apex_types.specs.declared.record.Body.TheVariants.{Call, Ret, Disp, Tick}
+use Rattle.apex_types.specs.declared.record.Call.{Call as CallRecord}
+use Rattle.apex_types.specs.declared.record.Ordered.{Ordered}
+use Rattle.apex_types.specs.declared.record.Who.{Who}
+use Rattle.apex_types.specs.declared.request.Request.{Request}
+use Rattle.apex_types.specs.declared.request.Request.TheVariants as request
+use Rattle.apex_types.specs.declared.service.Service.{Service}
+use Rattle.apex_machine.specs.declared.state.Process.{Process}
+use Rattle.apex_machine.specs.declared.state.WaitingSet.{WaitingSet}
+use Rattle.apex_machine.specs.declared.state.WaitingSet.TheVariants as set
+use Rattle.apex_machine.specs.After.{each_set, is_done, objects_by, objects_called, partition_by, partition_called, returned, roused, ticked}
+use Rattle.apex_machine.specs.Arguments.{natural_of}
+use Rattle.apex_machine.specs.Channels.{is_receiver, is_sender}
+use Rattle.apex_machine.specs.Configuration.{Configuration}
+use Rattle.apex_machine.specs.Ports.{channel_of, suits_use, use_of}
+use Rattle.apex_machine.specs.ServiceConditions.{condition_codes}
+use Rattle.apex_machine.specs.Services.{answer_of}
+use Rattle.apex_machine.specs.State.{Entry, Partition, State, Table, cold_state, each_process, is_named, time_of}
+use Rattle.apex_machine.specs.Step.{HasOutcome, IsLawfulBody, IsLawfulCall, RunJudging, StepJudging, channel_answer}
+use Rattle.apex_machine.specs.Waiting.{ends_wait, enters, entry_of, is_no_error, is_target, is_the_set, is_waiting, set_after, set_of, stop_of, stops, waits_at, without}
+use Rattle.apex_laws.specs.Laws.{AllEntries, AllPorts, AreTied, IsAtEnd, IsTied, StaysTied, entries_at}
+use Rattle.apex_laws.proofs.Booleans.{cannot_hold, neither, not_first, not_second}
+use Rattle.apex_laws.proofs.Demanded.{WaitsAcross, across}
+use Rattle.apex_laws.proofs.Distinct.{distinct_by}
+use Rattle.apex_laws.proofs.Ends.{StandsAtEnd, port_is_at_end}
+use Rattle.apex_laws.proofs.Keeps.{entered_waits, keeps_waiting, leaves}
+use Rattle.apex_laws.proofs.Objects.{each_set_has, objects_have}
+use Rattle.apex_laws.proofs.PortEnds.{ports_after}
+use Rattle.apex_laws.proofs.Waiters.{all_push, all_weaker, all_without}
+use Rattle.apex_laws.proofs.WaitSets.{found_set, one_set}
+use Rattle.apex_laws.proofs.Wakes.{nobody}
+use Rattle.apex_laws.proofs.Woken.{found, woken}
+
+-- one law for every waiting set
+
+-- the partitions after a record
+abbrev Next : Configuration → State → ℕ → ℕ → Body → ℕ → Partition
+Next configuration state place core body number = partition_by configuration state.cores place core number body (state.partitions number)
+
+-- an entry whose wait goes on is tied afterwards
+tied_after : (judged : Service → Bool) (configuration : Configuration) (state : State) (place core : ℕ) (body : Body) → AreTied configuration state
+    → IsLawfulBody judged configuration state core body → (Home : ℕ → Type 0) (wanted : WaitingSet) (entry : Entry) → leaves body entry.who ≡ false
+    → IsTied Home wanted state.partitions entry → IsTied Home wanted (Next configuration state place core body) entry
+tied_after judged configuration state place core body tied law Home wanted entry stays is =
+    (is.0, keeps_waiting judged configuration state place core body tied law entry.who wanted stays is.1)
+
+-- a caller that enters is at home there
+abbrev EntersAtHome : Body → (ℕ → Type 0) → WaitingSet → Type 0
+EntersAtHome (Call call) Home wanted = enters call wanted ≡ true → Home call.who.part
+EntersAtHome _ Home wanted = Unit {0}
+
+-- those who stand in a set after a record are tied
+pub set_tied : (judged : Service → Bool) (configuration : Configuration) (state : State) (place core : ℕ) (body : Body) → AreTied configuration state
+    → IsLawfulBody judged configuration state core body → (Home : ℕ → Type 0) (wanted : WaitingSet) → EntersAtHome body Home wanted
+    → (entries : List Entry) → AllEntries (IsTied Home wanted state.partitions) entries
+    → AllEntries (IsTied Home wanted (Next configuration state place core body)) (set_after place body wanted entries)
+set_tied judged configuration state place core (Disp who) tied law Home wanted home entries all =
+    all_weaker _ _ (λ entry is. tied_after judged configuration state place core (Disp who) tied law Home wanted entry refl is) entries all
+set_tied judged configuration state place core (Ret ret) tied law Home wanted home entries all =
+    all_weaker _ _ (λ entry is. tied_after judged configuration state place core (Ret ret) tied law Home wanted entry refl is) entries all
+set_tied judged configuration state place core (Tick woken) tied law Home wanted home entries all =
+    all_without (IsTied Home wanted state.partitions) (IsTied Home wanted (Next configuration state place core (Tick woken))) (λ who. is_named who woken)
+    (λ entry stays is. tied_after judged configuration state place core (Tick woken) tied law Home wanted entry stays is) entries all
+set_tied judged configuration state place core (Call call) tied law Home wanted home entries all =
+    let Then : Entry → Type 0 = IsTied Home wanted (Next configuration state place core (Call call)) in
+    let rest : AllEntries Then (without (ends_wait call) entries) = all_without (IsTied Home wanted state.partitions) Then (ends_wait call)
+    (λ entry stays is. tied_after judged configuration state place core (Call call) tied law Home wanted entry stays is) entries all in
+    elim (enters call wanted) as (λ here. enters call wanted ≡ here → AllEntries Then (cond here (without (ends_wait call) entries ++ entry_of place call ∷ []) (without (ends_wait call) entries))) [
+      | true ↦ λ here. all_push Then (without (ends_wait call) entries) (entry_of place call) rest (home here, entered_waits judged configuration state place core call tied law wanted here)
+      | false ↦ λ elsewhere. rest
+    ] refl
+
+-- the sets of a partition
+
+-- the objects of the caller's partition, before their sets change
+objects_tied : (Fact : Entry → Type 0) (configuration : Configuration) (call : CallRecord) (partition : Partition) (wanted : WaitingSet) → AllEntries Fact (entries_at partition wanted)
+    → AllEntries Fact (entries_at (cond (is_done call.claim.out) (objects_by configuration call.who call.claim.val call.request partition) partition) wanted)
+objects_tied Fact configuration call partition wanted all =
+    elim (is_done call.claim.out) as (λ done. AllEntries Fact (entries_at (cond done (objects_by configuration call.who call.claim.val call.request partition) partition) wanted)) [
+      | true ↦ objects_have (AllEntries Fact) tt configuration call.who call.claim.val call.request partition wanted all
+      | false ↦ all
+    ]
+
+-- a partition's table and mode say nothing of its sets
+pub same_sets : (partition : Partition) (table : Table) (wanted : WaitingSet) → entries_at (record partition { table = table }) wanted ≡ entries_at partition wanted
+same_sets partition table (set.BufferSenders number) = refl
+same_sets partition table (set.BufferReceivers number) = refl
+same_sets partition table (set.BlackboardReaders number) = refl
+same_sets partition table (set.SemaphoreWaiters number) = refl
+same_sets partition table (set.EventWaiters number) = refl
+same_sets partition table (set.MutexWaiters number) = refl
+same_sets partition table (set.ChannelSenders number) = refl
+same_sets partition table (set.ChannelReceivers number) = refl
+
+pub called_sets : (configuration : Configuration) (state : State) (place core : ℕ) (call : CallRecord) (partition : Partition) (wanted : WaitingSet)
+    → entries_at (partition_called configuration state.cores place core call partition) wanted ≡ entries_at (objects_called configuration place call partition) wanted
+called_sets configuration state place core call partition (set.BufferSenders number) = refl
+called_sets configuration state place core call partition (set.BufferReceivers number) = refl
+called_sets configuration state place core call partition (set.BlackboardReaders number) = refl
+called_sets configuration state place core call partition (set.SemaphoreWaiters number) = refl
+called_sets configuration state place core call partition (set.EventWaiters number) = refl
+called_sets configuration state place core call partition (set.MutexWaiters number) = refl
+called_sets configuration state place core call partition (set.ChannelSenders number) = refl
+called_sets configuration state place core call partition (set.ChannelReceivers number) = refl
+
+-- a call of another partition ends no wait in a set of this one
+
+-- who is woken through a channel waits in a set of it
+not_across : (asked : Request) (partitions : ℕ → Partition) (configuration : Configuration) (channel : ℕ) (wanted : WaitingSet) (who : Who)
+    → ((other : ℕ) → ¬ (wanted ≡ set.ChannelSenders other)) → ((other : ℕ) → ¬ (wanted ≡ set.ChannelReceivers other))
+    → waits_at wanted (found partitions who) ≡ true → WaitsAcross asked partitions configuration channel who → ⊥
+not_across (request.SendQueuingMessage port length time_out message) partitions configuration channel wanted who not_sending not_receiving waits across =
+    not_receiving channel (one_set wanted (set.ChannelReceivers channel) (found partitions who) waits across.1)
+not_across (request.ReceiveQueuingMessage port time_out) partitions configuration channel wanted who not_sending not_receiving waits across =
+    not_sending channel (one_set wanted (set.ChannelSenders channel) (found partitions who) waits across.1)
+not_across _ partitions configuration channel wanted who not_sending not_receiving waits across = across
+
+-- so who waits in a set of this partition isn't named
+not_named_here : (configuration : Configuration) (state : State) (now : ℕ) (call : CallRecord) (number : ℕ) → AreTied configuration state → nat_eq call.who.part number ≡ false
+    → (codes : List Code) (channel : Option ℕ) → HasOutcome codes channel (answer_of now call.who (state.partitions call.who.part) call.request)
+    (λ number. suits_use (use_of call.request) (state.channels number)) (channel_answer configuration now call.request state.channels) call.claim
+    → (wanted : WaitingSet) → ((other : ℕ) → ¬ (wanted ≡ set.ChannelSenders other)) → ((other : ℕ) → ¬ (wanted ≡ set.ChannelReceivers other))
+    → (who : Who) → who.part ≡ number → waits_at wanted (found state.partitions who) ≡ true → is_named who call.claim.woken ≡ true → ⊥
+not_named_here configuration state now call number tied elsewhere (code ∷ codes) channel has wanted not_sending not_receiving who here waits named = nobody who call.claim.woken has.woken named
+not_named_here configuration state now call number tied elsewhere [] None has wanted not_sending not_receiving who here waits named =
+    let by = woken configuration state now call.who call.request call.claim tied [] None has who named in
+    true≢false (sym (eq-eqb call.who.part number (sym (by.own has.chan) ∙ here)) ∙ elsewhere)
+not_named_here configuration state now call number tied elsewhere [] (Some channel) has wanted not_sending not_receiving who here waits named =
+    not_across call.request state.partitions configuration channel wanted who not_sending not_receiving waits
+    (across configuration state now channel call.request tied has.kind who (sym (has.woken who) ∙ named))
+
+-- an entry of a set of this partition stays
+stays_here : (judged : Service → Bool) (configuration : Configuration) (state : State) (core : ℕ) (call : CallRecord) → AreTied configuration state
+    → IsLawfulCall judged configuration state core call → (number : ℕ) → nat_eq call.who.part number ≡ false
+    → (wanted : WaitingSet) → ((other : ℕ) → ¬ (wanted ≡ set.ChannelSenders other)) → ((other : ℕ) → ¬ (wanted ≡ set.ChannelReceivers other))
+    → (entry : Entry) → IsTied (λ home. home ≡ number) wanted state.partitions entry → ends_wait call entry.who ≡ false
+stays_here judged configuration state core call tied law number elsewhere wanted not_sending not_receiving entry is =
+    neither (is_named entry.who call.claim.woken) (stops call entry.who)
+    (cannot_hold (is_named entry.who call.claim.woken) (λ named.
+    not_named_here configuration state (time_of state.cores core) call number tied elsewhere
+    (condition_codes configuration call.who (state.partitions call.who.part) call.request) (channel_of (state.partitions call.who.part) call.request) law.outcome
+    wanted not_sending not_receiving entry.who is.0 is.1 named))
+    (not_second (is_no_error call.claim.out) (nat_eq entry.who.part call.who.part && is_target (stop_of call.request) entry.who.proc)
+    (not_first (nat_eq entry.who.part call.who.part) (is_target (stop_of call.request) entry.who.proc)
+    (cannot_hold (nat_eq entry.who.part call.who.part) (λ same.
+    true≢false (sym (eq-eqb call.who.part number (sym (eqb-true entry.who.part call.who.part same) ∙ is.0)) ∙ elsewhere)))))
+
+one_foreign_set : (judged : Service → Bool) (configuration : Configuration) (state : State) (place core : ℕ) (call : CallRecord) → AreTied configuration state
+    → IsLawfulCall judged configuration state core call → (number : ℕ) → nat_eq call.who.part number ≡ false
+    → (wanted : WaitingSet) → ((other : ℕ) → ¬ (wanted ≡ set.ChannelSenders other)) → ((other : ℕ) → ¬ (wanted ≡ set.ChannelReceivers other))
+    → (entries : List Entry) → AllEntries (IsTied (λ home. home ≡ number) wanted state.partitions) entries
+    → AllEntries (IsTied (λ home. home ≡ number) wanted (Next configuration state place core (Call call))) entries
+one_foreign_set judged configuration state place core call tied law number elsewhere wanted not_sending not_receiving entries all =
+    all_weaker (IsTied (λ home. home ≡ number) wanted state.partitions) (IsTied (λ home. home ≡ number) wanted (Next configuration state place core (Call call)))
+    (λ entry is. tied_after judged configuration state place core (Call call) tied law (λ home. home ≡ number) wanted entry
+    (stays_here judged configuration state core call tied law number elsewhere wanted not_sending not_receiving entry is) is) entries all
+
+foreign_sets : (judged : Service → Bool) (configuration : Configuration) (state : State) (place core : ℕ) (call : CallRecord) → AreTied configuration state
+    → IsLawfulCall judged configuration state core call → (number : ℕ) → nat_eq call.who.part number ≡ false → (wanted : WaitingSet)
+    → AllEntries (IsTied (λ home. home ≡ number) wanted (Next configuration state place core (Call call))) (entries_at (state.partitions number) wanted)
+foreign_sets judged configuration state place core call tied law number elsewhere (set.ChannelSenders channel) = tt
+foreign_sets judged configuration state place core call tied law number elsewhere (set.ChannelReceivers channel) = tt
+foreign_sets judged configuration state place core call tied law number elsewhere (set.BufferSenders object) =
+    one_foreign_set judged configuration state place core call tied law number elsewhere (set.BufferSenders object) (λ other. λ e. cc) (λ other. λ e. cc)
+    (entries_at (state.partitions number) (set.BufferSenders object)) (tied.objects number (set.BufferSenders object))
+foreign_sets judged configuration state place core call tied law number elsewhere (set.BufferReceivers object) =
+    one_foreign_set judged configuration state place core call tied law number elsewhere (set.BufferReceivers object) (λ other. λ e. cc) (λ other. λ e. cc)
+    (entries_at (state.partitions number) (set.BufferReceivers object)) (tied.objects number (set.BufferReceivers object))
+foreign_sets judged configuration state place core call tied law number elsewhere (set.BlackboardReaders object) =
+    one_foreign_set judged configuration state place core call tied law number elsewhere (set.BlackboardReaders object) (λ other. λ e. cc) (λ other. λ e. cc)
+    (entries_at (state.partitions number) (set.BlackboardReaders object)) (tied.objects number (set.BlackboardReaders object))
+foreign_sets judged configuration state place core call tied law number elsewhere (set.SemaphoreWaiters object) =
+    one_foreign_set judged configuration state place core call tied law number elsewhere (set.SemaphoreWaiters object) (λ other. λ e. cc) (λ other. λ e. cc)
+    (entries_at (state.partitions number) (set.SemaphoreWaiters object)) (tied.objects number (set.SemaphoreWaiters object))
+foreign_sets judged configuration state place core call tied law number elsewhere (set.EventWaiters object) =
+    one_foreign_set judged configuration state place core call tied law number elsewhere (set.EventWaiters object) (λ other. λ e. cc) (λ other. λ e. cc)
+    (entries_at (state.partitions number) (set.EventWaiters object)) (tied.objects number (set.EventWaiters object))
+foreign_sets judged configuration state place core call tied law number elsewhere (set.MutexWaiters object) =
+    one_foreign_set judged configuration state place core call tied law number elsewhere (set.MutexWaiters object) (λ other. λ e. cc) (λ other. λ e. cc)
+    (entries_at (state.partitions number) (set.MutexWaiters object)) (tied.objects number (set.MutexWaiters object))
+
+-- who stands in a set of a partition after a record
+own_sets : (judged : Service → Bool) (configuration : Configuration) (state : State) (place core : ℕ) (body : Body) → AreTied configuration state
+    → IsLawfulBody judged configuration state core body → (number : ℕ) (wanted : WaitingSet)
+    → AllEntries (IsTied (λ home. home ≡ number) wanted (Next configuration state place core body)) (entries_at (Next configuration state place core body number) wanted)
+own_sets judged configuration state place core (Disp who) tied law number wanted =
+    set_tied judged configuration state place core (Disp who) tied law (λ home. home ≡ number) wanted tt (entries_at (state.partitions number) wanted) (tied.objects number wanted)
+own_sets judged configuration state place core (Ret ret) tied law number wanted =
+    let Then : Entry → Type 0 = IsTied (λ home. home ≡ number) wanted (Next configuration state place core (Ret ret)) in
+    let all : AllEntries Then (entries_at (state.partitions number) wanted) =
+    set_tied judged configuration state place core (Ret ret) tied law (λ home. home ≡ number) wanted tt (entries_at (state.partitions number) wanted) (tied.objects number wanted) in
+    elim (nat_eq ret.who.part number) as (λ own. AllEntries Then (entries_at (cond own
+    (record (state.partitions number) { table = each_process (returned ret.who.proc) (state.partitions number).table }) (state.partitions number)) wanted)) [
+      | true ↦ subst (AllEntries Then) (sym (same_sets (state.partitions number) (each_process (returned ret.who.proc) (state.partitions number).table) wanted)) all
+      | false ↦ all
+    ]
+own_sets judged configuration state place core (Tick woken) tied law number wanted =
+    let Then : Entry → Type 0 = IsTied (λ home. home ≡ number) wanted (Next configuration state place core (Tick woken)) in
+    subst (AllEntries Then) (sym (same_sets (each_set (set_after place (Tick woken)) (state.partitions number)) (each_process (ticked place number woken) (state.partitions number).table) wanted))
+    (each_set_has (AllEntries Then) tt (set_after place (Tick woken)) (state.partitions number) wanted
+    (set_tied judged configuration state place core (Tick woken) tied law (λ home. home ≡ number) wanted tt (entries_at (state.partitions number) wanted) (tied.objects number wanted)))
+own_sets judged configuration state place core (Call call) tied law number wanted =
+    let Then : Entry → Type 0 = IsTied (λ home. home ≡ number) wanted (Next configuration state place core (Call call)) in
+    let foreign : ℕ → Process → Process = λ other process. roused place call (record { part = number; proc = other }) process in
+    elim (nat_eq call.who.part number) as (λ own. nat_eq call.who.part number ≡ own → AllEntries Then (entries_at (cond own
+    (partition_called configuration state.cores place core call (state.partitions number))
+    (record (state.partitions number) { table = each_process foreign (state.partitions number).table })) wanted)) [
+      | true ↦ λ own.
+          let objects : Partition = cond (is_done call.claim.out) (objects_by configuration call.who call.claim.val call.request (state.partitions number)) (state.partitions number) in
+          subst (AllEntries Then) (sym (called_sets configuration state place core call (state.partitions number) wanted))
+          (each_set_has (AllEntries Then) tt (set_after place (Call call)) objects wanted
+          (set_tied judged configuration state place core (Call call) tied law (λ home. home ≡ number) wanted (λ here. eqb-true call.who.part number own) (entries_at objects wanted)
+          (objects_tied (IsTied (λ home. home ≡ number) wanted state.partitions) configuration call (state.partitions number) wanted (tied.objects number wanted))))
+      | false ↦ λ elsewhere.
+          subst (AllEntries Then) (sym (same_sets (state.partitions number) (each_process foreign (state.partitions number).table) wanted))
+          (foreign_sets judged configuration state place core call tied law number elsewhere wanted)
+    ] refl
+
+-- the sets of a channel
+
+-- the end at which a caller enters a channel's set
+home_of : (judged : Service → Bool) (configuration : Configuration) (state : State) (core : ℕ) (call : CallRecord) → AreTied configuration state
+    → IsLawfulCall judged configuration state core call → (channel : ℕ) → call.claim.chan ≡ Some channel → StandsAtEnd call.request configuration channel call.who.part
+home_of judged configuration state core call tied law channel is =
+    by (condition_codes configuration call.who (state.partitions call.who.part) call.request) refl (channel_of (state.partitions call.who.part) call.request) refl law.outcome
+  where
+    by : (codes : List Code) → condition_codes configuration call.who (state.partitions call.who.part) call.request ≡ codes
+        → (of : Option ℕ) → channel_of (state.partitions call.who.part) call.request ≡ of
+        → HasOutcome codes of (answer_of (time_of state.cores core) call.who (state.partitions call.who.part) call.request)
+        (λ number. suits_use (use_of call.request) (state.channels number)) (channel_answer configuration (time_of state.cores core) call.request state.channels) call.claim
+        → StandsAtEnd call.request configuration channel call.who.part
+    by (code ∷ codes) none of at has = let no : ◌≡◌ {A = Option ℕ} None (Some channel) = sym has.chan ∙ is in cc
+    by [] none None at has = let no : ◌≡◌ {A = Option ℕ} None (Some channel) = sym has.chan ∙ is in cc
+    by [] none (Some other) at has =
+        port_is_at_end configuration call.who (state.partitions call.who.part) call.request channel (tied.ports call.who.part) (at ∙ sym has.chan ∙ is) none
+
+-- who enters a channel's set does so by its service, through that channel
+sending_call : (asked : Request) (chan : Option ℕ) (number : ℕ) (configuration : Configuration) (partition : ℕ) → set_of asked chan ≡ Some (set.ChannelSenders number)
+    → ((channel : ℕ) → chan ≡ Some channel → StandsAtEnd asked configuration channel partition) → IsTrue (is_sender configuration number partition)
+sending_call (request.SendQueuingMessage port length time_out message) (Some channel) number configuration partition is stands =
+    let both : set.ChannelSenders channel ≡ set.ChannelSenders number = cc in
+    let same : channel ≡ number = cc in
+    subst (λ one. IsTrue (is_sender configuration one partition)) same (stands channel refl)
+sending_call (request.SendQueuingMessage port length time_out message) None number configuration partition is stands = cc
+sending_call (request.ReceiveQueuingMessage port time_out) (Some channel) number configuration partition is stands =
+    let both : set.ChannelReceivers channel ≡ set.ChannelSenders number = cc in cc
+sending_call (request.ReceiveQueuingMessage port time_out) None number configuration partition is stands = cc
+sending_call (request.SendBuffer buffer length time_out message) chan number configuration partition is stands = let both : set.BufferSenders (natural_of buffer) ≡ set.ChannelSenders number = cc in cc
+sending_call (request.ReceiveBuffer buffer time_out) chan number configuration partition is stands = let both : set.BufferReceivers (natural_of buffer) ≡ set.ChannelSenders number = cc in cc
+sending_call (request.ReadBlackboard blackboard time_out) chan number configuration partition is stands = let both : set.BlackboardReaders (natural_of blackboard) ≡ set.ChannelSenders number = cc in cc
+sending_call (request.WaitSemaphore semaphore time_out) chan number configuration partition is stands = let both : set.SemaphoreWaiters (natural_of semaphore) ≡ set.ChannelSenders number = cc in cc
+sending_call (request.WaitEvent event time_out) chan number configuration partition is stands = let both : set.EventWaiters (natural_of event) ≡ set.ChannelSenders number = cc in cc
+sending_call (request.AcquireMutex mutex time_out) chan number configuration partition is stands = let both : set.MutexWaiters (natural_of mutex) ≡ set.ChannelSenders number = cc in cc
+sending_call _ chan number configuration partition is stands = let none : ◌≡◌ {A = Option WaitingSet} None (Some (set.ChannelSenders number)) = is in cc
+
+receiving_call : (asked : Request) (chan : Option ℕ) (number : ℕ) (configuration : Configuration) (partition : ℕ) → set_of asked chan ≡ Some (set.ChannelReceivers number)
+    → ((channel : ℕ) → chan ≡ Some channel → StandsAtEnd asked configuration channel partition) → IsTrue (is_receiver configuration number partition)
+receiving_call (request.ReceiveQueuingMessage port time_out) (Some channel) number configuration partition is stands =
+    let both : set.ChannelReceivers channel ≡ set.ChannelReceivers number = cc in
+    let same : channel ≡ number = cc in
+    subst (λ one. IsTrue (is_receiver configuration one partition)) same (stands channel refl)
+receiving_call (request.ReceiveQueuingMessage port time_out) None number configuration partition is stands = cc
+receiving_call (request.SendQueuingMessage port length time_out message) (Some channel) number configuration partition is stands =
+    let both : set.ChannelSenders channel ≡ set.ChannelReceivers number = cc in cc
+receiving_call (request.SendQueuingMessage port length time_out message) None number configuration partition is stands = cc
+receiving_call (request.SendBuffer buffer length time_out message) chan number configuration partition is stands = let both : set.BufferSenders (natural_of buffer) ≡ set.ChannelReceivers number = cc in cc
+receiving_call (request.ReceiveBuffer buffer time_out) chan number configuration partition is stands = let both : set.BufferReceivers (natural_of buffer) ≡ set.ChannelReceivers number = cc in cc
+receiving_call (request.ReadBlackboard blackboard time_out) chan number configuration partition is stands = let both : set.BlackboardReaders (natural_of blackboard) ≡ set.ChannelReceivers number = cc in cc
+receiving_call (request.WaitSemaphore semaphore time_out) chan number configuration partition is stands = let both : set.SemaphoreWaiters (natural_of semaphore) ≡ set.ChannelReceivers number = cc in cc
+receiving_call (request.WaitEvent event time_out) chan number configuration partition is stands = let both : set.EventWaiters (natural_of event) ≡ set.ChannelReceivers number = cc in cc
+receiving_call (request.AcquireMutex mutex time_out) chan number configuration partition is stands = let both : set.MutexWaiters (natural_of mutex) ≡ set.ChannelReceivers number = cc in cc
+receiving_call _ chan number configuration partition is stands = let none : ◌≡◌ {A = Option WaitingSet} None (Some (set.ChannelReceivers number)) = is in cc
+
+enters_at_source : (judged : Service → Bool) (configuration : Configuration) (state : State) (core : ℕ) (body : Body) → AreTied configuration state → IsLawfulBody judged configuration state core body
+    → (number : ℕ) → EntersAtHome body (λ home. IsTrue (is_sender configuration number home)) (set.ChannelSenders number)
+enters_at_source judged configuration state core (Call call) tied law number = λ here.
+    sending_call call.request call.claim.chan number configuration call.who.part
+    (found_set (set.ChannelSenders number) (set_of call.request call.claim.chan) (and_parts (is_waiting call.claim.out) (is_the_set (set.ChannelSenders number) (set_of call.request call.claim.chan)) here).1)
+    (λ channel is. home_of judged configuration state core call tied law channel is)
+enters_at_source judged configuration state core (Disp who) tied law number = tt
+enters_at_source judged configuration state core (Tick woken) tied law number = tt
+enters_at_source judged configuration state core (Ret ret) tied law number = tt
+
+enters_at_destination : (judged : Service → Bool) (configuration : Configuration) (state : State) (core : ℕ) (body : Body) → AreTied configuration state → IsLawfulBody judged configuration state core body
+    → (number : ℕ) → EntersAtHome body (λ home. IsTrue (is_receiver configuration number home)) (set.ChannelReceivers number)
+enters_at_destination judged configuration state core (Call call) tied law number = λ here.
+    receiving_call call.request call.claim.chan number configuration call.who.part
+    (found_set (set.ChannelReceivers number) (set_of call.request call.claim.chan) (and_parts (is_waiting call.claim.out) (is_the_set (set.ChannelReceivers number) (set_of call.request call.claim.chan)) here).1)
+    (λ channel is. home_of judged configuration state core call tied law channel is)
+enters_at_destination judged configuration state core (Disp who) tied law number = tt
+enters_at_destination judged configuration state core (Tick woken) tied law number = tt
+enters_at_destination judged configuration state core (Ret ret) tied law number = tt
+
+-- the ports
+
+called_ports : (configuration : Configuration) (state : State) (place core : ℕ) (call : CallRecord) (number : ℕ) → call.who.part ≡ number
+    → AllPorts (λ port. IsAtEnd configuration number port.direction port.channel) (state.partitions number).queuing_ports
+    → AllPorts (λ port. IsAtEnd configuration number port.direction port.channel) (partition_called configuration state.cores place core call (state.partitions number)).queuing_ports
+called_ports configuration state place core call number here all =
+    elim (is_done call.claim.out) as (λ done. AllPorts (λ port. IsAtEnd configuration number port.direction port.channel)
+    (cond done (objects_by configuration call.who call.claim.val call.request (state.partitions number)) (state.partitions number)).queuing_ports) [
+      | true ↦ subst (λ one. AllPorts (λ port. IsAtEnd configuration one port.direction port.channel) (objects_by configuration call.who call.claim.val call.request (state.partitions number)).queuing_ports) here
+          (ports_after configuration call.who call.claim.val call.request (state.partitions number)
+          (subst (λ one. AllPorts (λ port. IsAtEnd configuration one port.direction port.channel) (state.partitions number).queuing_ports) (sym here) all))
+      | false ↦ all
+    ]
+
+ports_by : (configuration : Configuration) (state : State) (place core : ℕ) (body : Body) (number : ℕ)
+    → AllPorts (λ port. IsAtEnd configuration number port.direction port.channel) (state.partitions number).queuing_ports
+    → AllPorts (λ port. IsAtEnd configuration number port.direction port.channel) (Next configuration state place core body number).queuing_ports
+ports_by configuration state place core (Disp who) number all = all
+ports_by configuration state place core (Tick woken) number all = all
+ports_by configuration state place core (Ret ret) number all =
+    elim (nat_eq ret.who.part number) as (λ own. AllPorts (λ port. IsAtEnd configuration number port.direction port.channel) (cond own
+    (record (state.partitions number) { table = each_process (returned ret.who.proc) (state.partitions number).table }) (state.partitions number)).queuing_ports) [ true ↦ all | false ↦ all ]
+ports_by configuration state place core (Call call) number all =
+    let foreign : ℕ → Process → Process = λ other process. roused place call (record { part = number; proc = other }) process in
+    elim (nat_eq call.who.part number) as (λ own. nat_eq call.who.part number ≡ own → AllPorts (λ port. IsAtEnd configuration number port.direction port.channel) (cond own
+    (partition_called configuration state.cores place core call (state.partitions number))
+    (record (state.partitions number) { table = each_process foreign (state.partitions number).table })).queuing_ports) [
+      | true ↦ λ own. called_ports configuration state place core call number (eqb-true call.who.part number own) all
+      | false ↦ λ elsewhere. all
+    ] refl
+
+-- the whole state
+
+-- a step keeps a state tied
+pub step_tied : (judged : Service → Bool) (configuration : Configuration) (state : State) (ordered : Ordered) (next : State)
+    → AreTied configuration state → StepJudging judged configuration state ordered next → AreTied configuration next
+step_tied judged configuration state ordered next tied step =
+    let place = ordered.pos in
+    let core = ordered.core in
+    let body = ordered.rec.body in
+    let law = step.0.claims in
+    subst (AreTied configuration) (sym step.1) (record {
+      distinct = λ number. distinct_by judged configuration state place core body law number (tied.distinct number);
+      objects = λ number wanted. own_sets judged configuration state place core body tied law number wanted;
+      senders = λ number. set_tied judged configuration state place core body tied law (λ home. IsTrue (is_sender configuration number home)) (set.ChannelSenders number)
+          (enters_at_source judged configuration state core body tied law number) (state.channels number).senders (tied.senders number);
+      receivers = λ number. set_tied judged configuration state place core body tied law (λ home. IsTrue (is_receiver configuration number home)) (set.ChannelReceivers number)
+          (enters_at_destination judged configuration state core body tied law number) (state.channels number).receivers (tied.receivers number);
+      ports = λ number. ports_by configuration state place core body number (tied.ports number);
+    })
+
+-- so does a run
+pub run_tied : (judged : Service → Bool) (configuration : Configuration) (records : List Ordered) (state final : State)
+    → AreTied configuration state → RunJudging judged configuration state records final → AreTied configuration final
+run_tied judged configuration [] state final tied run = subst (AreTied configuration) (sym run) tied
+run_tied judged configuration (ordered ∷ others) state final tied run =
+    run_tied judged configuration others run.0 final (step_tied judged configuration state ordered run.0 tied run.1) run.2
+
+-- no entry stands in a set of a cold partition
+cold_sets : (configuration : Configuration) (number : ℕ) (wanted : WaitingSet) (Fact : Entry → Type 0) → AllEntries Fact (entries_at ((cold_state configuration).partitions number) wanted)
+cold_sets configuration number (set.BufferSenders object) Fact = tt
+cold_sets configuration number (set.BufferReceivers object) Fact = tt
+cold_sets configuration number (set.BlackboardReaders object) Fact = tt
+cold_sets configuration number (set.SemaphoreWaiters object) Fact = tt
+cold_sets configuration number (set.EventWaiters object) Fact = tt
+cold_sets configuration number (set.MutexWaiters object) Fact = tt
+cold_sets configuration number (set.ChannelSenders channel) Fact = tt
+cold_sets configuration number (set.ChannelReceivers channel) Fact = tt
+
+-- the cold state is tied
+pub cold_tied : (configuration : Configuration) → AreTied configuration (cold_state configuration)
+cold_tied configuration = record {
+  distinct = λ number. refl;
+  objects = λ number wanted. cold_sets configuration number wanted _;
+  senders = λ number. tt;
+  receivers = λ number. tt;
+  ports = λ number. tt;
+}
+
+pub stays_tied : StaysTied
+stays_tied = (cold_tied, step_tied, run_tied)

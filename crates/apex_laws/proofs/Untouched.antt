@@ -1,0 +1,165 @@
+-- A piece that a lawful record doesn't touch keeps its part.
+use Rattle.std.proofs.Common.{◌≡◌, ℕ, List, [], ◌∷◌, Bool, true, false, nat_eq, ℤ, Option, Some, None, is_some, IsTrue, IsFalse, refl, sym, ap, subst, ◌∙◌, inl, inr, true≢false, ◌||◌, ◌&&◌}
+use Rattle.std.proofs.lemmas.Bool.{cases_Bool, eqb-true}
+use Rattle.apex_types.specs.declared.record.Body.{Body}
+use Rattle.apex_types.specs.declared.record.Body.TheVariants.{Call, Ret, Disp, Tick}
+use Rattle.apex_types.specs.declared.record.Call.{Call as CallRecord}
+use Rattle.apex_types.specs.declared.record.Ordered.{Ordered}
+use Rattle.apex_types.specs.declared.record.Who.{Who}
+use Rattle.apex_types.specs.declared.request.Request.{Request}
+use Rattle.apex_types.specs.declared.request.Request.TheVariants as request
+use Rattle.apex_types.specs.declared.service.Service.{Service}
+use Rattle.apex_machine.specs.declared.state.CoreState.{CoreState}
+use Rattle.apex_machine.specs.declared.state.Process.{Process}
+use Rattle.apex_machine.specs.declared.state.WaitingSet.{WaitingSet}
+use Rattle.apex_machine.specs.declared.state.WaitingSet.TheVariants as set
+use Rattle.apex_machine.specs.After.{after, content_by, cores_by, is_channel, partition_by, roused}
+use Rattle.apex_machine.specs.Channels.{is_at_end, is_receiver, is_sender, samples}
+use Rattle.apex_machine.specs.Configuration.{Configuration}
+use Rattle.apex_machine.specs.Pieces.{ChannelPart, Module, OfChannel, OfPartition, PartitionPart, Piece, part, stops_at_end, times_of, touched_by, touches}
+use Rattle.apex_machine.specs.ServiceConditions.{condition_codes}
+use Rattle.apex_machine.specs.Ports.{channel_of}
+use Rattle.apex_machine.specs.State.{Entry, Partition, State, Table, each_process, is_named, time_of}
+use Rattle.apex_machine.specs.Step.{IsLawful, IsLawfulBody, IsLawfulCall}
+use Rattle.apex_machine.specs.Waiting.{ends_wait, enters, is_no_error, is_target, is_the_set, is_waiting, set_after, set_of, stop_of, stops}
+use Rattle.apex_laws.specs.Laws.{AllEntries, AreTied, IsTied}
+use Rattle.apex_laws.proofs.Booleans.{is_itself, neither, neither_first, neither_later, not_second}
+use Rattle.apex_laws.proofs.Parts.{times_after}
+use Rattle.apex_laws.proofs.Waiters.{none_leaves}
+use Rattle.apex_laws.proofs.Whos.{not_named}
+use Rattle.apex_laws.proofs.Woken.{IsWokenBy, woken}
+
+-- partitions
+
+-- a table whose processes all stay
+pub each_stays : (change : ℕ → Process → Process) (table : Table) → ((number : ℕ) (process : Process) → change number process ≡ process) → each_process change table ≡ table
+each_stays change [] stays = refl
+each_stays change (entry ∷ entries) stays = λ i. (entry.0, stays entry.0 entry.1 i) ∷ each_stays change entries stays i
+
+-- a process that a call doesn't name stays
+not_roused : (place : ℕ) (call : CallRecord) (who : Who) (process : Process) → is_named who call.claim.woken ≡ false → roused place call who process ≡ process
+not_roused place call who process not_named = rw not_named refl
+
+-- a record that doesn't touch a partition leaves it and the cores as they are
+partition_untouched : (configuration : Configuration) (cores : List CoreState) (place core number : ℕ) (body : Body) (partition : Partition)
+    → IsFalse (touched_by configuration body (OfPartition number))
+    → (cores_by core body cores ≡ cores) × (partition_by configuration cores place core number body partition ≡ partition)
+partition_untouched configuration cores place core number (Disp who) partition off = absurd (true≢false off)
+partition_untouched configuration cores place core number (Tick woken) partition off = absurd (true≢false off)
+partition_untouched configuration cores place core number (Ret ret) partition off = (refl, rw off refl)
+partition_untouched configuration cores place core number (Call call) partition off =
+    let elsewhere : nat_eq call.who.part number ≡ false = neither_first _ _ off in
+    let stays = each_stays (λ other process. roused place call (record { part = number; proc = other }) process) partition.table
+    (λ other process. not_roused place call (record { part = number; proc = other }) process (not_named (record { part = number; proc = other }) call.claim.woken (neither_later _ _ off))) in
+    (refl, rw elsewhere (ap (λ (table : Table). record partition { table = table }) stays))
+
+-- channels
+
+-- a caller enters the senders of a channel only by a call through it
+not_sending : (number : ℕ) (asked : Request) (chan : Option ℕ) → is_channel number chan ≡ false → is_the_set (set.ChannelSenders number) (set_of asked chan) ≡ false
+not_sending number (request.SendQueuingMessage port length time_out message) (Some channel) off = off
+not_sending number (request.SendQueuingMessage port length time_out message) None off = refl
+not_sending number (request.ReceiveQueuingMessage port time_out) (Some channel) off = refl
+not_sending number (request.ReceiveQueuingMessage port time_out) None off = refl
+not_sending number _ chan off = refl
+
+-- a caller enters the receivers of a channel only by a call through it
+not_receiving : (number : ℕ) (asked : Request) (chan : Option ℕ) → is_channel number chan ≡ false → is_the_set (set.ChannelReceivers number) (set_of asked chan) ≡ false
+not_receiving number (request.SendQueuingMessage port length time_out message) (Some channel) off = refl
+not_receiving number (request.SendQueuingMessage port length time_out message) None off = refl
+not_receiving number (request.ReceiveQueuingMessage port time_out) (Some channel) off = off
+not_receiving number (request.ReceiveQueuingMessage port time_out) None off = refl
+not_receiving number _ chan off = refl
+
+-- who is at an end of a channel isn't stopped by a call that doesn't touch the channel
+not_stopped_at : (end none here : Bool) (stopping : Option ℤ) (number : ℕ) → (here ≡ true → end ≡ true) → (is_some stopping && (none && end)) ≡ false
+    → (none && (here && is_target stopping number)) ≡ false
+not_stopped_at end none here None number at off = not_second none (here && false) (not_second here false refl)
+not_stopped_at end true true (Some target) number at off = absurd (true≢false (sym (at refl) ∙ off))
+not_stopped_at end true false (Some target) number at off = refl
+not_stopped_at end false here (Some target) number at off = refl
+
+-- an entry stays whose process is at an end of the channel and waits in a set of it
+stays_there : (configuration : Configuration) (call : CallRecord) (number : ℕ) (who : Who) → is_at_end configuration number who.part ≡ true
+    → stops_at_end configuration number call ≡ false → is_named who call.claim.woken ≡ false → ends_wait call who ≡ false
+stays_there configuration call number who end off not_named =
+    neither (is_named who call.claim.woken) (stops call who) not_named
+    (not_stopped_at (is_at_end configuration number call.who.part) (is_no_error call.claim.out) (nat_eq who.part call.who.part) (stop_of call.request) who.proc
+    (λ here. subst (λ part. is_at_end configuration number part ≡ true) (eqb-true who.part call.who.part here) end) off)
+
+-- a sending or a receiving partition is at an end
+sender_at_end : (configuration : Configuration) (number partition : ℕ) → is_sender configuration number partition ≡ true → is_at_end configuration number partition ≡ true
+sender_at_end configuration number partition sends = rw sends refl
+
+receiver_at_end : (configuration : Configuration) (number partition : ℕ) → is_receiver configuration number partition ≡ true → is_at_end configuration number partition ≡ true
+receiver_at_end configuration number partition receives =
+    elim (is_sender configuration number partition) as (λ sends. (sends || (is_receiver configuration number partition || samples configuration number partition)) ≡ true) [
+      | true ↦ refl
+      | false ↦ rw receives refl
+    ]
+
+-- who waits at another channel isn't named
+not_woken : (configuration : Configuration) (state : State) (core : ℕ) (call : CallRecord) (judged : Service → Bool) → AreTied configuration state
+    → IsLawfulCall judged configuration state core call → (number : ℕ) → is_channel number call.claim.chan ≡ false → (who : Who)
+    → (IsWokenBy state.partitions call.who.part call.claim.chan who → call.claim.chan ≡ Some number) → is_named who call.claim.woken ≡ false
+not_woken configuration state core call judged tied law number off who through =
+    elim (cases_Bool (is_named who call.claim.woken)) [
+      | inl named ↦
+          let by = woken configuration state (time_of state.cores core) call.who call.request call.claim tied
+          (condition_codes configuration call.who (state.partitions call.who.part) call.request) (channel_of (state.partitions call.who.part) call.request) law.outcome who named in
+          absurd (true≢false (sym (ap (is_channel number) (through by) ∙ is_itself number) ∙ off))
+      | inr not_named ↦ not_named
+    ]
+
+-- a set that a call doesn't enter and nobody of which it ends stays
+set_stays : (Fact : Entry → Type 0) (place : ℕ) (call : CallRecord) (wanted : WaitingSet) (entries : List Entry) → AllEntries Fact entries
+    → enters call wanted ≡ false → ((entry : Entry) → Fact entry → ends_wait call entry.who ≡ false) → set_after place (Call call) wanted entries ≡ entries
+set_stays Fact place call wanted entries all off stays = rw off (none_leaves Fact (ends_wait call) stays entries all)
+
+-- a lawful call that doesn't touch a channel leaves it
+channel_untouched : (judged : Service → Bool) (configuration : Configuration) (state : State) (place core : ℕ) (call : CallRecord) → AreTied configuration state
+    → IsLawfulCall judged configuration state core call → (number : ℕ) → (is_channel number call.claim.chan || stops_at_end configuration number call) ≡ false
+    → (content_by configuration (time_of state.cores core) number (Call call) (state.channels number) ≡ (state.channels number).content)
+    × (set_after place (Call call) (set.ChannelSenders number) (state.channels number).senders ≡ (state.channels number).senders)
+    × (set_after place (Call call) (set.ChannelReceivers number) (state.channels number).receivers ≡ (state.channels number).receivers)
+channel_untouched judged configuration state place core call tied law number off =
+    let away : is_channel number call.claim.chan ≡ false = neither_first _ _ off in
+    let unstopped : stops_at_end configuration number call ≡ false = neither_later _ _ off in (
+      rw away refl,
+      set_stays (IsTied (λ home. IsTrue (is_sender configuration number home)) (set.ChannelSenders number) state.partitions) place call (set.ChannelSenders number)
+          (state.channels number).senders (tied.senders number)
+          (not_second (is_waiting call.claim.out) _ (not_sending number call.request call.claim.chan away))
+          (λ entry there. stays_there configuration call number entry.who (sender_at_end configuration number entry.who.part there.0) unstopped
+          (not_woken configuration state core call judged tied law number away entry.who (λ by. by.sending number there.1))),
+      set_stays (IsTied (λ home. IsTrue (is_receiver configuration number home)) (set.ChannelReceivers number) state.partitions) place call (set.ChannelReceivers number)
+          (state.channels number).receivers (tied.receivers number)
+          (not_second (is_waiting call.claim.out) _ (not_receiving number call.request call.claim.chan away))
+          (λ entry there. stays_there configuration call number entry.who (receiver_at_end configuration number entry.who.part there.0) unstopped
+          (not_woken configuration state core call judged tied law number away entry.who (λ by. by.receiving number there.1))),
+    )
+
+-- the channel's part after a record that doesn't touch it
+channel_part : (judged : Service → Bool) (configuration : Configuration) (state : State) (place core : ℕ) (body : Body) → AreTied configuration state
+    → IsLawfulBody judged configuration state core body → (number : ℕ) → IsFalse (touched_by configuration body (OfChannel number))
+    → (times_of (cores_by core body state.cores) ≡ times_of state.cores)
+    × (content_by configuration (time_of state.cores core) number body (state.channels number) ≡ (state.channels number).content)
+    × (set_after place body (set.ChannelSenders number) (state.channels number).senders ≡ (state.channels number).senders)
+    × (set_after place body (set.ChannelReceivers number) (state.channels number).receivers ≡ (state.channels number).receivers)
+channel_part judged configuration state place core (Disp who) tied law number off = (times_after core (Disp who) state.cores, refl, refl, refl)
+channel_part judged configuration state place core (Ret ret) tied law number off = (refl, refl, refl, refl)
+channel_part judged configuration state place core (Tick woken) tied law number off = absurd (true≢false off)
+channel_part judged configuration state place core (Call call) tied law number off =
+    let stays = channel_untouched judged configuration state place core call tied law number off in
+    (refl, stays.0, stays.1, stays.2)
+
+-- the part of a piece that a lawful record doesn't touch stays
+pub untouched_part : (judged : Service → Bool) (configuration : Configuration) (state : State) (ordered : Ordered) → AreTied configuration state
+    → IsLawful judged configuration state ordered → (piece : Piece)
+    → IsFalse (touches configuration piece ordered) → part piece (after configuration state ordered) ≡ part piece state
+untouched_part judged configuration state ordered tied law Module off = absurd (true≢false off)
+untouched_part judged configuration state ordered tied law (OfPartition number) off =
+    let same = partition_untouched configuration state.cores ordered.pos ordered.core number ordered.rec.body (state.partitions number) off in
+    λ i. PartitionPart number (same.0 i) (same.1 i)
+untouched_part judged configuration state ordered tied law (OfChannel number) off =
+    let same = channel_part judged configuration state ordered.pos ordered.core ordered.rec.body tied law.claims number off in
+    λ i. ChannelPart number (same.0 i) (record { content = same.1 i; senders = same.2 i; receivers = same.3 i })

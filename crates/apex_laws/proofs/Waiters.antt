@@ -1,0 +1,83 @@
+-- The entries of a waiting set: a fact about each of them, and the one that goes on first.
+use Rattle.std.proofs.Common.{◌≡◌, List, [], ◌∷◌, ◌++◌, Bool, true, false, cond, Some, None, refl, sym, ap, subst, ◌∙◌, inl, inr, true≢false}
+use Rattle.std.proofs.lemmas.Bool.{cases_Bool}
+use Rattle.apex_types.specs.declared.discipline.Discipline.{Discipline}
+use Rattle.apex_types.specs.declared.record.Who.{Who}
+use Rattle.apex_machine.specs.Answer.{whos}
+use Rattle.apex_machine.specs.Demands.{stands_in}
+use Rattle.apex_machine.specs.State.{Entry, is_named, is_same}
+use Rattle.apex_machine.specs.Waiting.{first_waiter, precedes, sooner_entry, without}
+use Rattle.apex_laws.specs.Laws.{AllEntries}
+use Rattle.apex_laws.proofs.Booleans.{other_holds}
+use Rattle.apex_laws.proofs.Whos.{same_is}
+
+-- a weaker fact
+pub all_weaker : (Fact Weaker : Entry → Type 0) → ((entry : Entry) → Fact entry → Weaker entry) → (entries : List Entry)
+    → AllEntries Fact entries → AllEntries Weaker entries
+all_weaker Fact Weaker weaker [] all = tt
+all_weaker Fact Weaker weaker (entry ∷ entries) all = (weaker entry all.0, all_weaker Fact Weaker weaker entries all.1)
+
+-- of those who don't leave, a fact that they have then
+pub all_without : (Fact Then : Entry → Type 0) (leaves : Who → Bool) → ((entry : Entry) → leaves entry.who ≡ false → Fact entry → Then entry)
+    → (entries : List Entry) → AllEntries Fact entries → AllEntries Then (without leaves entries)
+all_without Fact Then leaves then [] all = tt
+all_without Fact Then leaves then (entry ∷ entries) all =
+    let rest = all_without Fact Then leaves then entries all.1 in
+    elim (leaves entry.who) as (λ gone. leaves entry.who ≡ gone → AllEntries Then (cond gone (without leaves entries) (entry ∷ without leaves entries))) [
+      | true ↦ λ gone. rest
+      | false ↦ λ stays. (then entry stays all.0, rest)
+    ] refl
+
+-- one more entry
+pub all_push : (Fact : Entry → Type 0) (entries : List Entry) (entry : Entry) → AllEntries Fact entries → Fact entry → AllEntries Fact (entries ++ entry ∷ [])
+all_push Fact [] entry all one = (one, tt)
+all_push Fact (other ∷ entries) entry all one = (all.0, all_push Fact entries entry all.1 one)
+
+-- where nobody leaves the set stays
+pub none_leaves : (Fact : Entry → Type 0) (leaves : Who → Bool) → ((entry : Entry) → Fact entry → leaves entry.who ≡ false)
+    → (entries : List Entry) → AllEntries Fact entries → without leaves entries ≡ entries
+none_leaves Fact leaves stays [] all = refl
+none_leaves Fact leaves stays (entry ∷ entries) all =
+    rw (stays entry all.0) (ap (λ others. entry ∷ others) (none_leaves Fact leaves stays entries all.1))
+
+-- the first of a set has what each of its entries has
+pub first_has : (Fact : Entry → Type 0) (discipline : Discipline) (entries : List Entry) (entry : Entry) → AllEntries Fact entries
+    → first_waiter discipline entries ≡ Some entry → Fact entry
+first_has Fact discipline [] entry all first = cc
+first_has Fact discipline (other ∷ entries) entry all first =
+    let here : Some other ≡ Some entry → Fact entry = λ some. let same : other ≡ entry = cc in subst Fact same all.0 in
+    elim (first_waiter discipline entries) as (λ found. first_waiter discipline entries ≡ found → sooner_entry discipline other found ≡ Some entry → Fact entry) [
+      | None ↦ λ none some. here some
+      | Some next ↦ λ is some. elim (precedes discipline next other) as (λ before. cond before (Some next) (Some other) ≡ Some entry → Fact entry) [
+        | true ↦ λ some. first_has Fact discipline entries entry all.1 (is ∙ some)
+        | false ↦ λ some. here some
+      ] some
+    ] refl first
+
+-- a list that names one process
+pub only_named : (Fact : Who → Type 0) (one who : Who) → Fact one → is_named who (one ∷ []) ≡ true → Fact who
+only_named Fact one who fact named =
+    elim (cases_Bool (is_same who one)) [
+      | inl same ↦ subst Fact (sym (same_is who one same)) fact
+      | inr differs ↦ absurd (true≢false (sym named ∙ rw differs refl))
+    ]
+
+-- a list that names those of a set
+pub all_named : (Fact : Who → Type 0) (entries : List Entry) → AllEntries (λ entry. Fact entry.who) entries → (who : Who)
+    → is_named who (whos entries) ≡ true → Fact who
+all_named Fact [] all who named = absurd (true≢false (sym named))
+all_named Fact (entry ∷ entries) all who named =
+    elim (cases_Bool (is_same who entry.who)) [
+      | inl same ↦ subst Fact (sym (same_is who entry.who same)) all.0
+      | inr differs ↦ all_named Fact entries all.1 who (other_holds _ _ named differs)
+    ]
+
+-- a process that lacks what each entry has stands in no entry
+pub stands_not : (Fact : Who → Type 0) (who : Who) → (Fact who → ⊥) → (entries : List Entry) → AllEntries (λ entry. Fact entry.who) entries
+    → stands_in who entries ≡ false
+stands_not Fact who lacks [] all = refl
+stands_not Fact who lacks (entry ∷ entries) all =
+    elim (cases_Bool (is_same who entry.who)) [
+      | inl same ↦ absurd (lacks (subst Fact (sym (same_is who entry.who same)) all.0))
+      | inr differs ↦ rw differs (stands_not Fact who lacks entries all.1)
+    ]

@@ -1,0 +1,248 @@
+-- Whom a call wakes: those who stand in a waiting set, or suspended themselves.
+use Rattle.std.proofs.Common.{◌≡◌, ℕ, zero, suc, List, [], ◌∷◌, length, Bool, true, false, cond, nat_eq, nat_lt, ℤ, pos, negsuc, Option, Some, None, refl, sym, ap, subst, ◌∙◌, true≢false}
+use Rattle.apex_types.specs.declared.code.Code.TheVariants as code
+use Rattle.apex_types.specs.declared.record.Who.{Who}
+use Rattle.apex_types.specs.declared.request.Request.{Request}
+use Rattle.apex_types.specs.declared.request.Request.TheVariants as request
+use Rattle.apex_machine.specs.declared.state.Process.{Process}
+use Rattle.apex_machine.specs.declared.state.WaitingSet.{WaitingSet}
+use Rattle.apex_machine.specs.declared.state.WaitingSet.TheVariants as set
+use Rattle.apex_machine.specs.Answer.{Answer, answering, done, unmet, waiting, waking}
+use Rattle.apex_machine.specs.Arguments.{is_over}
+use Rattle.apex_machine.specs.Channels.{capacity_of, receiving_discipline, refresh_of, sending_discipline}
+use Rattle.apex_machine.specs.Conditions.{created, is_suspension}
+use Rattle.apex_machine.specs.Configuration.{Configuration}
+use Rattle.apex_machine.specs.Objects.{acquired, acquired_again, acquired_from, at_maximum, board_read, buffer_received, buffer_sent, displayed, event_set, event_waited, handed_on, mutex_released, not_acquired, raised, released_once, semaphore_waited, signalled}
+use Rattle.apex_machine.specs.Ports.{Receive, Read, Send, Use, Write, channel_effect, used, reading_of}
+use Rattle.apex_machine.specs.Queue.{Messages, appended, not_yet, received, sent}
+use Rattle.apex_machine.specs.Services.{answer_by, answer_of, fellow, is_released, resuming}
+use Rattle.apex_machine.specs.State.{Buffer, Blackboard, Channel, Content, Entry, Event, Mutex, Partition, Queued, Sampled, Semaphore, Stamped, given_object, is_named, object_at, process_at}
+use Rattle.apex_machine.specs.Waiting.{first_waiter}
+use Rattle.apex_laws.specs.Laws.{AllEntries, entries_at, entries_in}
+use Rattle.apex_laws.proofs.Waiters.{all_named, first_has, only_named}
+
+-- nobody is named by the empty list
+pub nobody : {Fact : Type 0} (one : Who) (woken : List Who) → woken ≡ [] → is_named one woken ≡ true → Fact
+nobody {Fact} one woken none named = absurd (true≢false (sym named ∙ ap (is_named one) none))
+
+-- who cannot have at once what it wants wakes nobody
+unmet_wakes : (time_out : ℤ) → (unmet time_out).woken ≡ []
+unmet_wakes time_out = elim (is_over time_out) as (λ over. (cond over (answering code.NotAvailable) waiting).woken ≡ []) [ true ↦ refl | false ↦ refl ]
+
+-- queues
+
+-- a send wakes the first of the receivers
+pub sent_wakes : (Fact : Who → Type 0) (capacity : ℕ) (message : List ℕ) (time_out : ℤ) (first : Option Entry) (messages : Messages)
+    → ((entry : Entry) → first ≡ Some entry → Fact entry.who) → (one : Who)
+    → is_named one (sent capacity message time_out first messages).answer.woken ≡ true → Fact one
+sent_wakes Fact capacity message time_out (Some entry) messages has one named = only_named Fact entry.who one (has entry refl) named
+sent_wakes Fact capacity message time_out None messages has one named =
+    elim (nat_lt (length messages) capacity) as (λ room. is_named one (cond room (appended message messages) (not_yet time_out messages)).answer.woken ≡ true → Fact one) [
+      | true ↦ λ named. nobody one [] refl named
+      | false ↦ λ named. nobody one (unmet time_out).woken (unmet_wakes time_out) named
+    ] named
+
+-- a receive wakes the first of the senders
+pub received_wakes : (Fact : Who → Type 0) (time_out : ℤ) (first : Option Entry) (messages : Messages)
+    → ((entry : Entry) → first ≡ Some entry → Fact entry.who) → (one : Who)
+    → is_named one (received time_out first messages).answer.woken ≡ true → Fact one
+received_wakes Fact time_out first [] has one named = nobody one (unmet time_out).woken (unmet_wakes time_out) named
+received_wakes Fact time_out None (message ∷ others) has one named = nobody one [] refl named
+received_wakes Fact time_out (Some entry) (message ∷ others) has one named = only_named Fact entry.who one (has entry refl) named
+
+-- the objects of a partition
+
+-- the entries of an object that is found
+entries_found : {Object : Type 0} (Fact : Entry → Type 0) (entries_of : Object → List Entry) (found : Option Object) (object : Object) → found ≡ Some object
+    → AllEntries Fact (entries_in entries_of found) → AllEntries Fact (entries_of object)
+entries_found Fact entries_of found object is all = subst (λ one. AllEntries Fact (entries_in entries_of one)) is all
+
+-- an answer of an object names whom the object that is found wakes
+by_object : {Object : Type 0} (Fact : Type 0) (one : Who) (found : Option Object) (gives : Object → Answer)
+    → ((object : Object) → found ≡ Some object → is_named one (gives object).woken ≡ true → Fact) → is_named one (answer_by found gives).woken ≡ true → Fact
+by_object Fact one None gives has named = nobody one [] refl named
+by_object Fact one (Some object) gives has named = has object refl named
+
+signal_wakes : (Fact : Who → Type 0) (maximum : ℕ) (first : Option Entry) (value : ℕ) → ((entry : Entry) → first ≡ Some entry → Fact entry.who) → (one : Who)
+    → is_named one (signalled maximum first value).answer.woken ≡ true → Fact one
+signal_wakes Fact maximum (Some entry) value has one named = only_named Fact entry.who one (has entry refl) named
+signal_wakes Fact maximum None value has one named =
+    elim (nat_lt value maximum) as (λ below. is_named one (cond below (raised value) (at_maximum value)).answer.woken ≡ true → Fact one) [
+      | true ↦ λ named. nobody one [] refl named
+      | false ↦ λ named. nobody one [] refl named
+    ] named
+
+hand_on_wakes : (Fact : Who → Type 0) (first : Option Entry) (mutex : Mutex) → ((entry : Entry) → first ≡ Some entry → Fact entry.who) → (one : Who)
+    → is_named one (handed_on first mutex).answer.woken ≡ true → Fact one
+hand_on_wakes Fact (Some entry) mutex has one named = only_named Fact entry.who one (has entry refl) named
+hand_on_wakes Fact None mutex has one named = nobody one [] refl named
+
+release_wakes : (Fact : Who → Type 0) (first : Option Entry) (mutex : Mutex) → ((entry : Entry) → first ≡ Some entry → Fact entry.who) → (one : Who)
+    → is_named one (mutex_released first mutex).answer.woken ≡ true → Fact one
+release_wakes Fact first mutex has one named =
+    elim (nat_lt 1 mutex.count) as (λ more. is_named one (cond more (released_once mutex) (handed_on first mutex)).answer.woken ≡ true → Fact one) [
+      | true ↦ λ named. nobody one [] refl named
+      | false ↦ λ named. hand_on_wakes Fact first mutex has one named
+    ] named
+
+-- these wake nobody
+wait_wakes : (time_out : ℤ) (value : ℕ) → (semaphore_waited time_out value).answer.woken ≡ []
+wait_wakes time_out zero = unmet_wakes time_out
+wait_wakes time_out (suc value) = refl
+
+board_wakes : (time_out : ℤ) (message : Option (List ℕ)) → (board_read time_out message).answer.woken ≡ []
+board_wakes time_out None = unmet_wakes time_out
+board_wakes time_out (Some message) = refl
+
+event_wakes : (time_out : ℤ) (up : Bool) → (event_waited time_out up).answer.woken ≡ []
+event_wakes time_out true = refl
+event_wakes time_out false = unmet_wakes time_out
+
+acquire_wakes : (caller : ℕ) (time_out : ℤ) (mutex : Mutex) (owner : Option ℕ) → (acquired_from owner caller time_out mutex).answer.woken ≡ []
+acquire_wakes caller time_out mutex None = refl
+acquire_wakes caller time_out mutex (Some owner) =
+    elim (nat_eq owner caller) as (λ own. (cond own (acquired_again mutex) (not_acquired time_out mutex)).answer.woken ≡ []) [ true ↦ refl | false ↦ unmet_wakes time_out ]
+
+done_or_waiting : (over : Bool) → (cond over done waiting).woken ≡ []
+done_or_waiting true = refl
+done_or_waiting false = refl
+
+-- RESUME wakes its target, if that suspended itself
+resume_wakes : (Fact : Who → Type 0) (target : Who) (found : Option Process) → ((process : Process) → found ≡ Some process → is_suspension process.wait ≡ true → Fact target) → (one : Who)
+    → is_named one (resuming target found).woken ≡ true → Fact one
+resume_wakes Fact target None has one named = nobody one [] refl named
+resume_wakes Fact target (Some process) has one named =
+    elim (is_suspension process.wait) as (λ suspends. is_suspension process.wait ≡ suspends → is_named one (cond suspends (waking (target ∷ [])) done).woken ≡ true → Fact one) [
+      | true ↦ λ suspends named. only_named Fact target one (has process refl suspends) named
+      | false ↦ λ not_suspended named. nobody one [] refl named
+    ] refl named
+
+-- a service that uses no channel wakes those who stand in a waiting set of its caller's partition, or suspended themselves
+pub answer_wakes : (Fact : Who → Type 0) (now : ℕ) (who : Who) (partition : Partition) (asked : Request)
+    → ((wanted : WaitingSet) → AllEntries (λ entry. Fact entry.who) (entries_at partition wanted))
+    → ((process : ℤ) (target : Process) → created partition.table process ≡ Some target → is_suspension target.wait ≡ true → Fact (fellow who process))
+    → (one : Who) → is_named one (answer_of now who partition asked).woken ≡ true → Fact one
+answer_wakes Fact now who partition (request.SendBuffer (pos buffer) length time_out message) all suspended one named =
+    by_object (Fact one) one (object_at partition.buffers buffer) (λ found. (buffer_sent message time_out found).answer)
+    (λ found is named. sent_wakes Fact found.capacity message time_out (first_waiter found.discipline found.receivers) found.messages
+    (λ entry first. first_has (λ entry. Fact entry.who) found.discipline found.receivers entry
+    (entries_found (λ entry. Fact entry.who) (λ (found : Buffer). found.receivers) (object_at partition.buffers buffer) found is (all (set.BufferReceivers buffer))) first) one named) named
+answer_wakes Fact now who partition (request.SendBuffer (negsuc buffer) length time_out message) all suspended one named = nobody one [] refl named
+answer_wakes Fact now who partition (request.ReceiveBuffer (pos buffer) time_out) all suspended one named =
+    by_object (Fact one) one (object_at partition.buffers buffer) (λ found. (buffer_received time_out found).answer)
+    (λ found is named. received_wakes Fact time_out (first_waiter found.discipline found.senders) found.messages
+    (λ entry first. first_has (λ entry. Fact entry.who) found.discipline found.senders entry
+    (entries_found (λ entry. Fact entry.who) (λ (found : Buffer). found.senders) (object_at partition.buffers buffer) found is (all (set.BufferSenders buffer))) first) one named) named
+answer_wakes Fact now who partition (request.ReceiveBuffer (negsuc buffer) time_out) all suspended one named = nobody one [] refl named
+answer_wakes Fact now who partition (request.DisplayBlackboard (pos blackboard) length message) all suspended one named =
+    by_object (Fact one) one (object_at partition.blackboards blackboard) (λ found. (displayed message found.readers).answer)
+    (λ found is named. all_named Fact found.readers
+    (entries_found (λ entry. Fact entry.who) (λ (found : Blackboard). found.readers) (object_at partition.blackboards blackboard) found is (all (set.BlackboardReaders blackboard))) one named) named
+answer_wakes Fact now who partition (request.DisplayBlackboard (negsuc blackboard) length message) all suspended one named = nobody one [] refl named
+answer_wakes Fact now who partition (request.ReadBlackboard blackboard time_out) all suspended one named =
+    by_object (Fact one) one (given_object partition.blackboards blackboard) (λ found. (board_read time_out found.message).answer)
+    (λ found is named. nobody one (board_read time_out found.message).answer.woken (board_wakes time_out found.message) named) named
+answer_wakes Fact now who partition (request.WaitSemaphore semaphore time_out) all suspended one named =
+    by_object (Fact one) one (given_object partition.semaphores semaphore) (λ found. (semaphore_waited time_out found.value).answer)
+    (λ found is named. nobody one (semaphore_waited time_out found.value).answer.woken (wait_wakes time_out found.value) named) named
+answer_wakes Fact now who partition (request.SignalSemaphore (pos semaphore)) all suspended one named =
+    by_object (Fact one) one (object_at partition.semaphores semaphore)
+    (λ found. (signalled found.maximum (first_waiter found.discipline found.waiters) found.value).answer)
+    (λ found is named. signal_wakes Fact found.maximum (first_waiter found.discipline found.waiters) found.value
+    (λ entry first. first_has (λ entry. Fact entry.who) found.discipline found.waiters entry
+    (entries_found (λ entry. Fact entry.who) (λ (found : Semaphore). found.waiters) (object_at partition.semaphores semaphore) found is (all (set.SemaphoreWaiters semaphore))) first) one named) named
+answer_wakes Fact now who partition (request.SignalSemaphore (negsuc semaphore)) all suspended one named = nobody one [] refl named
+answer_wakes Fact now who partition (request.SetEvent (pos event)) all suspended one named =
+    by_object (Fact one) one (object_at partition.events event) (λ found. (event_set found.waiters).answer)
+    (λ found is named. all_named Fact found.waiters
+    (entries_found (λ entry. Fact entry.who) (λ (found : Event). found.waiters) (object_at partition.events event) found is (all (set.EventWaiters event))) one named) named
+answer_wakes Fact now who partition (request.SetEvent (negsuc event)) all suspended one named = nobody one [] refl named
+answer_wakes Fact now who partition (request.WaitEvent event time_out) all suspended one named =
+    by_object (Fact one) one (given_object partition.events event) (λ found. (event_waited time_out found.up).answer)
+    (λ found is named. nobody one (event_waited time_out found.up).answer.woken (event_wakes time_out found.up) named) named
+answer_wakes Fact now who partition (request.AcquireMutex mutex time_out) all suspended one named =
+    by_object (Fact one) one (given_object partition.mutexes mutex) (λ found. (acquired who.proc time_out found).answer)
+    (λ found is named. nobody one (acquired who.proc time_out found).answer.woken (acquire_wakes who.proc time_out found found.owner) named) named
+answer_wakes Fact now who partition (request.ReleaseMutex (pos mutex)) all suspended one named =
+    by_object (Fact one) one (object_at partition.mutexes mutex) (λ found. (mutex_released (first_waiter found.discipline found.waiters) found).answer)
+    (λ found is named. release_wakes Fact (first_waiter found.discipline found.waiters) found
+    (λ entry first. first_has (λ entry. Fact entry.who) found.discipline found.waiters entry
+    (entries_found (λ entry. Fact entry.who) (λ (found : Mutex). found.waiters) (object_at partition.mutexes mutex) found is (all (set.MutexWaiters mutex))) first) one named) named
+answer_wakes Fact now who partition (request.ReleaseMutex (negsuc mutex)) all suspended one named = nobody one [] refl named
+answer_wakes Fact now who partition (request.Resume process) all suspended one named =
+    resume_wakes Fact (fellow who process) (created partition.table process) (λ target found suspends. suspended process target found suspends) one named
+answer_wakes Fact now who partition (request.SuspendSelf time_out) all suspended one named = nobody one (cond (is_over time_out) done waiting).woken (done_or_waiting (is_over time_out)) named
+answer_wakes Fact now who partition (request.TimedWait delay) all suspended one named = nobody one (cond (is_over delay) done waiting).woken (done_or_waiting (is_over delay)) named
+answer_wakes Fact now who partition request.PeriodicWait all suspended one named =
+    nobody one (cond (is_released now (process_at partition.table who.proc)) done waiting).woken (done_or_waiting (is_released now (process_at partition.table who.proc))) named
+answer_wakes Fact now who partition _ all suspended one named = nobody one [] refl named
+
+-- channels
+
+-- a read wakes nobody
+read_wakes : (now refresh : ℕ) (last : Option Stamped) → (reading_of now refresh last).woken ≡ []
+read_wakes now refresh None = refl
+read_wakes now refresh (Some last) = refl
+
+-- what each use of a channel wakes
+use_wakes : (Fact : Who → Type 0) (configuration : Configuration) (now number : ℕ) (how : Use) (channel : Channel) (content : Content)
+    → ((entry : Entry) → first_waiter (receiving_discipline configuration number) channel.receivers ≡ Some entry → Fact entry.who)
+    → ((entry : Entry) → first_waiter (sending_discipline configuration number) channel.senders ≡ Some entry → Fact entry.who)
+    → (one : Who) → is_named one (used configuration now number how channel content).answer.woken ≡ true → Fact one
+use_wakes Fact configuration now number (Write message) channel (Sampled last) receivers senders one named = nobody one [] refl named
+use_wakes Fact configuration now number Read channel (Sampled last) receivers senders one named =
+    nobody one (reading_of now (refresh_of configuration number) last).woken (read_wakes now (refresh_of configuration number) last) named
+use_wakes Fact configuration now number (Send message time_out) channel (Queued messages) receivers senders one named =
+    sent_wakes Fact (capacity_of configuration number) message time_out (first_waiter (receiving_discipline configuration number) channel.receivers) messages receivers one named
+use_wakes Fact configuration now number (Receive time_out) channel (Queued messages) receivers senders one named =
+    received_wakes Fact time_out (first_waiter (sending_discipline configuration number) channel.senders) messages senders one named
+use_wakes Fact configuration now number _ channel _ receivers senders one named = nobody one [] refl named
+
+-- a call through a channel wakes those who stand in its waiting sets
+pub channel_wakes : (Fact : Who → Type 0) (configuration : Configuration) (now number : ℕ) (how : Option Use) (channel : Channel)
+    → AllEntries (λ entry. Fact entry.who) channel.receivers → AllEntries (λ entry. Fact entry.who) channel.senders
+    → (one : Who) → is_named one (channel_effect configuration now number how channel).answer.woken ≡ true → Fact one
+channel_wakes Fact configuration now number None channel receivers senders one named = nobody one [] refl named
+channel_wakes Fact configuration now number (Some how) channel receivers senders one named =
+    use_wakes Fact configuration now number how channel channel.content
+    (λ entry first. first_has (λ entry. Fact entry.who) (receiving_discipline configuration number) channel.receivers entry receivers first)
+    (λ entry first. first_has (λ entry. Fact entry.who) (sending_discipline configuration number) channel.senders entry senders first) one named
+
+-- a send wakes those who wait to receive, a receive those who wait to send, and nothing else wakes anybody
+pub send_wakes : (Fact : Who → Type 0) (configuration : Configuration) (now number : ℕ) (message : List ℕ) (time_out : ℤ) (channel : Channel)
+    → AllEntries (λ entry. Fact entry.who) channel.receivers
+    → (one : Who) → is_named one (channel_effect configuration now number (Some (Send message time_out)) channel).answer.woken ≡ true → Fact one
+send_wakes Fact configuration now number message time_out channel receivers one named = by channel.content named
+  where
+    by : (content : Content) → is_named one (used configuration now number (Send message time_out) channel content).answer.woken ≡ true → Fact one
+    by (Queued messages) named =
+        sent_wakes Fact (capacity_of configuration number) message time_out (first_waiter (receiving_discipline configuration number) channel.receivers) messages
+        (λ entry first. first_has (λ entry. Fact entry.who) (receiving_discipline configuration number) channel.receivers entry receivers first) one named
+    by (Sampled last) named = nobody one [] refl named
+
+pub receive_wakes : (Fact : Who → Type 0) (configuration : Configuration) (now number : ℕ) (time_out : ℤ) (channel : Channel)
+    → AllEntries (λ entry. Fact entry.who) channel.senders
+    → (one : Who) → is_named one (channel_effect configuration now number (Some (Receive time_out)) channel).answer.woken ≡ true → Fact one
+receive_wakes Fact configuration now number time_out channel senders one named = by channel.content named
+  where
+    by : (content : Content) → is_named one (used configuration now number (Receive time_out) channel content).answer.woken ≡ true → Fact one
+    by (Queued messages) named =
+        received_wakes Fact time_out (first_waiter (sending_discipline configuration number) channel.senders) messages
+        (λ entry first. first_has (λ entry. Fact entry.who) (sending_discipline configuration number) channel.senders entry senders first) one named
+    by (Sampled last) named = nobody one [] refl named
+
+pub write_wakes : (configuration : Configuration) (now number : ℕ) (message : List ℕ) (channel : Channel)
+    → (channel_effect configuration now number (Some (Write message)) channel).answer.woken ≡ []
+write_wakes configuration now number message channel = by channel.content
+  where
+    by : (content : Content) → (used configuration now number (Write message) channel content).answer.woken ≡ []
+    by (Sampled last) = refl
+    by (Queued messages) = refl
+
+pub read_wakes_nobody : (configuration : Configuration) (now number : ℕ) (channel : Channel)
+    → (channel_effect configuration now number (Some Read) channel).answer.woken ≡ []
+read_wakes_nobody configuration now number channel = by channel.content
+  where
+    by : (content : Content) → (used configuration now number Read channel content).answer.woken ≡ []
+    by (Sampled last) = read_wakes now (refresh_of configuration number) last
+    by (Queued messages) = refl

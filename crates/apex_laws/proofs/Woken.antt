@@ -1,0 +1,119 @@
+-- Whom a lawful call wakes, in a tied state: through a channel those who wait there, else processes of its own partition that
+-- wait at no channel.
+use Rattle.std.proofs.Common.{◌≡◌, ℕ, zero, suc, List, [], ◌∷◌, true, ℤ, pos, negsuc, Option, Some, None, IsTrue, refl, sym, ap, subst, ◌∙◌, true≢false}
+use Rattle.std.proofs.lemmas.Bool.{and_parts}
+use Rattle.apex_types.specs.declared.code.Code.{Code}
+use Rattle.apex_types.specs.declared.record.Claim.{Claim}
+use Rattle.apex_types.specs.declared.record.Who.{Who}
+use Rattle.apex_types.specs.declared.request.Request.{Request}
+use Rattle.apex_machine.specs.declared.state.Process.{Process}
+use Rattle.apex_machine.specs.declared.state.Wait.{Wait}
+use Rattle.apex_machine.specs.declared.state.Wait.TheVariants as wait
+use Rattle.apex_machine.specs.declared.state.WaitingSet.{WaitingSet}
+use Rattle.apex_machine.specs.declared.state.WaitingSet.TheVariants as set
+use Rattle.apex_machine.specs.Channels.{is_receiver, is_sender}
+use Rattle.apex_machine.specs.Conditions.{created, is_suspension}
+use Rattle.apex_machine.specs.Configuration.{Configuration}
+use Rattle.apex_machine.specs.Ports.{suits_use, use_of}
+use Rattle.apex_machine.specs.Services.{answer_of, fellow}
+use Rattle.apex_machine.specs.State.{Entry, Partition, State, Table, is_named, process_at}
+use Rattle.apex_machine.specs.Step.{HasOutcome, channel_answer}
+use Rattle.apex_machine.specs.Waiting.{is_in, waits_at}
+use Rattle.apex_laws.specs.Laws.{AllEntries, AreTied, IsTied, entries_at}
+use Rattle.apex_laws.proofs.Wakes.{answer_wakes, channel_wakes, nobody}
+use Rattle.apex_laws.proofs.Waiters.{all_weaker}
+use Rattle.apex_laws.proofs.WaitSets.{one_set}
+
+-- a process by its partition and number
+abbrev pub found : (ℕ → Partition) → Who → Option Process
+found partitions who = process_at (partitions who.part).table who.proc
+
+-- a channel's waiting set isn't one of this partition, and who waits there is woken through that channel alone
+pub record IsWokenBy (partitions : ℕ → Partition) (number : ℕ) (chan : Option ℕ) (who : Who) : Type 0 where
+  pub own : chan ≡ None → who.part ≡ number
+  pub sending : (channel : ℕ) → waits_at (set.ChannelSenders channel) (found partitions who) ≡ true → chan ≡ Some channel
+  pub receiving : (channel : ℕ) → waits_at (set.ChannelReceivers channel) (found partitions who) ≡ true → chan ≡ Some channel
+
+-- who stands in a waiting set of a partition waits at no channel
+own_waiter : (partitions : ℕ → Partition) (number : ℕ) (wanted : WaitingSet) (chan : Option ℕ) (entries : List Entry) → (entries_at (partitions number) wanted ≡ entries)
+    → AllEntries (IsTied (λ home. home ≡ number) wanted partitions) entries → AllEntries (λ entry. IsWokenBy partitions number chan entry.who) entries
+own_waiter partitions number wanted chan entries at all = by wanted at all
+  where
+    cannot : (one other : WaitingSet) (who : Who) → waits_at one (found partitions who) ≡ true → waits_at other (found partitions who) ≡ true → one ≡ other
+    cannot one other who here also = one_set one other (found partitions who) here also
+
+    one_of : (wanted : WaitingSet) (who : Who) → who.part ≡ number → waits_at wanted (found partitions who) ≡ true
+        → ((channel : ℕ) → ¬ (wanted ≡ set.ChannelSenders channel)) → ((channel : ℕ) → ¬ (wanted ≡ set.ChannelReceivers channel)) → IsWokenBy partitions number chan who
+    one_of wanted who own waits not_sending not_receiving = record {
+      own = λ none. own;
+      sending = λ channel also. absurd (not_sending channel (cannot wanted (set.ChannelSenders channel) who waits also));
+      receiving = λ channel also. absurd (not_receiving channel (cannot wanted (set.ChannelReceivers channel) who waits also));
+    }
+
+    by : (wanted : WaitingSet) → entries_at (partitions number) wanted ≡ entries → AllEntries (IsTied (λ home. home ≡ number) wanted partitions) entries
+        → AllEntries (λ entry. IsWokenBy partitions number chan entry.who) entries
+    by (set.ChannelSenders channel) at all = subst (AllEntries (λ entry. IsWokenBy partitions number chan entry.who)) at tt
+    by (set.ChannelReceivers channel) at all = subst (AllEntries (λ entry. IsWokenBy partitions number chan entry.who)) at tt
+    by (set.BufferSenders object) at all = all_weaker _ _ (λ entry tied. one_of (set.BufferSenders object) entry.who tied.0 tied.1 (λ channel. λ e. cc) (λ channel. λ e. cc)) entries all
+    by (set.BufferReceivers object) at all = all_weaker _ _ (λ entry tied. one_of (set.BufferReceivers object) entry.who tied.0 tied.1 (λ channel. λ e. cc) (λ channel. λ e. cc)) entries all
+    by (set.BlackboardReaders object) at all = all_weaker _ _ (λ entry tied. one_of (set.BlackboardReaders object) entry.who tied.0 tied.1 (λ channel. λ e. cc) (λ channel. λ e. cc)) entries all
+    by (set.SemaphoreWaiters object) at all = all_weaker _ _ (λ entry tied. one_of (set.SemaphoreWaiters object) entry.who tied.0 tied.1 (λ channel. λ e. cc) (λ channel. λ e. cc)) entries all
+    by (set.EventWaiters object) at all = all_weaker _ _ (λ entry tied. one_of (set.EventWaiters object) entry.who tied.0 tied.1 (λ channel. λ e. cc) (λ channel. λ e. cc)) entries all
+    by (set.MutexWaiters object) at all = all_weaker _ _ (λ entry tied. one_of (set.MutexWaiters object) entry.who tied.0 tied.1 (λ channel. λ e. cc) (λ channel. λ e. cc)) entries all
+
+-- a created process is found under its number
+pub created_is : (table : Table) (process : ℤ) (target : Process) → created table process ≡ Some target → (number : ℕ) × (process ≡ pos number) × (process_at table number ≡ Some target)
+created_is table (pos zero) target is = cc
+created_is table (pos (suc number)) target is = (suc number, refl, is)
+created_is table (negsuc n) target is = cc
+
+-- who suspended itself waits in no set
+suspended_waits_not : (wanted : WaitingSet) (one : Wait) → is_suspension one ≡ true → is_in wanted one ≡ true → ⊥
+suspended_waits_not wanted (wait.Suspended due) suspends waits = true≢false (sym waits)
+suspended_waits_not wanted _ suspends waits = true≢false (sym suspends)
+
+suspended_fellow : (partitions : ℕ → Partition) (who : Who) (chan : Option ℕ) (process : ℤ) (target : Process) → created (partitions who.part).table process ≡ Some target
+    → is_suspension target.wait ≡ true → IsWokenBy partitions who.part chan (fellow who process)
+suspended_fellow partitions who chan process target is suspends =
+    let at = created_is (partitions who.part).table process target is in
+    let number : (fellow who process) ≡ record { part = who.part; proc = at.0 } = ap (fellow who) at.1 in
+    let cannot : (wanted : WaitingSet) → waits_at wanted (found partitions (fellow who process)) ≡ true → ⊥ =
+    λ wanted waits.
+    let here : waits_at wanted (Some target) ≡ true = subst (λ one. waits_at wanted one ≡ true) at.2 (subst (λ one. waits_at wanted (found partitions one) ≡ true) number waits) in
+    suspended_waits_not wanted target.wait suspends (and_parts target.alive _ here).1 in
+    record {
+      own = λ none. refl;
+      sending = λ channel waits. absurd (cannot (set.ChannelSenders channel) waits);
+      receiving = λ channel waits. absurd (cannot (set.ChannelReceivers channel) waits);
+    }
+
+-- who stands in a waiting set of a channel is woken through that channel
+channel_waiter : (partitions : ℕ → Partition) (Home : ℕ → Type 0) (wanted : WaitingSet) (number channel : ℕ) (chan : Option ℕ) → chan ≡ Some channel
+    → ((other : ℕ) → wanted ≡ set.ChannelSenders other → other ≡ channel) → ((other : ℕ) → wanted ≡ set.ChannelReceivers other → other ≡ channel)
+    → (entries : List Entry) → AllEntries (IsTied Home wanted partitions) entries → AllEntries (λ entry. IsWokenBy partitions number chan entry.who) entries
+channel_waiter partitions Home wanted number channel chan is sending receiving entries all =
+    all_weaker (IsTied Home wanted partitions) (λ entry. IsWokenBy partitions number chan entry.who) (λ entry tied. record {
+      own = λ none. (let some : ◌≡◌ {A = Option ℕ} (Some channel) None = sym is ∙ none in cc);
+      sending = λ other also. is ∙ ap Some (sym (sending other (one_set wanted (set.ChannelSenders other) (found partitions entry.who) tied.1 also)));
+      receiving = λ other also. is ∙ ap Some (sym (receiving other (one_set wanted (set.ChannelReceivers other) (found partitions entry.who) tied.1 also)));
+    }) entries all
+
+-- whom a call with a lawful outcome names
+pub woken : (configuration : Configuration) (state : State) (now : ℕ) (who : Who) (asked : Request) (claim : Claim) → AreTied configuration state
+    → (codes : List Code) (channel : Option ℕ)
+    → HasOutcome codes channel (answer_of now who (state.partitions who.part) asked) (λ number. suits_use (use_of asked) (state.channels number))
+    (channel_answer configuration now asked state.channels) claim
+    → (one : Who) → is_named one claim.woken ≡ true → IsWokenBy state.partitions who.part claim.chan one
+woken configuration state now who asked claim tied (code ∷ codes) channel has one named = nobody one claim.woken has.woken named
+woken configuration state now who asked claim tied [] None has one named =
+    answer_wakes (IsWokenBy state.partitions who.part claim.chan) now who (state.partitions who.part) asked
+    (λ wanted. own_waiter state.partitions who.part wanted claim.chan (entries_at (state.partitions who.part) wanted) refl (tied.objects who.part wanted))
+    (λ process target is suspends. suspended_fellow state.partitions who claim.chan process target is suspends)
+    one (sym (has.woken one) ∙ named)
+woken configuration state now who asked claim tied [] (Some channel) has one named =
+    channel_wakes (IsWokenBy state.partitions who.part claim.chan) configuration now channel (use_of asked) (state.channels channel)
+    (channel_waiter state.partitions (λ home. IsTrue (is_receiver configuration channel home)) (set.ChannelReceivers channel) who.part channel claim.chan has.chan
+    (λ other e. cc) (λ other e. cc) (state.channels channel).receivers (tied.receivers channel))
+    (channel_waiter state.partitions (λ home. IsTrue (is_sender configuration channel home)) (set.ChannelSenders channel) who.part channel claim.chan has.chan
+    (λ other e. cc) (λ other e. cc) (state.channels channel).senders (tied.senders channel))
+    one (sym (has.woken one) ∙ named)

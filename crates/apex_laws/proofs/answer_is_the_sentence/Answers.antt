@@ -1,0 +1,5 @@
+use Rattle.apex_laws.proofs.Answers.{answer_is_the_sentence}
+use Rattle.apex_laws.proofs.answer_is_the_sentence.Goals as goal
+
+pub returns : goal.returns
+returns c = answer_is_the_sentence

@@ -1,0 +1,5 @@
+use Rattle.apex_laws.proofs.Firsts.{first_is_the_sentence}
+use Rattle.apex_laws.proofs.first_is_the_sentence.Goals as goal
+
+pub returns : goal.returns
+returns c = first_is_the_sentence

@@ -1,0 +1,105 @@
+-- What each service of an object does to the objects of its caller's partition, in sentences: which object, which of its waiting
+-- sets, by which rule, and that the others stay.
+use Rattle.std.specs.Prelude.{◌≡◌, ℕ, ℤ, pos, List, [], Option, Some, None, false}
+use Rattle.apex_types.specs.declared.record.Who.{Who}
+use Rattle.apex_types.specs.declared.request.Request.{Request}
+use Rattle.apex_types.specs.declared.request.Request.TheVariants as request
+use Rattle.apex_machine.specs.Answer.{Answer, Effect, NewNumber, done_with}
+use Rattle.apex_machine.specs.Arguments.{discipline_given, natural_of}
+use Rattle.apex_machine.specs.Channels.{QueuingPort, SamplingPort, queuing_port, sampling_port}
+use Rattle.apex_machine.specs.Configuration.{Configuration}
+use Rattle.apex_machine.specs.State.{Partition, is_free_object, object_at}
+use Rattle.apex_laws.specs.ObjectSentences.{IsAcquiring, IsClearing, IsDisplay, IsEventWait, IsReading, IsReceiving, IsReleasing, IsResetting, IsSemaphoreWait, IsSending, IsSetting, IsSignal}
+
+-- the object of this number is this one afterwards, and the others are as before
+pub record OneBecomes {Object : Type 0} (before after : List (ℕ × Object)) (number : ℕ) (new : Object) : Type 0 where
+  pub here : object_at after number ≡ Some new
+  pub others : (other : ℕ) → ¬ (other ≡ number) → object_at after other ≡ object_at before other
+
+-- a service of an object: the object is there, the rule gives the answer, and the object keeps all but what the rule changes
+pub record Operates {Object Value : Type 0} (before after : List (ℕ × Object)) (given : ℤ) (Rule : Object → Effect Value → Type 0) (put : Object → Value → Object) (answer : Answer) : Type 0 where
+  pub number : ℕ
+  pub is : given ≡ pos number
+  pub found : Object
+  pub stands : object_at before number ≡ Some found
+  pub effect : Effect Value
+  pub rule : Rule found effect
+  pub gives : answer ≡ effect.answer
+  pub becomes : OneBecomes before after number (put found effect.next)
+
+-- a creation: the answer is a new number of the kind, and under the number claimed stands what is created, if it was free
+pub record Creates {Object : Type 0} (before after : List (ℕ × Object)) (claimed : Option ℤ) (new : Object) (answer : Answer) : Type 0 where
+  pub gives : answer ≡ done_with (NewNumber (is_free_object before))
+  pub put : (number : ℕ) → claimed ≡ Some (pos number) → object_at before number ≡ None → OneBecomes before after number new
+
+-- the services of objects, by the objects of the partition before and after, where no error condition holds
+abbrev pub IsObjectCall : Configuration → Who → Option ℤ → Request → Partition → Answer → Partition → Type 0
+IsObjectCall configuration who claimed (request.CreateBuffer name size capacity discipline) partition answer next =
+    (next ≡ record partition { buffers = next.buffers }) × Creates partition.buffers next.buffers claimed (record {
+      name = name;
+      size = natural_of size;
+      capacity = natural_of capacity;
+      discipline = discipline_given discipline;
+      messages = [];
+      senders = [];
+      receivers = [];
+    }) answer
+IsObjectCall configuration who claimed (request.SendBuffer buffer length time_out message) partition answer next =
+    (next ≡ record partition { buffers = next.buffers }) × Operates partition.buffers next.buffers buffer (λ found. IsSending found.capacity message time_out found.discipline found.receivers found.messages)
+    (λ found messages. record found { messages = messages }) answer
+IsObjectCall configuration who claimed (request.ReceiveBuffer buffer time_out) partition answer next =
+    (next ≡ record partition { buffers = next.buffers }) × Operates partition.buffers next.buffers buffer (λ found. IsReceiving time_out found.discipline found.senders found.messages)
+    (λ found messages. record found { messages = messages }) answer
+IsObjectCall configuration who claimed (request.CreateBlackboard name size) partition answer next =
+    (next ≡ record partition { blackboards = next.blackboards }) × Creates partition.blackboards next.blackboards claimed (record { name = name; size = natural_of size; message = None; readers = [] }) answer
+IsObjectCall configuration who claimed (request.DisplayBlackboard blackboard length message) partition answer next =
+    (next ≡ record partition { blackboards = next.blackboards }) × Operates partition.blackboards next.blackboards blackboard (λ found. IsDisplay message found.readers) (λ found message. record found { message = message }) answer
+IsObjectCall configuration who claimed (request.ReadBlackboard blackboard time_out) partition answer next =
+    (next ≡ record partition { blackboards = next.blackboards }) × Operates partition.blackboards next.blackboards blackboard (λ found. IsReading time_out found.message) (λ found message. record found { message = message }) answer
+IsObjectCall configuration who claimed (request.ClearBlackboard blackboard) partition answer next =
+    (next ≡ record partition { blackboards = next.blackboards }) × Operates partition.blackboards next.blackboards blackboard (λ found effect. IsClearing effect) (λ found message. record found { message = message }) answer
+IsObjectCall configuration who claimed (request.CreateSemaphore name value maximum discipline) partition answer next =
+    (next ≡ record partition { semaphores = next.semaphores }) × Creates partition.semaphores next.semaphores claimed (record {
+      name = name;
+      maximum = natural_of maximum;
+      discipline = discipline_given discipline;
+      value = natural_of value;
+      waiters = [];
+    }) answer
+IsObjectCall configuration who claimed (request.WaitSemaphore semaphore time_out) partition answer next =
+    (next ≡ record partition { semaphores = next.semaphores }) × Operates partition.semaphores next.semaphores semaphore (λ found. IsSemaphoreWait time_out found.value) (λ found value. record found { value = value }) answer
+IsObjectCall configuration who claimed (request.SignalSemaphore semaphore) partition answer next =
+    (next ≡ record partition { semaphores = next.semaphores }) × Operates partition.semaphores next.semaphores semaphore (λ found. IsSignal found.maximum found.discipline found.waiters found.value)
+    (λ found value. record found { value = value }) answer
+IsObjectCall configuration who claimed (request.CreateEvent name) partition answer next =
+    (next ≡ record partition { events = next.events }) × Creates partition.events next.events claimed (record { name = name; up = false; waiters = [] }) answer
+IsObjectCall configuration who claimed (request.SetEvent event) partition answer next =
+    (next ≡ record partition { events = next.events }) × Operates partition.events next.events event (λ found. IsSetting found.waiters) (λ found up. record found { up = up }) answer
+IsObjectCall configuration who claimed (request.ResetEvent event) partition answer next =
+    (next ≡ record partition { events = next.events }) × Operates partition.events next.events event (λ found effect. IsResetting effect) (λ found up. record found { up = up }) answer
+IsObjectCall configuration who claimed (request.WaitEvent event time_out) partition answer next =
+    (next ≡ record partition { events = next.events }) × Operates partition.events next.events event (λ found. IsEventWait time_out found.up) (λ found up. record found { up = up }) answer
+IsObjectCall configuration who claimed (request.CreateMutex name priority discipline) partition answer next =
+    (next ≡ record partition { mutexes = next.mutexes }) × Creates partition.mutexes next.mutexes claimed (record {
+      name = name;
+      priority = natural_of priority;
+      discipline = discipline_given discipline;
+      owner = None;
+      count = 0;
+      waiters = [];
+    }) answer
+IsObjectCall configuration who claimed (request.AcquireMutex mutex time_out) partition answer next =
+    (next ≡ record partition { mutexes = next.mutexes }) × Operates partition.mutexes next.mutexes mutex (λ found. IsAcquiring who.proc time_out found) (λ found changed. changed) answer
+IsObjectCall configuration who claimed (request.ReleaseMutex mutex) partition answer next =
+    (next ≡ record partition { mutexes = next.mutexes }) × Operates partition.mutexes next.mutexes mutex (λ found effect. IsReleasing found effect) (λ found changed. changed) answer
+-- a created port is as the configuration has it
+IsObjectCall configuration who claimed (request.CreateSamplingPort name size direction refresh) partition answer next =
+    (next ≡ record partition { sampling_ports = next.sampling_ports })
+    × ((port : SamplingPort) × (sampling_port configuration who.part name ≡ Some port)
+    × Creates partition.sampling_ports next.sampling_ports claimed (record { name = name; size = port.size; direction = port.direction; channel = port.channel }) answer)
+IsObjectCall configuration who claimed (request.CreateQueuingPort name size capacity both) partition answer next =
+    (next ≡ record partition { queuing_ports = next.queuing_ports })
+    × ((port : QueuingPort) × (queuing_port configuration who.part name ≡ Some port)
+    × Creates partition.queuing_ports next.queuing_ports claimed (record { name = name; size = port.size; direction = port.direction; channel = port.channel }) answer)
+-- any other service leaves all objects and ports
+IsObjectCall configuration who claimed _ partition answer next = next ≡ partition

@@ -1,0 +1,92 @@
+-- What each rule of an object or a channel computes is exactly what its sentences say.
+use Rattle.std.specs.Prelude.{◌≡◌, ◌↔◌, ℕ, ℤ, List, [], ◌∷◌, Option, Some, None, Bool, IsTrue}
+use Rattle.apex_types.specs.declared.discipline.Discipline.{Discipline}
+use Rattle.apex_types.specs.declared.record.Who.{Who}
+use Rattle.apex_types.specs.declared.request.Request.{Request}
+use Rattle.apex_machine.specs.declared.state.WaitingSet.{WaitingSet}
+use Rattle.apex_machine.specs.After.{objects_by}
+use Rattle.apex_machine.specs.Answer.{Effect}
+use Rattle.apex_machine.specs.Configuration.{Configuration}
+use Rattle.apex_machine.specs.Objects.{acquired, board_read, cleared, displayed, event_reset, event_set, event_waited, mutex_released, semaphore_waited, signalled}
+use Rattle.apex_machine.specs.Ports.{Use, sampled, suits, used, written}
+use Rattle.apex_machine.specs.Queue.{Messages, received, sent}
+use Rattle.apex_machine.specs.State.{Channel, Content, Entry, Mutex, Partition, Stamped}
+use Rattle.apex_machine.specs.Waiting.{IsFirst, first_waiter}
+use Rattle.apex_machine.specs.ServiceConditions.{condition_codes}
+use Rattle.apex_machine.specs.Services.{answer_of}
+use Rattle.apex_laws.specs.CallSentences.{IsObjectCall}
+use Rattle.apex_laws.specs.Laws.{AllEntries, IsInOrder, entries_at}
+use Rattle.apex_laws.specs.ObjectSentences.{IsAcquiring, IsClearing, IsDisplay, IsEventWait, IsReading, IsReceiving, IsReleasing, IsResetting, IsSampling, IsSemaphoreWait, IsSending, IsSetting, IsSignal, IsUse, IsWriting}
+
+-- the entries of a waiting set stand at places of their own
+abbrev pub AreApart : List Entry → Type 0
+AreApart [] = Unit {0}
+AreApart (entry ∷ entries) = AllEntries (λ other. ¬ (entry.place ≡ other.place)) entries × AreApart entries
+
+-- the entries of a waiting set that is in order are apart; so the sentences on the first of a set hold in every state of a run
+abbrev pub OrderIsApart : Type 0
+OrderIsApart = (count : ℕ) (entries : List Entry) → IsInOrder count entries → AreApart entries
+
+-- the first of a waiting set is the entry that no other precedes, and there is none only in an empty set
+abbrev pub FirstIsTheSentence : Type 0
+FirstIsTheSentence =
+    (discipline : Discipline) (entries : List Entry) → AreApart entries
+    → ((entry : Entry) → (first_waiter discipline entries ≡ Some entry) ↔ IsFirst discipline entries entry)
+    × ((first_waiter discipline entries ≡ None) ↔ (entries ≡ []))
+
+-- buffers and queuing channels
+abbrev pub QueueIsTheSentence : Type 0
+QueueIsTheSentence =
+    ((capacity : ℕ) (message : List ℕ) (time_out : ℤ) (discipline : Discipline) (receivers : List Entry) (messages : Messages) (effect : Effect Messages) → AreApart receivers
+    → (effect ≡ sent capacity message time_out (first_waiter discipline receivers) messages) ↔ IsSending capacity message time_out discipline receivers messages effect)
+    × ((time_out : ℤ) (discipline : Discipline) (senders : List Entry) (messages : Messages) (effect : Effect Messages) → AreApart senders
+    → (effect ≡ received time_out (first_waiter discipline senders) messages) ↔ IsReceiving time_out discipline senders messages effect)
+
+-- blackboards
+abbrev pub BlackboardIsTheSentence : Type 0
+BlackboardIsTheSentence =
+    ((message : List ℕ) (readers : List Entry) (effect : Effect (Option (List ℕ))) → (effect ≡ displayed message readers) ↔ IsDisplay message readers effect)
+    × ((time_out : ℤ) (message : Option (List ℕ)) (effect : Effect (Option (List ℕ))) → (effect ≡ board_read time_out message) ↔ IsReading time_out message effect)
+    × ((effect : Effect (Option (List ℕ))) → (effect ≡ cleared) ↔ IsClearing effect)
+
+-- semaphores
+abbrev pub SemaphoreIsTheSentence : Type 0
+SemaphoreIsTheSentence =
+    ((time_out : ℤ) (value : ℕ) (effect : Effect ℕ) → (effect ≡ semaphore_waited time_out value) ↔ IsSemaphoreWait time_out value effect)
+    × ((maximum : ℕ) (discipline : Discipline) (waiters : List Entry) (value : ℕ) (effect : Effect ℕ) → AreApart waiters
+    → (effect ≡ signalled maximum (first_waiter discipline waiters) value) ↔ IsSignal maximum discipline waiters value effect)
+
+-- events
+abbrev pub EventIsTheSentence : Type 0
+EventIsTheSentence =
+    ((waiters : List Entry) (effect : Effect Bool) → (effect ≡ event_set waiters) ↔ IsSetting waiters effect)
+    × ((effect : Effect Bool) → (effect ≡ event_reset) ↔ IsResetting effect)
+    × ((time_out : ℤ) (up : Bool) (effect : Effect Bool) → (effect ≡ event_waited time_out up) ↔ IsEventWait time_out up effect)
+
+-- mutexes
+abbrev pub MutexIsTheSentence : Type 0
+MutexIsTheSentence =
+    ((caller : ℕ) (time_out : ℤ) (mutex : Mutex) (effect : Effect Mutex) → (effect ≡ acquired caller time_out mutex) ↔ IsAcquiring caller time_out mutex effect)
+    × ((mutex : Mutex) (effect : Effect Mutex) → AreApart mutex.waiters
+    → (effect ≡ mutex_released (first_waiter mutex.discipline mutex.waiters) mutex) ↔ IsReleasing mutex effect)
+
+-- sampling channels
+abbrev pub SamplingIsTheSentence : Type 0
+SamplingIsTheSentence =
+    ((now : ℕ) (message : List ℕ) (effect : Effect (Option Stamped)) → (effect ≡ written now message) ↔ IsWriting now message effect)
+    × ((now refresh : ℕ) (last : Option Stamped) (effect : Effect (Option Stamped)) → (effect ≡ sampled now refresh last) ↔ IsSampling now refresh last effect)
+
+-- any channel
+abbrev pub ChannelIsTheSentence : Type 0
+ChannelIsTheSentence =
+    (configuration : Configuration) (now number : ℕ) (channel : Channel) (how : Use) (effect : Effect Content) → AreApart channel.senders → AreApart channel.receivers
+    → IsTrue (suits how channel.content)
+    → (effect ≡ used configuration now number how channel channel.content) ↔ IsUse configuration now number channel how effect
+
+-- the services of objects use and change exactly the object that they name, and creations add exactly one, by the sentences; in a
+-- partition whose waiting sets have their entries apart, and where no error condition holds
+abbrev pub ObjectCallIsTheSentence : Type 0
+ObjectCallIsTheSentence =
+    (configuration : Configuration) (now : ℕ) (who : Who) (claimed : Option ℤ) (asked : Request) (partition : Partition)
+    → ((wanted : WaitingSet) → AreApart (entries_at partition wanted)) → condition_codes configuration who partition asked ≡ []
+    → IsObjectCall configuration who claimed asked partition (answer_of now who partition asked) (objects_by configuration who claimed asked partition)

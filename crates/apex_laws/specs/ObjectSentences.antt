@@ -1,0 +1,130 @@
+-- What each operation on an object or a channel gives and leaves, in sentences: one case for each sentence of its rule.
+use Rattle.std.specs.Prelude.{◌≡◌, ℕ, ◌+◌, ◌-◌, ◌<◌, ◌≤◌, ℤ, pos, List, [], ◌∷◌, ◌++◌, length, Option, Some, None, Bool, true, false}
+use Rattle.apex_types.specs.declared.code.Code.TheVariants as code
+use Rattle.apex_types.specs.declared.discipline.Discipline.{Discipline}
+use Rattle.apex_types.specs.declared.record.Out.{Out}
+use Rattle.apex_types.specs.declared.record.Out.TheVariants as out
+use Rattle.apex_types.specs.declared.record.Who.{Who}
+use Rattle.apex_machine.specs.Answer.{Effect, Nothing, Number, whos}
+use Rattle.apex_machine.specs.Channels.{capacity_of, receiving_discipline, refresh_of, sending_discipline}
+use Rattle.apex_machine.specs.Configuration.{Configuration}
+use Rattle.apex_machine.specs.Ports.{Receive, Read, Send, Use, Write, on_queuing, on_sampling}
+use Rattle.apex_machine.specs.Queue.{Messages}
+use Rattle.apex_machine.specs.State.{Channel, Content, Entry, Mutex, Queued, Sampled, Stamped}
+use Rattle.apex_machine.specs.Waiting.{IsFirst}
+
+-- an outcome with its message and those whose waits end, and the object after it
+abbrev pub gives : {Object : Type 0} → Out → List ℕ → List Who → Object → Effect Object
+gives given message woken next = record { answer = record { out = given; val = Nothing; bytes = message; woken = woken }; next = next }
+
+-- NO_ERROR, at once
+abbrev pub no_error : Out
+no_error = out.Answer code.NoError
+
+-- NOT_AVAILABLE, at once
+abbrev pub not_available : Out
+not_available = out.Answer code.NotAvailable
+
+-- what cannot be had at once: with a time-out of 0 the code is NOT_AVAILABLE, with any other the caller waits; nothing changes
+pub data IsUnmet {Object : Type 0} (time_out : ℤ) (object : Object) (effect : Effect Object) : Type 0 where
+  at_once : time_out ≡ pos 0 → effect ≡ gives not_available [] [] object → IsUnmet time_out object effect
+  waits : ¬ (time_out ≡ pos 0) → effect ≡ gives out.Waits [] [] object → IsUnmet time_out object effect
+
+-- SEND_BUFFER, SEND_QUEUING_MESSAGE: if receivers wait, the first gets the message; else if there is room, the message is the
+-- newest; else it cannot be had
+pub data IsSending (capacity : ℕ) (message : List ℕ) (time_out : ℤ) (discipline : Discipline) (receivers : List Entry) (messages : Messages) (effect : Effect Messages) : Type 0 where
+  first_gets_it : (receiver : Entry) → IsFirst discipline receivers receiver → effect ≡ gives no_error [] (receiver.who ∷ []) messages
+      → IsSending capacity message time_out discipline receivers messages effect
+  room : receivers ≡ [] → length messages < capacity → effect ≡ gives no_error [] [] (messages ++ message ∷ [])
+      → IsSending capacity message time_out discipline receivers messages effect
+  no_room : receivers ≡ [] → capacity ≤ length messages → IsUnmet time_out messages effect → IsSending capacity message time_out discipline receivers messages effect
+
+-- RECEIVE_BUFFER, RECEIVE_QUEUING_MESSAGE: if there is a message, the oldest leaves, and if senders wait, the first sender's
+-- message is the newest and that sender wakes; without a message it cannot be had
+pub data IsReceiving (time_out : ℤ) (discipline : Discipline) (senders : List Entry) (messages : Messages) (effect : Effect Messages) : Type 0 where
+  oldest_leaves : (message : List ℕ) (others : Messages) → messages ≡ message ∷ others → senders ≡ [] → effect ≡ gives no_error message [] others
+      → IsReceiving time_out discipline senders messages effect
+  sender_wakes : (message : List ℕ) (others : Messages) (sender : Entry) → messages ≡ message ∷ others → IsFirst discipline senders sender
+      → effect ≡ gives no_error message (sender.who ∷ []) (others ++ sender.message ∷ []) → IsReceiving time_out discipline senders messages effect
+  no_message : messages ≡ [] → IsUnmet time_out messages effect → IsReceiving time_out discipline senders messages effect
+
+-- DISPLAY_BLACKBOARD: the message replaces the last one, and every waiting reader is released
+abbrev pub IsDisplay : List ℕ → List Entry → Effect (Option (List ℕ)) → Type 0
+IsDisplay message readers effect = effect ≡ gives no_error [] (whos readers) (Some message)
+
+-- READ_BLACKBOARD: the message that is displayed, which stays; of an empty blackboard it cannot be had
+pub data IsReading (time_out : ℤ) (message : Option (List ℕ)) (effect : Effect (Option (List ℕ))) : Type 0 where
+  displayed : (found : List ℕ) → message ≡ Some found → effect ≡ gives no_error found [] (Some found) → IsReading time_out message effect
+  empty : message ≡ None → IsUnmet time_out message effect → IsReading time_out message effect
+
+-- CLEAR_BLACKBOARD: the blackboard is empty
+abbrev pub IsClearing : Effect (Option (List ℕ)) → Type 0
+IsClearing effect = effect ≡ gives no_error [] [] None
+
+-- WAIT_SEMAPHORE: one is taken of a value above 0; else it cannot be had
+pub data IsSemaphoreWait (time_out : ℤ) (value : ℕ) (effect : Effect ℕ) : Type 0 where
+  takes_one : (rest : ℕ) → value ≡ rest + 1 → effect ≡ gives no_error [] [] rest → IsSemaphoreWait time_out value effect
+  none_left : value ≡ 0 → IsUnmet time_out value effect → IsSemaphoreWait time_out value effect
+
+-- SIGNAL_SEMAPHORE: the first waiter goes on, and the value stays; with no waiter one is added; at the maximum the code is
+-- NO_ACTION and nothing changes
+pub data IsSignal (maximum : ℕ) (discipline : Discipline) (waiters : List Entry) (value : ℕ) (effect : Effect ℕ) : Type 0 where
+  first_goes_on : (waiter : Entry) → IsFirst discipline waiters waiter → effect ≡ gives no_error [] (waiter.who ∷ []) value → IsSignal maximum discipline waiters value effect
+  adds_one : waiters ≡ [] → value < maximum → effect ≡ gives no_error [] [] (value + 1) → IsSignal maximum discipline waiters value effect
+  at_maximum : waiters ≡ [] → maximum ≤ value → effect ≡ gives (out.Answer code.NoAction) [] [] value → IsSignal maximum discipline waiters value effect
+
+-- SET_EVENT: the event is up, and every waiter is released
+abbrev pub IsSetting : List Entry → Effect Bool → Type 0
+IsSetting waiters effect = effect ≡ gives no_error [] (whos waiters) true
+
+-- RESET_EVENT: the event is down
+abbrev pub IsResetting : Effect Bool → Type 0
+IsResetting effect = effect ≡ gives no_error [] [] false
+
+-- WAIT_EVENT: an event that is up lets its caller go on; else it cannot be had
+pub data IsEventWait (time_out : ℤ) (up : Bool) (effect : Effect Bool) : Type 0 where
+  is_up : up ≡ true → effect ≡ gives no_error [] [] true → IsEventWait time_out up effect
+  is_down : up ≡ false → IsUnmet time_out up effect → IsEventWait time_out up effect
+
+-- ACQUIRE_MUTEX: a free mutex is the caller's, with count 1; its owner's count rises by one; another's cannot be had
+pub data IsAcquiring (caller : ℕ) (time_out : ℤ) (mutex : Mutex) (effect : Effect Mutex) : Type 0 where
+  was_free : mutex.owner ≡ None → effect ≡ gives no_error [] [] (record mutex { owner = Some caller; count = 1 }) → IsAcquiring caller time_out mutex effect
+  once_more : mutex.owner ≡ Some caller → effect ≡ gives no_error [] [] (record mutex { count = mutex.count + 1 }) → IsAcquiring caller time_out mutex effect
+  of_another : (owner : ℕ) → mutex.owner ≡ Some owner → ¬ (owner ≡ caller) → IsUnmet time_out mutex effect → IsAcquiring caller time_out mutex effect
+
+-- RELEASE_MUTEX: one is taken from the count; the last release hands the mutex with count 1 to the first waiter, and with no
+-- waiter it is free
+pub data IsReleasing (mutex : Mutex) (effect : Effect Mutex) : Type 0 where
+  not_last : 1 < mutex.count → effect ≡ gives no_error [] [] (record mutex { count = mutex.count - 1 }) → IsReleasing mutex effect
+  handed_on : (waiter : Entry) → mutex.count ≤ 1 → IsFirst mutex.discipline mutex.waiters waiter
+      → effect ≡ gives no_error [] (waiter.who ∷ []) (record mutex { owner = Some waiter.who.proc; count = 1 }) → IsReleasing mutex effect
+  freed : mutex.count ≤ 1 → mutex.waiters ≡ [] → effect ≡ gives no_error [] [] (record mutex { owner = None; count = 0 }) → IsReleasing mutex effect
+
+-- WRITE_SAMPLING_MESSAGE: the message replaces the last one, stamped with the writer's time
+abbrev pub IsWriting : ℕ → List ℕ → Effect (Option Stamped) → Type 0
+IsWriting now message effect = effect ≡ gives no_error [] [] (Some (record { message = message; stamp = now }))
+
+-- a reading: an outcome with its validity and its message, and what the channel held
+abbrev pub reads : Out → ℕ → List ℕ → Option Stamped → Effect (Option Stamped)
+reads given validity message last = record { answer = record { out = given; val = Number (pos validity); bytes = message; woken = [] }; next = last }
+
+-- READ_SAMPLING_MESSAGE: of an empty channel nothing, with NO_ACTION and validity 0; else the last message, valid where its age
+-- is at most the refresh period; the message stays
+pub data IsSampling (now refresh : ℕ) (last : Option Stamped) (effect : Effect (Option Stamped)) : Type 0 where
+  empty : last ≡ None → effect ≡ reads (out.Answer code.NoAction) 0 [] None → IsSampling now refresh last effect
+  valid : (found : Stamped) → last ≡ Some found → now - found.stamp ≤ refresh → effect ≡ reads no_error 1 found.message (Some found) → IsSampling now refresh last effect
+  too_old : (found : Stamped) → last ≡ Some found → refresh < now - found.stamp → effect ≡ reads no_error 0 found.message (Some found) → IsSampling now refresh last effect
+
+-- a use of a channel of its kind: a sampling channel is written and read; a queuing channel's messages go to the receivers of
+-- its destination port and come from the senders of its source port, each set by its own port's discipline
+pub data IsUse (configuration : Configuration) (now number : ℕ) (channel : Channel) (how : Use) (effect : Effect Content) : Type 0 where
+  writes : (message : List ℕ) (last : Option Stamped) (inner : Effect (Option Stamped)) → how ≡ Write message → channel.content ≡ Sampled last → IsWriting now message inner
+      → effect ≡ on_sampling inner → IsUse configuration now number channel how effect
+  samples : (last : Option Stamped) (inner : Effect (Option Stamped)) → how ≡ Read → channel.content ≡ Sampled last → IsSampling now (refresh_of configuration number) last inner
+      → effect ≡ on_sampling inner → IsUse configuration now number channel how effect
+  sends : (message : List ℕ) (time_out : ℤ) (messages : Messages) (inner : Effect Messages) → how ≡ Send message time_out → channel.content ≡ Queued messages
+      → IsSending (capacity_of configuration number) message time_out (receiving_discipline configuration number) channel.receivers messages inner
+      → effect ≡ on_queuing inner → IsUse configuration now number channel how effect
+  receives : (time_out : ℤ) (messages : Messages) (inner : Effect Messages) → how ≡ Receive time_out → channel.content ≡ Queued messages
+      → IsReceiving time_out (sending_discipline configuration number) channel.senders messages inner
+      → effect ≡ on_queuing inner → IsUse configuration now number channel how effect

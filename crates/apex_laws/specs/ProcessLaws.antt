@@ -1,0 +1,57 @@
+-- What the rules compute of a process is exactly what the sentences say.
+use Rattle.std.specs.Prelude.{◌≡◌, ◌↔◌, ℕ, ℤ, ◌<◌, List, Some, true, IsTrue}
+use Rattle.apex_types.specs.declared.record.Call.{Call as CallRecord}
+use Rattle.apex_types.specs.declared.request.Request.{Request}
+use Rattle.apex_machine.specs.declared.state.CoreState.{CoreState}
+use Rattle.apex_machine.specs.declared.state.Process.{Process}
+use Rattle.apex_machine.specs.Processes.{caller_after, new_process, released, set_by, stopped, wait_of, woken_by}
+use Rattle.apex_types.specs.declared.record.Who.{Who}
+use Rattle.apex_machine.specs.Answer.{Answer}
+use Rattle.apex_machine.specs.Arguments.{natural_of, period_given}
+use Rattle.apex_machine.specs.Services.{answer_of}
+use Rattle.apex_machine.specs.State.{Partition}
+use Rattle.apex_machine.specs.Step.{falls_due}
+use Rattle.apex_machine.specs.Waiting.{is_waiting}
+use Rattle.apex_laws.specs.ProcessSentences.{HasDueTime, IsBegun, IsCaller, IsDue, IsReleased, IsAnswer, IsCreated, IsSetBy, IsStopped, IsWoken, WaitsForOther}
+
+-- what each service sets in a process of its partition; a partition's period is above 0
+abbrev pub SettingIsTheSentence : Type 0
+SettingIsTheSentence =
+    (place period : ℕ) (cores : List CoreState) (partition : Partition) (caller : ℕ) (asked : Request) (number : ℕ) (old new : Process) → 0 < period
+    → (new ≡ set_by place period cores partition caller asked number old) ↔ IsSetBy place period cores partition caller asked number old new
+
+-- who falls due at a tick
+abbrev pub DueIsTheSentence : Type 0
+DueIsTheSentence = (core now : ℕ) (process : Process) → (falls_due core now (Some process) ≡ true) ↔ IsDue core now process
+
+-- a wait that falls due
+abbrev pub ReleaseIsTheSentence : Type 0
+ReleaseIsTheSentence =
+    (place time : ℕ) (old new : Process) → HasDueTime old.wait time → (new ≡ released place old) ↔ IsReleased place old new
+
+-- a wait that a call ends
+abbrev pub WakingIsTheSentence : Type 0
+WakingIsTheSentence =
+    (place : ℕ) (message : List ℕ) (old new : Process) → WaitsForOther old.wait → (new ≡ woken_by place message old) ↔ IsWoken place message old new
+
+-- a process that is stopped
+abbrev pub StoppingIsTheSentence : Type 0
+StoppingIsTheSentence = (old new : Process) → (new ≡ stopped old) ↔ IsStopped old new
+
+-- a caller, where a call that waits has something to wait for
+abbrev pub CallerIsTheSentence : Type 0
+CallerIsTheSentence =
+    (place now : ℕ) (call : CallRecord) (old new : Process)
+    → (IsTrue (is_waiting call.claim.out) → IsBegun now call.request call.claim.chan old (wait_of call.request call.claim.chan now old))
+    → (new ≡ caller_after place now call old) ↔ IsCaller place now call old new
+
+-- a created process
+abbrev pub CreationIsTheSentence : Type 0
+CreationIsTheSentence =
+    (core : ℕ) (name : List ℕ) (priority period : ℤ) → IsCreated core name (natural_of priority) (period_given period) (new_process core name priority period)
+
+-- what the services of process management and time give
+abbrev pub AnswerIsTheSentence : Type 0
+AnswerIsTheSentence =
+    (now : ℕ) (who : Who) (partition : Partition) (asked : Request) (answer : Answer)
+    → (answer ≡ answer_of now who partition asked) ↔ IsAnswer now who partition asked answer

@@ -1,0 +1,230 @@
+-- What becomes of a process, in sentences: one case for each sentence of the rule of a service, of the end of a wait, of a call.
+use Rattle.std.specs.Prelude.{◌≡◌, ◌⊎◌, ℕ, ◌+◌, ◌*◌, ◌<◌, ◌≤◌, ℤ, pos, List, [], ◌∷◌, Option, Some, None, true, false, IsFalse}
+use Rattle.apex_types.specs.declared.code.Code.{Code}
+use Rattle.apex_types.specs.declared.code.Code.TheVariants as code
+use Rattle.apex_types.specs.declared.record.Call.{Call as CallRecord}
+use Rattle.apex_types.specs.declared.record.Out.TheVariants as out
+use Rattle.apex_types.specs.declared.record.Who.{Who}
+use Rattle.apex_types.specs.declared.request.Request.{Request}
+use Rattle.apex_types.specs.declared.request.Request.TheVariants as request
+use Rattle.apex_types.specs.declared.service.Service.{Service}
+use Rattle.apex_types.specs.declared.service.Service.TheVariants as service
+use Rattle.apex_machine.specs.declared.state.CoreState.{CoreState}
+use Rattle.apex_machine.specs.declared.state.Mode.{Mode}
+use Rattle.apex_machine.specs.declared.state.Mode.TheVariants as mode
+use Rattle.apex_machine.specs.declared.state.Process.{Process}
+use Rattle.apex_machine.specs.declared.state.Wait.{Wait}
+use Rattle.apex_machine.specs.declared.state.Wait.TheVariants as wait
+use Rattle.apex_machine.specs.declared.state.WaitingSet.{WaitingSet}
+use Rattle.apex_machine.specs.Arguments.{due_time, natural_of}
+use Rattle.apex_machine.specs.Objects.{acquired, mutex_released}
+use Rattle.apex_machine.specs.Processes.{due_of_call, outcome_of, time_out_of}
+use Rattle.apex_machine.specs.Answer.{Answer, NewNumber, Number, done, done_with, never, waiting, waking}
+use Rattle.apex_machine.specs.Conditions.{created}
+use Rattle.apex_machine.specs.Services.{answer_of, fellow, next_release}
+use Rattle.apex_machine.specs.State.{Mutex, Partition, given_object, is_free_process, process_at, time_of}
+use Rattle.apex_machine.specs.Waiting.{first_waiter, service_at, set_of}
+
+-- releases and entry into NORMAL
+
+-- the first release after a time: the least multiple of the partition's period above it
+pub record IsFirstRelease (period now time : ℕ) : Type 0 where
+  pub multiple : (count : ℕ) × (time ≡ count * period)
+  pub above : now < time
+  pub least : time ≤ now + period
+
+-- who enters NORMAL: an aperiodic process waits for nothing, a periodic one for its first release
+pub data IsEntry (partition_period now : ℕ) (period : Option ℕ) (entry : Wait) : Type 0 where
+  aperiodic : period ≡ None → entry ≡ wait.Nothing → IsEntry partition_period now period entry
+  periodic : (own time : ℕ) → period ≡ Some own → IsFirstRelease partition_period now time → entry ≡ wait.FirstRelease time → IsEntry partition_period now period entry
+
+-- START: the current priority is the base priority; in NORMAL the process enters it at once, in any other mode it waits for it
+pub data IsStarted (place partition_period now : ℕ) (current : Mode) (old new : Process) : Type 0 where
+  in_normal : (entry : Wait) → current ≡ mode.Normal → IsEntry partition_period now old.period entry
+      → new ≡ record old { current_priority = old.base_priority; alive = true; wait = entry; ready_position = place } → IsStarted place partition_period now current old new
+  before_normal : ¬ (current ≡ mode.Normal)
+      → new ≡ record old { current_priority = old.base_priority; alive = true; wait = wait.NormalMode; ready_position = place } → IsStarted place partition_period now current old new
+
+-- the mode NORMAL is entered: whoever waits for it enters it, and nobody else changes
+pub data IsNormalEntered (place partition_period now : ℕ) (old new : Process) : Type 0 where
+  waited : (entry : Wait) → old.wait ≡ wait.NormalMode → IsEntry partition_period now old.period entry → new ≡ record old { wait = entry; ready_position = place }
+      → IsNormalEntered place partition_period now old new
+  else_stays : ¬ (old.wait ≡ wait.NormalMode) → new ≡ old → IsNormalEntered place partition_period now old new
+
+-- owners of mutexes: who becomes the owner retains its priority and gets the mutex's; who no longer is gets the retained one
+-- back; nobody else changes
+pub data IsOwnerChange (before after : Option ℕ) (priority number : ℕ) (old new : Process) : Type 0 where
+  becomes_owner : ¬ (before ≡ Some number) → after ≡ Some number → new ≡ record old { retained_priority = old.current_priority; current_priority = priority }
+      → IsOwnerChange before after priority number old new
+  was_owner : before ≡ Some number → ¬ (after ≡ Some number) → new ≡ record old { current_priority = old.retained_priority } → IsOwnerChange before after priority number old new
+  stays_owner : before ≡ Some number → after ≡ Some number → new ≡ old → IsOwnerChange before after priority number old new
+  never_owner : ¬ (before ≡ Some number) → ¬ (after ≡ Some number) → new ≡ old → IsOwnerChange before after priority number old new
+
+-- a change of a mutex that is found
+abbrev pub IsMutexChange : Option Mutex → (Mutex → Mutex) → ℕ → Process → Process → Type 0
+IsMutexChange None change number old new = new ≡ old
+IsMutexChange (Some mutex) change number old new = IsOwnerChange mutex.owner (change mutex).owner mutex.priority number old new
+
+-- what a service sets
+
+-- a service changes its target, and no other process
+abbrev pub OnTarget : ℤ → ℕ → Type 0 → Process → Process → Type 0
+OnTarget process number Changed old new = ((process ≡ pos number) × Changed) ⊎ ((¬ (process ≡ pos number)) × (new ≡ old))
+
+-- what a service sets in a process of its caller's partition, beside waits that end and its caller's wait and outcome
+abbrev pub IsSetBy : ℕ → ℕ → List CoreState → Partition → ℕ → Request → ℕ → Process → Process → Type 0
+-- the core on which it runs is the one given
+IsSetBy place period cores partition caller (request.InitializeProcessCoreAffinity process core) number old new =
+    OnTarget process number (new ≡ record old { affinity = natural_of core }) old new
+IsSetBy place period cores partition caller (request.Start process) number old new =
+    OnTarget process number (IsStarted place period (time_of cores old.affinity) partition.mode old new) old new
+-- it is marked
+IsSetBy place period cores partition caller (request.Suspend process) number old new = OnTarget process number (new ≡ record old { suspended = true }) old new
+-- the mark is cleared, and it is ready from this place on, where it waits for nothing
+IsSetBy place period cores partition caller (request.Resume process) number old new =
+    OnTarget process number (new ≡ record old { suspended = false; ready_position = place }) old new
+-- the current priority is the one given, and the ready position is renewed
+IsSetBy place period cores partition caller (request.SetPriority process priority) number old new =
+    OnTarget process number (new ≡ record old { current_priority = natural_of priority; ready_position = place }) old new
+IsSetBy place period cores partition caller (request.SetPartitionMode next) number old new = IsNormalEntered place period (time_of cores old.affinity) old new
+IsSetBy place period cores partition caller (request.AcquireMutex mutex time_out) number old new =
+    IsMutexChange (given_object partition.mutexes mutex) (λ found. (acquired caller time_out found).next) number old new
+IsSetBy place period cores partition caller (request.ReleaseMutex mutex) number old new =
+    IsMutexChange (given_object partition.mutexes mutex) (λ found. (mutex_released (first_waiter found.discipline found.waiters) found).next) number old new
+-- any other service sets nothing
+IsSetBy place period cores partition caller _ number old new = new ≡ old
+
+-- the end of a wait
+
+-- the time at which a wait falls due: a release, the end of a delay, and where there is a time-out its end
+abbrev pub HasDueTime : Wait → ℕ → Type 0
+HasDueTime (wait.FirstRelease due) time = time ≡ due
+HasDueTime (wait.Until due) time = time ≡ due
+HasDueTime (wait.PeriodicRelease due) time = time ≡ due
+HasDueTime (wait.Suspended (Some due)) time = time ≡ due
+HasDueTime (wait.At set (Some due)) time = time ≡ due
+HasDueTime _ time = ⊥
+
+-- a process falls due on a core at a time: the core is its own, and the time has come to its due time
+pub record IsDue (core now : ℕ) (process : Process) : Type 0 where
+  pub affinity : process.affinity ≡ core
+  pub time : ℕ
+  pub due : HasDueTime process.wait time
+  pub reached : time ≤ now
+
+-- a process whose wait ends, with this outcome due
+abbrev pub ends_with : ℕ → Service → Code → List ℕ → Process → Process
+ends_with place of given message process =
+    record process { wait = wait.Nothing; ready_position = place; due = Some (record { service = of; code = given; val = None; bytes = message }) }
+
+-- a wait that falls due: TIMED_WAIT and PERIODIC_WAIT return NO_ERROR, SUSPEND_SELF and the waits for objects TIMED_OUT; the release
+-- for which the process waited becomes its last one; a first release returns nothing
+pub data IsReleased (place : ℕ) (old new : Process) : Type 0 where
+  first_release : (time : ℕ) → old.wait ≡ wait.FirstRelease time → new ≡ record old { wait = wait.Nothing; ready_position = place; last_release = time; due = None }
+      → IsReleased place old new
+  delay : (time : ℕ) → old.wait ≡ wait.Until time → new ≡ ends_with place service.TimedWait code.NoError [] old → IsReleased place old new
+  release : (time : ℕ) → old.wait ≡ wait.PeriodicRelease time
+      → new ≡ ends_with place service.PeriodicWait code.NoError [] (record old { last_release = time }) → IsReleased place old new
+  suspension : (due : Option ℕ) → old.wait ≡ wait.Suspended due → new ≡ ends_with place service.SuspendSelf code.TimedOut [] old → IsReleased place old new
+  object : (set : WaitingSet) (due : Option ℕ) → old.wait ≡ wait.At set due → new ≡ ends_with place (service_at set) code.TimedOut [] old → IsReleased place old new
+
+-- a wait that a call ends: the waiting service returns NO_ERROR, and the message if one is handed over
+pub data IsWoken (place : ℕ) (message : List ℕ) (old new : Process) : Type 0 where
+  suspension : (due : Option ℕ) → old.wait ≡ wait.Suspended due → new ≡ ends_with place service.SuspendSelf code.NoError message old → IsWoken place message old new
+  object : (set : WaitingSet) (due : Option ℕ) → old.wait ≡ wait.At set due → new ≡ ends_with place (service_at set) code.NoError message old → IsWoken place message old new
+
+-- a process that waits for another: until it is resumed, or in a waiting set
+abbrev pub WaitsForOther : Wait → Type 0
+WaitsForOther (wait.Suspended due) = Unit {0}
+WaitsForOther (wait.At set due) = Unit {0}
+WaitsForOther _ = ⊥
+
+-- STOP, STOP_SELF: the process is dormant, not suspended, waits for nothing, and nothing is due to it
+abbrev pub IsStopped : Process → Process → Type 0
+IsStopped old new = new ≡ record old { alive = false; suspended = false; wait = wait.Nothing; due = None }
+
+-- the caller
+
+-- what a caller waits for: TIMED_WAIT for the delay, PERIODIC_WAIT for the next release, SUSPEND_SELF for a resumption, any other
+-- service in its waiting set; the last two until their time-out, if they have one
+pub data IsBegun (now : ℕ) (asked : Request) (chan : Option ℕ) (process : Process) (begun : Wait) : Type 0 where
+  delay : (ticks : ℕ) → asked ≡ request.TimedWait (pos ticks) → begun ≡ wait.Until (now + ticks) → IsBegun now asked chan process begun
+  release : asked ≡ request.PeriodicWait → begun ≡ wait.PeriodicRelease (next_release process) → IsBegun now asked chan process begun
+  suspension : (time_out : ℤ) → asked ≡ request.SuspendSelf time_out → begun ≡ wait.Suspended (due_time time_out now) → IsBegun now asked chan process begun
+  object : (set : WaitingSet) → set_of asked chan ≡ Some set → begun ≡ wait.At set (due_of_call (time_out_of asked) now) → IsBegun now asked chan process begun
+
+-- a call that puts its caller behind the others of its priority when it answers NO_ERROR
+abbrev pub Renews : Request → Type 0
+Renews (request.TimedWait ticks) = ticks ≡ pos 0
+Renews request.PeriodicWait = Unit {0}
+Renews _ = ⊥
+
+-- a caller that takes the release that it found reached
+abbrev pub taking : Request → Process → Process
+taking request.PeriodicWait process = record process { last_release = next_release process }
+taking _ process = process
+
+-- the caller after its call: it waits; it is stopped; or its outcome is due, and where NO_ERROR answers a call that renews, its
+-- ready position is this place. Its core's time is noted
+pub data IsCaller (place now : ℕ) (call : CallRecord) (old new : Process) : Type 0 where
+  waits : (begun : Wait) → call.claim.out ≡ out.Waits → IsBegun now call.request call.claim.chan old begun → new ≡ record old { wait = begun; called_at = now }
+      → IsCaller place now call old new
+  ends : (stopped : Process) → call.claim.out ≡ out.Never → IsStopped old stopped → new ≡ record stopped { called_at = now } → IsCaller place now call old new
+  is_renewed : call.claim.out ≡ out.Answer code.NoError → Renews call.request
+      → new ≡ record (taking call.request old) { ready_position = place; due = Some (outcome_of call code.NoError); called_at = now } → IsCaller place now call old new
+  is_answered : call.claim.out ≡ out.Answer code.NoError → ¬ Renews call.request
+      → new ≡ record old { due = Some (outcome_of call code.NoError); called_at = now } → IsCaller place now call old new
+  is_refused : (other : Code) → call.claim.out ≡ out.Answer other → ¬ (other ≡ code.NoError)
+      → new ≡ record old { due = Some (outcome_of call other); called_at = now } → IsCaller place now call old new
+
+-- creation
+
+-- CREATE_PROCESS: a dormant process of this name, priority and period, on the partition's first core; it waits for nothing, is not
+-- suspended, and nothing is due to it
+pub record IsCreated (core : ℕ) (called : List ℕ) (priority : ℕ) (given_period : Option ℕ) (new : Process) : Type 0 where
+  pub name : new.name ≡ called
+  pub base_priority : new.base_priority ≡ priority
+  pub current_priority : new.current_priority ≡ priority
+  pub affinity : new.affinity ≡ core
+  pub period : new.period ≡ given_period
+  pub alive : IsFalse new.alive
+  pub suspended : IsFalse new.suspended
+  pub wait : new.wait ≡ wait.Nothing
+  pub due : new.due ≡ None
+
+-- what the services of process management and time give
+
+-- what is over at once is done; else the caller waits
+pub data IsOverOrWaits (Over : Type 0) (answer : Answer) : Type 0 where
+  over : Over → answer ≡ done → IsOverOrWaits Over answer
+  later : ¬ Over → answer ≡ waiting → IsOverOrWaits Over answer
+
+-- a periodic process has come to its next release: its period after the last one
+abbrev pub IsAtRelease : ℕ → Option Process → Type 0
+IsAtRelease now None = ⊥
+IsAtRelease now (Some process) = next_release process ≤ now
+
+-- RESUME ends the wait of a target that suspended itself; of any other it clears the mark alone
+pub data IsResuming (target : Who) (found : Option Process) (answer : Answer) : Type 0 where
+  suspended_itself : (process : Process) (due : Option ℕ) → found ≡ Some process → process.wait ≡ wait.Suspended due → answer ≡ waking (target ∷ []) → IsResuming target found answer
+  was_marked : (process : Process) → found ≡ Some process → ((due : Option ℕ) → ¬ (process.wait ≡ wait.Suspended due)) → answer ≡ done → IsResuming target found answer
+  nobody : found ≡ None → answer ≡ done → IsResuming target found answer
+
+-- what the caller of a service of process management or time gets, where no error condition holds; of the other services
+-- their objects' rules tell it
+abbrev pub IsAnswer : ℕ → Who → Partition → Request → Answer → Type 0
+IsAnswer now who partition request.StopSelf answer = answer ≡ never
+IsAnswer now who partition (request.SuspendSelf time_out) answer = IsOverOrWaits (time_out ≡ pos 0) answer
+IsAnswer now who partition (request.Resume process) answer = IsResuming (fellow who process) (created partition.table process) answer
+IsAnswer now who partition request.GetMyId answer = answer ≡ done_with (Number (pos who.proc))
+IsAnswer now who partition (request.TimedWait ticks) answer = IsOverOrWaits (ticks ≡ pos 0) answer
+IsAnswer now who partition request.PeriodicWait answer = IsOverOrWaits (IsAtRelease now (process_at partition.table who.proc)) answer
+IsAnswer now who partition request.GetTime answer = answer ≡ done_with (Number (pos now))
+IsAnswer now who partition (request.SetPartitionMode next) answer = answer ≡ never
+IsAnswer now who partition (request.CreateProcess name priority period) answer = answer ≡ done_with (NewNumber (is_free_process partition.table))
+IsAnswer now who partition (request.InitializeProcessCoreAffinity process core) answer = answer ≡ done
+IsAnswer now who partition (request.Start process) answer = answer ≡ done
+IsAnswer now who partition (request.Stop process) answer = answer ≡ done
+IsAnswer now who partition (request.Suspend process) answer = answer ≡ done
+IsAnswer now who partition (request.SetPriority process priority) answer = answer ≡ done
+IsAnswer now who partition asked answer = answer ≡ answer_of now who partition asked

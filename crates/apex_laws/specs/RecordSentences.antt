@@ -1,0 +1,210 @@
+-- What a whole record changes, and that nothing else changes, in sentences.
+use Rattle.std.specs.Prelude.{◌≡◌, ◌⊎◌, ℕ, ℤ, pos, ◌+◌, List, [], ◌∷◌, ◌++◌, length, Option, Some, None, IsTrue, IsFalse, if◌then◌else◌}
+use Rattle.apex_types.specs.declared.code.Code.{Code}
+use Rattle.apex_types.specs.declared.record.Call.{Call as CallRecord}
+use Rattle.apex_types.specs.declared.record.Who.{Who}
+use Rattle.apex_types.specs.declared.request.Request.TheVariants as request
+use Rattle.apex_types.specs.declared.service.Service.{Service}
+use Rattle.apex_machine.specs.declared.state.CoreState.{CoreState}
+use Rattle.apex_machine.specs.declared.state.Process.{Process}
+use Rattle.apex_machine.specs.declared.state.WaitingSet.{WaitingSet}
+use Rattle.apex_machine.specs.declared.state.WaitingSet.TheVariants as set
+use Rattle.apex_machine.specs.After.{each_set, is_done, mode_by, objects_by}
+use Rattle.apex_machine.specs.Answer.{Effect, HasValue, NamesExactly}
+use Rattle.apex_machine.specs.Arguments.{natural_of, period_given}
+use Rattle.apex_machine.specs.Configuration.{Configuration, first_core, has_partition, period_of}
+use Rattle.apex_machine.specs.Ports.{Use, use_of}
+use Rattle.apex_machine.specs.Processes.{gift_of}
+use Rattle.apex_machine.specs.State.{Channel, Content, Entry, Partition, State, is_named, occupant_of, process_at, time_of}
+use Rattle.apex_machine.specs.Step.{IsAmong}
+use Rattle.apex_machine.specs.Waiting.{ends_wait, enters, entry_of, stops}
+use Rattle.apex_laws.specs.Laws.{entries_at}
+use Rattle.apex_laws.specs.ObjectSentences.{IsUse}
+use Rattle.apex_laws.specs.ProcessSentences.{IsCaller, IsCreated, IsDue, IsReleased, IsSetBy, IsStopped, IsWoken}
+
+-- processes of a state
+
+-- the process of a partition by its number, if there is one
+abbrev pub process_in : State → Who → Option Process
+process_in state who = process_at (state.partitions who.part).table who.proc
+
+-- this process stands in the state, and in the next one it stands changed in this way
+pub record Turns (Change : Process → Process → Type 0) (state next : State) (who : Who) : Type 0 where
+  pub old : Process
+  pub new : Process
+  pub before : process_in state who ≡ Some old
+  pub after : process_in next who ≡ Some new
+  pub change : Change old new
+
+-- this process is as before
+abbrev pub Stays : State → State → Who → Type 0
+Stays state next who = process_in next who ≡ process_in state who
+
+-- partitions and channels
+
+-- a partition is as before, but for its processes
+abbrev pub RestStays : State → State → ℕ → Type 0
+RestStays state next number = next.partitions number ≡ record (state.partitions number) { table = (next.partitions number).table }
+
+-- a partition's objects and ports without those who wait
+abbrev pub emptied : Partition → Partition
+emptied partition = each_set (λ wanted entries. []) (record partition { table = [] })
+
+-- a partition's mode, objects and ports are as before, but for its processes and for those who wait
+abbrev pub ObjectsStay : State → State → ℕ → Type 0
+ObjectsStay state next number = emptied (next.partitions number) ≡ emptied (state.partitions number)
+
+-- two partitions have the same objects and ports, but for those who wait
+abbrev pub ObjectsAre : Partition → Partition → Type 0
+ObjectsAre one other = emptied (record one { mode = other.mode }) ≡ emptied other
+
+-- every channel is as before
+abbrev pub ChannelsStay : State → State → Type 0
+ChannelsStay state next = (number : ℕ) → next.channels number ≡ state.channels number
+
+-- waiting sets
+
+-- of a set those stay who don't leave, in their order
+abbrev pub KeepsOnly : (Who → Type 0) → List Entry → List Entry → Type 0
+KeepsOnly Leaves [] new = new ≡ []
+KeepsOnly Leaves (entry ∷ entries) new =
+    (Leaves entry.who × KeepsOnly Leaves entries new)
+    ⊎ ((rest : List Entry) × (¬ Leaves entry.who) × (new ≡ entry ∷ rest) × KeepsOnly Leaves entries rest)
+
+-- a set after a call: those leave whose wait the call ends, and a caller that waits there enters at the end
+pub record IsSetAfterCall (place : ℕ) (call : CallRecord) (wanted : WaitingSet) (old new : List Entry) : Type 0 where
+  pub rest : List Entry
+  pub kept : KeepsOnly (λ who. IsTrue (ends_wait call who)) old rest
+  pub entered : (IsTrue (enters call wanted) × (new ≡ rest ++ entry_of place call ∷ [])) ⊎ (IsFalse (enters call wanted) × (new ≡ rest))
+
+-- dispatches
+
+-- a dispatch: the core is this process's, or stands idle; nothing else changes
+pub record IsDispatchOf (core : ℕ) (who : Option Who) (state next : State) : Type 0 where
+  pub occupant : occupant_of next.cores core ≡ who
+  pub occupants : (other : ℕ) → ¬ (other ≡ core) → occupant_of next.cores other ≡ occupant_of state.cores other
+  pub times : (other : ℕ) → time_of next.cores other ≡ time_of state.cores other
+  pub count : length next.cores ≡ length state.cores
+  pub partitions : (number : ℕ) → next.partitions number ≡ state.partitions number
+  pub channels : ChannelsStay state next
+
+-- ticks
+
+-- the time of one core is one more; the times of the others and all occupants are as before
+pub record OneMoreTick (core : ℕ) (cores after : List CoreState) : Type 0 where
+  pub time : time_of after core ≡ time_of cores core + 1
+  pub others : (other : ℕ) → ¬ (other ≡ core) → time_of after other ≡ time_of cores other
+  pub occupants : (other : ℕ) → occupant_of after other ≡ occupant_of cores other
+  pub count : length after ≡ length cores
+
+-- a process of a configured partition falls due on this core at this time
+pub record FallsDue (configuration : Configuration) (state : State) (core now : ℕ) (who : Who) : Type 0 where
+  pub configured : IsTrue (has_partition configuration who.part)
+  pub process : Process
+  pub stands : process_in state who ≡ Some process
+  pub due : IsDue core now process
+
+-- a tick of a core: those of its processes that fall due at its new time are released and leave their waiting sets; all other
+-- processes, all modes, objects, ports and contents of channels are as before
+pub record IsTickOf (configuration : Configuration) (core place : ℕ) (state next : State) : Type 0 where
+  pub cores : OneMoreTick core state.cores next.cores
+  pub over : (who : Who) → FallsDue configuration state core (time_of state.cores core + 1) who → Turns (IsReleased place) state next who
+  pub others : (who : Who) → IsTrue (has_partition configuration who.part) → ¬ FallsDue configuration state core (time_of state.cores core + 1) who → Stays state next who
+  pub objects : (number : ℕ) → ObjectsStay state next number
+  pub sets : (number : ℕ) (wanted : WaitingSet)
+      → KeepsOnly (FallsDue configuration state core (time_of state.cores core + 1)) (entries_at (state.partitions number) wanted) (entries_at (next.partitions number) wanted)
+  pub contents : (number : ℕ) → (next.channels number).content ≡ (state.channels number).content
+  pub senders : (number : ℕ) → KeepsOnly (FallsDue configuration state core (time_of state.cores core + 1)) (state.channels number).senders (next.channels number).senders
+  pub receivers : (number : ℕ) → KeepsOnly (FallsDue configuration state core (time_of state.cores core + 1)) (state.channels number).receivers (next.channels number).receivers
+
+-- returns and refused calls
+
+-- this process changes in this way, and nothing else changes
+pub record OnlyChanges (Change : Process → Process → Type 0) (who : Who) (state next : State) : Type 0 where
+  pub changed : Turns Change state next who
+  pub others : (other : Who) → ¬ (other ≡ who) → Stays state next other
+  pub rest : (number : ℕ) → RestStays state next number
+  pub channels : ChannelsStay state next
+  pub cores : next.cores ≡ state.cores
+
+-- a return: nothing is due to the returner any more
+abbrev pub HasReturned : Process → Process → Type 0
+HasReturned old new = new ≡ record old { due = None }
+
+-- a refused call: the code is due to the caller, with no value and no message, and its core's time is noted
+abbrev pub HasRefusal : Service → Code → ℕ → Process → Process → Type 0
+HasRefusal of given now old new = new ≡ record old { due = Some (record { service = of; code = given; val = None; bytes = [] }); called_at = now }
+
+-- a call with an error condition: the code of one of them is due to the caller, and nothing else changes
+pub record IsRefusedCallOf (caller : Who) (of : Service) (codes : List Code) (now : ℕ) (state next : State) : Type 0 where
+  pub code : Code
+  pub condition : IsAmong codes code
+  pub answered : OnlyChanges (HasRefusal of code now) caller state next
+
+-- calls
+
+-- what a call sets in a process of its partition, if it was carried out
+abbrev pub IsSetIfDone : Configuration → State → ℕ → CallRecord → ℕ → Process → Process → Type 0
+IsSetIfDone configuration state place call number old set =
+    (IsTrue (is_done call.claim.out)
+    × IsSetBy place (period_of configuration call.who.part) state.cores (state.partitions call.who.part) call.who.proc call.request number old set)
+    ⊎ (IsFalse (is_done call.claim.out) × (set ≡ old))
+
+-- a process of the caller's partition: what the call sets, and then this
+pub record SetAnd (configuration : Configuration) (state : State) (place : ℕ) (call : CallRecord) (number : ℕ) (Next : Process → Process → Type 0) (old new : Process) : Type 0 where
+  pub set : Process
+  pub first : IsSetIfDone configuration state place call number old set
+  pub second : Next set new
+
+-- a process that was not there: CREATE_PROCESS that is done puts one under the number that it claims, and no other call adds one
+pub data IsAdded (configuration : Configuration) (call : CallRecord) (number : ℕ) (found : Option Process) : Type 0 where
+  created : (name : List ℕ) (priority period : ℤ) (new : Process) → call.request ≡ request.CreateProcess name priority period → IsTrue (is_done call.claim.out)
+      → call.claim.val ≡ Some (pos number) → found ≡ Some new → IsCreated (first_core configuration call.who.part) name (natural_of priority) (period_given period) new
+      → IsAdded configuration call number found
+  not_created : ((name : List ℕ) (priority period : ℤ) → call.request ≡ request.CreateProcess name priority period → IsTrue (is_done call.claim.out) → ¬ (call.claim.val ≡ Some (pos number)))
+      → found ≡ None → IsAdded configuration call number found
+
+-- a call through a channel: the channel gives the outcome, the value, the message and those whose waits end, by the rule of its use
+pub record GoesThrough (configuration : Configuration) (now number : ℕ) (call : CallRecord) (channel next : Channel) : Type 0 where
+  pub how : Use
+  pub uses : use_of call.request ≡ Some how
+  pub effect : Effect Content
+  pub rule : IsUse configuration now number channel how effect
+  pub content : next.content ≡ effect.next
+  pub out : call.claim.out ≡ effect.answer.out
+  pub val : HasValue effect.answer.val call.claim.val
+  pub bytes : call.claim.bytes ≡ effect.answer.bytes
+  pub woken : NamesExactly effect.answer.woken call.claim.woken
+
+-- nothing more
+abbrev pub IsSame : Process → Process → Type 0
+IsSame set new = new ≡ set
+
+-- a call. In the caller's partition: the caller is as its call leaves it; a process that the call stops is stopped; another that it
+-- names is woken; any other has what the call sets in it, if anything. In every other partition: a process that it names is woken,
+-- any other stays; only CREATE_PROCESS adds one. The objects and ports of the caller's partition are as their rules leave them, those of the others stay, and
+-- every waiting set changes by those whose wait ends and by a caller that waits there. The channel that the call goes through gives its
+-- outcome; the contents of the others stay, and so do the cores
+pub record IsCallOf (configuration : Configuration) (place now : ℕ) (call : CallRecord) (state next : State) : Type 0 where
+  pub caller : Turns (SetAnd configuration state place call call.who.proc (IsCaller place now call)) state next call.who
+  pub stopped : (who : Who) (old : Process) → who.part ≡ call.who.part → ¬ (who ≡ call.who) → process_in state who ≡ Some old → IsTrue (stops call who)
+      → Turns (SetAnd configuration state place call who.proc IsStopped) state next who
+  pub woken : (who : Who) (old : Process) → who.part ≡ call.who.part → ¬ (who ≡ call.who) → process_in state who ≡ Some old → IsFalse (stops call who)
+      → IsTrue (is_named who call.claim.woken) → Turns (SetAnd configuration state place call who.proc (IsWoken place (gift_of call.request))) state next who
+  pub fellows : (who : Who) (old : Process) → who.part ≡ call.who.part → ¬ (who ≡ call.who) → process_in state who ≡ Some old → IsFalse (stops call who)
+      → IsFalse (is_named who call.claim.woken) → Turns (SetAnd configuration state place call who.proc IsSame) state next who
+  pub woken_elsewhere : (who : Who) (old : Process) → ¬ (who.part ≡ call.who.part) → process_in state who ≡ Some old
+      → IsTrue (is_named who call.claim.woken) → Turns (IsWoken place (gift_of call.request)) state next who
+  pub added : (number : ℕ) → process_at (state.partitions call.who.part).table number ≡ None → IsAdded configuration call number (process_at (next.partitions call.who.part).table number)
+  pub elsewhere : (who : Who) → ¬ (who.part ≡ call.who.part) → IsFalse (is_named who call.claim.woken) → Stays state next who
+  pub mode : (next.partitions call.who.part).mode
+      ≡ (if is_done call.claim.out then mode_by call.request (state.partitions call.who.part).mode else (state.partitions call.who.part).mode)
+  pub objects : (IsTrue (is_done call.claim.out)
+      → ObjectsAre (next.partitions call.who.part) (objects_by configuration call.who call.claim.val call.request (state.partitions call.who.part)))
+      × (IsFalse (is_done call.claim.out) → ObjectsAre (next.partitions call.who.part) (state.partitions call.who.part))
+  pub other_partitions : (number : ℕ) → ¬ (number ≡ call.who.part) → RestStays state next number
+  pub senders : (number : ℕ) → IsSetAfterCall place call (set.ChannelSenders number) (state.channels number).senders (next.channels number).senders
+  pub receivers : (number : ℕ) → IsSetAfterCall place call (set.ChannelReceivers number) (state.channels number).receivers (next.channels number).receivers
+  pub through : (number : ℕ) → call.claim.chan ≡ Some number → GoesThrough configuration now number call (state.channels number) (next.channels number)
+  pub contents : (number : ℕ) → ¬ (call.claim.chan ≡ Some number) → (next.channels number).content ≡ (state.channels number).content
+  pub cores : next.cores ≡ state.cores

@@ -1,0 +1,82 @@
+-- What a service gives its caller, and what an operation on an object gives and leaves.
+use Rattle.std.specs.Prelude.{◌≡◌, ℕ, List, [], ◌∷◌, Option, Some, None, Bool, true, false, ℤ, pos, negsuc, nat_lt, nat_le, ◌&&◌, if◌then◌else◌}
+use Rattle.apex_types.specs.declared.code.Code.{Code}
+use Rattle.apex_types.specs.declared.code.Code.TheVariants as code
+use Rattle.apex_types.specs.declared.record.Out.{Out}
+use Rattle.apex_types.specs.declared.record.Out.TheVariants as out
+use Rattle.apex_types.specs.declared.record.Who.{Who}
+use Rattle.apex_machine.specs.State.{Entry, is_named}
+use Rattle.apex_machine.specs.Arguments.{is_over}
+
+-- which value goes with an outcome: none, this number, or any number for what is created that nothing of its kind has
+pub data Value : Type 0 where
+  Nothing : Value
+  Number : (number : ℤ) → Value
+  NewNumber : (is_free : ℕ → Bool) → Value
+
+-- what a service gives where no error condition holds: the outcome, its value, its message, and whose waits end
+pub record Answer : Type 0 where
+  pub out : Out
+  pub val : Value
+  pub bytes : List ℕ
+  pub woken : List Who
+
+-- the service is done at once, with this value
+abbrev pub done_with : Value → Answer
+done_with value = record { out = out.Answer code.NoError; val = value; bytes = []; woken = [] }
+
+-- the service is done at once
+abbrev pub done : Answer
+done = done_with Nothing
+
+-- the service is done at once, and the waits of these end
+abbrev pub waking : List Who → Answer
+waking woken = record { out = out.Answer code.NoError; val = Nothing; bytes = []; woken = woken }
+
+-- the service gives a message at once, and the waits of these end
+abbrev pub giving : List ℕ → List Who → Answer
+giving message woken = record { out = out.Answer code.NoError; val = Nothing; bytes = message; woken = woken }
+
+-- the call does not return
+abbrev pub never : Answer
+never = record { out = out.Never; val = Nothing; bytes = []; woken = [] }
+
+-- the caller waits
+abbrev pub waiting : Answer
+waiting = record { out = out.Waits; val = Nothing; bytes = []; woken = [] }
+
+-- the service answers at once with this code, and does nothing
+abbrev pub answering : Code → Answer
+answering code = record { out = out.Answer code; val = Nothing; bytes = []; woken = [] }
+
+-- what cannot be had at once: with a time-out of 0 the code is NOT_AVAILABLE, else the caller waits
+abbrev pub unmet : ℤ → Answer
+unmet time_out = if is_over time_out then answering code.NotAvailable else waiting
+
+-- an operation on an object: what it gives its caller, and the object after it
+pub record Effect (Object : Type 0) : Type 0 where
+  pub answer : Answer
+  pub next : Object
+
+-- those who wait in a set
+abbrev pub whos : List Entry → List Who
+whos [] = []
+whos (entry ∷ entries) = entry.who ∷ whos entries
+
+-- claims of an answer
+
+-- a new number is 1 to 2,147,483,647, and free
+abbrev pub is_new : (ℕ → Bool) → Option ℤ → Bool
+is_new is_free None = false
+is_new is_free (Some (negsuc n)) = false
+is_new is_free (Some (pos n)) = nat_lt 0 n && (nat_le n 2147483647 && is_free n)
+
+-- whether a claimed value is the one that goes with the outcome
+abbrev pub HasValue : Value → Option ℤ → Type 0
+HasValue Nothing claimed = claimed ≡ None
+HasValue (Number number) claimed = claimed ≡ Some number
+HasValue (NewNumber is_free) claimed = is_new is_free claimed ≡ true
+
+-- a record names exactly these processes
+abbrev pub NamesExactly : List Who → List Who → Type 0
+NamesExactly woken claimed = (who : Who) → is_named who claimed ≡ is_named who woken

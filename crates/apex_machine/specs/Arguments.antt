@@ -1,0 +1,123 @@
+-- The numbers that a caller gives: which of them a service takes.
+use Rattle.std.specs.Prelude.{ℕ, zero, ◌+◌, ◌%◌, Option, Some, None, Bool, true, false, ℤ, pos, negsuc, ◌&&◌, nat_eq, nat_lt, nat_le}
+use Rattle.apex_types.specs.declared.discipline.Discipline.{Discipline}
+use Rattle.apex_types.specs.declared.discipline.Discipline.TheVariants as discipline
+use Rattle.apex_machine.specs.declared.state.Direction.{Direction}
+use Rattle.apex_machine.specs.declared.state.Direction.TheVariants as direction
+
+-- whether a caller's number is this one
+abbrev pub is_number : ℤ → ℕ → Bool
+is_number (pos n) number = nat_eq n number
+is_number (negsuc n) number = false
+
+-- a caller's number that is not below 0; no condition lets another through where this is used
+abbrev pub natural_of : ℤ → ℕ
+natural_of (pos n) = n
+natural_of (negsuc n) = 0
+
+-- whether a number is below 0
+abbrev pub is_negative : ℤ → Bool
+is_negative (pos n) = false
+is_negative (negsuc n) = true
+
+-- whether a caller's number is at least the first of these and at most the second
+abbrev pub is_between : ℕ → ℕ → ℤ → Bool
+is_between least most (pos n) = nat_le least n && nat_le n most
+is_between least most (negsuc n) = false
+
+-- a priority is 1 to 239   (section 3, process management)
+abbrev pub is_priority : ℤ → Bool
+is_priority (pos n) = nat_le 1 n && nat_le n 239
+is_priority (negsuc n) = false
+
+-- a period is above 0, or -1 for an aperiodic process
+abbrev pub is_period : ℤ → Bool
+is_period (pos n) = nat_lt 0 n
+is_period (negsuc n) = nat_eq n 0
+
+-- whether a period is none
+abbrev pub is_aperiodic : ℤ → Bool
+is_aperiodic (pos n) = nat_eq n 0
+is_aperiodic (negsuc n) = true
+
+-- the period of a process, if it has one
+abbrev pub period_given : ℤ → Option ℕ
+period_given (pos n) = Some n
+period_given (negsuc n) = None
+
+-- a period above 0 is a multiple of the partition's
+abbrev pub suits_period : ℕ → ℤ → Bool
+suits_period partition_period (pos n) = nat_eq (n % partition_period) 0
+suits_period partition_period (negsuc n) = true
+
+-- a mode is 0 to 3
+abbrev pub is_mode : ℤ → Bool
+is_mode (pos n) = nat_le n 3
+is_mode (negsuc n) = false
+
+-- the mode NORMAL is 3
+abbrev pub is_normal_mode : ℤ → Bool
+is_normal_mode (pos n) = nat_eq n 3
+is_normal_mode (negsuc n) = false
+
+-- a time-out is -1, which never falls due, or not below 0
+abbrev pub is_time_out : ℤ → Bool
+is_time_out (pos n) = true
+is_time_out (negsuc n) = nat_eq n 0
+
+-- a delay or a time-out of 0 is over at once
+abbrev pub is_over : ℤ → Bool
+is_over (pos n) = nat_eq n 0
+is_over (negsuc n) = false
+
+-- the time at which a time-out falls due that began at this time; -1 never does
+abbrev pub due_time : ℤ → ℕ → Option ℕ
+due_time (pos n) now = Some (now + n)
+due_time (negsuc n) now = None
+
+-- whether a length is above this size
+abbrev pub is_longer : ℕ → ℤ → Bool
+is_longer size (pos n) = nat_lt size n
+is_longer size (negsuc n) = false
+
+-- a message has 1 byte at least
+abbrev pub is_length : ℤ → Bool
+is_length (pos n) = nat_lt 0 n
+is_length (negsuc n) = false
+
+-- a message size is 1 to 8,192
+abbrev pub is_size : ℤ → Bool
+is_size size = is_between 1 8192 size
+
+-- how many messages are held is 1 to 1,024
+abbrev pub is_capacity : ℤ → Bool
+is_capacity capacity = is_between 1 1024 capacity
+
+-- the greatest value of a semaphore is 1 to 32,767
+abbrev pub is_maximum : ℤ → Bool
+is_maximum maximum = is_between 1 32767 maximum
+
+-- the value of a semaphore is not below 0, and at most its maximum
+abbrev pub suits_maximum : ℤ → ℤ → Bool
+suits_maximum (pos maximum) (pos value) = nat_le value maximum
+suits_maximum (pos maximum) (negsuc value) = false
+suits_maximum (negsuc maximum) value = false
+
+-- a discipline is 0 or 1
+abbrev pub is_discipline : ℤ → Bool
+is_discipline given = is_between 0 1 given
+
+-- FIFO is 0, PRIORITY is 1
+abbrev pub discipline_given : ℤ → Discipline
+discipline_given (pos zero) = discipline.Fifo
+discipline_given _ = discipline.Priority
+
+-- the number of a discipline
+abbrev pub discipline_number : Discipline → ℕ
+discipline_number discipline.Fifo = 0
+discipline_number discipline.Priority = 1
+
+-- SOURCE is 0, DESTINATION is 1
+abbrev pub direction_number : Direction → ℕ
+direction_number direction.Source = 0
+direction_number direction.Destination = 1

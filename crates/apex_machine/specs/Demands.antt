@@ -1,0 +1,241 @@
+-- What each piece demands of a record that touches it, in the order in which it looks, and its local step.
+use Rattle.std.specs.Prelude.{◌≡◌, ◌⊎◌, ℕ, ◌+◌, List, [], ◌∷◌, Option, Some, None, Bool, true, false, nat_eq, ◌||◌, IsTrue, IsFalse, ℤ}
+use Rattle.apex_types.specs.declared.cause.Cause.{Cause}
+use Rattle.apex_types.specs.declared.cause.Cause.TheVariants as cause
+use Rattle.apex_types.specs.declared.code.Code.{Code}
+use Rattle.apex_types.specs.declared.code.Code.TheVariants as code
+use Rattle.apex_types.specs.declared.record.Body.{Body}
+use Rattle.apex_types.specs.declared.record.Body.TheVariants.{Call, Ret, Disp, Tick}
+use Rattle.apex_types.specs.declared.record.Call.{Call as CallRecord}
+use Rattle.apex_types.specs.declared.record.Claim.{Claim}
+use Rattle.apex_types.specs.declared.record.Ordered.{Ordered}
+use Rattle.apex_types.specs.declared.record.Out.{Out}
+use Rattle.apex_types.specs.declared.record.Out.TheVariants as out
+use Rattle.apex_types.specs.declared.record.Who.{Who}
+use Rattle.apex_types.specs.declared.request.Request.{Request}
+use Rattle.apex_types.specs.declared.request.Request.TheVariants as request
+use Rattle.apex_types.specs.declared.service.Service.{Service}
+use Rattle.apex_machine.specs.declared.state.CoreState.{CoreState}
+use Rattle.apex_machine.specs.declared.state.Outcome.{Outcome}
+use Rattle.apex_machine.specs.declared.state.WaitingSet.{WaitingSet}
+use Rattle.apex_machine.specs.declared.state.WaitingSet.TheVariants as set
+use Rattle.apex_machine.specs.After.{is_channel}
+use Rattle.apex_machine.specs.Arguments.{is_over}
+use Rattle.apex_machine.specs.Choice.{choice_in}
+use Rattle.apex_machine.specs.Configuration.{Configuration, has_partition, window_at}
+use Rattle.apex_machine.specs.Pieces.{ChannelPart, ModulePart, Part, PartitionPart, part_after, time_at}
+use Rattle.apex_machine.specs.Ports.{channel_effect, channel_of, suits_use, use_of}
+use Rattle.apex_machine.specs.Processes.{time_out_of}
+use Rattle.apex_machine.specs.ServiceConditions.{condition_codes}
+use Rattle.apex_machine.specs.Services.{Answer, HasValue, NamesExactly, answer_of, is_built}
+use Rattle.apex_machine.specs.State.{Channel, Entry, Partition, Table, is_same, names_one_of, occupant_of, process_at, time_of}
+use Rattle.apex_machine.specs.Step.{AllConfigured, OneConfigured, ChannelConfigured, KeepsSkew, NamesThoseDue, HasNoneDue, HasPriority, HasCode, IsWithinProfile, due_of}
+use Rattle.apex_machine.specs.Waiting.{waits_at}
+
+-- what a piece demands of a record, and the cause that it names where that fails
+pub record Demand : Type 1 where
+  pub cause : Cause
+  pub holds : Type 0
+
+-- all demands hold
+abbrev pub AllHold : List {1} Demand → Type 0
+AllHold [] = Unit {0}
+AllHold (demand ∷ demands) = demand.holds × AllHold demands
+
+-- the first demand that fails has this cause
+abbrev pub FirstFails : List {1} Demand → Cause → Type 0
+FirstFails [] cause = ⊥
+FirstFails (demand ∷ demands) cause = ((¬ demand.holds) × (cause ≡ demand.cause)) ⊎ (demand.holds × FirstFails demands cause)
+
+-- a demand that stands only in no window
+abbrev pub InNoWindow : Option ℕ → Type 0 → Type 0
+InNoWindow None Demanded = Demanded
+InNoWindow (Some partition) Demanded = Unit {0}
+
+-- a demand that stands only in the windows of this partition
+abbrev pub InWindowOf : ℕ → Option ℕ → Type 0 → Type 0
+InWindowOf number None Demanded = Unit {0}
+InWindowOf number (Some partition) Demanded = partition ≡ number → Demanded
+
+-- the window of a core at its present time
+abbrev pub window_now : Configuration → List CoreState → ℕ → Option ℕ
+window_now configuration cores core = window_at configuration core (time_of cores core)
+
+-- the module
+
+-- the module: names are configured, a tick keeps the skew, and in no window the core is idle
+abbrev pub module_demands : Configuration → List CoreState → ℕ → Body → List {1} Demand
+module_demands configuration cores core (Disp who) =
+    record { cause = cause.Names; holds = OneConfigured configuration who }
+    ∷ record { cause = cause.Idle; holds = InNoWindow (window_now configuration cores core) (who ≡ None) } ∷ []
+module_demands configuration cores core (Tick woken) =
+    record { cause = cause.Names; holds = AllConfigured configuration woken }
+    ∷ record { cause = cause.Skew; holds = KeepsSkew (time_of cores core + 1) configuration.skew cores }
+    ∷ record { cause = cause.Idle; holds = InNoWindow (window_now configuration cores core) (occupant_of cores core ≡ None) } ∷ []
+module_demands configuration cores core (Call call) =
+    record {
+      cause = cause.Names;
+      holds = IsTrue (has_partition configuration call.who.part) × AllConfigured configuration call.claim.woken × ChannelConfigured configuration call.claim.chan;
+    }
+    ∷ record { cause = cause.Idle; holds = InNoWindow (window_now configuration cores core) ⊥ } ∷ []
+module_demands configuration cores core (Ret ret) =
+    record { cause = cause.Names; holds = IsTrue (has_partition configuration ret.who.part) }
+    ∷ record { cause = cause.Idle; holds = InNoWindow (window_now configuration cores core) ⊥ } ∷ []
+
+-- partitions: the outcome of their own calls
+
+-- the occupant of a core is this process, and the process is the partition's choice
+abbrev pub IsRunning : ℕ → List CoreState → Table → ℕ → Who → Type 0
+IsRunning number cores table core who = (occupant_of cores core ≡ Some who) × (choice_in number core table ≡ Some who)
+
+-- a time-out with which a caller may wait: there is one, and it isn't 0
+abbrev pub MayWait : Option ℤ → Type 0
+MayWait None = ⊥
+MayWait (Some time_out) = IsFalse (is_over time_out)
+
+-- what a partition can see of the outcome of a call through a channel: it returns, with no code of an error condition and
+-- not timed out, and it waits only where its service may
+abbrev pub CanHave : Request → Out → Type 0
+CanHave asked out.Waits = MayWait (time_out_of asked)
+CanHave asked (out.Answer code.NoError) = Unit {0}
+CanHave asked (out.Answer code.NoAction) = Unit {0}
+CanHave asked (out.Answer code.NotAvailable) = Unit {0}
+CanHave asked _ = ⊥
+
+-- the channel and the outcome of a call, by the codes of its error conditions and the channel that it goes to; what a channel
+-- gives is the channel's to judge, but no process of the caller's own partition is woken through it
+abbrev pub outcome_demands : List Code → Option ℕ → ℕ → Request → Answer → Claim → List {1} Demand
+outcome_demands [] None number asked answer claim =
+    record { cause = cause.Chan; holds = claim.chan ≡ None }
+    ∷ record { cause = cause.Out; holds = claim.out ≡ answer.out }
+    ∷ record { cause = cause.Val; holds = HasValue answer.val claim.val }
+    ∷ record { cause = cause.Data; holds = claim.bytes ≡ answer.bytes }
+    ∷ record { cause = cause.Woken; holds = NamesExactly answer.woken claim.woken } ∷ []
+outcome_demands [] (Some channel) number asked answer claim =
+    record { cause = cause.Chan; holds = claim.chan ≡ Some channel }
+    ∷ record { cause = cause.Out; holds = CanHave asked claim.out }
+    ∷ record { cause = cause.Woken; holds = IsFalse (names_one_of number claim.woken) } ∷ []
+outcome_demands (code ∷ codes) channel number asked answer claim =
+    record { cause = cause.Chan; holds = claim.chan ≡ None }
+    ∷ record { cause = cause.Out; holds = HasCode (code ∷ codes) claim.out }
+    ∷ record { cause = cause.Val; holds = claim.val ≡ None }
+    ∷ record { cause = cause.Data; holds = claim.bytes ≡ [] }
+    ∷ record { cause = cause.Woken; holds = claim.woken ≡ [] } ∷ []
+
+-- a call of one of the partition's own processes
+abbrev pub own_call_demands : (Service → Bool) → Configuration → ℕ → List CoreState → Partition → ℕ → CallRecord → List {1} Demand
+own_call_demands judged configuration number cores partition core call =
+    let codes : List Code = condition_codes configuration call.who partition call.request in
+    record { cause = cause.Window; holds = window_now configuration cores core ≡ Some number }
+    ∷ record { cause = cause.Choice; holds = IsRunning number cores partition.table core call.who }
+    ∷ record { cause = cause.Return; holds = HasNoneDue (process_at partition.table call.who.proc) }
+    ∷ record { cause = cause.OutsideProfile; holds = IsWithinProfile judged codes call.who partition call.request }
+    ∷ record { cause = cause.Prio; holds = HasPriority call.claim.prio (process_at partition.table call.who.proc) }
+    ∷ outcome_demands codes (channel_of partition call.request) number call.request
+    (answer_of (time_of cores core) call.who partition call.request) call.claim
+
+-- partitions: the calls of others, the returns and the ticks
+
+-- each process of this partition that is named waits in this set
+abbrev pub AllWaitAt : WaitingSet → ℕ → Table → List Who → Type 0
+AllWaitAt wanted number table [] = Unit {0}
+AllWaitAt wanted number table (who ∷ others) = (who.part ≡ number → IsTrue (waits_at wanted (process_at table who.proc))) × AllWaitAt wanted number table others
+
+-- a call of another partition ends only waits at its channel: a send of those that wait to receive, a receive of those that
+-- wait to send
+abbrev pub WakesHere : Request → Option ℕ → ℕ → Table → List Who → Type 0
+WakesHere (request.SendQueuingMessage port length time_out message) (Some channel) number table woken =
+    AllWaitAt (set.ChannelReceivers channel) number table woken
+WakesHere (request.ReceiveQueuingMessage port time_out) (Some channel) number table woken =
+    AllWaitAt (set.ChannelSenders channel) number table woken
+WakesHere _ chan number table woken = ⊥
+
+-- a call of another partition that names one of these processes
+abbrev pub foreign_call_demands : Configuration → ℕ → List CoreState → Partition → ℕ → CallRecord → List {1} Demand
+foreign_call_demands configuration number cores partition core call =
+    record { cause = cause.Choice; holds = InWindowOf number (window_now configuration cores core) (IsRunning number cores partition.table core call.who) }
+    ∷ record { cause = cause.Woken; holds = WakesHere call.request call.claim.chan number partition.table call.claim.woken } ∷ []
+
+-- a call of one of the partition's own processes, or of another's
+abbrev pub call_demands : Bool → (Service → Bool) → Configuration → ℕ → List CoreState → Partition → ℕ → CallRecord → List {1} Demand
+call_demands true judged configuration number cores partition core call = own_call_demands judged configuration number cores partition core call
+call_demands false judged configuration number cores partition core call = foreign_call_demands configuration number cores partition core call
+
+-- a fact about the outcome that is due, where one is
+abbrev pub IfDue : Option Outcome → (Outcome → Type 0) → Type 0
+IfDue None fact = ⊥
+IfDue (Some outcome) fact = fact outcome
+
+-- a partition: its windows, its choices, and the claims of its own calls and returns
+abbrev pub partition_demands : (Service → Bool) → Configuration → ℕ → List CoreState → Partition → ℕ → Body → List {1} Demand
+partition_demands judged configuration number cores partition core (Disp who) =
+    record { cause = cause.Choice; holds = InWindowOf number (window_now configuration cores core) (choice_in number core partition.table ≡ who) } ∷ []
+partition_demands judged configuration number cores partition core (Tick woken) =
+    record {
+      cause = cause.Choice;
+      holds = InWindowOf number (window_now configuration cores core) (choice_in number core partition.table ≡ occupant_of cores core);
+    }
+    ∷ record { cause = cause.Woken; holds = NamesThoseDue number core (time_of cores core + 1) partition.table woken } ∷ []
+partition_demands judged configuration number cores partition core (Call call) =
+    call_demands (nat_eq call.who.part number) judged configuration number cores partition core call
+partition_demands judged configuration number cores partition core (Ret ret) =
+    let due : Option Outcome = due_of (process_at partition.table ret.who.proc) in
+    record { cause = cause.Window; holds = window_now configuration cores core ≡ Some number }
+    ∷ record { cause = cause.Choice; holds = IsRunning number cores partition.table core ret.who }
+    ∷ record { cause = cause.Return; holds = IfDue due (λ outcome. outcome.service ≡ ret.service) }
+    ∷ record { cause = cause.Out; holds = IfDue due (λ outcome. outcome.code ≡ ret.code) }
+    ∷ record { cause = cause.Val; holds = IfDue due (λ outcome. outcome.val ≡ ret.val) }
+    ∷ record { cause = cause.Data; holds = IfDue due (λ outcome. outcome.bytes ≡ ret.bytes) } ∷ []
+
+-- channels
+
+-- whether a process stands in a waiting set
+abbrev pub stands_in : Who → List Entry → Bool
+stands_in who [] = false
+stands_in who (entry ∷ entries) = is_same who entry.who || stands_in who entries
+
+-- a call through a channel: its caller waits at neither end, the service is one of the channel's kind, and the outcome is the
+-- one that the channel gives
+abbrev pub through_demands : Configuration → ℕ → ℕ → Channel → CallRecord → List {1} Demand
+through_demands configuration now number channel call =
+    let answer : Answer = (channel_effect configuration now number (use_of call.request) channel).answer in
+    record { cause = cause.Choice; holds = IsFalse (stands_in call.who channel.senders || stands_in call.who channel.receivers) }
+    ∷ record { cause = cause.Chan; holds = IsTrue (suits_use (use_of call.request) channel) }
+    ∷ record { cause = cause.Out; holds = call.claim.out ≡ answer.out }
+    ∷ record { cause = cause.Val; holds = HasValue answer.val call.claim.val }
+    ∷ record { cause = cause.Data; holds = call.claim.bytes ≡ answer.bytes }
+    ∷ record { cause = cause.Woken; holds = NamesExactly answer.woken call.claim.woken } ∷ []
+
+-- a call that goes through the channel, or doesn't
+abbrev pub used_demands : Bool → Configuration → ℕ → ℕ → Channel → CallRecord → List {1} Demand
+used_demands true configuration now number channel call = through_demands configuration now number channel call
+used_demands false configuration now number channel call = []
+
+-- a channel: the outcome of the calls through it
+abbrev pub channel_demands : Configuration → ℕ → ℕ → Channel → Body → List {1} Demand
+channel_demands configuration now number channel (Call call) =
+    used_demands (is_channel number call.claim.chan) configuration now number channel call
+channel_demands configuration now number channel _ = []
+
+-- local steps
+
+-- what the holder of a part demands of a record that touches it
+abbrev pub demands_judging : (Service → Bool) → Configuration → Part → Ordered → List {1} Demand
+demands_judging judged configuration (ModulePart cores) ordered = module_demands configuration cores ordered.core ordered.rec.body
+demands_judging judged configuration (PartitionPart number cores partition) ordered =
+    partition_demands judged configuration number cores partition ordered.core ordered.rec.body
+demands_judging judged configuration (ChannelPart number times channel) ordered =
+    channel_demands configuration (time_at times ordered.core) number channel ordered.rec.body
+
+-- the local step: all demands hold, and the part becomes what the record makes of it
+abbrev pub LocalStepJudging : (Service → Bool) → Configuration → Part → Ordered → Part → Type 0
+LocalStepJudging judged configuration old ordered new =
+    AllHold (demands_judging judged configuration old ordered) × (new ≡ part_after configuration old ordered)
+
+-- what the holder of a part demands, with the services that are judged today
+abbrev pub demands : Configuration → Part → Ordered → List {1} Demand
+demands configuration old ordered = demands_judging is_built configuration old ordered
+
+-- the local step, with the services that are judged today
+abbrev pub LocalStep : Configuration → Part → Ordered → Part → Type 0
+LocalStep configuration old ordered new = LocalStepJudging is_built configuration old ordered new

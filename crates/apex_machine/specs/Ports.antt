@@ -1,0 +1,102 @@
+-- Channels: what a call through a port gives its caller, and what the channel holds after it.
+use Rattle.std.specs.Prelude.{ℕ, ◌-◌, List, [], Option, Some, None, Bool, true, false, ℤ, pos, nat_le, if◌then◌else◌}
+use Rattle.apex_types.specs.declared.code.Code.TheVariants as code
+use Rattle.apex_types.specs.declared.record.Out.TheVariants as out
+use Rattle.apex_types.specs.declared.request.Request.{Request}
+use Rattle.apex_types.specs.declared.request.Request.TheVariants as request
+use Rattle.apex_machine.specs.Answer.{Answer, Effect, Number, done}
+use Rattle.apex_machine.specs.Channels.{capacity_of, receiving_discipline, refresh_of, sending_discipline}
+use Rattle.apex_machine.specs.Configuration.{Configuration}
+use Rattle.apex_machine.specs.Queue.{Messages, received, sent}
+use Rattle.apex_machine.specs.State.{Channel, Content, Partition, Port, Queued, Sampled, Stamped, given_object}
+use Rattle.apex_machine.specs.Waiting.{first_waiter}
+
+-- how a call uses a channel
+pub data Use : Type 0 where
+  Write : (message : List ℕ) → Use
+  Read : Use
+  Send : (message : List ℕ) → (time_out : ℤ) → Use
+  Receive : (time_out : ℤ) → Use
+
+-- how a service uses a channel, if it does
+abbrev pub use_of : Request → Option Use
+use_of (request.WriteSamplingMessage port length message) = Some (Write message)
+use_of (request.ReadSamplingMessage port) = Some Read
+use_of (request.SendQueuingMessage port length time_out message) = Some (Send message time_out)
+use_of (request.ReceiveQueuingMessage port time_out) = Some (Receive time_out)
+use_of _ = None
+
+-- the port that a service goes through, if it is created
+abbrev pub port_of : Partition → Request → Option Port
+port_of partition (request.WriteSamplingMessage port length message) = given_object partition.sampling_ports port
+port_of partition (request.ReadSamplingMessage port) = given_object partition.sampling_ports port
+port_of partition (request.SendQueuingMessage port length time_out message) = given_object partition.queuing_ports port
+port_of partition (request.ReceiveQueuingMessage port time_out) = given_object partition.queuing_ports port
+port_of partition _ = None
+
+-- the channel of a port
+abbrev pub channel_by : Option Port → Option ℕ
+channel_by None = None
+channel_by (Some port) = Some port.channel
+
+-- the channel that a service goes to, if it goes through a port
+abbrev pub channel_of : Partition → Request → Option ℕ
+channel_of partition request = channel_by (port_of partition request)
+
+-- sampling channels
+
+-- a message is valid where its age is at most the refresh period
+abbrev pub validity : ℕ → ℕ → Stamped → ℕ
+validity now refresh last = if nat_le (now - last.stamp) refresh then 1 else 0
+
+-- WRITE_SAMPLING_MESSAGE: the message takes the place of the last one, with the time of its writing
+abbrev pub written : ℕ → List ℕ → Effect (Option Stamped)
+written now message = record { answer = done; next = Some (record { message = message; stamp = now }) }
+
+-- what a reader gets: the last message and whether it is valid; of an empty channel nothing, which is invalid
+abbrev pub reading_of : ℕ → ℕ → Option Stamped → Answer
+reading_of now refresh None = record { out = out.Answer code.NoAction; val = Number (pos 0); bytes = []; woken = [] }
+reading_of now refresh (Some last) =
+    record { out = out.Answer code.NoError; val = Number (pos (validity now refresh last)); bytes = last.message; woken = [] }
+
+-- READ_SAMPLING_MESSAGE: the message stays
+abbrev pub sampled : ℕ → ℕ → Option Stamped → Effect (Option Stamped)
+sampled now refresh last = record { answer = reading_of now refresh last; next = last }
+
+-- any channel
+
+-- an effect on what a sampling channel holds
+abbrev pub on_sampling : Effect (Option Stamped) → Effect Content
+on_sampling effect = record { answer = effect.answer; next = Sampled effect.next }
+
+-- an effect on what a queuing channel holds
+abbrev pub on_queuing : Effect Messages → Effect Content
+on_queuing effect = record { answer = effect.answer; next = Queued effect.next }
+
+-- whether a channel is of the kind that this use wants
+abbrev pub suits : Use → Content → Bool
+suits (Write message) (Sampled last) = true
+suits Read (Sampled last) = true
+suits (Send message time_out) (Queued messages) = true
+suits (Receive time_out) (Queued messages) = true
+suits _ _ = false
+
+-- the use of a channel, at the caller's time; of the wrong kind it does nothing, and no such call is lawful
+abbrev pub used : Configuration → ℕ → ℕ → Use → Channel → Content → Effect Content
+used configuration now number (Write message) channel (Sampled last) = on_sampling (written now message)
+used configuration now number Read channel (Sampled last) = on_sampling (sampled now (refresh_of configuration number) last)
+used configuration now number (Send message time_out) channel (Queued messages) =
+    on_queuing (sent (capacity_of configuration number) message time_out (first_waiter (receiving_discipline configuration number) channel.receivers) messages)
+used configuration now number (Receive time_out) channel (Queued messages) =
+    on_queuing (received time_out (first_waiter (sending_discipline configuration number) channel.senders) messages)
+used configuration now number how channel content = record { answer = done; next = content }
+
+-- what a channel gives the caller of a request, and what it holds afterwards
+abbrev pub channel_effect : Configuration → ℕ → ℕ → Option Use → Channel → Effect Content
+channel_effect configuration now number None channel = record { answer = done; next = channel.content }
+channel_effect configuration now number (Some how) channel = used configuration now number how channel channel.content
+
+-- whether the channel suits the request
+abbrev pub suits_use : Option Use → Channel → Bool
+suits_use None channel = false
+suits_use (Some how) channel = suits how channel.content

@@ -1,0 +1,236 @@
+-- What becomes of one process: by a service of its partition, by the end of its wait, by its own call.
+use Rattle.std.specs.Prelude.{ℕ, ◌+◌, ◌*◌, ◌/◌, List, [], Option, Some, None, Bool, true, false, ℤ, pos, ◌&&◌, if◌then◌else◌}
+use Rattle.apex_types.specs.declared.code.Code.{Code}
+use Rattle.apex_types.specs.declared.code.Code.TheVariants as code
+use Rattle.apex_types.specs.declared.record.Call.{Call as CallRecord}
+use Rattle.apex_types.specs.declared.record.Out.{Out}
+use Rattle.apex_types.specs.declared.record.Out.TheVariants as out
+use Rattle.apex_types.specs.declared.request.Request.{Request}
+use Rattle.apex_types.specs.declared.request.Request.TheVariants as request
+use Rattle.apex_types.specs.declared.service.Service.{Service}
+use Rattle.apex_types.specs.declared.service.Service.TheVariants as service
+use Rattle.apex_types.specs.Requested.{service_of}
+use Rattle.apex_machine.specs.declared.state.CoreState.{CoreState}
+use Rattle.apex_machine.specs.declared.state.Mode.{Mode}
+use Rattle.apex_machine.specs.declared.state.Outcome.{Outcome}
+use Rattle.apex_machine.specs.declared.state.Process.{Process}
+use Rattle.apex_machine.specs.declared.state.Wait.{Wait}
+use Rattle.apex_machine.specs.declared.state.Wait.TheVariants as wait
+use Rattle.apex_machine.specs.declared.state.WaitingSet.{WaitingSet}
+use Rattle.apex_machine.specs.Arguments.{due_time, is_number, is_over, natural_of, period_given}
+use Rattle.apex_machine.specs.Conditions.{is_normal}
+use Rattle.apex_machine.specs.Objects.{acquired, is_owner, mutex_released}
+use Rattle.apex_machine.specs.Services.{next_release}
+use Rattle.apex_machine.specs.State.{Mutex, Partition, given_object, time_of}
+use Rattle.apex_machine.specs.Waiting.{first_waiter, is_no_error, service_at, set_of}
+
+-- creation, start and stop
+
+-- a created process is dormant, on the partition's first core   (CREATE_PROCESS, section 3)
+abbrev pub new_process : ℕ → List ℕ → ℤ → ℤ → Process
+new_process core name priority period = record {
+  name = name;
+  base_priority = natural_of priority;
+  current_priority = natural_of priority;
+  retained_priority = natural_of priority;
+  affinity = core;
+  period = period_given period;
+  last_release = 0;
+  alive = false;
+  suspended = false;
+  wait = wait.Nothing;
+  ready_position = 0;
+  due = None;
+  called_at = 0;
+}
+
+-- the first release: the least multiple of the partition's period above this time
+abbrev pub first_release : ℕ → ℕ → ℕ
+first_release partition_period now = (now / partition_period + 1) * partition_period
+
+-- what a started process waits for in NORMAL: an aperiodic one for nothing, a periodic one for its first release
+abbrev pub entry_wait : ℕ → ℕ → Option ℕ → Wait
+entry_wait partition_period now None = wait.Nothing
+entry_wait partition_period now (Some period) = wait.FirstRelease (first_release partition_period now)
+
+-- START sets the current priority back; the process enters NORMAL at once, or waits for it   (START, section 3)
+abbrev pub started : ℕ → ℕ → ℕ → Mode → Process → Process
+started place partition_period now mode process = record process {
+  current_priority = process.base_priority;
+  alive = true;
+  wait = if is_normal mode then entry_wait partition_period now process.period else wait.NormalMode;
+  ready_position = place;
+}
+
+-- whether a wait is that for NORMAL
+abbrev pub waits_for_normal : Wait → Bool
+waits_for_normal wait.NormalMode = true
+waits_for_normal _ = false
+
+-- NORMAL lets those enter that wait for it   (SET_PARTITION_MODE, section 3)
+abbrev pub after_normal : ℕ → ℕ → ℕ → Process → Process
+after_normal place partition_period now process =
+    if waits_for_normal process.wait
+    then record process { wait = entry_wait partition_period now process.period; ready_position = place }
+    else process
+
+-- a stopped process is dormant: it is not suspended, waits for nothing, and nothing is due to it   (STOP, STOP_SELF, section 3)
+abbrev pub stopped : Process → Process
+stopped process = record process { alive = false; suspended = false; wait = wait.Nothing; due = None }
+
+-- priorities
+
+-- the owner of a mutex runs with the mutex's priority, and its own is retained   (ACQUIRE_MUTEX, section 3)
+abbrev pub granted : ℕ → Process → Process
+granted priority process = record process { retained_priority = process.current_priority; current_priority = priority }
+
+-- the retained priority is the current one again   (RELEASE_MUTEX, section 3)
+abbrev pub restored : Process → Process
+restored process = record process { current_priority = process.retained_priority }
+
+-- by whether a process owned the mutex, and whether it does now
+abbrev pub on_ownership : Bool → Bool → ℕ → Process → Process
+on_ownership false true priority process = granted priority process
+on_ownership true false priority process = restored process
+on_ownership true true priority process = process
+on_ownership false false priority process = process
+
+-- the change of a mutex changes the priority of who owns it from then on, and of who no longer does
+abbrev pub by_mutex : Option Mutex → (Mutex → Mutex) → ℕ → Process → Process
+by_mutex None change number process = process
+by_mutex (Some mutex) change number process =
+    on_ownership (is_owner mutex.owner number) (is_owner (change mutex).owner number) mutex.priority process
+
+-- what a call sets in the processes of its partition, beside the waits that it ends and its caller's wait and outcome:
+-- INITIALIZE_PROCESS_CORE_AFFINITY, START, SUSPEND, RESUME and SET_PRIORITY something of their target, SET_PARTITION_MODE
+-- those that wait for NORMAL, ACQUIRE_MUTEX and RELEASE_MUTEX the priority of the owners. Times are those of their own cores
+abbrev pub set_by : ℕ → ℕ → List CoreState → Partition → ℕ → Request → ℕ → Process → Process
+set_by place period cores partition caller (request.InitializeProcessCoreAffinity process core) number x =
+    if is_number process number then record x { affinity = natural_of core } else x
+set_by place period cores partition caller (request.Start process) number x =
+    if is_number process number then started place period (time_of cores x.affinity) partition.mode x else x
+set_by place period cores partition caller (request.Suspend process) number x =
+    if is_number process number then record x { suspended = true } else x
+set_by place period cores partition caller (request.Resume process) number x =
+    if is_number process number then record x { suspended = false; ready_position = place } else x
+set_by place period cores partition caller (request.SetPriority process priority) number x =
+    if is_number process number then record x { current_priority = natural_of priority; ready_position = place } else x
+set_by place period cores partition caller (request.SetPartitionMode next) number x = after_normal place period (time_of cores x.affinity) x
+set_by place period cores partition caller (request.AcquireMutex mutex time_out) number x =
+    by_mutex (given_object partition.mutexes mutex) (λ found. (acquired caller time_out found).next) number x
+set_by place period cores partition caller (request.ReleaseMutex mutex) number x =
+    by_mutex (given_object partition.mutexes mutex) (λ found. (mutex_released (first_waiter found.discipline found.waiters) found).next) number x
+set_by place period cores partition caller _ number x = x
+
+-- the end of a wait
+
+-- the outcome of a service, if it owes one
+abbrev pub owed : Option Service → Code → List ℕ → Option Outcome
+owed None code bytes = None
+owed (Some service) code bytes = Some (record { service = service; code = code; val = None; bytes = bytes })
+
+-- the service whose call began a wait, if one did
+abbrev pub service_of_wait : Wait → Option Service
+service_of_wait (wait.Until due) = Some service.TimedWait
+service_of_wait (wait.PeriodicRelease due) = Some service.PeriodicWait
+service_of_wait (wait.Suspended due) = Some service.SuspendSelf
+service_of_wait (wait.At set due) = Some (service_at set)
+service_of_wait _ = None
+
+-- the code with which a wait ends that falls due: TIMED_OUT where something was waited for, NO_ERROR where the time was
+abbrev pub code_when_due : Wait → Code
+code_when_due (wait.Suspended due) = code.TimedOut
+code_when_due (wait.At set due) = code.TimedOut
+code_when_due _ = code.NoError
+
+-- the release for which a process waited becomes its last one
+abbrev pub release_reached : Wait → ℕ → ℕ
+release_reached (wait.FirstRelease time) last = time
+release_reached (wait.PeriodicRelease time) last = time
+release_reached _ last = last
+
+-- a wait ends: the process waits for nothing, its outcome is due, and its ready position is this place; a suspended
+-- process stays suspended
+abbrev pub wait_ended : ℕ → Option Outcome → Process → Process
+wait_ended place outcome process = record process {
+  wait = wait.Nothing;
+  ready_position = place;
+  last_release = release_reached process.wait process.last_release;
+  due = outcome;
+}
+
+-- a wait that ends at a tick
+abbrev pub released : ℕ → Process → Process
+released place process = wait_ended place (owed (service_of_wait process.wait) (code_when_due process.wait) []) process
+
+-- a wait that ends by a call, which may hand over a message
+abbrev pub woken_by : ℕ → List ℕ → Process → Process
+woken_by place message process = wait_ended place (owed (service_of_wait process.wait) code.NoError message) process
+
+-- the message that a call hands to those whose waits it ends
+abbrev pub gift_of : Request → List ℕ
+gift_of (request.SendBuffer buffer length time_out message) = message
+gift_of (request.DisplayBlackboard blackboard length message) = message
+gift_of (request.SendQueuingMessage port length time_out message) = message
+gift_of _ = []
+
+-- the caller
+
+-- the time-out of a service that may wait for something
+abbrev pub time_out_of : Request → Option ℤ
+time_out_of (request.SuspendSelf time_out) = Some time_out
+time_out_of (request.SendBuffer buffer length time_out message) = Some time_out
+time_out_of (request.ReceiveBuffer buffer time_out) = Some time_out
+time_out_of (request.ReadBlackboard blackboard time_out) = Some time_out
+time_out_of (request.WaitSemaphore semaphore time_out) = Some time_out
+time_out_of (request.WaitEvent event time_out) = Some time_out
+time_out_of (request.AcquireMutex mutex time_out) = Some time_out
+time_out_of (request.SendQueuingMessage port length time_out message) = Some time_out
+time_out_of (request.ReceiveQueuingMessage port time_out) = Some time_out
+time_out_of _ = None
+
+-- the time at which a time-out falls due, if there is one
+abbrev pub due_of_call : Option ℤ → ℕ → Option ℕ
+due_of_call None now = None
+due_of_call (Some time_out) now = due_time time_out now
+
+-- a wait in a set, if there is one
+abbrev pub wait_in : Option WaitingSet → Option ℕ → Wait
+wait_in None due = wait.Nothing
+wait_in (Some set) due = wait.At set due
+
+-- what a caller waits for that began to wait at this time of its core
+abbrev pub wait_of : Request → Option ℕ → ℕ → Process → Wait
+wait_of (request.TimedWait (pos delay)) chan now process = wait.Until (now + delay)
+wait_of request.PeriodicWait chan now process = wait.PeriodicRelease (next_release process)
+wait_of (request.SuspendSelf time_out) chan now process = wait.Suspended (due_time time_out now)
+wait_of asked chan now process = wait_in (set_of asked chan) (due_of_call (time_out_of asked) now)
+
+-- a call that renews its caller's ready position: TIMED_WAIT with a delay of 0, PERIODIC_WAIT whose release is reached
+abbrev pub renews : Request → Bool
+renews (request.TimedWait delay) = is_over delay
+renews request.PeriodicWait = true
+renews _ = false
+
+-- the last release after a call: PERIODIC_WAIT that found the next one reached takes it
+abbrev pub release_taken : Request → Process → ℕ
+release_taken request.PeriodicWait process = next_release process
+release_taken _ process = process.last_release
+
+-- the outcome that a call claims, as it is due to the caller
+abbrev pub outcome_of : CallRecord → Code → Outcome
+outcome_of call code = record { service = service_of call.request; code = code; val = call.claim.val; bytes = call.claim.bytes }
+
+-- the caller after its call: it waits, it is dormant, or its outcome is due
+abbrev pub caller_with : ℕ → ℕ → CallRecord → Out → Process → Process
+caller_with place now call out.Waits process = record process { wait = wait_of call.request call.claim.chan now process }
+caller_with place now call out.Never process = stopped process
+caller_with place now call (out.Answer code) process = record process {
+  ready_position = if renews call.request && is_no_error (out.Answer code) then place else process.ready_position;
+  last_release = if is_no_error (out.Answer code) then release_taken call.request process else process.last_release;
+  due = Some (outcome_of call code);
+}
+
+-- the caller, with its core's time noted
+abbrev pub caller_after : ℕ → ℕ → CallRecord → Process → Process
+caller_after place now call process = record (caller_with place now call call.claim.out process) { called_at = now }

@@ -1,0 +1,204 @@
+-- The view of a record: the numbers that a user's relation can speak of. The piece that judges the record has it from its part.
+use Rattle.std.specs.Prelude.{ℕ, ◌+◌, ◌-◌, List, length, Option, Some, None, ℤ, pos, negsuc, nat_eq, if◌then◌else◌}
+use Rattle.apex_types.specs.declared.code.Code.{Code}
+use Rattle.apex_types.specs.declared.code.Code.TheVariants as code
+use Rattle.apex_types.specs.declared.record.Body.{Body}
+use Rattle.apex_types.specs.declared.record.Body.TheVariants.{Call, Ret, Disp, Tick}
+use Rattle.apex_types.specs.declared.record.Call.{Call as CallRecord}
+use Rattle.apex_types.specs.declared.record.Ordered.{Ordered}
+use Rattle.apex_types.specs.declared.record.Out.{Out}
+use Rattle.apex_types.specs.declared.record.Out.TheVariants as out
+use Rattle.apex_types.specs.declared.record.Return.{Return}
+use Rattle.apex_types.specs.declared.record.Who.{Who}
+use Rattle.apex_types.specs.declared.service.Service.{Service}
+use Rattle.apex_types.specs.declared.service.Service.TheVariants as service
+use Rattle.apex_types.specs.Requested.{service_of}
+use Rattle.apex_machine.specs.declared.state.CoreState.{CoreState}
+use Rattle.apex_machine.specs.declared.state.Process.{Process}
+use Rattle.apex_machine.specs.Pieces.{ChannelPart, Module, ModulePart, OfPartition, Part, PartitionPart, Piece}
+use Rattle.apex_machine.specs.State.{State, Table, process_at, time_of}
+
+-- the view of a record; a field that the record hasn't is -1, and where it names nobody woken is 0
+pub record View : Type 0 where
+  pub kind : ℤ
+  pub core : ℤ
+  pub time : ℤ
+  pub part : ℤ
+  pub proc : ℤ
+  pub service : ℤ
+  pub prio : ℤ
+  pub out : ℤ
+  pub val : ℤ
+  pub elapsed : ℤ
+  pub woken : ℤ
+
+-- a field that the record hasn't
+abbrev pub absent : ℤ
+absent = negsuc 0
+
+-- the number of a return code   (RETURN_CODE_TYPE, section 3)
+abbrev pub code_number : Code → ℕ
+code_number code.NoError = 0
+code_number code.NoAction = 1
+code_number code.NotAvailable = 2
+code_number code.InvalidParam = 3
+code_number code.InvalidConfig = 4
+code_number code.InvalidMode = 5
+code_number code.TimedOut = 6
+
+-- the number of an outcome: its code, 7 for a call that waits, 8 for one that does not return
+abbrev pub out_number : Out → ℕ
+out_number (out.Answer code) = code_number code
+out_number out.Waits = 7
+out_number out.Never = 8
+
+-- the number of a service
+abbrev pub service_number : Service → ℕ
+service_number service.CreateProcess = 1
+service_number service.InitializeProcessCoreAffinity = 2
+service_number service.Start = 3
+service_number service.Stop = 4
+service_number service.StopSelf = 5
+service_number service.Suspend = 6
+service_number service.SuspendSelf = 7
+service_number service.Resume = 8
+service_number service.SetPriority = 9
+service_number service.GetMyId = 10
+service_number service.TimedWait = 11
+service_number service.PeriodicWait = 12
+service_number service.GetTime = 13
+service_number service.SetPartitionMode = 14
+service_number service.CreateBuffer = 15
+service_number service.SendBuffer = 16
+service_number service.ReceiveBuffer = 17
+service_number service.CreateBlackboard = 18
+service_number service.DisplayBlackboard = 19
+service_number service.ReadBlackboard = 20
+service_number service.ClearBlackboard = 21
+service_number service.CreateSemaphore = 22
+service_number service.WaitSemaphore = 23
+service_number service.SignalSemaphore = 24
+service_number service.CreateEvent = 25
+service_number service.SetEvent = 26
+service_number service.ResetEvent = 27
+service_number service.WaitEvent = 28
+service_number service.CreateMutex = 29
+service_number service.AcquireMutex = 30
+service_number service.ReleaseMutex = 31
+service_number service.CreateSamplingPort = 32
+service_number service.WriteSamplingMessage = 33
+service_number service.ReadSamplingMessage = 34
+service_number service.CreateQueuingPort = 35
+service_number service.SendQueuingMessage = 36
+service_number service.ReceiveQueuingMessage = 37
+
+-- a value that a record claims
+abbrev pub value_number : Option ℤ → ℤ
+value_number None = absent
+value_number (Some value) = value
+
+-- the current priority of a process, as a field
+abbrev pub priority_field : Option Process → ℤ
+priority_field None = absent
+priority_field (Some process) = pos process.current_priority
+
+-- the time since a process's last call, as a field
+abbrev pub elapsed_field : ℕ → Option Process → ℤ
+elapsed_field now None = absent
+elapsed_field now (Some process) = pos (now - process.called_at)
+
+-- the view of a call, at this time of its core
+abbrev pub call_view : ℕ → ℕ → CallRecord → View
+call_view core now call = record {
+  kind = pos 0;
+  core = pos core;
+  time = pos now;
+  part = pos call.who.part;
+  proc = pos call.who.proc;
+  service = pos (service_number (service_of call.request));
+  prio = pos call.claim.prio;
+  out = pos (out_number call.claim.out);
+  val = value_number call.claim.val;
+  elapsed = absent;
+  woken = pos (length call.claim.woken);
+}
+
+-- the view of a return, at this time of its core: with the returner's current priority, and the time since its call
+abbrev pub return_view : ℕ → ℕ → Option Process → Return → View
+return_view core now returner ret = record {
+  kind = pos 1;
+  core = pos core;
+  time = pos now;
+  part = pos ret.who.part;
+  proc = pos ret.who.proc;
+  service = pos (service_number ret.service);
+  prio = priority_field returner;
+  out = pos (code_number ret.code);
+  val = value_number ret.val;
+  elapsed = elapsed_field now returner;
+  woken = pos 0;
+}
+
+-- a number of a process that a dispatch names, if it names one
+abbrev pub who_field : (Who → ℕ) → Option Who → ℤ
+who_field number None = absent
+who_field number (Some who) = pos (number who)
+
+-- the view of a dispatch or a tick, at the core's time after it
+abbrev pub core_view : ℕ → ℕ → ℕ → Option Who → ℕ → View
+core_view kind core time who woken = record {
+  kind = pos kind;
+  core = pos core;
+  time = pos time;
+  part = who_field (λ one. one.part) who;
+  proc = who_field (λ one. one.proc) who;
+  service = absent;
+  prio = absent;
+  out = absent;
+  val = absent;
+  elapsed = absent;
+  woken = pos woken;
+}
+
+-- the view of a record in a run of the machine: from the state before it
+abbrev pub view_by : State → ℕ → Body → View
+view_by state core (Call call) = call_view core (time_of state.cores core) call
+view_by state core (Ret ret) =
+    return_view core (time_of state.cores core) (process_at (state.partitions ret.who.part).table ret.who.proc) ret
+view_by state core (Disp who) = core_view 2 core (time_of state.cores core) who 0
+view_by state core (Tick woken) = core_view 3 core (time_of state.cores core + 1) None (length woken)
+
+-- the view of an ordered record in a run of the machine
+abbrev pub view_of : State → Ordered → View
+view_of state ordered = view_by state ordered.core ordered.rec.body
+
+-- the view that a partition gives: of its own calls and returns
+abbrev pub partition_view : ℕ → List CoreState → Table → ℕ → Body → Option View
+partition_view number cores table core (Call call) =
+    if nat_eq call.who.part number then Some (call_view core (time_of cores core) call) else None
+partition_view number cores table core (Ret ret) =
+    if nat_eq ret.who.part number then Some (return_view core (time_of cores core) (process_at table ret.who.proc) ret) else None
+partition_view number cores table core _ = None
+
+-- the view that the module gives: of dispatches and ticks
+abbrev pub module_view : List CoreState → ℕ → Body → Option View
+module_view cores core (Disp who) = Some (core_view 2 core (time_of cores core) who 0)
+module_view cores core (Tick woken) = Some (core_view 3 core (time_of cores core + 1) None (length woken))
+module_view cores core _ = None
+
+-- the view that the holder of a part gives of a record, from the part before it
+abbrev pub view_in : Part → Ordered → Option View
+view_in (ModulePart cores) ordered = module_view cores ordered.core ordered.rec.body
+view_in (PartitionPart number cores partition) ordered = partition_view number cores partition.table ordered.core ordered.rec.body
+view_in (ChannelPart number times channel) ordered = None
+
+-- the piece that judges a record, and gives its view
+abbrev pub judge_by : Body → Piece
+judge_by (Call call) = OfPartition call.who.part
+judge_by (Ret ret) = OfPartition ret.who.part
+judge_by (Disp who) = Module
+judge_by (Tick woken) = Module
+
+-- the piece that judges an ordered record
+abbrev pub judge : Ordered → Piece
+judge ordered = judge_by ordered.rec.body

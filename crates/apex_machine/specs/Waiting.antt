@@ -1,0 +1,169 @@
+-- Waiting sets: who goes on first, who enters and who leaves. One rule serves all of them.
+use Rattle.std.specs.Prelude.{◌≡◌, ◌⊎◌, ◌<◌, ℕ, List, [], ◌∷◌, ◌++◌, Option, Some, None, Bool, true, false, ℤ, pos, negsuc, nat_eq, nat_lt, ◌&&◌, ◌||◌, if◌then◌else◌, Contains}
+use Rattle.apex_types.specs.declared.code.Code.TheVariants as code
+use Rattle.apex_types.specs.declared.discipline.Discipline.{Discipline}
+use Rattle.apex_types.specs.declared.discipline.Discipline.TheVariants as discipline
+use Rattle.apex_types.specs.declared.record.Body.{Body}
+use Rattle.apex_types.specs.declared.record.Body.TheVariants.{Call, Ret, Disp, Tick}
+use Rattle.apex_types.specs.declared.record.Call.{Call as CallRecord}
+use Rattle.apex_types.specs.declared.record.Out.{Out}
+use Rattle.apex_types.specs.declared.record.Out.TheVariants as out
+use Rattle.apex_types.specs.declared.record.Who.{Who}
+use Rattle.apex_types.specs.declared.request.Request.{Request}
+use Rattle.apex_types.specs.declared.request.Request.TheVariants as request
+use Rattle.apex_types.specs.declared.service.Service.{Service}
+use Rattle.apex_types.specs.declared.service.Service.TheVariants as service
+use Rattle.apex_machine.specs.declared.state.Process.{Process}
+use Rattle.apex_machine.specs.declared.state.Wait.{Wait}
+use Rattle.apex_machine.specs.declared.state.Wait.TheVariants as wait
+use Rattle.apex_machine.specs.declared.state.WaitingSet.{WaitingSet}
+use Rattle.apex_machine.specs.declared.state.WaitingSet.TheVariants as set
+use Rattle.apex_machine.specs.Arguments.{natural_of}
+use Rattle.apex_machine.specs.State.{Entry, is_named}
+
+-- who goes on first
+
+-- the test whether one entry goes on before another
+abbrev pub precedes : Discipline → Entry → Entry → Bool
+precedes discipline.Fifo one other = nat_lt one.place other.place
+precedes discipline.Priority one other =
+    nat_lt other.priority one.priority || (nat_eq one.priority other.priority && nat_lt one.place other.place)
+
+-- the entry that goes on before, of one and what another walk has found
+abbrev pub sooner_entry : Discipline → Entry → Option Entry → Option Entry
+sooner_entry discipline entry None = Some entry
+sooner_entry discipline entry (Some other) = if precedes discipline other entry then Some other else Some entry
+
+-- the entry before which none of a set goes on, found by a walk from its end
+abbrev pub first_waiter : Discipline → List Entry → Option Entry
+first_waiter discipline [] = None
+first_waiter discipline (entry ∷ entries) = sooner_entry discipline entry (first_waiter discipline entries)
+
+-- one entry precedes another in a waiting set: by place where the set is first in, first out; by priority, and among equals
+-- by place, where it goes by priority   (QUEUING_DISCIPLINE, section 3)
+abbrev pub Precedes : Discipline → Entry → Entry → Type 0
+Precedes discipline.Fifo one other = one.place < other.place
+Precedes discipline.Priority one other =
+    (other.priority < one.priority) ⊎ ((one.priority ≡ other.priority) × (one.place < other.place))
+
+-- the first of a waiting set: it stands in the set, and no other precedes it
+pub record IsFirst (discipline : Discipline) (entries : List Entry) (entry : Entry) : Type 0 where
+  pub stands : Contains entries entry
+  pub first : (other : Entry) → Contains entries other → ¬ Precedes discipline other entry
+
+-- where a call waits
+
+-- the waiting set at which the caller of a request waits, where it does; a port's is that of its channel
+abbrev pub set_of : Request → Option ℕ → Option WaitingSet
+set_of (request.SendBuffer buffer length time_out message) chan = Some (set.BufferSenders (natural_of buffer))
+set_of (request.ReceiveBuffer buffer time_out) chan = Some (set.BufferReceivers (natural_of buffer))
+set_of (request.ReadBlackboard blackboard time_out) chan = Some (set.BlackboardReaders (natural_of blackboard))
+set_of (request.WaitSemaphore semaphore time_out) chan = Some (set.SemaphoreWaiters (natural_of semaphore))
+set_of (request.WaitEvent event time_out) chan = Some (set.EventWaiters (natural_of event))
+set_of (request.AcquireMutex mutex time_out) chan = Some (set.MutexWaiters (natural_of mutex))
+set_of (request.SendQueuingMessage port length time_out message) (Some channel) = Some (set.ChannelSenders channel)
+set_of (request.ReceiveQueuingMessage port time_out) (Some channel) = Some (set.ChannelReceivers channel)
+set_of _ chan = None
+
+-- the service of those who wait in a set
+abbrev pub service_at : WaitingSet → Service
+service_at (set.BufferSenders number) = service.SendBuffer
+service_at (set.BufferReceivers number) = service.ReceiveBuffer
+service_at (set.BlackboardReaders number) = service.ReadBlackboard
+service_at (set.SemaphoreWaiters number) = service.WaitSemaphore
+service_at (set.EventWaiters number) = service.WaitEvent
+service_at (set.MutexWaiters number) = service.AcquireMutex
+service_at (set.ChannelSenders channel) = service.SendQueuingMessage
+service_at (set.ChannelReceivers channel) = service.ReceiveQueuingMessage
+
+-- whether these are one waiting set
+abbrev pub is_same_set : WaitingSet → WaitingSet → Bool
+is_same_set (set.BufferSenders one) (set.BufferSenders other) = nat_eq one other
+is_same_set (set.BufferReceivers one) (set.BufferReceivers other) = nat_eq one other
+is_same_set (set.BlackboardReaders one) (set.BlackboardReaders other) = nat_eq one other
+is_same_set (set.SemaphoreWaiters one) (set.SemaphoreWaiters other) = nat_eq one other
+is_same_set (set.EventWaiters one) (set.EventWaiters other) = nat_eq one other
+is_same_set (set.MutexWaiters one) (set.MutexWaiters other) = nat_eq one other
+is_same_set (set.ChannelSenders one) (set.ChannelSenders other) = nat_eq one other
+is_same_set (set.ChannelReceivers one) (set.ChannelReceivers other) = nat_eq one other
+is_same_set _ _ = false
+
+-- whether it is this one, if any
+abbrev pub is_the_set : WaitingSet → Option WaitingSet → Bool
+is_the_set wanted None = false
+is_the_set wanted (Some found) = is_same_set found wanted
+
+-- whether a wait is one in this set
+abbrev pub is_in : WaitingSet → Wait → Bool
+is_in wanted (wait.At found due) = is_same_set found wanted
+is_in wanted _ = false
+
+-- whether a process stands that waits in this set; who waits is alive
+abbrev pub waits_at : WaitingSet → Option Process → Bool
+waits_at wanted None = false
+waits_at wanted (Some process) = process.alive && is_in wanted process.wait
+
+-- who enters
+
+-- whether a call waits
+abbrev pub is_waiting : Out → Bool
+is_waiting out.Waits = true
+is_waiting out.Never = false
+is_waiting (out.Answer code) = false
+
+-- whether a call answers NO_ERROR
+abbrev pub is_no_error : Out → Bool
+is_no_error (out.Answer code.NoError) = true
+is_no_error _ = false
+
+-- the message that a caller gives
+abbrev pub message_of : Request → List ℕ
+message_of (request.SendBuffer buffer length time_out message) = message
+message_of (request.DisplayBlackboard blackboard length message) = message
+message_of (request.WriteSamplingMessage port length message) = message
+message_of (request.SendQueuingMessage port length time_out message) = message
+message_of _ = []
+
+-- the entry of a caller: with its priority at the call, and at the place of the call
+abbrev pub entry_of : ℕ → CallRecord → Entry
+entry_of place call = record { who = call.who; priority = call.claim.prio; place = place; message = message_of call.request }
+
+-- whether a call enters a waiting set
+abbrev pub enters : CallRecord → WaitingSet → Bool
+enters call wanted = is_waiting call.claim.out && is_the_set wanted (set_of call.request call.claim.chan)
+
+-- who leaves
+
+-- the process that a service stops, beside its caller
+abbrev pub stop_of : Request → Option ℤ
+stop_of (request.Stop process) = Some process
+stop_of _ = None
+
+-- whether this is the process to be stopped, if any is
+abbrev pub is_target : Option ℤ → ℕ → Bool
+is_target None number = false
+is_target (Some (pos target)) number = nat_eq number target
+is_target (Some (negsuc n)) number = false
+
+-- whether a call stops a process: STOP that is done stops its target, which is of the caller's partition
+abbrev pub stops : CallRecord → Who → Bool
+stops call who = is_no_error call.claim.out && (nat_eq who.part call.who.part && is_target (stop_of call.request) who.proc)
+
+-- whether a call ends the wait of a process: it names it, or stops it
+abbrev pub ends_wait : CallRecord → Who → Bool
+ends_wait call who = is_named who call.claim.woken || stops call who
+
+-- the entries of those who don't leave
+abbrev pub without : (Who → Bool) → List Entry → List Entry
+without leaves [] = []
+without leaves (entry ∷ entries) = if leaves entry.who then without leaves entries else entry ∷ without leaves entries
+
+-- a waiting set after a record: whose wait ends leaves it, and a caller that waits there enters it
+abbrev pub set_after : ℕ → Body → WaitingSet → List Entry → List Entry
+set_after place (Disp who) wanted entries = entries
+set_after place (Ret ret) wanted entries = entries
+set_after place (Tick woken) wanted entries = without (λ who. is_named who woken) entries
+set_after place (Call call) wanted entries =
+    if enters call wanted
+    then without (ends_wait call) entries ++ entry_of place call ∷ []
+    else without (ends_wait call) entries

@@ -1,0 +1,11 @@
+-- One more copy.
+use Rattle.std.proofs.Common.{◌≡◌, ◌∙◌, List, ℕ, arith}
+use Rattle.process_state.proofs.Gifts.{AreCopies-push}
+use Rattle.process_state.proofs.gift.gifts_of.Goals as goal
+
+pub loop-copied-preserved : goal.loop-copied-preserved
+loop-copied-preserved c = record {
+  length = omega (arith, c.in_ok-push.ensures.len, c.loop-copied.invariant.length);
+  alike = rw c.in_ok-push.ensures.items
+      (AreCopies-push c.gift_of-gift.result.now c.loop-copied.gifts.items _ c.loop-copied.invariant.alike (c.new.ensures ∙ c.in_ok-bytes.ensures.items));
+}

@@ -1,0 +1,13 @@
+use Rattle.std.proofs.Common.{◌≡◌, ◌≤◌, ◌+◌, length, take, vec_len}
+use Rattle.apex_machine.specs.Processes.{gift_of, woken_by}
+use Rattle.process_state.specs.Changes.{with_each}
+use Rattle.process_state.specs.Gifts.{AreCopies}
+use Rattle.process_state.proofs.Ticks.{each_named}
+use Rattle.process_state.proofs.table.ProcTable.rouse.Given as goal
+
+abbrev pub invariant-loop-index : goal.invariant-loop-index
+invariant-loop-index l = record {
+  named : l.self ≡ with_each (each_named l.part (take l.index l.woken) (woken_by l.place (gift_of l.call.request))) l.fn.self;
+  alike : AreCopies (gift_of l.call.request) l.gifts.items;
+  enough : length l.woken ≤ vec_len l.gifts + l.index;
+}

@@ -1,0 +1,151 @@
+// What a process waits for: when that is over, and what is due then.
+
+ghost use Rattle.std.specs.Prelude.{◌≡◌, ◌<◌, ◌≤◌, ◌↔◌, IsTrue};
+ghost use Rattle.apex_machine.specs.Choice as choice;
+ghost use Rattle.apex_machine.specs.Processes as processes;
+ghost use Rattle.apex_machine.specs.Step as step;
+ghost use Rattle.apex_machine.specs.Waiting as waiting;
+
+use apex_machine::{Wait, WaitingSet};
+use apex_types::{Code, Service};
+
+/// Whether a wait is none.
+pub fn is_none(wait: Wait) -> bool
+    ensures { result ≡ choice.waits_for_nothing wait }
+{
+    match wait {
+        Wait::Nothing => true,
+        Wait::NormalMode
+        | Wait::FirstRelease(_)
+        | Wait::Until(_)
+        | Wait::PeriodicRelease(_)
+        | Wait::Suspended(_)
+        | Wait::At(..) => false,
+    }
+}
+
+/// Whether a wait is that for NORMAL.
+pub fn is_for_normal(wait: Wait) -> bool
+    ensures { result ≡ processes.waits_for_normal wait }
+{
+    match wait {
+        Wait::NormalMode => true,
+        Wait::Nothing
+        | Wait::FirstRelease(_)
+        | Wait::Until(_)
+        | Wait::PeriodicRelease(_)
+        | Wait::Suspended(_)
+        | Wait::At(..) => false,
+    }
+}
+
+/// Whether a wait is over once its core comes to this time, in ticks.
+pub fn is_due(wait: Wait, time: u64) -> bool
+    ensures { result ≡ step.due_by time wait }
+{
+    match wait {
+        Wait::FirstRelease(due) | Wait::Until(due) | Wait::PeriodicRelease(due) => due <= time,
+        Wait::Suspended(Some(due)) | Wait::At(_, Some(due)) => due <= time,
+        Wait::Nothing | Wait::NormalMode | Wait::Suspended(None) | Wait::At(_, None) => false,
+    }
+}
+
+/// The service whose call began a wait, if one did.
+pub fn service_of(wait: Wait) -> Option<Service>
+    ensures { result ≡ processes.service_of_wait wait }
+{
+    match wait {
+        Wait::Until(_) => Some(Service::TimedWait),
+        Wait::PeriodicRelease(_) => Some(Service::PeriodicWait),
+        Wait::Suspended(_) => Some(Service::SuspendSelf),
+        Wait::At(set, _) => Some(service_at(set)),
+        Wait::Nothing | Wait::NormalMode | Wait::FirstRelease(_) => None,
+    }
+}
+
+// The service of those who wait in a set.
+fn service_at(set: WaitingSet) -> Service
+    ensures { result ≡ waiting.service_at set }
+{
+    match set {
+        WaitingSet::BufferSenders(_) => Service::SendBuffer,
+        WaitingSet::BufferReceivers(_) => Service::ReceiveBuffer,
+        WaitingSet::BlackboardReaders(_) => Service::ReadBlackboard,
+        WaitingSet::SemaphoreWaiters(_) => Service::WaitSemaphore,
+        WaitingSet::EventWaiters(_) => Service::WaitEvent,
+        WaitingSet::MutexWaiters(_) => Service::AcquireMutex,
+        WaitingSet::ChannelSenders(_) => Service::SendQueuingMessage,
+        WaitingSet::ChannelReceivers(_) => Service::ReceiveQueuingMessage,
+    }
+}
+
+/// The code with which a wait ends that falls due: TIMED_OUT where something was waited for, NO_ERROR where the time was.
+pub fn code_when_due(wait: Wait) -> Code
+    ensures { result ≡ processes.code_when_due wait }
+{
+    match wait {
+        Wait::Suspended(_) | Wait::At(..) => Code::TimedOut,
+        Wait::Nothing
+        | Wait::NormalMode
+        | Wait::FirstRelease(_)
+        | Wait::Until(_)
+        | Wait::PeriodicRelease(_) => Code::NoError,
+    }
+}
+
+/// The last release, once this wait has ended: that for which the process waited, or this one, both in ticks.
+pub fn release_reached(wait: Wait, last: u64) -> u64
+    ensures { result ≡ processes.release_reached wait last }
+{
+    match wait {
+        Wait::FirstRelease(time) | Wait::PeriodicRelease(time) => time,
+        Wait::Nothing | Wait::NormalMode | Wait::Until(_) | Wait::Suspended(_) | Wait::At(..) =>
+            last,
+    }
+}
+
+/// What a started process waits for in NORMAL at its core's time `now`: an aperiodic one for nothing, a periodic one for
+/// its first release, a multiple of the partition's period. Periods are in ticks.
+pub fn on_entry(partition_period: u64, now: u64, period: Option<u64>) -> Wait
+    requires least { 1 ≤ partition_period }
+    requires most { partition_period ≤ 4294967295 }
+    requires time { now < 68719476720 }
+    ensures { result ≡ processes.entry_wait partition_period now period }
+{
+    match period {
+        Some(_) => Wait::FirstRelease(first_release(partition_period, now)),
+        None => Wait::Nothing,
+    }
+}
+
+// The least multiple of the partition's period above this time, in ticks.
+#[tactic(auto, using(crate::proofs::Releases::next_multiple))]
+fn first_release(partition_period: u64, now: u64) -> u64
+    requires least { 1 ≤ partition_period }
+    requires most { partition_period ≤ 4294967295 }
+    requires time { now < 68719476720 }
+    ensures { result ≡ processes.first_release partition_period now }
+{
+    now - now % partition_period + partition_period
+}
+
+/// Whether a process that has this wait stands in this waiting set.
+pub fn is_in(wait: Wait, wanted: WaitingSet) -> bool
+    ensures { result ≡ waiting.is_in wanted wait }
+{
+    match wait {
+        Wait::At(found, _) => is_same_set(found, wanted),
+        Wait::Nothing
+        | Wait::NormalMode
+        | Wait::FirstRelease(_)
+        | Wait::Until(_)
+        | Wait::PeriodicRelease(_)
+        | Wait::Suspended(_) => false,
+    }
+}
+
+fn is_same_set(one: WaitingSet, other: WaitingSet) -> bool
+    ensures { result ≡ waiting.is_same_set one other }
+{
+    one == other
+}
