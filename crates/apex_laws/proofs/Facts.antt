@@ -1,5 +1,6 @@
 -- The worked facts, computed.
 use Rattle.std.proofs.Common.{refl}
+use Rattle.apex_laws.specs.ConditionFacts.{ConditionFacts}
 use Rattle.apex_laws.specs.WorkedFacts.{LawfulFacts, WorkedFacts}
 
 pub worked_facts : WorkedFacts
@@ -101,4 +102,104 @@ lawful_facts = record {
       outcome = record { chan = refl; kind = refl; out = refl; val = refl; bytes = refl; woken = λ who. refl };
     };
   };
+}
+
+pub condition_facts : ConditionFacts
+condition_facts = record {
+  may_create = refl;
+  name_taken = refl;
+  no_priority = refl;
+  no_period = refl;
+  no_multiple = refl;
+  no_creation_in_normal = refl;
+  no_more_processes = refl;
+  may_move = refl;
+  not_its_core = refl;
+  no_move_in_normal = refl;
+  may_start = refl;
+  not_dormant = refl;
+  not_created = refl;
+  nobodys_start = refl;
+  may_stop = refl;
+  stops_none = refl;
+  stops_itself = refl;
+  may_suspend = refl;
+  no_periodic_one = refl;
+  no_dormant_one = refl;
+  suspended_already = refl;
+  may_resume = refl;
+  not_suspended = refl;
+  resumes_dormant = refl;
+  may_sleep = refl;
+  periodic_stays = refl;
+  owner_stays = refl;
+  no_time_out = refl;
+  may_set = refl;
+  sets_dormant = refl;
+  sets_no_priority = refl;
+  has_no_id = refl;
+  has_an_id = refl;
+  no_delay = refl;
+  initialiser_goes_on = refl;
+  owner_goes_on = refl;
+  no_period_to_wait = refl;
+  waits_for_its_period = refl;
+  may_be_normal = refl;
+  is_normal_already = refl;
+  no_mode = refl;
+  may_create_buffer = refl;
+  buffer_of_nothing = refl;
+  no_discipline = refl;
+  may_send = refl;
+  too_long = refl;
+  no_buffer = refl;
+  owner_may_not_wait = refl;
+  owner_may_look = refl;
+  no_more_blackboards = refl;
+  too_long_to_display = refl;
+  initialiser_may_not_read = refl;
+  above_maximum = refl;
+  waits_wrongly = refl;
+  no_semaphore = refl;
+  no_event = refl;
+  owner_awaits_no_event = refl;
+  may_acquire = refl;
+  may_acquire_again = refl;
+  too_high = refl;
+  initialiser_owns_none = refl;
+  may_release = refl;
+  not_the_owner = refl;
+  sampling_as_configured = refl;
+  other_refresh = refl;
+  any_refresh_at_source = refl;
+  other_direction = refl;
+  no_port_of_that_name = refl;
+  queuing_as_configured = refl;
+  other_discipline = refl;
+  other_capacity = refl;
+  may_write = refl;
+  writes_no_destination = refl;
+  writes_too_long = refl;
+  reads_no_source = refl;
+  may_read = refl;
+  sends_to_no_destination = refl;
+  receives_from_no_source = refl;
+  no_port = refl;
+  senders_by_source = refl;
+  receivers_by_destination = refl;
+  not_yet_due = refl;
+  due_then = refl;
+  may_be_suspended = refl;
+  owner_is_not_suspended = refl;
+  owner_keeps_its_priority = refl;
+  who_wants_it_too = refl;
+  owner_is_not_stopped = refl;
+  who_wants_it_may_be_stopped = refl;
+  initialiser_stays = refl;
+  may_stop_itself = refl;
+  no_restart = refl;
+  normal_mode = refl;
+  periodic_not_built = refl;
+  aperiodic_built = refl;
+  periodic_judged = refl;
 }

@@ -1,5 +1,5 @@
 -- The entries of every waiting set stay in order.
-use Rattle.std.proofs.Common.{◌≡◌, ℕ, suc, ◌<◌, List, [], ◌∷◌, ◌++◌, Bool, true, false, cond, nat_eq, IsTrue, refl, sym, subst, ◌∙◌, inl, inr, arith, true≢false}
+use Rattle.std.proofs.Common.{◌≡◌, ℕ, suc, ◌<◌, List, [], ◌∷◌, ◌++◌, Bool, true, false, cond, nat_eq, IsTrue, sym, subst, ◌∙◌, inl, inr, arith, true≢false}
 use Rattle.std.proofs.lemmas.Bool.{cases_Bool}
 use Rattle.apex_types.specs.declared.record.Body.{Body}
 use Rattle.apex_types.specs.declared.record.Body.TheVariants.{Call, Ret, Disp, Tick}
@@ -127,7 +127,7 @@ used_in_order : (count : ℕ) (configuration : Configuration) (call : CallRecord
 used_in_order count configuration call partition wanted both =
     elim (is_done call.claim.out) as (λ done. IsInOrder count (entries_at (cond done (objects_by configuration call.who call.claim.val call.request partition) partition) wanted)
     × (stands_in call.who (entries_at (cond done (objects_by configuration call.who call.claim.val call.request partition) partition) wanted) ≡ false)) [
-      | true ↦ objects_have (λ entries. IsInOrder count entries × (stands_in call.who entries ≡ false)) (none_in_order count, refl) configuration call.who call.claim.val call.request partition wanted both
+      | true ↦ objects_have (λ entries. IsInOrder count entries × (stands_in call.who entries ≡ false)) configuration call.who call.claim.val call.request partition wanted both
       | false ↦ both
     ]
 

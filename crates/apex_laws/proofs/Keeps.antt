@@ -82,11 +82,11 @@ ownership_wait true false priority x = refl
 ownership_wait true true priority x = refl
 ownership_wait false false priority x = refl
 
-mutex_alive : (found : Option Mutex) (change : Mutex → Mutex) (number : ℕ) (x : Process) → (by_mutex found change number x).alive ≡ x.alive
+pub mutex_alive : (found : Option Mutex) (change : Mutex → Mutex) (number : ℕ) (x : Process) → (by_mutex found change number x).alive ≡ x.alive
 mutex_alive None change number x = refl
 mutex_alive (Some mutex) change number x = ownership_alive (is_owner mutex.owner number) (is_owner (change mutex).owner number) mutex.priority x
 
-mutex_wait : (found : Option Mutex) (change : Mutex → Mutex) (number : ℕ) (x : Process) → (by_mutex found change number x).wait ≡ x.wait
+pub mutex_wait : (found : Option Mutex) (change : Mutex → Mutex) (number : ℕ) (x : Process) → (by_mutex found change number x).wait ≡ x.wait
 mutex_wait None change number x = refl
 mutex_wait (Some mutex) change number x = ownership_wait (is_owner mutex.owner number) (is_owner (change mutex).owner number) mutex.priority x
 

@@ -39,4 +39,6 @@ pub mod Kept
 pub mod Records
 pub mod RefusedCalls
 pub mod WholeCalls
+pub mod Standing
 pub mod ObjectCalls
+pub mod Exact

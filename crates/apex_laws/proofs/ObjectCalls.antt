@@ -10,7 +10,7 @@ use Rattle.apex_machine.specs.After.{new_blackboard, new_buffer, new_event, new_
 use Rattle.apex_machine.specs.Answer.{Answer, Effect, NewNumber, done, done_with}
 use Rattle.apex_machine.specs.Arguments.{is_length, is_longer, natural_of}
 use Rattle.apex_machine.specs.Channels.{QueuingPort, SamplingPort, queuing_port, sampling_port}
-use Rattle.apex_machine.specs.Conditions.{codes_for, creation_codes, is_queuing_port, is_sampling_port, is_taken, message_codes, of_caller, owns_another, time_out_codes, waiting_codes, when}
+use Rattle.apex_machine.specs.Conditions.{acquire_codes, codes_for, creation_codes, is_queuing_port, is_sampling_port, is_taken, message_codes, of_caller, owns_another, time_out_codes, waiting_codes, when}
 use Rattle.apex_machine.specs.Objects.{acquired, board_read, buffer_received, buffer_sent, cleared, displayed, event_reset, event_set, event_waited, is_owner, mutex_released, semaphore_waited, signalled}
 use Rattle.apex_machine.specs.ServiceConditions.{object_codes}
 use Rattle.apex_machine.specs.Services.{answer_by}
@@ -112,7 +112,7 @@ creates {Object} objects claimed new = record {
 
 -- the object is there, where no condition holds
 
-object_there : {Object : Type 0} (who : Who) (partition : Partition) (found : Option Object) (time_out : ℤ) → object_codes who partition found time_out ≡ [] → (object : Object) × (found ≡ Some object)
+pub object_there : {Object : Type 0} (who : Who) (partition : Partition) (found : Option Object) (time_out : ℤ) → object_codes who partition found time_out ≡ [] → (object : Object) × (found ≡ Some object)
 object_there who partition found time_out none =
     let first = first_empty (codes_for found (λ object. [])) (time_out_codes time_out)
     (first_empty (codes_for found (λ object. []) ++ time_out_codes time_out) (waiting_codes who partition time_out) none) in
@@ -123,7 +123,7 @@ mapped_there : {Object : Type 0} (size_of : Object → ℕ) (found : Option Obje
 mapped_there size_of None size is = cc
 mapped_there size_of (Some object) size is = (object, refl)
 
-message_there : {Object : Type 0} (size_of : Object → ℕ) (found : Option Object) (length : ℤ) → message_codes (option_map size_of found) length ≡ [] → (object : Object) × (found ≡ Some object)
+pub message_there : {Object : Type 0} (size_of : Object → ℕ) (found : Option Object) (length : ℤ) → message_codes (option_map size_of found) length ≡ [] → (object : Object) × (found ≡ Some object)
 message_there size_of found length none =
     let is = is_created (option_map size_of found) (λ greatest. when (is_longer greatest length) code.InvalidParam)
     (first_empty (codes_for (option_map size_of found) (λ greatest. when (is_longer greatest length) code.InvalidParam)) (when (not (is_length length)) code.InvalidParam) none) in
@@ -131,6 +131,17 @@ message_there size_of found length none =
 
 lone_there : {Object : Type 0} (found : Option Object) → codes_for found (λ object. []) ≡ [] → (object : Object) × (found ≡ Some object)
 lone_there found none = let is = is_created found (λ object. []) none in (is.0, is.1)
+
+-- the mutex that is to be acquired is there, where no condition holds
+pub mutex_there : (who : Who) (partition : Partition) (mutex time_out : ℤ) → acquire_codes who partition mutex time_out ≡ [] → (found : Mutex) × (given_object partition.mutexes mutex ≡ Some found)
+mutex_there who partition mutex time_out none =
+    let codes : Mutex → List Code = λ found. when (of_caller (λ process. nat_lt found.priority process.current_priority) (process_at partition.table who.proc)) code.InvalidMode in
+    let found_codes = codes_for (given_object partition.mutexes mutex) codes in
+    let second = found_codes ++ time_out_codes time_out in
+    let third = second ++ when (nat_eq who.proc 0) code.InvalidMode in
+    let is = is_created (given_object partition.mutexes mutex) codes
+    (first_empty found_codes (time_out_codes time_out) (first_empty second (when (nat_eq who.proc 0) code.InvalidMode) (first_empty third (when (owns_another partition.mutexes mutex who.proc) code.InvalidMode) none))) in
+    (is.0, is.1)
 
 -- the sets of an object that is there are apart
 given_entries : {Object : Type 0} (entries_of : Object → List Entry) (objects : List (ℕ × Object)) (given : ℤ) (found : Object) → given_object objects given ≡ Some found
@@ -226,12 +237,7 @@ object_call_is_the_sentence configuration now who claimed (request.WaitEvent eve
 object_call_is_the_sentence configuration now who claimed (request.CreateMutex name priority discipline) partition apart none =
     (refl, creates partition.mutexes claimed (new_mutex name priority discipline))
 object_call_is_the_sentence configuration now who claimed (request.AcquireMutex mutex time_out) partition apart none =
-    let codes : Mutex → List Code = λ found. when (of_caller (λ process. nat_lt found.priority process.current_priority) (process_at partition.table who.proc)) code.InvalidMode in
-    let found_codes = codes_for (given_object partition.mutexes mutex) codes in
-    let second = found_codes ++ time_out_codes time_out in
-    let third = second ++ when (nat_eq who.proc 0) code.InvalidMode in
-    let there = is_created (given_object partition.mutexes mutex) codes
-    (first_empty found_codes (time_out_codes time_out) (first_empty second (when (nat_eq who.proc 0) code.InvalidMode) (first_empty third (when (owns_another partition.mutexes mutex who.proc) code.InvalidMode) none))) in
+    let there = mutex_there who partition mutex time_out none in
     let found : Mutex = there.0 in (
       refl,
       operates partition.mutexes mutex found there.1 _ (λ one changed. changed) (acquired who.proc time_out)

@@ -1,5 +1,5 @@
 -- The waiting sets of a partition's objects, when its objects change.
-use Rattle.std.proofs.Common.{◌≡◌, ℕ, List, [], ◌∷◌, ◌++◌, true, false, cond, nat_eq, nat_lt, ℤ, pos, negsuc, Option, Some, None, option_map, refl, sym, ap, subst, inl, inr}
+use Rattle.std.proofs.Common.{◌≡◌, ℕ, List, [], ◌∷◌, ◌++◌, Bool, true, false, cond, nat_eq, nat_lt, ℤ, pos, negsuc, Option, Some, None, is_some, option_map, refl, sym, ap, subst, inl, inr}
 use Rattle.std.proofs.lemmas.Bool.{cases_Bool, eqb-true}
 use Rattle.apex_types.specs.declared.record.Who.{Who}
 use Rattle.apex_types.specs.declared.request.Request.{Request}
@@ -25,71 +25,94 @@ object_at_each {Object} change (entry ∷ entries) number =
     ]
 
 -- a change of each object that changes its entries in one way
-changed_entries : {Object : Type 0} (Holds : List Entry → Type 0) (nobody : Holds []) (entries_of : Object → List Entry) (change : ℕ → Object → Object) (through : List Entry → List Entry) (number : ℕ)
-    → ((object : Object) → entries_of (change number object) ≡ through (entries_of object)) → (found : Option Object)
+changed_entries : {Object : Type 0} (Holds : List Entry → Type 0) (entries_of : Object → List Entry) (change : ℕ → Object → Object) (through : List Entry → List Entry) (number : ℕ)
+    → ((object : Object) → entries_of (change number object) ≡ through (entries_of object)) → (found : Option Object) → (is_some found ≡ false → Holds [])
     → Holds (through (entries_in entries_of found)) → Holds (entries_in entries_of (option_map (change number) found))
-changed_entries Holds nobody entries_of change through number is None all = nobody
-changed_entries Holds nobody entries_of change through number is (Some object) all = subst Holds (sym (is object)) all
+changed_entries Holds entries_of change through number is None absent all = absent refl
+changed_entries Holds entries_of change through number is (Some object) absent all = subst Holds (sym (is object)) all
 
-entries_of_each : {Object : Type 0} (Holds : List Entry → Type 0) (nobody : Holds []) (entries_of : Object → List Entry) (change : ℕ → Object → Object) (through : List Entry → List Entry) (number : ℕ)
-    → ((object : Object) → entries_of (change number object) ≡ through (entries_of object)) → (objects : List (ℕ × Object))
+entries_of_each : {Object : Type 0} (Holds : List Entry → Type 0) (entries_of : Object → List Entry) (change : ℕ → Object → Object) (through : List Entry → List Entry) (number : ℕ)
+    → ((object : Object) → entries_of (change number object) ≡ through (entries_of object)) → (objects : List (ℕ × Object)) → (is_some (object_at objects number) ≡ false → Holds [])
     → Holds (through (entries_in entries_of (object_at objects number))) → Holds (entries_in entries_of (object_at (each_object change objects) number))
-entries_of_each Holds nobody entries_of change through number is objects all =
+entries_of_each Holds entries_of change through number is objects absent all =
     subst (λ found. Holds (entries_in entries_of found)) (sym (object_at_each change objects number))
-    (changed_entries Holds nobody entries_of change through number is (object_at objects number) all)
+    (changed_entries Holds entries_of change through number is (object_at objects number) absent all)
+
+-- whether the object of a waiting set of a partition is created; a channel's set is no partition's
+abbrev pub stands_at : Partition → WaitingSet → Bool
+stands_at partition (set.BufferSenders number) = is_some (object_at partition.buffers number)
+stands_at partition (set.BufferReceivers number) = is_some (object_at partition.buffers number)
+stands_at partition (set.BlackboardReaders number) = is_some (object_at partition.blackboards number)
+stands_at partition (set.SemaphoreWaiters number) = is_some (object_at partition.semaphores number)
+stands_at partition (set.EventWaiters number) = is_some (object_at partition.events number)
+stands_at partition (set.MutexWaiters number) = is_some (object_at partition.mutexes number)
+stands_at partition (set.ChannelSenders channel) = false
+stands_at partition (set.ChannelReceivers channel) = false
 
 -- the entries of a set, where each set of the partition is changed
+pub each_set_holds : (Holds : List Entry → Type 0) (change : WaitingSet → List Entry → List Entry) (partition : Partition) (wanted : WaitingSet) → (stands_at partition wanted ≡ false → Holds [])
+    → Holds (change wanted (entries_at partition wanted)) → Holds (entries_at (each_set change partition) wanted)
+each_set_holds Holds change partition (set.BufferSenders number) absent all =
+    entries_of_each Holds (λ (one : Buffer). one.senders) (λ other found. record found {
+      senders = change (set.BufferSenders other) found.senders;
+      receivers = change (set.BufferReceivers other) found.receivers;
+    }) (change (set.BufferSenders number)) number (λ one. refl) partition.buffers absent all
+each_set_holds Holds change partition (set.BufferReceivers number) absent all =
+    entries_of_each Holds (λ (one : Buffer). one.receivers) (λ other found. record found {
+      senders = change (set.BufferSenders other) found.senders;
+      receivers = change (set.BufferReceivers other) found.receivers;
+    }) (change (set.BufferReceivers number)) number (λ one. refl) partition.buffers absent all
+each_set_holds Holds change partition (set.BlackboardReaders number) absent all =
+    entries_of_each Holds (λ (one : Blackboard). one.readers) (λ other found. record found { readers = change (set.BlackboardReaders other) found.readers })
+    (change (set.BlackboardReaders number)) number (λ one. refl) partition.blackboards absent all
+each_set_holds Holds change partition (set.SemaphoreWaiters number) absent all =
+    entries_of_each Holds (λ (one : Semaphore). one.waiters) (λ other found. record found { waiters = change (set.SemaphoreWaiters other) found.waiters })
+    (change (set.SemaphoreWaiters number)) number (λ one. refl) partition.semaphores absent all
+each_set_holds Holds change partition (set.EventWaiters number) absent all =
+    entries_of_each Holds (λ (one : Event). one.waiters) (λ other found. record found { waiters = change (set.EventWaiters other) found.waiters })
+    (change (set.EventWaiters number)) number (λ one. refl) partition.events absent all
+each_set_holds Holds change partition (set.MutexWaiters number) absent all =
+    entries_of_each Holds (λ (one : Mutex). one.waiters) (λ other found. record found { waiters = change (set.MutexWaiters other) found.waiters })
+    (change (set.MutexWaiters number)) number (λ one. refl) partition.mutexes absent all
+each_set_holds Holds change partition (set.ChannelSenders channel) absent all = absent refl
+each_set_holds Holds change partition (set.ChannelReceivers channel) absent all = absent refl
+
+-- where it holds of the empty set
 pub each_set_has : (Holds : List Entry → Type 0) (nobody : Holds []) (change : WaitingSet → List Entry → List Entry) (partition : Partition) (wanted : WaitingSet)
     → Holds (change wanted (entries_at partition wanted)) → Holds (entries_at (each_set change partition) wanted)
-each_set_has Holds nobody change partition (set.BufferSenders number) all =
-    entries_of_each Holds nobody (λ (one : Buffer). one.senders) (λ other found. record found {
-      senders = change (set.BufferSenders other) found.senders;
-      receivers = change (set.BufferReceivers other) found.receivers;
-    }) (change (set.BufferSenders number)) number (λ one. refl) partition.buffers all
-each_set_has Holds nobody change partition (set.BufferReceivers number) all =
-    entries_of_each Holds nobody (λ (one : Buffer). one.receivers) (λ other found. record found {
-      senders = change (set.BufferSenders other) found.senders;
-      receivers = change (set.BufferReceivers other) found.receivers;
-    }) (change (set.BufferReceivers number)) number (λ one. refl) partition.buffers all
-each_set_has Holds nobody change partition (set.BlackboardReaders number) all =
-    entries_of_each Holds nobody (λ (one : Blackboard). one.readers) (λ other found. record found { readers = change (set.BlackboardReaders other) found.readers })
-    (change (set.BlackboardReaders number)) number (λ one. refl) partition.blackboards all
-each_set_has Holds nobody change partition (set.SemaphoreWaiters number) all =
-    entries_of_each Holds nobody (λ (one : Semaphore). one.waiters) (λ other found. record found { waiters = change (set.SemaphoreWaiters other) found.waiters })
-    (change (set.SemaphoreWaiters number)) number (λ one. refl) partition.semaphores all
-each_set_has Holds nobody change partition (set.EventWaiters number) all =
-    entries_of_each Holds nobody (λ (one : Event). one.waiters) (λ other found. record found { waiters = change (set.EventWaiters other) found.waiters })
-    (change (set.EventWaiters number)) number (λ one. refl) partition.events all
-each_set_has Holds nobody change partition (set.MutexWaiters number) all =
-    entries_of_each Holds nobody (λ (one : Mutex). one.waiters) (λ other found. record found { waiters = change (set.MutexWaiters other) found.waiters })
-    (change (set.MutexWaiters number)) number (λ one. refl) partition.mutexes all
-each_set_has Holds nobody change partition (set.ChannelSenders channel) all = nobody
-each_set_has Holds nobody change partition (set.ChannelReceivers channel) all = nobody
+each_set_has Holds nobody change partition wanted all = each_set_holds Holds change partition wanted (λ absent. nobody) all
 
 -- an object's rule leaves its entries
-one_changed : {Object : Type 0} (Holds : List Entry → Type 0) (nobody : Holds []) (entries_of : Object → List Entry) (at : ℕ) (change : Object → Object) (number : ℕ)
+same_entries : {Object : Type 0} (Holds : List Entry → Type 0) (entries_of : Object → List Entry) (change : Object → Object) → ((object : Object) → entries_of (change object) ≡ entries_of object)
+    → (found : Option Object) → Holds (entries_in entries_of found) → Holds (entries_in entries_of (option_map change found))
+same_entries Holds entries_of change keeps None all = all
+same_entries Holds entries_of change keeps (Some object) all = subst Holds (sym (keeps object)) all
+
+one_changed : {Object : Type 0} (Holds : List Entry → Type 0) (entries_of : Object → List Entry) (at : ℕ) (change : Object → Object) (number : ℕ)
     → ((object : Object) → entries_of (change object) ≡ entries_of object) → (objects : List (ℕ × Object))
     → Holds (entries_in entries_of (object_at objects number)) → Holds (entries_in entries_of (object_at (change_at at change objects) number))
-one_changed {Object} Holds nobody entries_of at change number keeps objects all =
-    entries_of_each Holds nobody entries_of (λ other object. cond (nat_eq other at) (change object) object) (λ entries. entries) number
-    (λ (object : Object). elim (nat_eq number at) as (λ same. entries_of (cond same (change object) object) ≡ entries_of object) [ true ↦ keeps object | false ↦ refl ]) objects all
+one_changed {Object} Holds entries_of at change number keeps objects all =
+    subst (λ found. Holds (entries_in entries_of found)) (sym (object_at_each (λ other (object : Object). cond (nat_eq other at) (change object) object) objects number))
+    (same_entries Holds entries_of (λ (object : Object). cond (nat_eq number at) (change object) object)
+    (λ (object : Object). elim (nat_eq number at) as (λ same. entries_of (cond same (change object) object) ≡ entries_of object) [ true ↦ keeps object | false ↦ refl ])
+    (object_at objects number) all)
 
 -- a created object has no entries
-one_created : {Object : Type 0} (Holds : List Entry → Type 0) (nobody : Holds []) (entries_of : Object → List Entry) (claimed : Option ℤ) (object : Object) (number : ℕ) → entries_of object ≡ []
+one_created : {Object : Type 0} (Holds : List Entry → Type 0) (entries_of : Object → List Entry) (claimed : Option ℤ) (object : Object) (number : ℕ) → entries_of object ≡ []
     → (objects : List (ℕ × Object)) → Holds (entries_in entries_of (object_at objects number))
     → Holds (entries_in entries_of (object_at (objects ++ numbered claimed object) number))
-one_created Holds nobody entries_of None object number none [] all = nobody
-one_created Holds nobody entries_of (Some (negsuc n)) object number none [] all = nobody
-one_created Holds nobody entries_of (Some (pos n)) object number none [] all =
+one_created Holds entries_of None object number none [] all = all
+one_created Holds entries_of (Some (negsuc n)) object number none [] all = all
+one_created Holds entries_of (Some (pos n)) object number none [] all =
     elim (nat_eq number n) as (λ same. Holds (entries_in entries_of (cond same (Some object) None))) [
-      | true ↦ subst Holds (sym none) nobody
-      | false ↦ nobody
+      | true ↦ subst Holds (sym none) all
+      | false ↦ all
     ]
-one_created Holds nobody entries_of claimed object number none (entry ∷ entries) all =
+one_created Holds entries_of claimed object number none (entry ∷ entries) all =
     elim (nat_eq number entry.0) as (λ same. Holds (entries_in entries_of (cond same (Some entry.1) (object_at entries number)))
     → Holds (entries_in entries_of (cond same (Some entry.1) (object_at (entries ++ numbered claimed object) number)))) [
       | true ↦ λ all. all
-      | false ↦ λ all. one_created Holds nobody entries_of claimed object number none entries all
+      | false ↦ λ all. one_created Holds entries_of claimed object number none entries all
     ] all
 
 -- the rules of a mutex leave its waiters
@@ -107,45 +130,45 @@ release_keeps first mutex =
     elim (nat_lt 1 mutex.count) as (λ more. (cond more (released_once mutex) (handed_on first mutex)).next.waiters ≡ mutex.waiters) [ true ↦ refl | false ↦ hand_on_keeps first mutex ]
 
 -- the rules of the objects leave the waiting sets, and what is created has none
-pub objects_have : (Holds : List Entry → Type 0) (nobody : Holds []) (configuration : Configuration) (who : Who) (claimed : Option ℤ) (asked : Request) (partition : Partition) (wanted : WaitingSet)
+pub objects_have : (Holds : List Entry → Type 0) (configuration : Configuration) (who : Who) (claimed : Option ℤ) (asked : Request) (partition : Partition) (wanted : WaitingSet)
     → Holds (entries_at partition wanted) → Holds (entries_at (objects_by configuration who claimed asked partition) wanted)
-objects_have Holds nobody configuration who claimed (request.CreateBuffer name size capacity discipline) partition (set.BufferSenders number) all =
-    one_created Holds nobody (λ (one : Buffer). one.senders) claimed (new_buffer name size capacity discipline) number refl partition.buffers all
-objects_have Holds nobody configuration who claimed (request.CreateBuffer name size capacity discipline) partition (set.BufferReceivers number) all =
-    one_created Holds nobody (λ (one : Buffer). one.receivers) claimed (new_buffer name size capacity discipline) number refl partition.buffers all
-objects_have Holds nobody configuration who claimed (request.SendBuffer buffer length time_out message) partition (set.BufferSenders number) all =
-    one_changed Holds nobody (λ (one : Buffer). one.senders) (natural_of buffer) (λ found. record found { messages = (buffer_sent message time_out found).next }) number (λ one. refl) partition.buffers all
-objects_have Holds nobody configuration who claimed (request.SendBuffer buffer length time_out message) partition (set.BufferReceivers number) all =
-    one_changed Holds nobody (λ (one : Buffer). one.receivers) (natural_of buffer) (λ found. record found { messages = (buffer_sent message time_out found).next }) number (λ one. refl) partition.buffers all
-objects_have Holds nobody configuration who claimed (request.ReceiveBuffer buffer time_out) partition (set.BufferSenders number) all =
-    one_changed Holds nobody (λ (one : Buffer). one.senders) (natural_of buffer) (λ found. record found { messages = (buffer_received time_out found).next }) number (λ one. refl) partition.buffers all
-objects_have Holds nobody configuration who claimed (request.ReceiveBuffer buffer time_out) partition (set.BufferReceivers number) all =
-    one_changed Holds nobody (λ (one : Buffer). one.receivers) (natural_of buffer) (λ found. record found { messages = (buffer_received time_out found).next }) number (λ one. refl) partition.buffers all
-objects_have Holds nobody configuration who claimed (request.CreateBlackboard name size) partition (set.BlackboardReaders number) all =
-    one_created Holds nobody (λ (one : Blackboard). one.readers) claimed (new_blackboard name size) number refl partition.blackboards all
-objects_have Holds nobody configuration who claimed (request.DisplayBlackboard blackboard length message) partition (set.BlackboardReaders number) all =
-    one_changed Holds nobody (λ (one : Blackboard). one.readers) (natural_of blackboard) (λ found. record found { message = (displayed message found.readers).next }) number (λ one. refl) partition.blackboards all
-objects_have Holds nobody configuration who claimed (request.ClearBlackboard blackboard) partition (set.BlackboardReaders number) all =
-    one_changed Holds nobody (λ (one : Blackboard). one.readers) (natural_of blackboard) (λ found. record found { message = cleared.next }) number (λ one. refl) partition.blackboards all
-objects_have Holds nobody configuration who claimed (request.CreateSemaphore name value maximum discipline) partition (set.SemaphoreWaiters number) all =
-    one_created Holds nobody (λ (one : Semaphore). one.waiters) claimed (new_semaphore name value maximum discipline) number refl partition.semaphores all
-objects_have Holds nobody configuration who claimed (request.WaitSemaphore semaphore time_out) partition (set.SemaphoreWaiters number) all =
-    one_changed Holds nobody (λ (one : Semaphore). one.waiters) (natural_of semaphore) (λ found. record found { value = (semaphore_waited time_out found.value).next }) number (λ one. refl) partition.semaphores all
-objects_have Holds nobody configuration who claimed (request.SignalSemaphore semaphore) partition (set.SemaphoreWaiters number) all =
-    one_changed Holds nobody (λ (one : Semaphore). one.waiters) (natural_of semaphore)
+objects_have Holds configuration who claimed (request.CreateBuffer name size capacity discipline) partition (set.BufferSenders number) all =
+    one_created Holds (λ (one : Buffer). one.senders) claimed (new_buffer name size capacity discipline) number refl partition.buffers all
+objects_have Holds configuration who claimed (request.CreateBuffer name size capacity discipline) partition (set.BufferReceivers number) all =
+    one_created Holds (λ (one : Buffer). one.receivers) claimed (new_buffer name size capacity discipline) number refl partition.buffers all
+objects_have Holds configuration who claimed (request.SendBuffer buffer length time_out message) partition (set.BufferSenders number) all =
+    one_changed Holds (λ (one : Buffer). one.senders) (natural_of buffer) (λ found. record found { messages = (buffer_sent message time_out found).next }) number (λ one. refl) partition.buffers all
+objects_have Holds configuration who claimed (request.SendBuffer buffer length time_out message) partition (set.BufferReceivers number) all =
+    one_changed Holds (λ (one : Buffer). one.receivers) (natural_of buffer) (λ found. record found { messages = (buffer_sent message time_out found).next }) number (λ one. refl) partition.buffers all
+objects_have Holds configuration who claimed (request.ReceiveBuffer buffer time_out) partition (set.BufferSenders number) all =
+    one_changed Holds (λ (one : Buffer). one.senders) (natural_of buffer) (λ found. record found { messages = (buffer_received time_out found).next }) number (λ one. refl) partition.buffers all
+objects_have Holds configuration who claimed (request.ReceiveBuffer buffer time_out) partition (set.BufferReceivers number) all =
+    one_changed Holds (λ (one : Buffer). one.receivers) (natural_of buffer) (λ found. record found { messages = (buffer_received time_out found).next }) number (λ one. refl) partition.buffers all
+objects_have Holds configuration who claimed (request.CreateBlackboard name size) partition (set.BlackboardReaders number) all =
+    one_created Holds (λ (one : Blackboard). one.readers) claimed (new_blackboard name size) number refl partition.blackboards all
+objects_have Holds configuration who claimed (request.DisplayBlackboard blackboard length message) partition (set.BlackboardReaders number) all =
+    one_changed Holds (λ (one : Blackboard). one.readers) (natural_of blackboard) (λ found. record found { message = (displayed message found.readers).next }) number (λ one. refl) partition.blackboards all
+objects_have Holds configuration who claimed (request.ClearBlackboard blackboard) partition (set.BlackboardReaders number) all =
+    one_changed Holds (λ (one : Blackboard). one.readers) (natural_of blackboard) (λ found. record found { message = cleared.next }) number (λ one. refl) partition.blackboards all
+objects_have Holds configuration who claimed (request.CreateSemaphore name value maximum discipline) partition (set.SemaphoreWaiters number) all =
+    one_created Holds (λ (one : Semaphore). one.waiters) claimed (new_semaphore name value maximum discipline) number refl partition.semaphores all
+objects_have Holds configuration who claimed (request.WaitSemaphore semaphore time_out) partition (set.SemaphoreWaiters number) all =
+    one_changed Holds (λ (one : Semaphore). one.waiters) (natural_of semaphore) (λ found. record found { value = (semaphore_waited time_out found.value).next }) number (λ one. refl) partition.semaphores all
+objects_have Holds configuration who claimed (request.SignalSemaphore semaphore) partition (set.SemaphoreWaiters number) all =
+    one_changed Holds (λ (one : Semaphore). one.waiters) (natural_of semaphore)
     (λ found. record found { value = (signalled found.maximum (first_waiter found.discipline found.waiters) found.value).next }) number (λ one. refl) partition.semaphores all
-objects_have Holds nobody configuration who claimed (request.CreateEvent name) partition (set.EventWaiters number) all =
-    one_created Holds nobody (λ (one : Event). one.waiters) claimed (new_event name) number refl partition.events all
-objects_have Holds nobody configuration who claimed (request.SetEvent event) partition (set.EventWaiters number) all =
-    one_changed Holds nobody (λ (one : Event). one.waiters) (natural_of event) (λ found. record found { up = (event_set found.waiters).next }) number (λ one. refl) partition.events all
-objects_have Holds nobody configuration who claimed (request.ResetEvent event) partition (set.EventWaiters number) all =
-    one_changed Holds nobody (λ (one : Event). one.waiters) (natural_of event) (λ found. record found { up = event_reset.next }) number (λ one. refl) partition.events all
-objects_have Holds nobody configuration who claimed (request.CreateMutex name priority discipline) partition (set.MutexWaiters number) all =
-    one_created Holds nobody (λ (one : Mutex). one.waiters) claimed (new_mutex name priority discipline) number refl partition.mutexes all
-objects_have Holds nobody configuration who claimed (request.AcquireMutex mutex time_out) partition (set.MutexWaiters number) all =
-    one_changed Holds nobody (λ (one : Mutex). one.waiters) (natural_of mutex) (λ found. (acquired who.proc time_out found).next) number
+objects_have Holds configuration who claimed (request.CreateEvent name) partition (set.EventWaiters number) all =
+    one_created Holds (λ (one : Event). one.waiters) claimed (new_event name) number refl partition.events all
+objects_have Holds configuration who claimed (request.SetEvent event) partition (set.EventWaiters number) all =
+    one_changed Holds (λ (one : Event). one.waiters) (natural_of event) (λ found. record found { up = (event_set found.waiters).next }) number (λ one. refl) partition.events all
+objects_have Holds configuration who claimed (request.ResetEvent event) partition (set.EventWaiters number) all =
+    one_changed Holds (λ (one : Event). one.waiters) (natural_of event) (λ found. record found { up = event_reset.next }) number (λ one. refl) partition.events all
+objects_have Holds configuration who claimed (request.CreateMutex name priority discipline) partition (set.MutexWaiters number) all =
+    one_created Holds (λ (one : Mutex). one.waiters) claimed (new_mutex name priority discipline) number refl partition.mutexes all
+objects_have Holds configuration who claimed (request.AcquireMutex mutex time_out) partition (set.MutexWaiters number) all =
+    one_changed Holds (λ (one : Mutex). one.waiters) (natural_of mutex) (λ found. (acquired who.proc time_out found).next) number
     (λ one. acquire_keeps who.proc time_out one.owner one) partition.mutexes all
-objects_have Holds nobody configuration who claimed (request.ReleaseMutex mutex) partition (set.MutexWaiters number) all =
-    one_changed Holds nobody (λ (one : Mutex). one.waiters) (natural_of mutex) (λ found. (mutex_released (first_waiter found.discipline found.waiters) found).next) number
+objects_have Holds configuration who claimed (request.ReleaseMutex mutex) partition (set.MutexWaiters number) all =
+    one_changed Holds (λ (one : Mutex). one.waiters) (natural_of mutex) (λ found. (mutex_released (first_waiter found.discipline found.waiters) found).next) number
     (λ one. release_keeps (first_waiter one.discipline one.waiters) one) partition.mutexes all
-objects_have Holds nobody configuration who claimed _ partition _ all = all
+objects_have Holds configuration who claimed _ partition _ all = all

@@ -82,7 +82,7 @@ objects_tied : (Fact : Entry → Type 0) (configuration : Configuration) (call :
     → AllEntries Fact (entries_at (cond (is_done call.claim.out) (objects_by configuration call.who call.claim.val call.request partition) partition) wanted)
 objects_tied Fact configuration call partition wanted all =
     elim (is_done call.claim.out) as (λ done. AllEntries Fact (entries_at (cond done (objects_by configuration call.who call.claim.val call.request partition) partition) wanted)) [
-      | true ↦ objects_have (AllEntries Fact) tt configuration call.who call.claim.val call.request partition wanted all
+      | true ↦ objects_have (AllEntries Fact) configuration call.who call.claim.val call.request partition wanted all
       | false ↦ all
     ]
 

@@ -294,7 +294,7 @@ objects_are configuration cores place core call partition objects is =
 -- what a call adds
 
 -- a process that is not among these is found behind them
-found_behind : (table more : Table) (number : ℕ) → process_at table number ≡ None → process_at (table ++ more) number ≡ process_at more number
+pub found_behind : (table more : Table) (number : ℕ) → process_at table number ≡ None → process_at (table ++ more) number ≡ process_at more number
 found_behind [] more number none = refl
 found_behind (entry ∷ entries) more number none =
     elim (nat_eq number entry.0) as (λ same. cond same (Some entry.1) (process_at entries number) ≡ None → cond same (Some entry.1) (process_at (entries ++ more) number) ≡ process_at more number) [

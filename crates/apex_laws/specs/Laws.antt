@@ -2,6 +2,7 @@
 -- `src/lib.rt`.
 use Rattle.std.specs.Prelude.{◌<◌, ◌≡◌, ◌↔◌, ℕ, List, [], ◌∷◌, Option, Some, None, IsTrue, IsFalse, Contains, not, is_some, ◌&&◌, Bool, true}
 use Rattle.apex_types.specs.declared.record.Ordered.{Ordered}
+use Rattle.apex_types.specs.declared.record.Who.{Who}
 use Rattle.apex_types.specs.declared.service.Service.{Service}
 use Rattle.apex_machine.specs.declared.state.Direction.{Direction}
 use Rattle.apex_machine.specs.declared.state.Direction.TheVariants as direction
@@ -13,7 +14,7 @@ use Rattle.apex_machine.specs.Channels.{is_receiver, is_sender}
 use Rattle.apex_machine.specs.Choice.{IsChosen, IsReady, foremost, ready_entries}
 use Rattle.apex_machine.specs.Configuration.{Configuration}
 pub use Rattle.apex_machine.specs.Configuration.{WindowsAreConfigured}
-use Rattle.apex_machine.specs.Demands.{LocalStepJudging}
+use Rattle.apex_machine.specs.Demands.{LocalStepJudging, stands_in}
 use Rattle.apex_machine.specs.Pieces.{Part, Piece, is_configured, part, touches}
 use Rattle.apex_machine.specs.Runs.{ArePlaced, FindsJudging, PieceRunJudging, Refusal}
 use Rattle.apex_machine.specs.State.{Blackboard, Buffer, Entry, Event, Mutex, Partition, Port, Semaphore, State, Table, cold_state, is_same, object_at, process_at}
@@ -117,6 +118,27 @@ StaysInOrder =
     → AreTied configuration state → SetsAreInOrder state → StepJudging judged configuration state ordered next → SetsAreInOrder next)
     × ((judged : Service → Bool) (configuration : Configuration) (records : List Ordered) (state final : State)
     → AreTied configuration state → SetsAreInOrder state → RunJudging judged configuration state records final → SetsAreInOrder final)
+
+-- who waits in a set stands in it
+
+-- where the entries of a waiting set stand: a channel's in the channel, any other's in a partition
+abbrev pub entries_of : State → ℕ → WaitingSet → List Entry
+entries_of state number (set.ChannelSenders channel) = (state.channels channel).senders
+entries_of state number (set.ChannelReceivers channel) = (state.channels channel).receivers
+entries_of state number wanted = entries_at (state.partitions number) wanted
+
+-- the other side of the tie: every process that waits in a set stands in it
+abbrev pub WaitersStand : State → Type 0
+WaitersStand state = (who : Who) (wanted : WaitingSet) → IsTrue (waits_at wanted (process_at (state.partitions who.part).table who.proc)) → IsTrue (stands_in who (entries_of state who.part wanted))
+
+-- so it is in the cold state, a step from a tied state keeps it so, and so does a run
+abbrev pub WhoWaitsStands : Type 0
+WhoWaitsStands =
+    ((configuration : Configuration) → WaitersStand (cold_state configuration))
+    × ((judged : Service → Bool) (configuration : Configuration) (state : State) (ordered : Ordered) (next : State)
+    → AreTied configuration state → WaitersStand state → StepJudging judged configuration state ordered next → WaitersStand next)
+    × ((judged : Service → Bool) (configuration : Configuration) (records : List Ordered) (state final : State)
+    → AreTied configuration state → WaitersStand state → RunJudging judged configuration state records final → WaitersStand final)
 
 -- steps
 

@@ -6,5 +6,6 @@ pub mod ProcessSentences
 pub mod ProcessLaws
 pub mod Worked
 pub mod WorkedFacts
+pub mod ConditionFacts
 pub mod RecordSentences
 pub mod RecordLaws

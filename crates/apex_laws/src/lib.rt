@@ -5,9 +5,10 @@
 //! that are judged: for those of today, and for all.
 #![tactic(auto)]
 
-ghost use Rattle.apex_laws.specs.Laws.{AtMostOneNextState, ChoiceIsTheSentence, OneFirstRefusal, OneRun, PiecesCompose, PiecesFollow, RunOfEach, SilentPieceRuns, StaysInOrder, StaysTied, ViewIsOfTheRun};
+ghost use Rattle.apex_laws.specs.Laws.{AtMostOneNextState, ChoiceIsTheSentence, OneFirstRefusal, OneRun, PiecesCompose, PiecesFollow, RunOfEach, SilentPieceRuns, StaysInOrder, StaysTied, ViewIsOfTheRun, WhoWaitsStands};
 ghost use Rattle.apex_laws.specs.ObjectLaws.{BlackboardIsTheSentence, ChannelIsTheSentence, EventIsTheSentence, FirstIsTheSentence, MutexIsTheSentence, ObjectCallIsTheSentence, OrderIsApart, QueueIsTheSentence, SamplingIsTheSentence, SemaphoreIsTheSentence};
 ghost use Rattle.apex_laws.specs.RecordLaws.{CallIsTheSentence, DispatchIsTheSentence, RefusalIsTheSentence, ReturnIsTheSentence, SetIsTheSentence, TickIsTheSentence};
+ghost use Rattle.apex_laws.specs.ConditionFacts.{ConditionFacts};
 ghost use Rattle.apex_laws.specs.WorkedFacts.{LawfulFacts, WorkedFacts};
 ghost use Rattle.apex_laws.specs.ProcessLaws.{AnswerIsTheSentence, CallerIsTheSentence, CreationIsTheSentence, DueIsTheSentence, ReleaseIsTheSentence, SettingIsTheSentence, StoppingIsTheSentence, WakingIsTheSentence};
 
@@ -37,6 +38,12 @@ pub fn stays_tied()
 /// step from a tied state keeps them in order, and so does a run.
 pub fn stays_in_order()
     ensures { StaysInOrder }
+{}
+
+/// In every state that a run reaches, each process that waits in a set stands in it: with the tie, exactly who waits in a set
+/// stands there.
+pub fn who_waits_stands()
+    ensures { WhoWaitsStands }
 {}
 
 /// The entries of a waiting set that is in order stand at places of their own.
@@ -203,4 +210,10 @@ pub fn worked_facts()
 /// judged: so steps of them exist.
 pub fn lawful_facts()
     ensures { LawfulFacts }
+{}
+
+/// The codes of the error conditions for calls of every kind in a small partition, and what stands outside the profile, are
+/// what the services state.
+pub fn condition_facts()
+    ensures { ConditionFacts }
 {}

@@ -1,0 +1,306 @@
+-- Every process that waits in a set stands in it.
+use Rattle.std.proofs.Common.{◌≡◌, ℕ, List, [], ◌∷◌, ◌++◌, Bool, true, false, cond, nat_eq, ℤ, pos, negsuc, Option, Some, None, is_some, option_map, refl, sym, ap, subst, ◌∙◌, inl, inr, true≢false}
+use Rattle.std.proofs.lemmas.Bool.{and_parts, cases_Bool}
+use Rattle.apex_types.specs.declared.record.Body.{Body}
+use Rattle.apex_types.specs.declared.record.Body.TheVariants.{Call, Ret, Disp, Tick}
+use Rattle.apex_types.specs.declared.record.Call.{Call as CallRecord}
+use Rattle.apex_types.specs.declared.record.Ordered.{Ordered}
+use Rattle.apex_types.specs.declared.record.Out.{Out}
+use Rattle.apex_types.specs.declared.record.Out.TheVariants as out
+use Rattle.apex_types.specs.declared.record.Who.{Who}
+use Rattle.apex_types.specs.declared.request.Request.{Request}
+use Rattle.apex_types.specs.declared.request.Request.TheVariants as request
+use Rattle.apex_types.specs.declared.service.Service.{Service}
+use Rattle.apex_machine.specs.declared.state.Process.{Process}
+use Rattle.apex_machine.specs.declared.state.WaitingSet.{WaitingSet}
+use Rattle.apex_machine.specs.declared.state.WaitingSet.TheVariants as set
+use Rattle.apex_machine.specs.After.{after, each_set, is_done, objects_by, partition_by, partition_called, returned, roused, ticked}
+use Rattle.apex_machine.specs.Arguments.{natural_of}
+use Rattle.apex_machine.specs.Configuration.{Configuration, first_core}
+use Rattle.apex_machine.specs.Demands.{stands_in}
+use Rattle.apex_machine.specs.Objects.{acquired, buffer_received, buffer_sent, semaphore_waited}
+use Rattle.apex_machine.specs.Ports.{channel_of, suits_use, use_of}
+use Rattle.apex_machine.specs.ServiceConditions.{condition_codes}
+use Rattle.apex_machine.specs.Services.{answer_of}
+use Rattle.apex_machine.specs.State.{Buffer, Entry, Partition, State, change_at, cold_state, each_process, given_object, initialising_process, is_named, is_same, object_at, process_at, time_of}
+use Rattle.apex_machine.specs.Step.{IsLawfulBody, IsLawfulCall, RunJudging, StepJudging, channel_answer}
+use Rattle.apex_machine.specs.Waiting.{ends_wait, enters, entry_of, is_the_set, is_waiting, set_after, set_of, waits_at, without}
+use Rattle.apex_laws.specs.Laws.{AreTied, WaitersStand, WhoWaitsStands, entries_at, entries_in, entries_of}
+use Rattle.apex_laws.proofs.Booleans.{first_holds, is_itself, later_holds, other_holds}
+use Rattle.apex_laws.proofs.Codes.{are_errors, done_is_lawful}
+use Rattle.apex_laws.proofs.Keeps.{leaves}
+use Rattle.apex_laws.proofs.ObjectCalls.{message_there, mutex_there, object_there}
+use Rattle.apex_laws.proofs.Objects.{each_set_holds, object_at_each, objects_have, stands_at}
+use Rattle.apex_laws.proofs.Ends.{first_empty}
+use Rattle.apex_laws.proofs.Standing.{Entering, who_waits}
+use Rattle.apex_laws.proofs.Stays.{called_sets, same_sets, step_tied}
+use Rattle.apex_laws.proofs.WaitSets.{found_set}
+use Rattle.apex_laws.proofs.Whos.{same_is, same_itself}
+use Rattle.apex_laws.proofs.Woken.{found}
+
+-- who stands in a set after a record
+
+stands_without : (leaves : Who → Bool) (who : Who) (entries : List Entry) → leaves who ≡ false → stands_in who entries ≡ true → stands_in who (without leaves entries) ≡ true
+stands_without leaves who [] stays stands = stands
+stands_without leaves who (entry ∷ entries) stays stands =
+    elim (cases_Bool (is_same who entry.who)) [
+      | inl same ↦
+          let one : leaves entry.who ≡ false = subst (λ one. leaves one ≡ false) (same_is who entry.who same) stays in
+          rw one (first_holds (is_same who entry.who) (stands_in who (without leaves entries)) same)
+      | inr differs ↦
+          let rest = stands_without leaves who entries stays (other_holds (is_same who entry.who) (stands_in who entries) stands differs) in
+          elim (leaves entry.who) as (λ gone. stands_in who (cond gone (without leaves entries) (entry ∷ without leaves entries)) ≡ true) [
+            | true ↦ rest
+            | false ↦ later_holds (is_same who entry.who) (stands_in who (without leaves entries)) rest
+          ]
+    ]
+
+stands_in_front : (who : Who) (entries more : List Entry) → stands_in who entries ≡ true → stands_in who (entries ++ more) ≡ true
+stands_in_front who [] more stands = absurd (true≢false (sym stands))
+stands_in_front who (entry ∷ entries) more stands =
+    elim (cases_Bool (is_same who entry.who)) [
+      | inl same ↦ first_holds (is_same who entry.who) (stands_in who (entries ++ more)) same
+      | inr differs ↦ later_holds (is_same who entry.who) (stands_in who (entries ++ more))
+          (stands_in_front who entries more (other_holds (is_same who entry.who) (stands_in who entries) stands differs))
+    ]
+
+stands_last : (entry : Entry) (entries : List Entry) → stands_in entry.who (entries ++ entry ∷ []) ≡ true
+stands_last entry [] = first_holds (is_same entry.who entry.who) false (same_itself entry.who)
+stands_last entry (other ∷ entries) = later_holds (is_same entry.who other.who) (stands_in entry.who (entries ++ entry ∷ [])) (stands_last entry entries)
+
+-- whose wait goes on stays
+set_keeps : (place : ℕ) (body : Body) (who : Who) (wanted : WaitingSet) (entries : List Entry) → leaves body who ≡ false → stands_in who entries ≡ true → stands_in who (set_after place body wanted entries) ≡ true
+set_keeps place (Disp one) who wanted entries stays stands = stands
+set_keeps place (Ret ret) who wanted entries stays stands = stands
+set_keeps place (Tick woken) who wanted entries stays stands = stands_without (λ who. is_named who woken) who entries stays stands
+set_keeps place (Call call) who wanted entries stays stands =
+    let rest = stands_without (ends_wait call) who entries stays stands in
+    elim (enters call wanted) as (λ here. stands_in who (cond here (without (ends_wait call) entries ++ entry_of place call ∷ []) (without (ends_wait call) entries)) ≡ true) [
+      | true ↦ stands_in_front who (without (ends_wait call) entries) (entry_of place call ∷ []) rest
+      | false ↦ rest
+    ]
+
+-- a caller that enters stands there
+set_takes : (place : ℕ) (call : CallRecord) (wanted : WaitingSet) (entries : List Entry) → enters call wanted ≡ true → stands_in call.who (set_after place (Call call) wanted entries) ≡ true
+set_takes place call wanted entries here = rw here (stands_last (entry_of place call) (without (ends_wait call) entries))
+
+entering_stands : (place : ℕ) (body : Body) (who : Who) (wanted : WaitingSet) (entries : List Entry) → Entering body who wanted → stands_in who (set_after place body wanted entries) ≡ true
+entering_stands place (Call call) who wanted entries is =
+    subst (λ one. stands_in one (set_after place (Call call) wanted entries) ≡ true) (sym is.0) (set_takes place call wanted entries is.1)
+entering_stands place (Disp one) who wanted entries is = absurd is
+entering_stands place (Ret ret) who wanted entries is = absurd is
+entering_stands place (Tick woken) who wanted entries is = absurd is
+
+-- the sets of a partition
+
+there_if : {Object : Type 0} (who : Who) (entries_of : Object → List Entry) (found : Option Object) → stands_in who (entries_in entries_of found) ≡ true → is_some found ≡ true
+there_if who entries_of None stands = absurd (true≢false (sym stands))
+there_if who entries_of (Some object) stands = refl
+
+-- the object of a set in which a process stands is created
+standing_there : (who : Who) (partition : Partition) (wanted : WaitingSet) → stands_in who (entries_at partition wanted) ≡ true → stands_at partition wanted ≡ true
+standing_there who partition (set.BufferSenders number) stands = there_if who (λ one. one.senders) (object_at partition.buffers number) stands
+standing_there who partition (set.BufferReceivers number) stands = there_if who (λ one. one.receivers) (object_at partition.buffers number) stands
+standing_there who partition (set.BlackboardReaders number) stands = there_if who (λ one. one.readers) (object_at partition.blackboards number) stands
+standing_there who partition (set.SemaphoreWaiters number) stands = there_if who (λ one. one.waiters) (object_at partition.semaphores number) stands
+standing_there who partition (set.EventWaiters number) stands = there_if who (λ one. one.waiters) (object_at partition.events number) stands
+standing_there who partition (set.MutexWaiters number) stands = there_if who (λ one. one.waiters) (object_at partition.mutexes number) stands
+standing_there who partition (set.ChannelSenders channel) stands = absurd (true≢false (sym stands))
+standing_there who partition (set.ChannelReceivers channel) stands = absurd (true≢false (sym stands))
+
+each_stands : (who : Who) (change : WaitingSet → List Entry → List Entry) (partition : Partition) (wanted : WaitingSet) → stands_at partition wanted ≡ true
+    → stands_in who (change wanted (entries_at partition wanted)) ≡ true → stands_in who (entries_at (each_set change partition) wanted) ≡ true
+each_stands who change partition wanted there stands =
+    each_set_holds (λ entries. stands_in who entries ≡ true) change partition wanted (λ absent. absurd (true≢false (sym there ∙ absent))) stands
+
+-- the objects that a call uses or creates keep who stands there
+used_stands : (who : Who) (configuration : Configuration) (call : CallRecord) (partition : Partition) (wanted : WaitingSet) → stands_in who (entries_at partition wanted) ≡ true
+    → stands_in who (entries_at (cond (is_done call.claim.out) (objects_by configuration call.who call.claim.val call.request partition) partition) wanted) ≡ true
+used_stands who configuration call partition wanted stands =
+    elim (is_done call.claim.out) as (λ done. stands_in who (entries_at (cond done (objects_by configuration call.who call.claim.val call.request partition) partition) wanted) ≡ true) [
+      | true ↦ objects_have (λ entries. stands_in who entries ≡ true) configuration call.who call.claim.val call.request partition wanted stands
+      | false ↦ stands
+    ]
+
+-- the object at which a caller waits is created
+
+mapped : {Object : Type 0} (change : Object → Object) (found : Option Object) → is_some found ≡ true → is_some (option_map change found) ≡ true
+mapped change None there = absurd (true≢false (sym there))
+mapped change (Some object) there = refl
+
+given_there : {Object : Type 0} (objects : List (ℕ × Object)) (given : ℤ) (found : Object) → given_object objects given ≡ Some found → is_some (object_at objects (natural_of given)) ≡ true
+given_there objects (pos number) found at = ap is_some at
+given_there objects (negsuc n) found at = cc
+
+changed_there : {Object : Type 0} (objects : List (ℕ × Object)) (given : ℤ) (found : Object) (change : Object → Object) → given_object objects given ≡ Some found
+    → is_some (object_at (change_at (natural_of given) change objects) (natural_of given)) ≡ true
+changed_there {Object} objects given found change at =
+    ap is_some (object_at_each (λ other (object : Object). cond (nat_eq other (natural_of given)) (change object) object) objects (natural_of given))
+    ∙ mapped (λ (object : Object). cond (nat_eq (natural_of given) (natural_of given)) (change object) object) (object_at objects (natural_of given)) (given_there objects given found at)
+
+waits_there : (configuration : Configuration) (who : Who) (claimed : Option ℤ) (asked : Request) (chan : Option ℕ) (partition : Partition) (wanted : WaitingSet)
+    → ((other : ℕ) → ¬ (wanted ≡ set.ChannelSenders other)) → ((other : ℕ) → ¬ (wanted ≡ set.ChannelReceivers other))
+    → set_of asked chan ≡ Some wanted → condition_codes configuration who partition asked ≡ [] → stands_at (objects_by configuration who claimed asked partition) wanted ≡ true
+waits_there configuration who claimed (request.SendBuffer buffer length time_out message) chan partition wanted not_sending not_receiving is none =
+    let same : set.BufferSenders (natural_of buffer) ≡ wanted = cc in
+    let sized = message_there (λ (found : Buffer). found.size) (given_object partition.buffers buffer) length
+    (first_empty _ _ (first_empty _ _ none)) in
+    subst (λ one. stands_at (objects_by configuration who claimed (request.SendBuffer buffer length time_out message) partition) one ≡ true) same
+    (changed_there partition.buffers buffer sized.0 (λ found. record found { messages = (buffer_sent message time_out found).next }) sized.1)
+waits_there configuration who claimed (request.ReceiveBuffer buffer time_out) chan partition wanted not_sending not_receiving is none =
+    let same : set.BufferReceivers (natural_of buffer) ≡ wanted = cc in
+    let there = object_there who partition (given_object partition.buffers buffer) time_out none in
+    subst (λ one. stands_at (objects_by configuration who claimed (request.ReceiveBuffer buffer time_out) partition) one ≡ true) same
+    (changed_there partition.buffers buffer there.0 (λ found. record found { messages = (buffer_received time_out found).next }) there.1)
+waits_there configuration who claimed (request.ReadBlackboard blackboard time_out) chan partition wanted not_sending not_receiving is none =
+    let same : set.BlackboardReaders (natural_of blackboard) ≡ wanted = cc in
+    let there = object_there who partition (given_object partition.blackboards blackboard) time_out none in
+    subst (λ one. stands_at partition one ≡ true) same (given_there partition.blackboards blackboard there.0 there.1)
+waits_there configuration who claimed (request.WaitSemaphore semaphore time_out) chan partition wanted not_sending not_receiving is none =
+    let same : set.SemaphoreWaiters (natural_of semaphore) ≡ wanted = cc in
+    let there = object_there who partition (given_object partition.semaphores semaphore) time_out none in
+    subst (λ one. stands_at (objects_by configuration who claimed (request.WaitSemaphore semaphore time_out) partition) one ≡ true) same
+    (changed_there partition.semaphores semaphore there.0 (λ found. record found { value = (semaphore_waited time_out found.value).next }) there.1)
+waits_there configuration who claimed (request.WaitEvent event time_out) chan partition wanted not_sending not_receiving is none =
+    let same : set.EventWaiters (natural_of event) ≡ wanted = cc in
+    let there = object_there who partition (given_object partition.events event) time_out none in
+    subst (λ one. stands_at partition one ≡ true) same (given_there partition.events event there.0 there.1)
+waits_there configuration who claimed (request.AcquireMutex mutex time_out) chan partition wanted not_sending not_receiving is none =
+    let same : set.MutexWaiters (natural_of mutex) ≡ wanted = cc in
+    let there = mutex_there who partition mutex time_out none in
+    subst (λ one. stands_at (objects_by configuration who claimed (request.AcquireMutex mutex time_out) partition) one ≡ true) same
+    (changed_there partition.mutexes mutex there.0 (λ found. (acquired who.proc time_out found).next) there.1)
+waits_there configuration who claimed (request.SendQueuingMessage port length time_out message) (Some channel) partition wanted not_sending not_receiving is none =
+    let same : wanted ≡ set.ChannelSenders channel = cc in absurd (not_sending channel same)
+waits_there configuration who claimed (request.SendQueuingMessage port length time_out message) None partition wanted not_sending not_receiving is none = cc
+waits_there configuration who claimed (request.ReceiveQueuingMessage port time_out) (Some channel) partition wanted not_sending not_receiving is none =
+    let same : wanted ≡ set.ChannelReceivers channel = cc in absurd (not_receiving channel same)
+waits_there configuration who claimed (request.ReceiveQueuingMessage port time_out) None partition wanted not_sending not_receiving is none = cc
+waits_there configuration who claimed _ chan partition wanted not_sending not_receiving is none = let no : ◌≡◌ {A = Option WaitingSet} None (Some wanted) = is in cc
+
+waiting_is_done : (given : Out) → is_waiting given ≡ true → is_done given ≡ true
+waiting_is_done out.Waits is = refl
+waiting_is_done out.Never is = refl
+waiting_is_done (out.Answer code) is = absurd (true≢false (sym is))
+
+-- a caller that enters a set of its partition
+own_takes : (judged : Service → Bool) (configuration : Configuration) (state : State) (place core : ℕ) (call : CallRecord) → IsLawfulCall judged configuration state core call → (wanted : WaitingSet)
+    → ((other : ℕ) → ¬ (wanted ≡ set.ChannelSenders other)) → ((other : ℕ) → ¬ (wanted ≡ set.ChannelReceivers other)) → enters call wanted ≡ true
+    → stands_in call.who (entries_at (partition_by configuration state.cores place core call.who.part (Call call) (state.partitions call.who.part)) wanted) ≡ true
+own_takes judged configuration state place core call law wanted not_sending not_receiving here =
+    let partition = state.partitions call.who.part in
+    let parts = and_parts (is_waiting call.claim.out) (is_the_set wanted (set_of call.request call.claim.chan)) here in
+    let done = waiting_is_done call.claim.out parts.0 in
+    let none = done_is_lawful (condition_codes configuration call.who partition call.request) (channel_of partition call.request)
+    (answer_of (time_of state.cores core) call.who partition call.request) (λ number. suits_use (use_of call.request) (state.channels number))
+    (channel_answer configuration (time_of state.cores core) call.request state.channels) call.claim
+    (are_errors configuration call.who partition call.request) law.outcome done in
+    let objects : Partition = cond (is_done call.claim.out) (objects_by configuration call.who call.claim.val call.request partition) partition in
+    let there : stands_at objects wanted ≡ true = rw done
+    (waits_there configuration call.who call.claim.val call.request call.claim.chan partition wanted not_sending not_receiving
+    (found_set wanted (set_of call.request call.claim.chan) parts.1) none) in
+    rw (is_itself call.who.part) (subst (λ entries. stands_in call.who entries ≡ true) (sym (called_sets configuration state place core call partition wanted))
+    (each_stands call.who (set_after place (Call call)) objects wanted there (set_takes place call wanted (entries_at objects wanted) here)))
+
+-- who waits in a set of a partition after a record stands there
+partition_stands : (judged : Service → Bool) (configuration : Configuration) (state : State) (place core : ℕ) (body : Body) → AreTied configuration state
+    → IsLawfulBody judged configuration state core body → (who : Who) (wanted : WaitingSet)
+    → ((other : ℕ) → ¬ (wanted ≡ set.ChannelSenders other)) → ((other : ℕ) → ¬ (wanted ≡ set.ChannelReceivers other))
+    → (waits_at wanted (found state.partitions who) ≡ true → stands_in who (entries_at (state.partitions who.part) wanted) ≡ true)
+    → waits_at wanted (process_at (partition_by configuration state.cores place core who.part body (state.partitions who.part)).table who.proc) ≡ true
+    → stands_in who (entries_at (partition_by configuration state.cores place core who.part body (state.partitions who.part)) wanted) ≡ true
+partition_stands judged configuration state place core (Disp one) tied law who wanted not_sending not_receiving before waits =
+    elim (who_waits judged configuration state place core (Disp one) tied law who wanted waits) [
+      | inl goes ↦ before goes.1
+      | inr enters ↦ absurd enters
+    ]
+partition_stands judged configuration state place core (Ret ret) tied law who wanted not_sending not_receiving before waits =
+    elim (who_waits judged configuration state place core (Ret ret) tied law who wanted waits) [
+      | inl goes ↦ elim (nat_eq ret.who.part who.part) as (λ own. stands_in who (entries_at (cond own
+          (record (state.partitions who.part) { table = each_process (returned ret.who.proc) (state.partitions who.part).table }) (state.partitions who.part)) wanted) ≡ true) [
+            | true ↦ subst (λ entries. stands_in who entries ≡ true) (sym (same_sets (state.partitions who.part) (each_process (returned ret.who.proc) (state.partitions who.part).table) wanted)) (before goes.1)
+            | false ↦ before goes.1
+          ]
+      | inr enters ↦ absurd enters
+    ]
+partition_stands judged configuration state place core (Tick woken) tied law who wanted not_sending not_receiving before waits =
+    elim (who_waits judged configuration state place core (Tick woken) tied law who wanted waits) [
+      | inl goes ↦
+          let partition = state.partitions who.part in
+          subst (λ entries. stands_in who entries ≡ true) (sym (same_sets (each_set (set_after place (Tick woken)) partition) (each_process (ticked place who.part woken) partition.table) wanted))
+          (each_stands who (set_after place (Tick woken)) partition wanted (standing_there who partition wanted (before goes.1))
+          (set_keeps place (Tick woken) who wanted (entries_at partition wanted) goes.0 (before goes.1)))
+      | inr enters ↦ absurd enters
+    ]
+partition_stands judged configuration state place core (Call call) tied law who wanted not_sending not_receiving before waits =
+    let partition = state.partitions who.part in
+    elim (who_waits judged configuration state place core (Call call) tied law who wanted waits) [
+      | inl goes ↦
+          let objects : Partition = cond (is_done call.claim.out) (objects_by configuration call.who call.claim.val call.request partition) partition in
+          let used = used_stands who configuration call partition wanted (before goes.1) in
+          let foreign : ℕ → Process → Process = λ other process. roused place call (record { part = who.part; proc = other }) process in
+          elim (nat_eq call.who.part who.part) as (λ own. stands_in who (entries_at (cond own (partition_called configuration state.cores place core call partition)
+          (record partition { table = each_process foreign partition.table })) wanted) ≡ true) [
+            | true ↦ subst (λ entries. stands_in who entries ≡ true) (sym (called_sets configuration state place core call partition wanted))
+                (each_stands who (set_after place (Call call)) objects wanted (standing_there who objects wanted used) (set_keeps place (Call call) who wanted (entries_at objects wanted) goes.0 used))
+            | false ↦ subst (λ entries. stands_in who entries ≡ true) (sym (same_sets partition (each_process foreign partition.table) wanted)) (before goes.1)
+          ]
+      | inr entering ↦
+          subst (λ one. stands_in one (entries_at (partition_by configuration state.cores place core one.part (Call call) (state.partitions one.part)) wanted) ≡ true) (sym entering.0)
+          (own_takes judged configuration state place core call law wanted not_sending not_receiving entering.1)
+    ]
+
+-- the whole state
+
+-- who waits in a set of a channel after a record stands there
+channel_stands : (judged : Service → Bool) (configuration : Configuration) (state : State) (place core : ℕ) (body : Body) → AreTied configuration state
+    → IsLawfulBody judged configuration state core body → (who : Who) (wanted : WaitingSet) (entries : List Entry)
+    → (waits_at wanted (found state.partitions who) ≡ true → stands_in who entries ≡ true)
+    → waits_at wanted (process_at (partition_by configuration state.cores place core who.part body (state.partitions who.part)).table who.proc) ≡ true
+    → stands_in who (set_after place body wanted entries) ≡ true
+channel_stands judged configuration state place core body tied law who wanted entries before waits =
+    elim (who_waits judged configuration state place core body tied law who wanted waits) [
+      | inl goes ↦ set_keeps place body who wanted entries goes.0 (before goes.1)
+      | inr enters ↦ entering_stands place body who wanted entries enters
+    ]
+
+next_stands : (judged : Service → Bool) (configuration : Configuration) (state : State) (ordered : Ordered) → AreTied configuration state → WaitersStand state
+    → IsLawfulBody judged configuration state ordered.core ordered.rec.body → WaitersStand (after configuration state ordered)
+next_stands judged configuration state ordered tied stand law who (set.ChannelSenders channel) waits =
+    channel_stands judged configuration state ordered.pos ordered.core ordered.rec.body tied law who (set.ChannelSenders channel) (state.channels channel).senders (stand who (set.ChannelSenders channel)) waits
+next_stands judged configuration state ordered tied stand law who (set.ChannelReceivers channel) waits =
+    channel_stands judged configuration state ordered.pos ordered.core ordered.rec.body tied law who (set.ChannelReceivers channel) (state.channels channel).receivers (stand who (set.ChannelReceivers channel)) waits
+next_stands judged configuration state ordered tied stand law who (set.BufferSenders number) waits =
+    partition_stands judged configuration state ordered.pos ordered.core ordered.rec.body tied law who (set.BufferSenders number) (λ other. λ e. cc) (λ other. λ e. cc) (stand who (set.BufferSenders number)) waits
+next_stands judged configuration state ordered tied stand law who (set.BufferReceivers number) waits =
+    partition_stands judged configuration state ordered.pos ordered.core ordered.rec.body tied law who (set.BufferReceivers number) (λ other. λ e. cc) (λ other. λ e. cc) (stand who (set.BufferReceivers number)) waits
+next_stands judged configuration state ordered tied stand law who (set.BlackboardReaders number) waits =
+    partition_stands judged configuration state ordered.pos ordered.core ordered.rec.body tied law who (set.BlackboardReaders number) (λ other. λ e. cc) (λ other. λ e. cc) (stand who (set.BlackboardReaders number)) waits
+next_stands judged configuration state ordered tied stand law who (set.SemaphoreWaiters number) waits =
+    partition_stands judged configuration state ordered.pos ordered.core ordered.rec.body tied law who (set.SemaphoreWaiters number) (λ other. λ e. cc) (λ other. λ e. cc) (stand who (set.SemaphoreWaiters number)) waits
+next_stands judged configuration state ordered tied stand law who (set.EventWaiters number) waits =
+    partition_stands judged configuration state ordered.pos ordered.core ordered.rec.body tied law who (set.EventWaiters number) (λ other. λ e. cc) (λ other. λ e. cc) (stand who (set.EventWaiters number)) waits
+next_stands judged configuration state ordered tied stand law who (set.MutexWaiters number) waits =
+    partition_stands judged configuration state ordered.pos ordered.core ordered.rec.body tied law who (set.MutexWaiters number) (λ other. λ e. cc) (λ other. λ e. cc) (stand who (set.MutexWaiters number)) waits
+
+step_stands : (judged : Service → Bool) (configuration : Configuration) (state : State) (ordered : Ordered) (next : State)
+    → AreTied configuration state → WaitersStand state → StepJudging judged configuration state ordered next → WaitersStand next
+step_stands judged configuration state ordered next tied stand step = subst WaitersStand (sym step.1) (next_stands judged configuration state ordered tied stand step.0.claims)
+
+run_stands : (judged : Service → Bool) (configuration : Configuration) (records : List Ordered) (state final : State)
+    → AreTied configuration state → WaitersStand state → RunJudging judged configuration state records final → WaitersStand final
+run_stands judged configuration [] state final tied stand run = subst WaitersStand (sym run) stand
+run_stands judged configuration (ordered ∷ others) state final tied stand run =
+    run_stands judged configuration others run.0 final (step_tied judged configuration state ordered run.0 tied run.1)
+    (step_stands judged configuration state ordered run.0 tied stand run.1) run.2
+
+-- nobody waits in the cold state
+cold_stands : (configuration : Configuration) → WaitersStand (cold_state configuration)
+cold_stands configuration who wanted waits =
+    absurd (elim (nat_eq who.proc 0) as (λ first. waits_at wanted (cond first (Some (initialising_process (first_core configuration who.part))) None) ≡ true → ⊥) [
+      | true ↦ λ waits. true≢false (sym waits)
+      | false ↦ λ waits. true≢false (sym waits)
+    ] waits)
+
+pub who_waits_stands : WhoWaitsStands
+who_waits_stands = (cold_stands, step_stands, run_stands)

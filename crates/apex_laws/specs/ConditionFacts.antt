@@ -1,0 +1,190 @@
+-- Worked facts on the error conditions and the profile: calls in a partition that has one object of each kind.
+use Rattle.std.specs.Prelude.{◌≡◌, ℕ, List, [], ◌∷◌, true, false, pos, negsuc, codes}
+use Rattle.apex_types.specs.declared.code.Code.{Code}
+use Rattle.apex_types.specs.declared.code.Code.TheVariants as code
+use Rattle.apex_types.specs.declared.discipline.Discipline.TheVariants as discipline
+use Rattle.apex_types.specs.declared.record.Who.{Who}
+use Rattle.apex_types.specs.declared.request.Request.{Request}
+use Rattle.apex_types.specs.declared.request.Request.TheVariants as request
+use Rattle.apex_machine.specs.Channels.{receiving_discipline, sending_discipline}
+use Rattle.apex_machine.specs.Configuration.{Configuration}
+use Rattle.apex_machine.specs.Services.{in_profile, is_built}
+use Rattle.apex_machine.specs.State.{State, cold_state}
+use Rattle.apex_machine.specs.Step.{falls_due}
+use Rattle.apex_laws.specs.Worked.{aperiodic, at, codes_for, creates, does, normal, one_partition, play, played, process_of, start, ticks, two_partitions, waits}
+use Rattle.apex_laws.specs.WorkedFacts.{all, connected, one, semaphore, there, three_processes, two}
+
+-- the initialising process
+abbrev pub initialiser : Who
+initialiser = process_of 0 0
+
+-- the initialising process at work: aperiodic process 1 (10), process 2 (20) of period 20, process 3 (60), and one object of
+-- each kind
+abbrev pub furnished : State
+furnished = played one_partition (aperiodic 0 (codes "A") (pos 1) (pos 10)
+    ∷ creates 0 (request.CreateProcess (codes "B") (pos 20) (pos 20)) (pos 2)
+    ∷ aperiodic 0 (codes "C") (pos 3) (pos 60)
+    ∷ creates 0 (request.CreateBuffer (codes "Q") (pos 4) (pos 1) (pos 0)) (pos 1)
+    ∷ creates 0 (request.CreateBlackboard (codes "N") (pos 4)) (pos 1)
+    ∷ creates 0 (request.CreateSemaphore (codes "S") (pos 0) (pos 1) (pos 0)) (pos 1)
+    ∷ creates 0 (request.CreateEvent (codes "E")) (pos 1)
+    ∷ creates 0 (request.CreateMutex (codes "M") (pos 50) (pos 0)) (pos 1) ∷ [])
+
+-- processes 1 and 2 are started, and the partition is in NORMAL
+abbrev pub at_work : State
+at_work = play one_partition furnished (start 0 (pos 1) ∷ start 0 (pos 2) ∷ normal 0 ∷ [])
+
+-- process 1 owns the mutex
+abbrev pub owning : State
+owning = play one_partition at_work (does one (request.AcquireMutex (pos 1) (pos 0)) ∷ [])
+
+-- process 1 suspended itself
+abbrev pub asleep : State
+asleep = play one_partition at_work (waits one 10 (request.SuspendSelf (negsuc 0)) ∷ [])
+
+-- and process 2 waits for it
+abbrev pub wanting : State
+wanting = play one_partition owning (waits two 20 (request.AcquireMutex (pos 1) (negsuc 0)) ∷ [])
+
+-- the codes for a call in this partition
+abbrev pub told : State → Who → Request → List Code
+told state who asked = codes_for one_partition state who asked
+
+-- the codes for a creation of a port, before any other
+abbrev pub told_at_first : ℕ → Request → List Code
+told_at_first partition asked = codes_for two_partitions (cold_state two_partitions) (process_of partition 0) asked
+
+-- the codes for a call through a port
+abbrev pub told_there : Who → Request → List Code
+told_there who asked = codes_for two_partitions connected who asked
+
+-- the channel's receivers go by priority, its senders first in first out
+abbrev pub by_ends : Configuration
+by_ends = record two_partitions {
+  queuing = record {
+    number = 0;
+    size = 4;
+    capacity = 1;
+    source = record { partition = 0; port = codes "Q" };
+    source_discipline = discipline.Fifo;
+    destination = record { partition = 1; port = codes "Q" };
+    destination_discipline = discipline.Priority;
+  } ∷ [];
+}
+
+-- process 1 waits from time 2 on, with a time-out of 3
+abbrev pub waits_later : State
+waits_later = play one_partition (three_processes (semaphore (pos 0) (pos 1) (pos 0))) (ticks 0 [] ∷ ticks 0 [] ∷ waits one 10 (request.WaitSemaphore (pos 1) (pos 3)) ∷ [])
+
+-- each of them is computed
+pub record ConditionFacts : Type 0 where
+  -- CREATE_PROCESS
+  pub may_create : told furnished initialiser (request.CreateProcess (codes "D") (pos 239) (pos 30)) ≡ []
+  pub name_taken : told furnished initialiser (request.CreateProcess (codes "A") (pos 10) (negsuc 0)) ≡ code.NoAction ∷ []
+  pub no_priority : told furnished initialiser (request.CreateProcess (codes "D") (pos 240) (negsuc 0)) ≡ code.InvalidParam ∷ []
+  pub no_period : told furnished initialiser (request.CreateProcess (codes "D") (pos 10) (negsuc 1)) ≡ code.InvalidParam ∷ []
+  pub no_multiple : told furnished initialiser (request.CreateProcess (codes "D") (pos 10) (pos 15)) ≡ code.InvalidConfig ∷ []
+  pub no_creation_in_normal : told at_work one (request.CreateProcess (codes "D") (pos 10) (negsuc 0)) ≡ code.InvalidMode ∷ []
+  pub no_more_processes : told (play one_partition furnished (aperiodic 0 (codes "D") (pos 4) (pos 10) ∷ [])) initialiser (request.CreateProcess (codes "F") (pos 10) (negsuc 0)) ≡ code.InvalidConfig ∷ []
+  -- INITIALIZE_PROCESS_CORE_AFFINITY
+  pub may_move : told furnished initialiser (request.InitializeProcessCoreAffinity (pos 1) (pos 0)) ≡ []
+  pub not_its_core : told furnished initialiser (request.InitializeProcessCoreAffinity (pos 1) (pos 1)) ≡ code.InvalidConfig ∷ []
+  pub no_move_in_normal : told at_work one (request.InitializeProcessCoreAffinity (pos 1) (pos 0)) ≡ code.InvalidMode ∷ []
+  -- START, STOP
+  pub may_start : told at_work one (request.Start (pos 3)) ≡ []
+  pub not_dormant : told at_work one (request.Start (pos 2)) ≡ code.NoAction ∷ []
+  pub not_created : told at_work one (request.Start (pos 4)) ≡ code.InvalidParam ∷ []
+  pub nobodys_start : told at_work one (request.Start (pos 0)) ≡ code.InvalidParam ∷ []
+  pub may_stop : told at_work one (request.Stop (pos 2)) ≡ []
+  pub stops_none : told at_work one (request.Stop (pos 3)) ≡ code.NoAction ∷ []
+  pub stops_itself : told at_work one (request.Stop (pos 1)) ≡ code.InvalidParam ∷ []
+  -- SUSPEND, RESUME, SUSPEND_SELF
+  pub may_suspend : told at_work two (request.Suspend (pos 1)) ≡ []
+  pub no_periodic_one : told at_work one (request.Suspend (pos 2)) ≡ code.InvalidMode ∷ []
+  pub no_dormant_one : told at_work one (request.Suspend (pos 3)) ≡ code.InvalidMode ∷ []
+  pub suspended_already : told asleep two (request.Suspend (pos 1)) ≡ code.NoAction ∷ []
+  pub may_resume : told asleep two (request.Resume (pos 1)) ≡ []
+  pub not_suspended : told at_work two (request.Resume (pos 1)) ≡ code.NoAction ∷ []
+  pub resumes_dormant : told at_work one (request.Resume (pos 3)) ≡ code.InvalidMode ∷ []
+  pub may_sleep : told at_work one (request.SuspendSelf (negsuc 0)) ≡ []
+  pub periodic_stays : told at_work two (request.SuspendSelf (negsuc 0)) ≡ code.InvalidMode ∷ []
+  pub owner_stays : told owning one (request.SuspendSelf (negsuc 0)) ≡ code.InvalidMode ∷ []
+  pub no_time_out : told at_work one (request.SuspendSelf (negsuc 1)) ≡ code.InvalidParam ∷ []
+  -- SET_PRIORITY, GET_MY_ID
+  pub may_set : told at_work one (request.SetPriority (pos 2) (pos 1)) ≡ []
+  pub sets_dormant : told at_work one (request.SetPriority (pos 3) (pos 1)) ≡ code.InvalidMode ∷ []
+  pub sets_no_priority : told at_work one (request.SetPriority (pos 2) (pos 0)) ≡ code.InvalidParam ∷ []
+  pub has_no_id : told furnished initialiser request.GetMyId ≡ code.InvalidMode ∷ []
+  pub has_an_id : told at_work one request.GetMyId ≡ []
+  -- TIMED_WAIT, PERIODIC_WAIT
+  pub no_delay : told at_work one (request.TimedWait (negsuc 0)) ≡ code.InvalidParam ∷ []
+  pub initialiser_goes_on : told furnished initialiser (request.TimedWait (pos 1)) ≡ code.InvalidMode ∷ []
+  pub owner_goes_on : told owning one (request.TimedWait (pos 1)) ≡ code.InvalidMode ∷ []
+  pub no_period_to_wait : told at_work one request.PeriodicWait ≡ code.InvalidMode ∷ []
+  pub waits_for_its_period : told at_work two request.PeriodicWait ≡ []
+  -- SET_PARTITION_MODE
+  pub may_be_normal : told furnished initialiser (request.SetPartitionMode (pos 3)) ≡ []
+  pub is_normal_already : told at_work one (request.SetPartitionMode (pos 3)) ≡ code.NoAction ∷ []
+  pub no_mode : told at_work one (request.SetPartitionMode (pos 4)) ≡ code.InvalidParam ∷ []
+  -- buffers, blackboards
+  pub may_create_buffer : told furnished initialiser (request.CreateBuffer (codes "R") (pos 4) (pos 1) (pos 1)) ≡ []
+  pub buffer_of_nothing : told furnished initialiser (request.CreateBuffer (codes "R") (pos 0) (pos 1) (pos 0)) ≡ code.InvalidParam ∷ []
+  pub no_discipline : told furnished initialiser (request.CreateBuffer (codes "R") (pos 4) (pos 1) (pos 2)) ≡ code.InvalidParam ∷ []
+  pub may_send : told at_work one (request.SendBuffer (pos 1) (pos 4) (negsuc 0) (1 ∷ 2 ∷ 3 ∷ 4 ∷ [])) ≡ []
+  pub too_long : told at_work one (request.SendBuffer (pos 1) (pos 5) (negsuc 0) (1 ∷ 2 ∷ 3 ∷ 4 ∷ 5 ∷ [])) ≡ code.InvalidParam ∷ []
+  pub no_buffer : told at_work one (request.ReceiveBuffer (pos 2) (pos 0)) ≡ code.InvalidParam ∷ []
+  pub owner_may_not_wait : told owning one (request.ReceiveBuffer (pos 1) (pos 5)) ≡ code.InvalidMode ∷ []
+  pub owner_may_look : told owning one (request.ReceiveBuffer (pos 1) (pos 0)) ≡ []
+  pub no_more_blackboards : told furnished initialiser (request.CreateBlackboard (codes "O") (pos 4)) ≡ code.InvalidConfig ∷ []
+  pub too_long_to_display : told at_work one (request.DisplayBlackboard (pos 1) (pos 5) (1 ∷ 2 ∷ 3 ∷ 4 ∷ 5 ∷ [])) ≡ code.InvalidParam ∷ []
+  pub initialiser_may_not_read : told furnished initialiser (request.ReadBlackboard (pos 1) (negsuc 0)) ≡ code.InvalidMode ∷ []
+  -- semaphores, events
+  pub above_maximum : told (cold_state one_partition) initialiser (request.CreateSemaphore (codes "S") (pos 2) (pos 1) (pos 0)) ≡ code.InvalidParam ∷ []
+  pub waits_wrongly : told at_work one (request.WaitSemaphore (pos 1) (negsuc 1)) ≡ code.InvalidParam ∷ []
+  pub no_semaphore : told at_work one (request.SignalSemaphore (pos 2)) ≡ code.InvalidParam ∷ []
+  pub no_event : told at_work one (request.SetEvent (negsuc 0)) ≡ code.InvalidParam ∷ []
+  pub owner_awaits_no_event : told owning one (request.WaitEvent (pos 1) (negsuc 0)) ≡ code.InvalidMode ∷ []
+  -- mutexes
+  pub may_acquire : told at_work one (request.AcquireMutex (pos 1) (negsuc 0)) ≡ []
+  pub may_acquire_again : told owning one (request.AcquireMutex (pos 1) (negsuc 0)) ≡ []
+  pub too_high : told (play one_partition at_work (does one (request.SetPriority (pos 2) (pos 60)) ∷ [])) two (request.AcquireMutex (pos 1) (pos 0)) ≡ code.InvalidMode ∷ []
+  pub initialiser_owns_none : told furnished initialiser (request.AcquireMutex (pos 1) (pos 0)) ≡ code.InvalidMode ∷ []
+  pub may_release : told owning one (request.ReleaseMutex (pos 1)) ≡ []
+  pub not_the_owner : told owning two (request.ReleaseMutex (pos 1)) ≡ code.InvalidMode ∷ []
+  -- ports
+  pub sampling_as_configured : told_at_first 1 (request.CreateSamplingPort (codes "S") (pos 4) (pos 1) (pos 5)) ≡ []
+  pub other_refresh : told_at_first 1 (request.CreateSamplingPort (codes "S") (pos 4) (pos 1) (pos 6)) ≡ code.InvalidConfig ∷ []
+  pub any_refresh_at_source : told_at_first 0 (request.CreateSamplingPort (codes "S") (pos 4) (pos 0) (pos 6)) ≡ []
+  pub other_direction : told_at_first 0 (request.CreateSamplingPort (codes "S") (pos 4) (pos 1) (pos 5)) ≡ code.InvalidConfig ∷ []
+  pub no_port_of_that_name : told_at_first 0 (request.CreateSamplingPort (codes "Q") (pos 4) (pos 0) (pos 5)) ≡ code.InvalidConfig ∷ []
+  pub queuing_as_configured : told_at_first 1 (request.CreateQueuingPort (codes "Q") (pos 4) (pos 1) (pos 1)) ≡ []
+  pub other_discipline : told_at_first 1 (request.CreateQueuingPort (codes "Q") (pos 4) (pos 1) (pos 3)) ≡ code.InvalidConfig ∷ []
+  pub other_capacity : told_at_first 0 (request.CreateQueuingPort (codes "Q") (pos 4) (pos 2) (pos 0)) ≡ code.InvalidConfig ∷ []
+  pub may_write : told_there one (request.WriteSamplingMessage (pos 1) (pos 1) (1 ∷ [])) ≡ []
+  pub writes_no_destination : told_there there (request.WriteSamplingMessage (pos 1) (pos 1) (1 ∷ [])) ≡ code.InvalidMode ∷ []
+  pub writes_too_long : told_there one (request.WriteSamplingMessage (pos 1) (pos 5) (1 ∷ 2 ∷ 3 ∷ 4 ∷ 5 ∷ [])) ≡ code.InvalidConfig ∷ []
+  pub reads_no_source : told_there one (request.ReadSamplingMessage (pos 1)) ≡ code.InvalidMode ∷ []
+  pub may_read : told_there there (request.ReadSamplingMessage (pos 1)) ≡ []
+  pub sends_to_no_destination : told_there there (request.SendQueuingMessage (pos 1) (pos 1) (pos 0) (1 ∷ [])) ≡ code.InvalidMode ∷ []
+  pub receives_from_no_source : told_there one (request.ReceiveQueuingMessage (pos 1) (pos 0)) ≡ code.InvalidMode ∷ []
+  pub no_port : told_there one (request.ReceiveQueuingMessage (pos 2) (pos 0)) ≡ code.InvalidParam ∷ []
+  -- the disciplines of a channel's ends
+  pub senders_by_source : sending_discipline by_ends 0 ≡ discipline.Fifo
+  pub receivers_by_destination : receiving_discipline by_ends 0 ≡ discipline.Priority
+  -- a time-out counts from the call
+  pub not_yet_due : falls_due 0 4 (at waits_later one) ≡ false
+  pub due_then : falls_due 0 5 (at waits_later one) ≡ true
+  -- inside and outside the profile
+  pub may_be_suspended : in_profile all two (at_work.partitions 0) (request.Suspend (pos 1)) ≡ true
+  pub owner_is_not_suspended : in_profile all two (owning.partitions 0) (request.Suspend (pos 1)) ≡ false
+  pub owner_keeps_its_priority : in_profile all two (owning.partitions 0) (request.SetPriority (pos 1) (pos 5)) ≡ false
+  pub who_wants_it_too : in_profile all one (wanting.partitions 0) (request.SetPriority (pos 2) (pos 5)) ≡ false
+  pub owner_is_not_stopped : in_profile all two (owning.partitions 0) (request.Stop (pos 1)) ≡ false
+  pub who_wants_it_may_be_stopped : in_profile all one (wanting.partitions 0) (request.Stop (pos 2)) ≡ true
+  pub initialiser_stays : in_profile all initialiser (furnished.partitions 0) request.StopSelf ≡ false
+  pub may_stop_itself : in_profile all one (at_work.partitions 0) request.StopSelf ≡ true
+  pub no_restart : in_profile all one (at_work.partitions 0) (request.SetPartitionMode (pos 2)) ≡ false
+  pub normal_mode : in_profile all initialiser (furnished.partitions 0) (request.SetPartitionMode (pos 3)) ≡ true
+  pub periodic_not_built : in_profile is_built initialiser (furnished.partitions 0) (request.CreateProcess (codes "D") (pos 10) (pos 20)) ≡ false
+  pub aperiodic_built : in_profile is_built initialiser (furnished.partitions 0) (request.CreateProcess (codes "D") (pos 10) (negsuc 0)) ≡ true
+  pub periodic_judged : in_profile all initialiser (furnished.partitions 0) (request.CreateProcess (codes "D") (pos 10) (pos 20)) ≡ true
