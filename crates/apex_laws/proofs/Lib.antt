@@ -42,3 +42,4 @@ pub mod WholeCalls
 pub mod Standing
 pub mod ObjectCalls
 pub mod Exact
+pub mod Joins

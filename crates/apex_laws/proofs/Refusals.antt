@@ -6,8 +6,8 @@ use Rattle.apex_machine.specs.Configuration.{Configuration}
 use Rattle.apex_types.specs.declared.service.Service.{Service}
 use Rattle.apex_machine.specs.Demands.{AllHold, Demand, FirstFails, demands_judging}
 use Rattle.apex_machine.specs.Pieces.{Part, Piece, touches}
-use Rattle.apex_machine.specs.Runs.{FindsJudging, FindsNextJudging, GoesJudging, Refusal}
-use Rattle.apex_laws.specs.Laws.{OneFirstRefusal, SilentPieceRuns}
+use Rattle.apex_machine.specs.Runs.{FindsJudging, FindsNextJudging, GoesJudging, PieceRunJudging, Refusal}
+use Rattle.apex_laws.specs.Laws.{OneFirstRefusal}
 
 -- without a refusal
 
@@ -20,7 +20,8 @@ silent_next true judged configuration old ordered More (inr found) =
     let some : ◌≡◌ {A = Option Refusal} None (Some (record { pos = ordered.pos; cause = found.0 })) = found.2 in cc
 
 -- so it has a run
-pub silent_piece_runs : SilentPieceRuns
+pub silent_piece_runs : (judged : Service → Bool) (configuration : Configuration) (piece : Piece) (old : Part) (records : List Ordered)
+    → FindsJudging judged configuration piece old records None → (final : Part) × PieceRunJudging judged configuration piece old records final
 silent_piece_runs judged configuration piece old [] finds = (old, refl)
 silent_piece_runs judged configuration piece old (ordered ∷ others) finds =
     let next = silent_next (touches configuration piece ordered) judged configuration old ordered (λ next. FindsJudging judged configuration piece next others None) finds in
@@ -30,13 +31,13 @@ silent_piece_runs judged configuration piece old (ordered ∷ others) finds =
 -- at most one
 
 -- demands that all hold have no first one that fails
-none_fails : (asked : List {1} Demand) (cause : Cause) → AllHold asked → FirstFails asked cause → ⊥
+pub none_fails : (asked : List {1} Demand) (cause : Cause) → AllHold asked → FirstFails asked cause → ⊥
 none_fails [] cause hold fails = fails
 none_fails (demand ∷ asked) cause hold (inl fails) = fails.0 hold.0
 none_fails (demand ∷ asked) cause hold (inr fails) = none_fails asked cause hold.1 fails.1
 
 -- the first demand that fails has one cause
-one_cause : (asked : List {1} Demand) (one other : Cause) → FirstFails asked one → FirstFails asked other → one ≡ other
+pub one_cause : (asked : List {1} Demand) (one other : Cause) → FirstFails asked one → FirstFails asked other → one ≡ other
 one_cause [] one other first second = absurd first
 one_cause (demand ∷ asked) one other (inl first) (inl second) = first.1 ∙ sym second.1
 one_cause (demand ∷ asked) one other (inl first) (inr second) = absurd (first.0 second.0)

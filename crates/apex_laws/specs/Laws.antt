@@ -186,13 +186,6 @@ RunOfEach =
     → EndsAreApart configuration → AreTied configuration state → RunJudging judged configuration state records final
     → (piece : Piece) → IsTrue (is_configured configuration piece) → PieceRunJudging judged configuration piece (part piece state) records (part piece final)
 
--- a piece that refuses nothing has a run over all the records
-abbrev pub SilentPieceRuns : Type 0
-SilentPieceRuns =
-    (judged : Service → Bool) (configuration : Configuration) (piece : Piece) (old : Part) (records : List Ordered)
-    → FindsJudging judged configuration piece old records None
-    → (final : Part) × PieceRunJudging judged configuration piece old records final
-
 -- a piece has at most one first refusal
 abbrev pub OneFirstRefusal : Type 0
 OneFirstRefusal =

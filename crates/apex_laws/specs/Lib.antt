@@ -1,4 +1,5 @@
 pub mod Laws
+pub mod JoinLaws
 pub mod ObjectSentences
 pub mod CallSentences
 pub mod ObjectLaws

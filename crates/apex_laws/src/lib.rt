@@ -5,7 +5,8 @@
 //! that are judged: for those of today, and for all.
 #![tactic(auto)]
 
-ghost use Rattle.apex_laws.specs.Laws.{AtMostOneNextState, ChoiceIsTheSentence, OneFirstRefusal, OneRun, PiecesCompose, PiecesFollow, RunOfEach, SilentPieceRuns, StaysInOrder, StaysTied, ViewIsOfTheRun, WhoWaitsStands};
+ghost use Rattle.apex_laws.specs.Laws.{AtMostOneNextState, ChoiceIsTheSentence, OneFirstRefusal, OneRun, PiecesCompose, PiecesFollow, RunOfEach, StaysInOrder, StaysTied, ViewIsOfTheRun, WhoWaitsStands};
+ghost use Rattle.apex_laws.specs.JoinLaws.{FindingsJoin, FoundIsRefused, NothingFoundIsARun, RunsJoin};
 ghost use Rattle.apex_laws.specs.ObjectLaws.{BlackboardIsTheSentence, ChannelIsTheSentence, EventIsTheSentence, FirstIsTheSentence, MutexIsTheSentence, ObjectCallIsTheSentence, OrderIsApart, QueueIsTheSentence, SamplingIsTheSentence, SemaphoreIsTheSentence};
 ghost use Rattle.apex_laws.specs.RecordLaws.{CallIsTheSentence, DispatchIsTheSentence, RefusalIsTheSentence, ReturnIsTheSentence, SetIsTheSentence, TickIsTheSentence};
 ghost use Rattle.apex_laws.specs.ConditionFacts.{ConditionFacts};
@@ -61,9 +62,25 @@ pub fn run_of_each()
     ensures { RunOfEach }
 {}
 
-/// A piece that refuses nothing has a run over all the records.
-pub fn silent_piece_runs()
-    ensures { SilentPieceRuns }
+/// A run over one list of records behind another is a run over the first, and from where it ends a run over the second.
+pub fn runs_join()
+    ensures { RunsJoin }
+{}
+
+/// What a piece finds in one list of records behind another is what it finds in the first, or else, from where its run over
+/// the first ends, what it finds in the second.
+pub fn findings_join()
+    ensures { FindingsJoin }
+{}
+
+/// A piece finds nothing exactly where it has a run over all the records.
+pub fn nothing_found_is_a_run()
+    ensures { NothingFoundIsARun }
+{}
+
+/// A piece finds a refusal exactly where it runs up to a record and refuses that one, whatever stands behind it.
+pub fn found_is_refused()
+    ensures { FoundIsRefused }
 {}
 
 /// A piece has at most one first refusal.

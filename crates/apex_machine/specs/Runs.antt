@@ -1,6 +1,6 @@
 -- What a piece makes of a whole recording: its run over the records that touch it, or its first refusal.
 -- Each is said for any services that are judged, and then for those of today.
-use Rattle.std.specs.Prelude.{◌≡◌, ◌⊎◌, ◌<◌, ℕ, suc, List, [], ◌∷◌, Option, Some, None, Bool, true, false}
+use Rattle.std.specs.Prelude.{◌≡◌, ◌⊎◌, ◌<◌, ℕ, suc, List, [], ◌∷◌, Option, Some, None, Bool, true, false, IsTrue}
 use Rattle.apex_types.specs.declared.cause.Cause.{Cause}
 use Rattle.apex_types.specs.declared.record.Ordered.{Ordered}
 use Rattle.apex_types.specs.declared.service.Service.{Service}
@@ -36,6 +36,12 @@ pub record Refusal : Type 0 where
   pub pos : ℕ
   pub cause : Cause
 
+-- a piece runs over these records, and then refuses this one, which touches it, for this cause
+abbrev pub RefusesJudging : (Service → Bool) → Configuration → Piece → Part → List Ordered → Ordered → Cause → Type 0
+RefusesJudging judged configuration piece old before ordered cause =
+    (reached : Part) × PieceRunJudging judged configuration piece old before reached
+    × IsTrue (touches configuration piece ordered) × FirstFails (demands_judging judged configuration reached ordered) cause
+
 -- what a piece finds at a record and behind it, by whether the record touches it
 abbrev pub FindsNextJudging : Bool → (Service → Bool) → Configuration → Part → Ordered → (Part → Type 0) → Option Refusal → Type 0
 FindsNextJudging false judged configuration old ordered More found = More old
@@ -59,6 +65,10 @@ Goes touched configuration old ordered new = GoesJudging touched is_built config
 -- the run of a piece over the records
 abbrev pub PieceRun : Configuration → Piece → Part → List Ordered → Part → Type 0
 PieceRun configuration piece old records final = PieceRunJudging is_built configuration piece old records final
+
+-- a piece runs over these records, and then refuses this one, which touches it, for this cause
+abbrev pub Refuses : Configuration → Piece → Part → List Ordered → Ordered → Cause → Type 0
+Refuses configuration piece old before ordered cause = RefusesJudging is_built configuration piece old before ordered cause
 
 -- what a piece finds at a record and behind it, by whether the record touches it
 abbrev pub FindsNext : Bool → Configuration → Part → Ordered → (Part → Type 0) → Option Refusal → Type 0

@@ -1,5 +1,5 @@
 -- What callers see of a keeper.
-use Rattle.std.specs.Prelude.{◌≡◌, ◌≤◌, ℕ, List, length, nat_eq, if◌then◌else◌, get_or}
+use Rattle.std.specs.Prelude.{◌≡◌, ◌≤◌, ℕ, List, length, nat_eq, if◌then◌else◌, get_or, sum}
 use Rattle.apex_types.specs.declared.record.Pair.{Pair}
 use Rattle.order_cert.specs.Order.{IsPrefixOfLawful, most_records, numbers_of}
 
@@ -11,6 +11,10 @@ pub record Kept : Type 0 where
 -- how many numbers of a core were taken
 abbrev pub taken_of : Kept → ℕ → ℕ
 taken_of kept core = get_or kept.counts core 0
+
+-- the place of the next pair: how many numbers were taken of all cores
+abbrev pub place_of : Kept → ℕ
+place_of kept = sum kept.counts
 
 -- no core has more numbers than a recording can have
 abbrev pub AreCounts : List ℕ → Type 0

@@ -1,8 +1,8 @@
 // The keeper of a proposed order.
 
-ghost use Rattle.std.specs.Prelude.{◌≡◌, ◌<◌, ◌≤◌, ◌↔◌, ◌++◌, ◌∷◌, [], ℕ, suc, List, Some, None, IfOk, IfErr, OnOk, OnErr, IsOk, length, sum, slice_index};
+ghost use Rattle.std.specs.Prelude.{◌≡◌, ◌<◌, ◌≤◌, ◌↔◌, ◌++◌, ◌∷◌, [], ℕ, suc, List, Some, None, IfOk, IfErr, OnOk, OnErr, IsOk, length, slice_index};
 ghost use Rattle.apex_types.specs.declared.record.Pair.{Pair};
-ghost use Rattle.order_cert.specs.Kept.{Follows, put, taken_of, none_taken};
+ghost use Rattle.order_cert.specs.Kept.{Follows, put, taken_of, none_taken, place_of};
 ghost use Rattle.order_cert.specs.Order.{IsLawfulOrder, IsPrefixOfLawful, misplaced, pair_of};
 
 use crate::fault::OrderFault;
@@ -35,6 +35,7 @@ impl Keeper {
         requires few { cores ≤ 16 }
         ensures cores { result.cores ≡ cores }
         ensures taken { taken_of result ≡ none_taken }
+        ensures place { place_of result ≡ 0 }
         ensures follows { Follows result [] }
     {
         Keeper {
@@ -54,7 +55,8 @@ impl Keeper {
         ensures unchanged { OnErr result (self.new ≡ self.old) }
         ensures fits { OnOk result (misplaced self.old.cores (taken_of self.old) (pair_of core seq) ≡ None) }
         ensures within { OnOk result (core < self.old.cores) }
-        ensures place { IfOk result (λ place. place ≡ sum self.old.counts) }
+        ensures place { IfOk result (λ place. place ≡ place_of self.old) }
+        ensures next { OnOk result (place_of self.new ≡ suc (place_of self.old)) }
         ensures taken { OnOk result (taken_of self.new ≡ put (taken_of self.old) core (suc (taken_of self.old core))) }
         ensures follows { IfOk result (λ place. (pairs : List Pair) → Follows self.old pairs → (place ≡ length pairs) × Follows self.new (pairs ++ pair_of core seq ∷ [])) }
         ensures unlawful { OnErr result ((pairs : List Pair) → Follows self.old pairs → ¬ IsPrefixOfLawful self.old.cores (pairs ++ pair_of core seq ∷ [])) }
@@ -73,6 +75,13 @@ impl Keeper {
         self.counts[core as usize] = taken + 1;
         self.total += 1;
         Ok(place)
+    }
+
+    /// The place of the next pair: how many were taken. Takes no memory.
+    pub fn place(&self) -> u64
+        ensures { result ≡ place_of self.now }
+    {
+        self.total
     }
 
     /// Whether the pairs taken are a lawful order of recordings of these lengths. Takes no memory.

@@ -1,5 +1,5 @@
-pub mod Standing
 pub mod Readings
-pub mod Underway
+pub mod Standing
 pub mod Ends
 pub mod Places
+pub mod Ahead

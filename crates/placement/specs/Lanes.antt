@@ -1,14 +1,18 @@
--- What the recordings of all cores have left, and what a placing of them tells.
-use Rattle.std.specs.Prelude.{◌≡◌, ℕ, zero, suc, List, [], ◌∷◌, Option, Some, None, Result, length, if◌then◌else◌}
+-- What the recordings of all cores and the certificate have left, and what is ahead of a placer.
+use Rattle.std.specs.Prelude.{◌≡◌, ℕ, zero, suc, List, [], ◌∷◌, Bool, Option, Some, None, Result, Ok, Err, length, if◌then◌else◌}
 use Rattle.csv_rows.specs.Source.{Source}
+use Rattle.apex_types.specs.declared.record.Ordered.{Ordered}
 use Rattle.order_cert.specs.declared.fault.CertFault.TheVariants as cert
-use Rattle.order_cert.specs.Kept.{none_taken}
+use Rattle.order_cert.specs.Kept.{Kept, place_of, taken_of}
 use Rattle.order_cert.specs.Row.{Item as CertItem}
 use Rattle.record_read.specs.declared.fault.RowFault.TheVariants as row
 use Rattle.record_read.specs.Row.{Item}
 use Rattle.placement.specs.declared.fault.InputFault.{InputFault}
+use Rattle.placement.specs.declared.fault.InputFault.TheVariants as input
+use Rattle.placement.specs.declared.placer.Filled.{Filled}
+use Rattle.placement.specs.declared.placer.Filled.TheVariants.{Full, Ended}
 use Rattle.placement.specs.Reading.{Reads}
-use Rattle.placement.specs.Scan.{Scan, ends_of, scan}
+use Rattle.placement.specs.Scan.{Scan, ends_of, ends_so, led_by, scan}
 
 -- what a source has left; nothing is known of it once a fault has stopped it
 abbrev pub standing : Source Item → Option (List Item)
@@ -24,21 +28,49 @@ left_at (left ∷ others) (suc core) = left_at others core
 abbrev pub AreLeft : List (Option (List Item)) → (ℕ → List Item) → Type 0
 AreLeft lanes items = (core : ℕ) → left_at lanes core ≡ Some (items core)
 
--- some readings of these items are scanned so
-abbrev pub IsScanOf : ℕ → (ℕ → List Item) → List CertItem → Scan → Type 0
-IsScanOf cores items certificate result =
+-- some readings of these items are scanned so, from this place on
+abbrev pub IsScanOf : ℕ → (ℕ → ℕ) → ℕ → (ℕ → List Item) → List CertItem → Scan → Type 0
+IsScanOf cores taken place items certificate scanned =
     (left : ℕ → List Item) × (pairs : List CertItem)
     × ((core : ℕ) → Reads row.Read (items core) (left core)) × Reads cert.Read certificate pairs
-    × (scan cores none_taken [] left pairs ≡ result)
-
--- the same of what is left, where that is known
-abbrev pub IsScanned : List (Option (List Item)) → Option (List CertItem) → Scan → Type 0
-IsScanned lanes left result =
-    (items : ℕ → List Item) (certificate : List CertItem) → AreLeft lanes items → left ≡ Some certificate
-    → IsScanOf (length lanes) items certificate result
+    × (scan cores taken place left pairs ≡ scanned)
 
 -- some readings of what is left end so
 abbrev pub IsEnded : List (Option (List Item)) → ℕ → (ℕ → ℕ) → Result (Unit {0}) InputFault → Type 0
 IsEnded lanes place taken result =
     (items : ℕ → List Item) → AreLeft lanes items
     → (left : ℕ → List Item) × ((core : ℕ) → Reads row.Read (items core) (left core)) × (ends_of (length lanes) place taken left ≡ result)
+
+-- what callers see of a placer: what the recordings and the certificate have left, where that is known; how many numbers of each
+-- core were taken; and whether the input has ended
+pub record Placing : Type 0 where
+  pub lanes : List (Option (List Item))
+  pub pairs : Option (List CertItem)
+  pub kept : Kept
+  pub ended : Bool
+
+-- these records are ahead, and the input ends so behind them, for some readings of what is left, where that is known
+abbrev pub IsAhead : Placing → Scan → Type 0
+IsAhead placing scanned =
+    (items : ℕ → List Item) (certificate : List CertItem) → AreLeft placing.lanes items → placing.pairs ≡ Some certificate
+    → IsScanOf (length placing.lanes) (taken_of placing.kept) (place_of placing.kept) items certificate scanned
+
+-- how the input ends, where it is no want of memory, of which the texts say nothing
+abbrev pub IsTheEnd : Placing → List Ordered → Result (Unit {0}) InputFault → Type 0
+IsTheEnd placing records (Err input.Memory) = Unit {0}
+IsTheEnd placing records end = IsAhead placing (record { placed = records; end = end })
+
+-- these records stood before all that is still ahead
+abbrev pub Lead : Placing → List Ordered → Placing → Type 0
+Lead old records new = (scanned : Scan) → IsAhead new scanned → IsAhead old (led_by records scanned)
+
+-- one answer of a placer: the first record that was ahead; or none was, and the input ends
+abbrev pub IsNext : Placing → Result (Option Ordered) InputFault → Placing → Type 0
+IsNext old (Ok (Some ordered)) new = Lead old (ordered ∷ []) new
+IsNext old (Ok None) new = IsTheEnd old [] (Ok tt)
+IsNext old (Err fault) new = IsTheEnd old [] (Err fault)
+
+-- one round of a placer: records that stood before all that is still ahead; or all that were ahead, and the input ends
+abbrev pub IsFilled : Placing → List Ordered → Filled → Placing → Type 0
+IsFilled old records Full new = Lead old records new
+IsFilled old records (Ended end) new = IsTheEnd old records end

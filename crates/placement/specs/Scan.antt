@@ -1,25 +1,33 @@
 -- The records in the order of the certificate, and how the input ends.
-use Rattle.std.specs.Prelude.{ℕ, zero, suc, List, [], ◌∷◌, ◌++◌, Option, Some, None, Result, Ok, Err, length}
+use Rattle.std.specs.Prelude.{ℕ, zero, suc, List, [], ◌∷◌, ◌++◌, Option, Some, None, Result, Ok, Err}
 use Rattle.apex_types.specs.declared.record.Ordered.{Ordered}
 use Rattle.apex_types.specs.declared.record.Pair.{Pair}
 use Rattle.apex_types.specs.declared.record.Record.{Record}
+use Rattle.order_cert.specs.declared.fault.CertFault.{CertFault}
+use Rattle.order_cert.specs.declared.fault.CertFault.TheVariants as cert
 use Rattle.order_cert.specs.declared.fault.OrderFault.{OrderFault}
 use Rattle.order_cert.specs.declared.fault.OrderFault.TheVariants.{Absent, Missing}
 use Rattle.order_cert.specs.Kept.{put}
 use Rattle.order_cert.specs.Order.{misplaced}
 use Rattle.order_cert.specs.Row.{Item as CertItem}
+use Rattle.record_read.specs.declared.fault.RowFault.{RowFault}
+use Rattle.record_read.specs.declared.fault.RowFault.TheVariants as row
 use Rattle.record_read.specs.Row.{Item}
 use Rattle.placement.specs.declared.fault.InputFault.{InputFault}
 use Rattle.placement.specs.declared.fault.InputFault.TheVariants as input
 
--- the records that were placed, and the input's fault behind the last, if it has one
+-- records at their places, and the input's fault behind the last, if it has one
 pub record Scan : Type 0 where
   pub placed : List Ordered
   pub end : Result (Unit {0}) InputFault
 
--- the records placed, and the fault behind them
-abbrev pub ends_with : List Ordered → InputFault → Scan
-ends_with placed fault = record { placed = placed; end = Err fault }
+-- no record is ahead, and the input ends so
+abbrev pub ends_so : Result (Unit {0}) InputFault → Scan
+ends_so end = record { placed = []; end = end }
+
+-- these records, and what is behind them
+abbrev pub led_by : List Ordered → Scan → Scan
+led_by records scanned = record { placed = records ++ scanned.placed; end = scanned.end }
 
 -- the record at its place
 abbrev pub placed_at : ℕ → ℕ → Record → Ordered
@@ -42,21 +50,39 @@ ends_of zero place taken left = Ok tt
 ends_of (suc core) place taken left = and_then (ends_of core place taken left) (end_of place core (taken core) (left core))
 
 -- a pair that may not stand ends the input
-abbrev pub keeping : Option OrderFault → Pair → List Ordered → Scan → Scan
-keeping (Some fault) pair placed later = ends_with placed (input.Order (length placed) pair.core fault)
-keeping None pair placed later = later
+abbrev pub keeping : Option OrderFault → ℕ → Pair → Scan → Scan
+keeping (Some fault) place pair later = ends_so (Err (input.Order place pair.core fault))
+keeping None place pair later = later
 
 -- a pair takes the next record of its core; it ends the input where that is absent or faulty
-abbrev pub taking : Pair → List Ordered → List Item → (Record → List Item → Scan) → Scan
-taking pair placed [] later = ends_with placed (input.Order (length placed) pair.core Absent)
-taking pair placed (Err fault ∷ rest) later = ends_with placed (input.Row pair.core pair.seq fault)
-taking pair placed (Ok rec ∷ rest) later = later rec rest
+abbrev pub taking : ℕ → Pair → List Item → (Record → List Item → Scan) → Scan
+taking place pair [] later = ends_so (Err (input.Order place pair.core Absent))
+taking place pair (Err fault ∷ rest) later = ends_so (Err (input.Row pair.core pair.seq fault))
+taking place pair (Ok rec ∷ rest) later = led_by (placed_at place pair.core rec ∷ []) (later rec rest)
 
--- pair after pair of the certificate takes the next record of its core
-unfoldable pub scan : ℕ → (ℕ → ℕ) → List Ordered → (ℕ → List Item) → List CertItem → Scan
-scan cores taken placed left [] = record { placed = placed; end = ends_of cores (length placed) taken left }
-scan cores taken placed left (Err fault ∷ rest) = ends_with placed (input.Cert (length placed) fault)
-scan cores taken placed left (Ok pair ∷ rest) =
-    keeping (misplaced cores taken pair) pair placed
-    (taking pair placed (left pair.core) (λ rec more.
-    scan cores (put taken pair.core (suc (taken pair.core))) (placed ++ placed_at (length placed) pair.core rec ∷ []) (put left pair.core more) rest))
+-- pair after pair of the certificate takes the next record of its core, the first at this place, where so many records of each
+-- core were taken before
+unfoldable pub scan : ℕ → (ℕ → ℕ) → ℕ → (ℕ → List Item) → List CertItem → Scan
+scan cores taken place left [] = ends_so (ends_of cores place taken left)
+scan cores taken place left (Err fault ∷ rest) = ends_so (Err (input.Cert place fault))
+scan cores taken place left (Ok pair ∷ rest) =
+    keeping (misplaced cores taken pair) place pair
+    (taking place pair (left pair.core) (λ rec more.
+    scan cores (put taken pair.core (suc (taken pair.core))) (suc place) (put left pair.core more) rest))
+
+-- the answer where no record is ahead, and the input ends so
+abbrev pub no_more : Result (Unit {0}) InputFault → Result (Option Ordered) InputFault
+no_more (Ok ended) = Ok None
+no_more (Err fault) = Err fault
+
+-- faults as the input tells them; want of memory is its own
+
+-- a fault of the certificate's row for a place
+abbrev pub cert_fault : ℕ → CertFault → InputFault
+cert_fault place cert.Memory = input.Memory
+cert_fault place fault = input.Cert place fault
+
+-- a fault of a core's recording behind so many records
+abbrev pub row_fault : ℕ → ℕ → RowFault → InputFault
+row_fault core seq row.Memory = input.Memory
+row_fault core seq fault = input.Row core seq fault

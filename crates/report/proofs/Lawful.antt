@@ -1,9 +1,9 @@
 -- What a Yes means, from the scan of the texts and the verdict over the records placed.
-use Rattle.std.proofs.Common.{◌≡◌, ◌≢◌, ◌<◌, ℕ, zero, suc, List, [], ◌∷◌, ◌++◌, Bool, true, false, Option, Some, None, Result, Ok, Err, length, map, refl, sym, ap, ◌∙◌, subst, inl, inr, arith, nat_eq, nat_lt, nat_le, ◌||◌, eqb-true, eq-eqb, append_assoc}
+use Rattle.std.proofs.Common.{◌≡◌, ◌≢◌, ◌<◌, ℕ, zero, suc, List, [], ◌∷◌, ◌++◌, Bool, true, false, Option, Some, None, Result, Ok, Err, length, map, refl, sym, ap, ◌∙◌, subst, inl, inr, arith, nat_eq, nat_lt, nat_le, ◌||◌, eqb-true, eq-eqb}
 use Rattle.std.specs.Prelude.{if◌then◌else◌}
 use Rattle.std.proofs.lemmas.Bool.Decides.{nat_tests}
-use Rattle.std.proofs.lemmas.List.{append-nil, length-append}
 use Rattle.apex_machine.specs.Configuration.{Configuration}
+use Rattle.apex_machine.specs.Runs.{ArePlaced}
 use Rattle.apex_types.specs.declared.record.Ordered.{Ordered}
 use Rattle.apex_types.specs.declared.record.Pair.{Pair}
 use Rattle.apex_types.specs.declared.record.Record.{Record}
@@ -17,13 +17,13 @@ use Rattle.order_cert.specs.Row.{Item as CertItem, pairs_of}
 use Rattle.placement.specs.declared.fault.InputFault.{InputFault}
 use Rattle.placement.specs.Lanes.{IsScanOf}
 use Rattle.placement.specs.Reading.{Reads}
-use Rattle.placement.specs.Scan.{Scan, end_of, ends_of, ends_with, and_then, keeping, placed_at, scan, taking}
+use Rattle.placement.specs.Scan.{Scan, and_then, end_of, ends_of, ends_so, keeping, placed_at, scan, taking}
 use Rattle.placement.proofs.Readings.{put-here, put-other, put-back, same_or}
 use Rattle.record_read.specs.declared.fault.RowFault.TheVariants as row
 use Rattle.record_read.specs.Row.{Item}
 use Rattle.verdict_merge.specs.declared.verdict.Verdict.{Verdict}
 use Rattle.verdict_merge.specs.declared.verdict.Verdict.TheVariants.{Yes, No}
-use Rattle.verdict_merge.specs.Findings.{IsRunWhereYes}
+use Rattle.verdict_merge.specs.Verdicts.{IsRunWhereYes}
 use Rattle.report.specs.declared.fault.CheckFault.{CheckFault}
 use Rattle.report.specs.declared.fault.CheckFault.TheVariants as refusal
 use Rattle.report.specs.Outcome.{answer_with, items_at}
@@ -60,17 +60,15 @@ ends_of-good (suc cores) place taken left e core within =
     ended (Ok rec ∷ rest) e = cc
     ended (Err fault ∷ rest) e = cc
 
--- what a scan that ends well has placed behind what was placed before
-record Placed (cores : ℕ) (taken : ℕ → ℕ) (placed all : List Ordered) (left : ℕ → List Item) (items : List CertItem) : Type 0 where
+-- what a scan that ends well has placed, from this place on
+record Placed (cores : ℕ) (taken : ℕ → ℕ) (place : ℕ) (records : List Ordered) (left : ℕ → List Item) (items : List CertItem) : Type 0 where
   pub pairs : List Pair
   pub recordings : ℕ → List Record
-  pub records : List Ordered
-  pub all_is : all ≡ placed ++ records
   pub items_are : items ≡ map Ok pairs
   pub left_is : (core : ℕ) → core < cores → left core ≡ map Ok (recordings core)
   pub numbers : (core : ℕ) → core < cores → numbers_of core pairs ≡ following (taken core) (length (recordings core))
   pub known : AllKnown cores pairs
-  pub ordered : AreInOrder cores (length placed) pairs recordings records
+  pub ordered : AreInOrder cores place pairs recordings records
 
 some_fault : (fault : OrderFault) → ◌≡◌ {A = Option OrderFault} (Some fault) None → ⊥
 some_fault fault e = cc
@@ -88,15 +86,13 @@ fits_tells cores taken pair e =
     by true false false true x y z h = absurd (some_fault Skipped h)
     by true false false false x y z h = (grind (arith, nat_tests), grind (arith, nat_tests))
 
-one_more : (cores : ℕ) (taken : ℕ → ℕ) (placed all : List Ordered) (left : ℕ → List Item) (pair : Pair) (rec : Record) (more : List Item) (rest : List CertItem)
+one_more : (cores : ℕ) (taken : ℕ → ℕ) (place : ℕ) (records : List Ordered) (left : ℕ → List Item) (pair : Pair) (rec : Record) (more : List Item) (rest : List CertItem)
     → (pair.core < cores) × (pair.seq ≡ taken pair.core) → left pair.core ≡ Ok rec ∷ more
-    → Placed cores (put taken pair.core (suc (taken pair.core))) (placed ++ placed_at (length placed) pair.core rec ∷ []) all (put left pair.core more) rest
-    → Placed cores taken placed all left (Ok pair ∷ rest)
-one_more cores taken placed all left pair rec more rest fits here r = record {
+    → Placed cores (put taken pair.core (suc (taken pair.core))) (suc place) records (put left pair.core more) rest
+    → Placed cores taken place (placed_at place pair.core rec ∷ records) left (Ok pair ∷ rest)
+one_more cores taken place records left pair rec more rest fits here r = record {
   pairs = pair ∷ r.pairs;
   recordings = put r.recordings pair.core (rec ∷ r.recordings pair.core);
-  records = placed_at (length placed) pair.core rec ∷ r.records;
-  all_is = r.all_is ∙ append_assoc placed (placed_at (length placed) pair.core rec ∷ []) r.records;
   items_are = ap (λ l. Ok pair ∷ l) r.items_are;
   left_is = λ core h. elim (same_or core pair.core) [
     | inl s ↦ rw (s, put-here r.recordings pair.core (rec ∷ r.recordings pair.core)) (here ∙ ap (λ l. Ok rec ∷ l) (sym (put-here left pair.core more) ∙ r.left_is pair.core fits.0))
@@ -113,17 +109,13 @@ one_more cores taken placed all left pair rec more rest fits here r = record {
   ordered = (
     rec,
     r.recordings pair.core,
-    r.records,
+    records,
     put-here r.recordings pair.core (rec ∷ r.recordings pair.core),
     refl,
-    subst (λ n. AreInOrder cores n r.pairs (put (put r.recordings pair.core (rec ∷ r.recordings pair.core)) pair.core (r.recordings pair.core)) r.records) grown
-        (subst (λ f. AreInOrder cores (length (placed ++ placed_at (length placed) pair.core rec ∷ [])) r.pairs f r.records) (sym (put-back r.recordings pair.core (rec ∷ r.recordings pair.core))) r.ordered),
+    subst (λ f. AreInOrder cores (suc place) r.pairs f records) (sym (put-back r.recordings pair.core (rec ∷ r.recordings pair.core))) r.ordered,
   );
 }
   where
-    grown : length (placed ++ placed_at (length placed) pair.core rec ∷ []) ≡ suc (length placed)
-    grown = length-append placed (placed_at (length placed) pair.core rec ∷ []) ∙ omega arith
-
     apart : (core : ℕ) → core < cores → pair.core ≢ core → (b : Bool) → nat_eq pair.core core ≡ b
         → (if b then pair.seq ∷ numbers_of core r.pairs else numbers_of core r.pairs) ≡ following (taken core) (length (put r.recordings pair.core (rec ∷ r.recordings pair.core) core))
     apart core h d true e = absurd (d (eqb-true pair.core core e))
@@ -131,41 +123,63 @@ one_more cores taken placed all left pair rec more rest fits here r = record {
         let o : core ≢ pair.core = λ f. d (sym f) in
         rw (put-other r.recordings pair.core core (rec ∷ r.recordings pair.core) o) (r.numbers core h ∙ ap (λ n. following n (length (r.recordings core))) (put-other taken pair.core core (suc (taken pair.core)) o))
 
-fault_ends : (placed all : List Ordered) (fault : InputFault) → ◌≡◌ {A = Scan} (ends_with placed fault) (record { placed = all; end = Ok tt }) → ⊥
-fault_ends placed all fault e = let x : ◌≡◌ {A = Result (Unit {0}) InputFault} (Err fault) (Ok tt) = ap (λ s. s.end) e in cc
+fault_ends : (records : List Ordered) (fault : InputFault) → ◌≡◌ {A = Scan} (ends_so (Err fault)) (record { placed = records; end = Ok tt }) → ⊥
+fault_ends records fault e = let x : ◌≡◌ {A = Result (Unit {0}) InputFault} (Err fault) (Ok tt) = ap (λ s. s.end) e in cc
 
-step_well : (cores : ℕ) (taken : ℕ → ℕ) (placed all : List Ordered) (left : ℕ → List Item) (pair : Pair) (rest : List CertItem)
+step_well : (cores : ℕ) (taken : ℕ → ℕ) (place : ℕ) (records : List Ordered) (left : ℕ → List Item) (pair : Pair) (rest : List CertItem)
     (wrong : Option OrderFault) → misplaced cores taken pair ≡ wrong → (items : List Item) → left pair.core ≡ items
-    → ((rec : Record) (more : List Item)
-    → scan cores (put taken pair.core (suc (taken pair.core))) (placed ++ placed_at (length placed) pair.core rec ∷ []) (put left pair.core more) rest ≡ record { placed = all; end = Ok tt }
-    → Placed cores (put taken pair.core (suc (taken pair.core))) (placed ++ placed_at (length placed) pair.core rec ∷ []) all (put left pair.core more) rest)
-    → keeping wrong pair placed (taking pair placed items (λ rec more.
-    scan cores (put taken pair.core (suc (taken pair.core))) (placed ++ placed_at (length placed) pair.core rec ∷ []) (put left pair.core more) rest)) ≡ record { placed = all; end = Ok tt }
-    → Placed cores taken placed all left (Ok pair ∷ rest)
-step_well cores taken placed all left pair rest (Some fault) a items b later e = absurd (fault_ends placed all _ e)
-step_well cores taken placed all left pair rest None a [] b later e = absurd (fault_ends placed all _ e)
-step_well cores taken placed all left pair rest None a (Err fault ∷ more) b later e = absurd (fault_ends placed all _ e)
-step_well cores taken placed all left pair rest None a (Ok rec ∷ more) b later e =
-    one_more cores taken placed all left pair rec more rest (fits_tells cores taken pair a) b (later rec more e)
+    → ((later : List Ordered) (more : List Item)
+    → scan cores (put taken pair.core (suc (taken pair.core))) (suc place) (put left pair.core more) rest ≡ record { placed = later; end = Ok tt }
+    → Placed cores (put taken pair.core (suc (taken pair.core))) (suc place) later (put left pair.core more) rest)
+    → keeping wrong place pair (taking place pair items (λ rec more.
+    scan cores (put taken pair.core (suc (taken pair.core))) (suc place) (put left pair.core more) rest)) ≡ record { placed = records; end = Ok tt }
+    → Placed cores taken place records left (Ok pair ∷ rest)
+step_well cores taken place records left pair rest (Some fault) a items b onward e = absurd (fault_ends records _ e)
+step_well cores taken place records left pair rest None a [] b onward e = absurd (fault_ends records _ e)
+step_well cores taken place records left pair rest None a (Err fault ∷ more) b onward e = absurd (fault_ends records _ e)
+step_well cores taken place records left pair rest None a (Ok rec ∷ more) b onward e =
+    let behind : Scan = scan cores (put taken pair.core (suc (taken pair.core))) (suc place) (put left pair.core more) rest in
+    let ended : behind.end ≡ Ok tt = ap (λ s. s.end) e in
+    let whole : behind ≡ record { placed = behind.placed; end = Ok tt } = ap (λ end. record { placed = behind.placed; end = end }) ended in
+    subst (λ list. Placed cores taken place list left (Ok pair ∷ rest)) (ap (λ s. s.placed) e)
+    (one_more cores taken place behind.placed left pair rec more rest (fits_tells cores taken pair a) b (onward behind.placed more whole))
 
-scanned_well : (cores : ℕ) (taken : ℕ → ℕ) (placed all : List Ordered) (left : ℕ → List Item) (items : List CertItem)
-    → scan cores taken placed left items ≡ record { placed = all; end = Ok tt } → Placed cores taken placed all left items
+scanned_well : (cores : ℕ) (taken : ℕ → ℕ) (place : ℕ) (records : List Ordered) (left : ℕ → List Item) (items : List CertItem)
+    → scan cores taken place left items ≡ record { placed = records; end = Ok tt } → Placed cores taken place records left items
 unfolding scan
-scanned_well cores taken placed all left [] e = record {
+scanned_well cores taken place records left [] e = record {
   pairs = [];
   recordings = λ core. [];
-  records = [];
-  all_is = sym (ap (λ s. s.placed) e) ∙ sym (append-nil placed);
   items_are = refl;
-  left_is = ends_of-good cores (length placed) taken left (ap (λ s. s.end) e);
+  left_is = ends_of-good cores place taken left (ap (λ s. s.end) e);
   numbers = λ core h. refl;
   known = tt;
-  ordered = (refl, λ core h. refl);
+  ordered = (sym (ap (λ s. s.placed) e), λ core h. refl);
 }
-scanned_well cores taken placed all left (Err fault ∷ rest) e = absurd (fault_ends placed all _ e)
-scanned_well cores taken placed all left (Ok pair ∷ rest) e =
-    step_well cores taken placed all left pair rest (misplaced cores taken pair) refl (left pair.core) refl
-    (λ rec more h. scanned_well cores (put taken pair.core (suc (taken pair.core))) (placed ++ placed_at (length placed) pair.core rec ∷ []) all (put left pair.core more) rest h) e
+scanned_well cores taken place records left (Err fault ∷ rest) e = absurd (fault_ends records _ e)
+scanned_well cores taken place records left (Ok pair ∷ rest) e =
+    step_well cores taken place records left pair rest (misplaced cores taken pair) refl (left pair.core) refl
+    (λ later more h. scanned_well cores (put taken pair.core (suc (taken pair.core))) (suc place) later (put left pair.core more) rest h) e
+
+-- the records of a scan stand at this place and those after it
+scan_places : (cores : ℕ) (taken : ℕ → ℕ) (place : ℕ) (left : ℕ → List Item) (items : List CertItem) → ArePlaced place (scan cores taken place left items).placed
+unfolding scan
+scan_places cores taken place left [] = tt
+scan_places cores taken place left (Err fault ∷ rest) = tt
+scan_places cores taken place left (Ok pair ∷ rest) = step (misplaced cores taken pair) (left pair.core)
+    (λ more. scan_places cores (put taken pair.core (suc (taken pair.core))) (suc place) (put left pair.core more) rest)
+  where
+    step : (wrong : Option OrderFault) (items : List Item)
+        → ((more : List Item) → ArePlaced (suc place) (scan cores (put taken pair.core (suc (taken pair.core))) (suc place) (put left pair.core more) rest).placed)
+        → ArePlaced place (keeping wrong place pair (taking place pair items (λ rec more.
+        scan cores (put taken pair.core (suc (taken pair.core))) (suc place) (put left pair.core more) rest))).placed
+    step (Some fault) items later = tt
+    step None [] later = tt
+    step None (Err fault ∷ more) later = tt
+    step None (Ok rec ∷ more) later = (refl, later more)
+
+pub scan_placed : (cores : ℕ) (items : ℕ → List Item) (certificate : List CertItem) (scanned : Scan) → IsScanOf cores none_taken 0 items certificate scanned → ArePlaced 0 scanned.placed
+scan_placed cores items certificate scanned (left, pairs, reads, certs, is) = subst (λ one. ArePlaced 0 one.placed) is (scan_places cores none_taken 0 left pairs)
 
 yes_of : (verdict : Verdict) (end : Result (Unit {0}) InputFault) (count : ℕ) → ◌≡◌ {A = Result Verdict CheckFault} (Ok (Yes count)) (answer_with verdict end)
     → (verdict ≡ Yes count) × (end ≡ Ok tt)
@@ -175,15 +189,15 @@ yes_of (Yes records) (Err fault) count e = cc
 
 pub yes_means : (config : List ℕ) (texts : List (List ℕ)) (certificate : List ℕ) (configuration : Configuration) (scanned : Scan) (verdict : Verdict) (result : Result Verdict CheckFault)
     → configuration_of config ≡ Ok configuration → length texts ≡ configuration.cores
-    → IsScanOf (length texts) (items_at texts) (pairs_of certificate) scanned → IsRunWhereYes configuration scanned.placed verdict → result ≡ answer_with verdict scanned.end
+    → IsScanOf (length texts) none_taken 0 (items_at texts) (pairs_of certificate) scanned → IsRunWhereYes configuration scanned.placed verdict → result ≡ answer_with verdict scanned.end
     → YesMeansRun config texts certificate result
 yes_means config texts certificate configuration scanned verdict (Err fault) read count scan run e = tt
 yes_means config texts certificate configuration scanned verdict (Ok (No pos piece cause)) read count scan run e = tt
 yes_means config texts certificate configuration scanned verdict (Ok (Yes records)) read count (left, items, reads, certs, is) run e =
     let yes = yes_of verdict scanned.end records e in
-    let whole : scan configuration.cores none_taken [] left items ≡ record { placed = scanned.placed; end = Ok tt } =
-    subst (λ n. scan n none_taken [] left items ≡ record { placed = scanned.placed; end = Ok tt }) count (is ∙ ap (λ x. record { placed = scanned.placed; end = x }) yes.1) in
-    let p = scanned_well configuration.cores none_taken [] scanned.placed left items whole in
+    let whole : scan configuration.cores none_taken 0 left items ≡ record { placed = scanned.placed; end = Ok tt } =
+    subst (λ n. scan n none_taken 0 left items ≡ record { placed = scanned.placed; end = Ok tt }) count (is ∙ ap (λ x. record { placed = scanned.placed; end = x }) yes.1) in
+    let p = scanned_well configuration.cores none_taken 0 scanned.placed left items whole in
     let final = subst (IsRunWhereYes configuration scanned.placed) yes.0 run in
     record {
       configuration = configuration;
@@ -195,7 +209,7 @@ yes_means config texts certificate configuration scanned verdict (Ok (Yes record
       recorded = λ core h. reads_good row.Read (items_at texts core) (p.recordings core) (left core) (p.left_is core h) (reads core);
       lawful = record { numbers = p.numbers; known = p.known };
       records = scanned.placed;
-      ordered = subst (λ l. AreInOrder configuration.cores 0 p.pairs p.recordings l) (sym p.all_is) p.ordered;
+      ordered = p.ordered;
       final = final.0;
       run = final.1;
       counted = final.2;

@@ -1,2 +1,3 @@
-pub mod Whole
 pub mod Lawful
+pub mod Whole
+pub mod Going

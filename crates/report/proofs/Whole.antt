@@ -2,10 +2,11 @@
 use Rattle.std.proofs.Common.{◌≡◌, ℕ, zero, suc, List, [], ◌∷◌, Option, Some, Result, length, map, refl, sym, ap, ◌∙◌, subst, Bool, true, false, nat_eq, eq-eqb, eqb-true}
 use Rattle.std.specs.Option.{option_map}
 use Rattle.apex_machine.specs.Configuration.{Configuration}
-use Rattle.order_cert.specs.Row.{Item as CertItem, pairs_of}
-use Rattle.placement.specs.Lanes.{AreLeft, IsScanOf, IsScanned}
+use Rattle.order_cert.specs.Row.{pairs_of}
+use Rattle.order_cert.specs.Kept.{none_taken, place_of, taken_of}
+use Rattle.placement.specs.Lanes.{AreLeft, IsAhead, IsScanOf, Placing}
 use Rattle.placement.specs.Scan.{Scan}
-use Rattle.record_read.specs.Row.{Item, records_of}
+use Rattle.record_read.specs.Row.{records_of}
 use Rattle.verdict_merge.specs.declared.verdict.Verdict.{Verdict}
 use Rattle.report.specs.declared.fault.CheckFault.{CheckFault}
 use Rattle.report.specs.Outcome.{IsJudged, IsOutcomeUnder, items_at}
@@ -28,21 +29,21 @@ known_lanes known (reader ∷ readers) (text ∷ texts) e =
     at h more zero = rw h refl
     at h more (suc core) = more core
 
--- a scan of what is left is a scan of the texts
-pub scanned_texts : {A : Type 0} (known : A → Option (List ℕ)) (readers : List A) (texts : List (List ℕ)) (certificate : List ℕ) (bytes : Option (List ℕ))
-    (lanes : List (Option (List Item))) (left : Option (List CertItem)) (scanned : Scan)
-    → map known readers ≡ map Some texts → bytes ≡ Some certificate → lanes ≡ map (λ reader. option_map records_of (known reader)) readers
-    → left ≡ option_map pairs_of bytes → IsScanned lanes left scanned → IsScanOf (length texts) (items_at texts) (pairs_of certificate) scanned
-scanned_texts known readers texts certificate bytes lanes left scanned e is opened begun scan =
+-- what is ahead of a placer over lanes and pairs of these texts is a scan of the texts
+pub scanned_texts : {A : Type 0} (known : A → Option (List ℕ)) (readers : List A) (texts : List (List ℕ)) (certificate : List ℕ) (bytes : Option (List ℕ)) (placing : Placing) (scanned : Scan)
+    → map known readers ≡ map Some texts → bytes ≡ Some certificate → placing.lanes ≡ map (λ reader. option_map records_of (known reader)) readers
+    → placing.pairs ≡ option_map pairs_of bytes → taken_of placing.kept ≡ none_taken → place_of placing.kept ≡ 0 → IsAhead placing scanned
+    → IsScanOf (length texts) none_taken 0 (items_at texts) (pairs_of certificate) scanned
+scanned_texts known readers texts certificate bytes placing scanned e is opened begun taken place ahead =
     let h = known_lanes known readers texts e in
-    let count : length lanes ≡ length texts = ap length opened ∙ h.1 in
-    let are : AreLeft lanes (items_at texts) = rw opened h.2 in
-    let certs : left ≡ Some (pairs_of certificate) = begun ∙ ap (option_map pairs_of) is in
-    rw count at (scan (items_at texts) (pairs_of certificate) are certs)
+    let count : length placing.lanes ≡ length texts = ap length opened ∙ h.1 in
+    let are : AreLeft placing.lanes (items_at texts) = rw opened h.2 in
+    let certs : placing.pairs ≡ Some (pairs_of certificate) = begun ∙ ap (option_map pairs_of) is in
+    rw (count, taken, place) at (ahead (items_at texts) (pairs_of certificate) are certs)
 
 -- the outcome under a configuration with as many cores as there are texts
 pub outcome_under : (configuration : Configuration) (texts : List (List ℕ)) (certificate : List ℕ) (result : Result Verdict CheckFault) (scanned : Scan)
-    → length texts ≡ configuration.cores → IsScanOf (length texts) (items_at texts) (pairs_of certificate) scanned → IsJudged configuration scanned result
+    → length texts ≡ configuration.cores → IsScanOf (length texts) none_taken 0 (items_at texts) (pairs_of certificate) scanned → IsJudged configuration scanned result
     → IsOutcomeUnder (nat_eq (length texts) configuration.cores) configuration texts certificate result
 outcome_under configuration texts certificate result scanned count scan judged =
     subst (λ b. IsOutcomeUnder b configuration texts certificate result) (sym (eq-eqb (length texts) configuration.cores count)) (scanned, scan, judged)

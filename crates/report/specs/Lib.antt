@@ -1,3 +1,4 @@
 pub mod Outcome
 pub mod Yes
 pub mod Text
+pub mod Rounds

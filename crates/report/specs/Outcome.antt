@@ -2,7 +2,9 @@
 use Rattle.std.specs.Prelude.{◌≡◌, ◌⊎◌, ℕ, zero, suc, List, [], ◌∷◌, Bool, true, false, Result, Ok, Err, length, nat_eq}
 use Rattle.apex_machine.specs.Configuration.{Configuration}
 use Rattle.module_config.specs.declared.fault.ConfigFault.{ConfigFault}
+use Rattle.module_config.specs.declared.fault.ConfigFault.TheVariants as config
 use Rattle.module_config.specs.Reading.{configuration_of}
+use Rattle.order_cert.specs.Kept.{none_taken}
 use Rattle.order_cert.specs.Row.{pairs_of}
 use Rattle.placement.specs.declared.fault.InputFault.{InputFault}
 use Rattle.placement.specs.declared.fault.InputFault.TheVariants as input
@@ -11,7 +13,7 @@ use Rattle.placement.specs.Scan.{Scan}
 use Rattle.record_read.specs.Row.{Item, records_of}
 use Rattle.verdict_merge.specs.declared.verdict.Verdict.{Verdict}
 use Rattle.verdict_merge.specs.declared.verdict.Verdict.TheVariants.{Yes, No}
-use Rattle.verdict_merge.specs.Findings.{IsVerdict}
+use Rattle.verdict_merge.specs.Verdicts.{IsVerdict}
 use Rattle.report.specs.declared.fault.ArgumentFault.TheVariants.{ReaderCount}
 use Rattle.report.specs.declared.fault.CheckFault.{CheckFault}
 use Rattle.report.specs.declared.fault.CheckFault.TheVariants.{Arguments, Config, Cert, Order, Row, Memory}
@@ -29,6 +31,11 @@ refusal_of (input.Order place core fault) = Order place core fault
 refusal_of (input.Row core seq fault) = Row core seq fault
 refusal_of input.Memory = Memory
 
+-- the refusal that a fault of the configuration is; want of memory is the check's own
+abbrev pub config_refusal_of : ConfigFault → CheckFault
+config_refusal_of config.Memory = Memory
+config_refusal_of fault = Config fault
+
 -- a No stands at a place before the end of the input, so it decides; a Yes needs an input without a fault
 abbrev pub answer_with : Verdict → Result (Unit {0}) InputFault → Result Verdict CheckFault
 answer_with (No pos piece cause) end = Ok (No pos piece cause)
@@ -44,7 +51,7 @@ IsJudged configuration scanned result =
 abbrev pub IsOutcomeUnder : Bool → Configuration → List (List ℕ) → List ℕ → Result Verdict CheckFault → Type 0
 IsOutcomeUnder false configuration texts certificate result = result ≡ Err (Arguments ReaderCount)
 IsOutcomeUnder true configuration texts certificate result =
-    (scanned : Scan) × IsScanOf (length texts) (items_at texts) (pairs_of certificate) scanned × IsJudged configuration scanned result
+    (scanned : Scan) × IsScanOf (length texts) none_taken 0 (items_at texts) (pairs_of certificate) scanned × IsJudged configuration scanned result
 
 -- the outcome of these texts, by what the text of the configuration is
 abbrev pub IsOutcomeBy : Result Configuration ConfigFault → List (List ℕ) → List ℕ → Result Verdict CheckFault → Type 0

@@ -5,11 +5,11 @@ use Rattle.std.proofs.lemmas.List.Elements.{Contains-append_left, Contains-push,
 use Rattle.verdict_merge.specs.declared.finding.Finding.{Finding}
 use Rattle.verdict_merge.specs.Findings.{Precedes, IsLeast, IsLesser}
 
-not_itself : (finding : Finding) → ¬ Precedes finding finding
+pub not_itself : (finding : Finding) → ¬ Precedes finding finding
 not_itself finding (inl sooner) = absurd (omega arith)
 not_itself finding (inr (same, less)) = absurd (omega arith)
 
-through : (a b c : Finding) → Precedes a b → Precedes b c → Precedes a c
+pub through : (a b c : Finding) → Precedes a b → Precedes b c → Precedes a c
 through a b c (inl x) (inl y) = inl (omega arith)
 through a b c (inl x) (inr y) = inl (omega (arith, y.0))
 through a b c (inr x) (inl y) = inl (omega (arith, x.0))
@@ -41,3 +41,19 @@ least_more front (Some least) next found first (inr (is, later)) = (
     | inr same ↦ later (subst (λ f. Precedes f least) (sym same) (subst (λ f. Precedes other f) is before))
   ],
 )
+
+-- the least finding so far, of which another is not sooner
+abbrev pub IsNoSooner : Option Finding → Finding → Type 0
+IsNoSooner None other = ⊥
+IsNoSooner (Some least) other = ¬ Precedes other least
+
+pub no_sooner_stays : (least : Option Finding) (next found other : Finding) → IsLesser least next found → IsNoSooner least other → IsNoSooner (Some found) other
+no_sooner_stays None next found other is later = absurd later
+no_sooner_stays (Some least) next found other (inl (is, sooner)) later =
+    λ before. later (through other next least (subst (λ f. Precedes other f) is before) sooner)
+no_sooner_stays (Some least) next found other (inr (is, kept)) later = λ before. later (subst (λ f. Precedes other f) is before)
+
+pub no_sooner_next : (least : Option Finding) (next found : Finding) → IsLesser least next found → IsNoSooner (Some found) next
+no_sooner_next None next found is = λ before. not_itself next (subst (λ f. Precedes next f) is before)
+no_sooner_next (Some least) next found (inl (is, sooner)) = λ before. not_itself next (subst (λ f. Precedes next f) is before)
+no_sooner_next (Some least) next found (inr (is, kept)) = λ before. kept (subst (λ f. Precedes next f) is before)

@@ -1,3 +1,6 @@
 pub mod Least
-pub mod Onward
+pub mod Holdings
+pub mod Going
+pub mod Splits
+pub mod Rounds
 pub mod Silence

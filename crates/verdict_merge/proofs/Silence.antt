@@ -1,40 +1,25 @@
--- Where no piece finds anything, the records are a run of the machine.
-use Rattle.std.proofs.Common.{◌≡◌, ◌⊎◌, ◌∙◌, ℕ, suc, List, [], ◌∷◌, ◌++◌, Bool, true, false, Option, Some, None, map, nat_eq, nat_le, ◌||◌, ap, inl, inr, refl, sym, subst, true≢false, eqb-true}
-use Rattle.std.specs.Prelude.{IsTrue, is_some, if◌then◌else◌}
+-- Where all pieces run over the records, these are a run of the machine.
+use Rattle.std.proofs.Common.{◌<◌, length, arith, ◌≡◌, ◌⊎◌, ◌∙◌, ℕ, suc, List, [], ◌∷◌, ◌++◌, Bool, true, false, Some, map, nat_eq, nat_le, ◌||◌, ap, inl, inr, refl, sym, subst, true≢false, eqb-true}
+use Rattle.std.specs.Prelude.{IsTrue, is_some, if◌then◌else◌, slice_index_or}
+use Rattle.apex_machine.specs.Step.{Run}
 use Rattle.apex_types.specs.declared.record.Ordered.{Ordered}
 use Rattle.apex_machine.specs.Channels.{channel_numbers, put_rising, queuing_among, queuing_of, rising, sampling_among, sampling_of}
 use Rattle.apex_machine.specs.Configuration.{Configuration, PartitionLimits, QueuingChannel, SamplingChannel, WindowsAreConfigured, limits_among}
 use Rattle.apex_machine.specs.Pieces.{Piece, Part, part, pieces, is_configured}
 use Rattle.apex_machine.specs.Pieces.Piece.{Module, OfChannel, OfPartition}
-use Rattle.apex_machine.specs.Runs.{ArePlaced, Finds, PieceRun, Refusal}
+use Rattle.apex_machine.specs.Runs.{ArePlaced, PieceRun}
 use Rattle.apex_machine.specs.Services.{is_built}
-use Rattle.apex_machine.specs.State.{cold_state}
-use Rattle.apex_laws.specs.Laws.{OneRun, SilentPieceRuns, StaysTied}
-use Rattle.verdict_merge.specs.declared.finding.Finding.{Finding}
+use Rattle.apex_machine.specs.State.{State, cold_state}
+use Rattle.apex_laws.proofs.Runs.{one_run}
+use Rattle.apex_laws.proofs.Stays.{stays_tied}
 use Rattle.verdict_merge.specs.declared.verdict.Verdict.{Verdict}
 use Rattle.verdict_merge.specs.declared.verdict.Verdict.TheVariants.{Yes, No}
-use Rattle.verdict_merge.specs.Findings.{AllFind, IsVerdict, IsRunWhereYes, findings_of}
+use Rattle.verdict_merge.specs.Rounds.{Runs, cold_parts}
+use Rattle.verdict_merge.specs.Verdicts.{IsRunWhereYes, IsVerdict}
 
 abbrev Among : Piece → List Piece → Type 0
 Among piece [] = ⊥
 Among piece (other ∷ others) = (piece ≡ other) ⊎ Among piece others
-
-none_found : (number : ℕ) (found : Option Refusal) (later : List Finding) → [] ≡ findings_of number found ++ later → (found ≡ None) × (later ≡ [])
-none_found number None later e = (refl, sym e)
-none_found number (Some refusal) later e = let x : ◌≡◌ {A = List Finding} [] (record { pos = refusal.pos; piece = number; cause = refusal.cause } ∷ later) = e in cc
-
--- each of the pieces finds nothing
-each_silent : (configuration : Configuration) (number : ℕ) (others : List Piece) (records : List Ordered) (findings : List Finding) → findings ≡ []
-    → AllFind configuration number others records findings → (piece : Piece) → Among piece others
-    → Finds configuration piece (part piece (cold_state configuration)) records None
-each_silent configuration number [] records findings none all piece among = absurd among
-each_silent configuration number (other ∷ others) records findings none (found, later, first, rest, is) piece among =
-    let both = none_found number found later (sym none ∙ is) in
-    elim among [
-      | inl same ↦ subst (λ p. Finds configuration p (part p (cold_state configuration)) records None) (sym same)
-          (subst (λ f. Finds configuration other (part other (cold_state configuration)) records f) both.0 first)
-      | inr more ↦ each_silent configuration (suc number) others records later both.1 rest piece more
-    ]
 
 among_limits : (number : ℕ) (limits : List PartitionLimits) → is_some (limits_among number limits) ≡ true
     → Among (OfPartition number) (map (λ l. OfPartition l.number) limits)
@@ -127,25 +112,42 @@ is_one configuration (OfChannel number) has =
     inr (Among-right (OfChannel number) (map (λ l. OfPartition l.number) configuration.partitions) (map (λ n. OfChannel n) (channel_numbers configuration))
     (channel_there configuration number (is_some (sampling_of configuration number)) refl has))
 
+-- one of the pieces stands at a number
+numbered : (piece : Piece) (others : List Piece) → Among piece others → (number : ℕ) × (number < length others) × (slice_index_or others number Module ≡ piece)
+numbered piece [] among = absurd among
+numbered piece (other ∷ others) among = elim among [
+  | inl same ↦ (0, omega arith, sym same)
+  | inr more ↦ let rest = numbered piece others more in (suc rest.0, omega (arith, rest.1), rest.2)
+]
+
 -- the run of a piece, if it is configured
 abbrev RunTo : Configuration → List Ordered → Piece → Type 0
 RunTo configuration records piece =
     (final : Part) × (IsTrue (is_configured configuration piece) → PieceRun configuration piece (part piece (cold_state configuration)) records final)
 
-run_to : (configuration : Configuration) (records : List Ordered) (piece : Piece)
-    → (is_configured configuration piece ≡ true → Finds configuration piece (part piece (cold_state configuration)) records None)
-    → SilentPieceRuns → RunTo configuration records piece
-run_to configuration records piece silent runs = by (is_configured configuration piece) refl
+run_to : (configuration : Configuration) (records : List Ordered)
+    → ((number : ℕ) → number < length (pieces configuration) → Runs configuration (cold_parts configuration) number records) → (piece : Piece) → RunTo configuration records piece
+run_to configuration records runs piece = by (is_configured configuration piece) refl
   where
     by : (b : Bool) → is_configured configuration piece ≡ b → RunTo configuration records piece
-    by true has = let run = runs is_built configuration piece (part piece (cold_state configuration)) records (silent has) in (run.0, λ _. run.1)
+    by true has =
+        let there = numbered piece (pieces configuration) (is_one configuration piece has) in
+        let run = runs there.0 there.1 in
+        (run.0, λ _. subst (λ one. PieceRun configuration one (part one (cold_state configuration)) records run.0) there.2 run.1)
     by false has = (part piece (cold_state configuration), λ h. absurd (true≢false (sym h ∙ has)))
 
-pub run_where_yes : OneRun → SilentPieceRuns → StaysTied → (configuration : Configuration) (records : List Ordered) (verdict : Verdict)
+-- where all pieces have runs over the records, these are a run of the machine, which reaches what the pieces reach
+pub machine_runs : (configuration : Configuration) (records : List Ordered) → WindowsAreConfigured configuration → ArePlaced 0 records
+    → ((number : ℕ) → number < length (pieces configuration) → Runs configuration (cold_parts configuration) number records)
+    → (final : State) × Run configuration (cold_state configuration) records final
+machine_runs configuration records windows placed runs =
+    let each = run_to configuration records runs in
+    let run = one_run is_built configuration (cold_state configuration) records (λ piece. (each piece).0) windows (stays_tied.0 configuration) placed (λ piece. (each piece).1) in
+    (run.0, run.1)
+
+pub run_where_yes : (configuration : Configuration) (records : List Ordered) (verdict : Verdict)
     → WindowsAreConfigured configuration → ArePlaced 0 records → IsVerdict configuration records verdict → IsRunWhereYes configuration records verdict
-run_where_yes one silent stays configuration records (Yes count) windows placed (findings, all, (none, counted)) =
-    let each : (piece : Piece) → RunTo configuration records piece = λ piece. run_to configuration records piece
-    (λ has. each_silent configuration 0 (pieces configuration) records findings none all piece (is_one configuration piece has)) silent in
-    let run = one is_built configuration (cold_state configuration) records (λ piece. (each piece).0) windows (stays.0 configuration) placed (λ piece. (each piece).1) in
+run_where_yes configuration records (Yes count) windows placed (counted, (final, all)) =
+    let run = machine_runs configuration records windows placed (λ number within. (final number, all number within)) in
     (run.0, run.1, counted)
-run_where_yes one silent stays configuration records (No pos piece cause) windows placed verdict = tt
+run_where_yes configuration records (No pos piece cause) windows placed verdict = tt

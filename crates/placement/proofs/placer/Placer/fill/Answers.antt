@@ -1,0 +1,48 @@
+use Rattle.std.proofs.Common.{◌≡◌, ◌∙◌, ◌++◌, ◌∷◌, ◌+◌, ◌-◌, ◌<◌, [], length, true, refl, sym, ap, subst, rules, arith, Ok, Err}
+use Rattle.std.specs.Result.{is_ok}
+use Rattle.std.proofs.lemmas.List.{length-append}
+use Rattle.apex_machine.specs.Runs.{ArePlaced, AreOfCores}
+use Rattle.order_cert.specs.Kept.{place_of}
+use Rattle.placement.specs.Lanes.{Lead}
+use Rattle.placement.proofs.Ahead.{end_on, lead_on}
+use Rattle.placement.proofs.Places.{placed_more, of_cores_more}
+use Rattle.placement.proofs.placer.Placer.fill.Goals as goal
+
+pub records-init : goal.records-init
+records-init g c = record {
+  lead = subst (λ items. Lead c.args.self.now items c.args.self.now) (sym c.requires.empty) (λ scanned ahead. ahead);
+  placed = rw c.requires.empty tt;
+  of_cores = rw c.requires.empty tt;
+  place = rw c.requires.empty (omega arith);
+  few = rw c.requires.empty (omega arith);
+  going = c.requires.going;
+  lanes = refl;
+}
+
+pub returns-in-Ok-None-clause-filled : goal.returns-in-Ok-None-clause-filled
+returns-in-Ok-None-clause-filled g c =
+    end_on c.args.self.now c.records.self c.records.round.items (Ok tt) c.records.invariant.lead (rw c.in-Ok-None.field-0-is at c.in-Ok-None.ensures.next)
+
+pub returns-in-Err-clause-filled : goal.returns-in-Err-clause-filled
+returns-in-Err-clause-filled g c = end_on c.args.self.now c.records.self c.records.round.items (Err c.in-Err.fault) c.records.invariant.lead c.in-Err.ensures.next
+
+pub records-preserved : goal.records-preserved
+records-preserved g c =
+    let good : is_ok c.push.result ≡ true = search rules in
+    let front = c.records.round.items in
+    let one = c.in-Ok-Some.ordered in
+    let before = c.records.invariant in
+    let grown : c.push.new.self.items ≡ front ++ one ∷ [] = rw (c.push.ensures.items, good) refl in
+    let at = rw c.in-Ok-Some.field-0-is at c.in-Ok-Some.ensures.place in
+    let long : length (front ++ one ∷ []) ≡ length front + 1 = length-append front (one ∷ []) in
+    record {
+      lead = subst (λ items. Lead c.args.self.now items c.next.new.self) (sym grown)
+          (lead_on c.args.self.now c.records.self c.next.new.self front one before.lead (rw c.in-Ok-Some.field-0-is at c.in-Ok-Some.ensures.next));
+      placed = subst (ArePlaced (place_of c.args.self.now.kept)) (sym grown) (placed_more (place_of c.args.self.now.kept) front one before.placed (at.0 ∙ before.place));
+      of_cores = subst (AreOfCores (length c.args.self.now.lanes)) (sym grown)
+          (of_cores_more (length c.args.self.now.lanes) front one before.of_cores (subst (λ n. one.core < n) before.lanes (rw c.in-Ok-Some.field-0-is at c.in-Ok-Some.ensures.core)));
+      place = at.1 ∙ omega (arith, before.place, ap length grown, long);
+      few = omega (arith, c.records-test.true, c.len.ensures, ap length grown, long);
+      going = rw c.in-Ok-Some.field-0-is at c.in-Ok-Some.ensures.going;
+      lanes = c.next.ensures.lanes ∙ before.lanes;
+    }

@@ -1,0 +1,244 @@
+-- One round behind another, and a No whatever stands behind it.
+use Rattle.std.proofs.Common.{◌≡◌, ◌⊎◌, ◌<◌, ◌≤◌, ◌+◌, ◌∙◌, ℕ, List, [], ◌∷◌, ◌++◌, Option, Some, None, length, refl, sym, ap, subst, arith, append_assoc, inl, inr}
+use Rattle.apex_types.specs.declared.record.Ordered.{Ordered}
+use Rattle.apex_machine.specs.Configuration.{Configuration}
+use Rattle.apex_machine.specs.Pieces.{Part, pieces}
+use Rattle.apex_machine.specs.Runs.{ArePlaced, PieceRun, Refuses}
+use Rattle.apex_machine.specs.Services.{is_built}
+use Rattle.apex_laws.proofs.Joins.{runs_join}
+use Rattle.piece_check.specs.Parts.{HasCores, NoTimeAbove, piece_at}
+use Rattle.verdict_merge.specs.declared.finding.Finding.{Finding}
+use Rattle.verdict_merge.specs.Findings.{IsLeastWith, IsLesser}
+use Rattle.verdict_merge.specs.Rounds.{AllRun, HasGone, IsNo, IsRound, Judging, RefusesAmong, Runs, holding_at, parts_of}
+use Rattle.verdict_merge.proofs.Least.{IsNoSooner, no_sooner_next, no_sooner_stays}
+use Rattle.verdict_merge.proofs.Splits.{begins, begins_with, place_behind, up_to}
+
+-- runs
+
+-- a run over the front of the records
+pub runs_front : (configuration : Configuration) (parts : ℕ → Part) (number : ℕ) (front back : List Ordered)
+    → Runs configuration parts number (front ++ back) → Runs configuration parts number front
+runs_front configuration parts number front back (final, run) =
+    let parted = (runs_join is_built configuration (piece_at configuration number) (parts number) front back final).0 run in
+    (parted.0, parted.1)
+
+-- a run behind a run
+pub runs_on : (configuration : Configuration) (parts next : ℕ → Part) (number : ℕ) (front back : List Ordered)
+    → PieceRun configuration (piece_at configuration number) (parts number) front (next number) → Runs configuration next number back
+    → Runs configuration parts number (front ++ back)
+runs_on configuration parts next number front back run (final, more) =
+    (final, (runs_join is_built configuration (piece_at configuration number) (parts number) front back final).1 (next number, run, more))
+
+pub all_run_on : (configuration : Configuration) (old next new : ℕ → Part) (front back : List Ordered)
+    → AllRun configuration old front next → AllRun configuration next back new → AllRun configuration old (front ++ back) new
+all_run_on configuration old next new front back first second = λ number within.
+    (runs_join is_built configuration (piece_at configuration number) (old number) front back (new number)).1 (next number, first number within, second number within)
+
+-- a No
+
+-- a No behind runs of all pieces
+pub no_on : (configuration : Configuration) (old next : ℕ → Part) (front records : List Ordered) (found : Finding)
+    → AllRun configuration old front next → IsNo configuration next records found → IsNo configuration old (front ++ records) found
+no_on configuration old next front records found all stands = record {
+  before = front ++ stands.before;
+  ordered = stands.ordered;
+  after = stands.after;
+  split = ap (λ list. front ++ list) stands.split ∙ sym (append_assoc front stands.before (stands.ordered ∷ stands.after));
+  place = stands.place;
+  piece = stands.piece;
+  refused = let reached = stands.refused in (
+    reached.0,
+    (runs_join is_built configuration (piece_at configuration found.piece) (old found.piece) front stands.before reached.0).1 (next found.piece, all found.piece stands.piece, reached.1),
+    reached.2,
+    reached.3,
+  );
+  smaller = λ number less. subst (Runs configuration old number) (sym (append_assoc front stands.before (stands.ordered ∷ [])))
+      (runs_on configuration old next number front (stands.before ++ stands.ordered ∷ []) (all number (omega (arith, less, stands.piece))) (stands.smaller number less));
+  larger = λ number more within. runs_on configuration old next number front stands.before (all number within) (stands.larger number more within);
+}
+
+-- a No stands whatever comes behind it
+pub no_behind : (configuration : Configuration) (parts : ℕ → Part) (records more : List Ordered) (found : Finding)
+    → IsNo configuration parts records found → IsNo configuration parts (records ++ more) found
+no_behind configuration parts records more found stands = record {
+  before = stands.before;
+  ordered = stands.ordered;
+  after = stands.after ++ more;
+  split = ap (λ list. list ++ more) stands.split ∙ append_assoc stands.before (stands.ordered ∷ stands.after) more;
+  place = stands.place;
+  piece = stands.piece;
+  refused = stands.refused;
+  smaller = stands.smaller;
+  larger = stands.larger;
+}
+
+-- a No from parts that are the same
+pub no_from : (configuration : Configuration) (one other : ℕ → Part) (records : List Ordered) (found : Finding)
+    → ((number : ℕ) → number < length (pieces configuration) → one number ≡ other number) → IsNo configuration one records found → IsNo configuration other records found
+no_from configuration one other records found same stands = record {
+  before = stands.before;
+  ordered = stands.ordered;
+  after = stands.after;
+  split = stands.split;
+  place = stands.place;
+  piece = stands.piece;
+  refused = subst (λ part. Refuses configuration (piece_at configuration found.piece) part stands.before stands.ordered found.cause) (same found.piece stands.piece) stands.refused;
+  smaller = λ number less. moved number (omega (arith, less, stands.piece)) (stands.before ++ stands.ordered ∷ []) (stands.smaller number less);
+  larger = λ number more within. moved number within stands.before (stands.larger number more within);
+}
+  where
+    moved : (number : ℕ) → number < length (pieces configuration) → (list : List Ordered) → Runs configuration one number list → Runs configuration other number list
+    moved number within list (final, run) = (final, subst (λ part. PieceRun configuration (piece_at configuration number) part list final) (same number within) run)
+
+pub all_run_from : (configuration : Configuration) (one other : ℕ → Part) (records : List Ordered) (final : ℕ → Part)
+    → ((number : ℕ) → number < length (pieces configuration) → one number ≡ other number) → AllRun configuration one records final → AllRun configuration other records final
+all_run_from configuration one other records final same all = λ number within.
+    subst (λ part. PieceRun configuration (piece_at configuration number) part records (final number)) (same number within) (all number within)
+
+-- the least of what the pieces found
+
+-- what became of a piece, by the least finding so far: it ran over the records, or found what is no sooner
+abbrev pub HasBeen : Configuration → (ℕ → Part) → List Ordered → (ℕ → Part) → Option Finding → ℕ → Type 0
+HasBeen configuration old records new least number =
+    PieceRun configuration (piece_at configuration number) (old number) records (new number)
+    ⊎ ((other : Finding) × HasGone configuration number (old number) records (Some other) (new number) × IsNoSooner least other)
+
+-- a piece that found something later, or the same later, runs through the least finding's record
+runs_before : (configuration : Configuration) (old new : ℕ → Part) (records : List Ordered) (first : ℕ) (found : Finding) (number : ℕ)
+    → ArePlaced first records → (before : List Ordered) (ordered : Ordered) (after : List Ordered) → records ≡ before ++ ordered ∷ after → found.pos ≡ ordered.pos
+    → HasBeen configuration old records new (Some found) number → Runs configuration old number before
+runs_before configuration old new records first found number placed before ordered after split place (inl run) =
+    runs_front configuration old number before (ordered ∷ after) (subst (Runs configuration old number) split (new number, run))
+runs_before configuration old new records first found number placed before ordered after split place (inr (other, (of, (before', ordered', after', split', place', refused)), later)) =
+    let here : ordered.pos ≡ first + length before = place_behind first before ordered after (subst (ArePlaced first) split placed) in
+    let there : ordered'.pos ≡ first + length before' = place_behind first before' ordered' after' (subst (ArePlaced first) split' placed) in
+    let less : length before ≤ length before' = no_less (length before) (length before') (λ sooner. later (inl (omega (arith, sooner, here, there, place, place')))) in
+    let long = begins before (ordered ∷ after) before' (ordered' ∷ after') (sym split ∙ split') less in
+    runs_front configuration old number before long.0 (subst (Runs configuration old number) long.1 (refused.0, refused.1))
+  where
+    no_less : (a b : ℕ) → ¬ (b < a) → a ≤ b
+    no_less a b not = omega (arith, not)
+
+runs_through : (configuration : Configuration) (old new : ℕ → Part) (records : List Ordered) (first : ℕ) (found : Finding) (number : ℕ) → number < found.piece
+    → ArePlaced first records → (before : List Ordered) (ordered : Ordered) (after : List Ordered) → records ≡ before ++ ordered ∷ after → found.pos ≡ ordered.pos
+    → HasBeen configuration old records new (Some found) number → Runs configuration old number (before ++ ordered ∷ [])
+runs_through configuration old new records first found number smaller placed before ordered after split place (inl run) =
+    runs_front configuration old number (before ++ ordered ∷ []) after
+    (subst (Runs configuration old number) (split ∙ sym (append_assoc before (ordered ∷ []) after)) (new number, run))
+runs_through configuration old new records first found number smaller placed before ordered after split place (inr (other, (of, (before', ordered', after', split', place', refused)), later)) =
+    let here : ordered.pos ≡ first + length before = place_behind first before ordered after (subst (ArePlaced first) split placed) in
+    let there : ordered'.pos ≡ first + length before' = place_behind first before' ordered' after' (subst (ArePlaced first) split' placed) in
+    let less : length before < length before' = less_than (length before) (length before')
+    (λ sooner. later (inl (omega (arith, sooner, here, there, place, place'))))
+    (λ same. later (inr (omega (arith, same, here, there, place, place'), omega (arith, of, smaller)))) in
+    let long = begins_with before ordered after before' (ordered' ∷ after') (sym split ∙ split') less in
+    runs_front configuration old number (before ++ ordered ∷ []) long.0 (subst (Runs configuration old number) long.1 (refused.0, refused.1))
+  where
+    less_than : (a b : ℕ) → ¬ (b < a) → ¬ (a ≡ b) → a < b
+    less_than a b not apart = omega (arith, not, apart)
+
+-- the least finding is a No among the records
+pub least_is_no : (configuration : Configuration) (old new : ℕ → Part) (records : List Ordered) (first : ℕ) (found : Finding) (part : Part) → ArePlaced first records
+    → found.piece < length (pieces configuration) → HasGone configuration found.piece (old found.piece) records (Some found) part
+    → ((number : ℕ) → number < length (pieces configuration) → HasBeen configuration old records new (Some found) number)
+    → IsNo configuration old records found
+least_is_no configuration old new records first found part placed within (of, (before, ordered, after, split, place, refused)) been = record {
+  before = before;
+  ordered = ordered;
+  after = after;
+  split = split;
+  place = place;
+  piece = within;
+  refused = refused;
+  smaller = λ number less. runs_through configuration old new records first found number less placed before ordered after split place (been number (omega (arith, less, within)));
+  larger = λ number more inside. runs_before configuration old new records first found number placed before ordered after split place (been number inside);
+}
+
+-- where nothing was found each piece ran over the records
+pub none_ran : (configuration : Configuration) (old new : ℕ → Part) (records : List Ordered)
+    → ((number : ℕ) → number < length (pieces configuration) → HasBeen configuration old records new None number) → AllRun configuration old records new
+none_ran configuration old new records been = λ number within. elim (been number within) [
+  | inl run ↦ run
+  | inr (other, gone, later) ↦ absurd later
+]
+
+-- the least finding so far is of one of the pieces below this number
+abbrev pub IsFound : Configuration → (ℕ → Part) → List Ordered → ℕ → Option Finding → Type 0
+IsFound configuration old records number None = Unit {0}
+IsFound configuration old records number (Some found) =
+    (found.piece < number) × HasGone configuration found.piece (old found.piece) records (Some found) (old found.piece)
+
+-- one more piece
+
+no_sooner_with : (least found now : Option Finding) (other : Finding) → IsLeastWith least found now → IsNoSooner least other → IsNoSooner now other
+no_sooner_with least None now other is later = subst (λ one. IsNoSooner one other) (sym is) later
+no_sooner_with least (Some next) now other (one, is, lesser) later = subst (λ found. IsNoSooner found other) (sym is) (no_sooner_stays least next one other lesser later)
+
+has_been : (configuration : Configuration) (old next : ℕ → Part) (records : List Ordered) (least found now : Option Finding) (number : ℕ) → IsLeastWith least found now
+    → HasGone configuration number (old number) records found (next number) → HasBeen configuration old records next now number
+has_been configuration old next records least None now number is gone = inl gone
+has_been configuration old next records least (Some found) now number (one, is, lesser) gone =
+    inr (found, gone, subst (λ now. IsNoSooner now found) (sym is) (no_sooner_next least found one lesser))
+
+pub been_more : (configuration : Configuration) (old now next : ℕ → Part) (records : List Ordered) (least found after : Option Finding) (number : ℕ) → IsLeastWith least found after
+    → ((one : ℕ) → one < number → HasBeen configuration old records now least one) → ((one : ℕ) → one < number → next one ≡ now one)
+    → HasGone configuration number (old number) records found (next number)
+    → (one : ℕ) → one < number + 1 → HasBeen configuration old records next after one
+been_more configuration old now next records least found after number is been same gone =
+    up_to (HasBeen configuration old records next after) number (λ one less. stays one less (been one less)) (has_been configuration old next records least found after number is gone)
+  where
+    stays : (one : ℕ) → one < number → HasBeen configuration old records now least one → HasBeen configuration old records next after one
+    stays one less (inl run) = inl (subst (λ part. PieceRun configuration (piece_at configuration one) (old one) records part) (sym (same one less)) run)
+    stays one less (inr (other, went, later)) = inr (other, went, no_sooner_with least found after other is later)
+
+-- what was found below a number was found below the next one
+found_below : (configuration : Configuration) (old : ℕ → Part) (records : List Ordered) (number : ℕ) (least : Option Finding)
+    → IsFound configuration old records number least → IsFound configuration old records (number + 1) least
+found_below configuration old records number None found = tt
+found_below configuration old records number (Some least) found = (omega (arith, found.0), found.1)
+
+found_next : (configuration : Configuration) (old : ℕ → Part) (records : List Ordered) (number : ℕ) (next : Finding) (part : Part)
+    → HasGone configuration number (old number) records (Some next) part → IsFound configuration old records (number + 1) (Some next)
+found_next configuration old records number next part (of, among) =
+    (omega (arith, of), (refl, subst (λ one. RefusesAmong configuration (piece_at configuration one) (old one) records next.pos next.cause) (sym of) among))
+
+found_lesser : (configuration : Configuration) (old : ℕ → Part) (records : List Ordered) (number : ℕ) (least : Option Finding) (next one : Finding) (part : Part)
+    → IsLesser least next one → IsFound configuration old records number least → HasGone configuration number (old number) records (Some next) part
+    → IsFound configuration old records (number + 1) (Some one)
+found_lesser configuration old records number None next one part is found gone =
+    subst (λ f. IsFound configuration old records (number + 1) (Some f)) (sym is) (found_next configuration old records number next part gone)
+found_lesser configuration old records number (Some least) next one part (inl (is, sooner)) found gone =
+    subst (λ f. IsFound configuration old records (number + 1) (Some f)) (sym is) (found_next configuration old records number next part gone)
+found_lesser configuration old records number (Some least) next one part (inr (is, kept)) found gone =
+    subst (λ f. IsFound configuration old records (number + 1) (Some f)) (sym is) (found_below configuration old records number (Some least) found)
+
+pub found_more : (configuration : Configuration) (old : ℕ → Part) (records : List Ordered) (number : ℕ) (least found after : Option Finding) (part : Part)
+    → IsLeastWith least found after → IsFound configuration old records number least → HasGone configuration number (old number) records found part
+    → IsFound configuration old records (number + 1) after
+found_more configuration old records number least None after part is found gone =
+    subst (IsFound configuration old records (number + 1)) (sym is) (found_below configuration old records number least found)
+found_more configuration old records number least (Some next) after part (one, is, lesser) found gone =
+    subst (IsFound configuration old records (number + 1)) (sym is) (found_lesser configuration old records number least next one part lesser found gone)
+
+-- the end of a round
+
+pub round_is : (configuration : Configuration) (start now next : Judging) (records : List Ordered) (least : Option Finding) → ArePlaced start.count records
+    → next.pieces ≡ now.pieces → next.count ≡ start.count + length records → length now.pieces ≡ length (pieces configuration)
+    → ((number : ℕ) → number < length (pieces configuration) → HasCores configuration.cores (parts_of now number))
+    → ((number : ℕ) → number < length (pieces configuration) → NoTimeAbove (start.count + length records) (parts_of now number))
+    → ((number : ℕ) → number < length (pieces configuration) → HasBeen configuration (parts_of start) records (parts_of now) least number)
+    → IsFound configuration (parts_of start) records (length (pieces configuration)) least
+    → IsRound configuration start records least next
+round_is configuration start now next records None placed pieces_same counted whole known behind been found =
+    let same : (number : ℕ) → parts_of now number ≡ parts_of next number = λ number. ap (λ list. (holding_at list number).part) (sym pieces_same) in (
+      (λ number within. subst (λ part. PieceRun configuration (piece_at configuration number) (parts_of start number) records part) (same number)
+          (none_ran configuration (parts_of start) (parts_of now) records been number within)),
+      counted,
+      record {
+        whole = ap length pieces_same ∙ whole;
+        known = λ number within. subst (HasCores configuration.cores) (same number) (known number within);
+        behind = λ number within. subst (NoTimeAbove next.count) (same number) (subst (λ place. NoTimeAbove place (parts_of now number)) (sym counted) (behind number within));
+      },
+    )
+round_is configuration start now next records (Some least) placed pieces_same counted whole known behind been found =
+    least_is_no configuration (parts_of start) (parts_of now) records start.count least (parts_of start least.piece) placed found.0 found.1 been

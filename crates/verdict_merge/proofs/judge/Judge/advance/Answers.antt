@@ -1,0 +1,48 @@
+use Rattle.std.proofs.Common.{◌<◌, ◌+◌, ◌∙◌, ℕ, length, sym, ap, subst, arith}
+use Rattle.std.specs.Prelude.{IfOk}
+use Rattle.apex_machine.specs.Runs.{ArePlaced}
+use Rattle.piece_check.specs.Parts.{HasCores, NoTimeAbove}
+use Rattle.verdict_merge.specs.Rounds.{HasGone, IsGoing, holding_at, parts_of}
+use Rattle.verdict_merge.proofs.Holdings.{holding_at-get, holding_at-other, holding_at-set, on_err, part_moves}
+use Rattle.verdict_merge.proofs.judge.Judge.advance.Goals as goal
+
+pub go_over-requires-clause-going : goal.go_over-requires-clause-going
+go_over-requires-clause-going c =
+    let items = c.self.inside.pieces.items in
+    let within : c.args.number < length items = omega (arith, c.requires.piece, ap (λ judging. length judging.pieces) c.self.view_is) in
+    let going : IsGoing c.args.config.now.cores c.args.records.now (holding_at items c.args.number).part =
+    subst (λ judging. IsGoing c.args.config.now.cores c.args.records.now (parts_of judging c.args.number)) (sym c.self.view_is) c.requires.going in
+    subst (λ holding. IsGoing c.args.config.now.cores c.args.records.now holding.part)
+    (holding_at-get items c.args.number c.index_mut.result.now within ∙ sym c.index_mut.ensures.value) going
+
+pub returns-clause-gone : goal.returns-clause-gone
+returns-clause-gone c =
+    let items = c.self.inside.pieces.items in
+    let within : c.args.number < length items = omega (arith, c.requires.piece, ap (λ judging. length judging.pieces) c.self.view_is) in
+    rw (← c.self.view_is)
+    (part_moves (λ old new. IfOk c.go_over.result (λ found. HasGone c.args.config.now c.args.number old c.args.records.now found new)) items c.args.number
+    c.index_mut.result.now c.go_over.new.piece within c.index_mut.ensures.value c.go_over.ensures.gone)
+
+pub returns-clause-kept : goal.returns-clause-kept
+returns-clause-kept c =
+    let items = c.self.inside.pieces.items in
+    let within : c.args.number < length items = omega (arith, c.requires.piece, ap (λ judging. length judging.pieces) c.self.view_is) in
+    rw (← c.self.view_is)
+    (part_moves (λ old new. IfOk c.go_over.result (λ x. (place : ℕ) → ArePlaced place c.args.records.now → NoTimeAbove place old → NoTimeAbove (place + length c.args.records.now) new)) items c.args.number
+    c.index_mut.result.now c.go_over.new.piece within c.index_mut.ensures.value c.go_over.ensures.kept)
+
+pub returns-clause-cores : goal.returns-clause-cores
+returns-clause-cores c =
+    let items = c.self.inside.pieces.items in
+    let within : c.args.number < length items = omega (arith, c.requires.piece, ap (λ judging. length judging.pieces) c.self.view_is) in
+    part_moves (λ old new. IfOk c.go_over.result (λ x. HasCores c.args.config.now.cores new)) items c.args.number
+    c.index_mut.result.now c.go_over.new.piece within c.index_mut.ensures.value c.go_over.ensures.cores
+
+pub returns-clause-others : goal.returns-clause-others
+returns-clause-others c = λ other apart. rw (← c.self.view_is) (holding_at-other c.self.inside.pieces.items c.args.number c.go_over.new.piece other apart)
+
+pub returns-clause-memory : goal.returns-clause-memory
+returns-clause-memory c =
+    let items = c.self.inside.pieces.items in
+    let within : c.args.number < length items = omega (arith, c.requires.piece, ap (λ judging. length judging.pieces) c.self.view_is) in
+    on_err c.go_over.result _ _ (λ spent. (c.args.number, rw (holding_at-set items c.args.number c.go_over.new.piece within) spent)) c.go_over.ensures.memory

@@ -1,0 +1,27 @@
+use Rattle.std.proofs.Common.{◌≡◌, ◌<◌, ◌+◌, ◌++◌, ◌∷◌, ◌∙◌, [], ℕ, length, true, refl, sym, ap, subst, rules, arith}
+use Rattle.std.specs.Result.{is_ok}
+use Rattle.std.proofs.lemmas.List.{length-append}
+use Rattle.piece_check.specs.Parts.{HasCores, NoTimeAbove}
+use Rattle.verdict_merge.specs.Rounds.{cold_parts, holding_at}
+use Rattle.verdict_merge.proofs.Holdings.{holding_at-front, holding_at-last}
+use Rattle.verdict_merge.proofs.Splits.{up_to}
+use Rattle.verdict_merge.proofs.judge.Judge.start.Goals as goal
+
+pub pieces-preserved : goal.pieces-preserved
+pieces-preserved c =
+    let good : is_ok c.push.result ≡ true = search rules in
+    let config = c.args.config.now in
+    let items = c.pieces.pieces.items in
+    let number = c.pieces.number in
+    let piece = c.in-Ok.piece in
+    let grown : c.push.new.self.items ≡ items ++ piece ∷ [] = rw (c.push.ensures.items, good) refl in
+    let last : holding_at (items ++ piece ∷ []) number ≡ piece = subst (λ n. holding_at (items ++ piece ∷ []) n ≡ piece) c.pieces.invariant.count (holding_at-last items piece) in
+    record {
+      count = ap length grown ∙ length-append items (piece ∷ []) ∙ omega (arith, c.pieces.invariant.count);
+      cold = subst (λ all. (one : ℕ) → one < number + 1 → (holding_at all one).part ≡ cold_parts config one) (sym grown)
+          (up_to (λ one. (holding_at (items ++ piece ∷ []) one).part ≡ cold_parts config one) number
+          (λ one less. ap (λ holding. holding.part) (holding_at-front items piece one (omega (arith, less, c.pieces.invariant.count))) ∙ c.pieces.invariant.cold one less)
+          (ap (λ holding. holding.part) last ∙ c.in-Ok.ensures.part));
+      known = up_to (λ one. HasCores config.cores (cold_parts config one)) number c.pieces.invariant.known (subst (HasCores config.cores) c.in-Ok.ensures.part c.in-Ok.ensures.cores);
+      behind = up_to (λ one. NoTimeAbove 0 (cold_parts config one)) number c.pieces.invariant.behind (subst (NoTimeAbove 0) c.in-Ok.ensures.part c.in-Ok.ensures.behind);
+    }

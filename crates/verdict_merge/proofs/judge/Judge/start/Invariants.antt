@@ -1,0 +1,12 @@
+use Rattle.std.proofs.Common.{◌≡◌, ◌<◌, ℕ, length}
+use Rattle.piece_check.specs.Parts.{HasCores, NoTimeAbove}
+use Rattle.verdict_merge.specs.Rounds.{cold_parts, holding_at}
+use Rattle.verdict_merge.proofs.judge.Judge.start.Given as goal
+
+abbrev pub invariant-pieces : goal.invariant-pieces
+invariant-pieces l = record {
+  count : length l.pieces.items ≡ l.number;
+  cold : (number : ℕ) → number < l.number → (holding_at l.pieces.items number).part ≡ cold_parts l.config number;
+  known : (number : ℕ) → number < l.number → HasCores l.config.cores (cold_parts l.config number);
+  behind : (number : ℕ) → number < l.number → NoTimeAbove 0 (cold_parts l.config number);
+}

@@ -1,0 +1,75 @@
+use Rattle.std.proofs.Common.{◌≡◌, ◌<◌, ◌+◌, ◌++◌, ◌∷◌, ◌∙◌, [], ℕ, List, true, false, suc, length, take, drop, get_or, sym, ap, subst, arith, add-one}
+use Rattle.std.proofs.lemmas.List.{take_more, take-append-drop}
+use Rattle.std.proofs.Math.Seq.{drop-cons}
+use Rattle.apex_types.specs.declared.record.Ordered.{Ordered}
+use Rattle.apex_machine.specs.Demands.{LocalStep}
+use Rattle.apex_machine.specs.Pieces.{touches}
+use Rattle.apex_machine.specs.Runs.{ArePlaced, AreOfCores, PieceRun}
+use Rattle.piece_check.specs.Parts.{HasCores, NoTimeAbove, piece_at}
+use Rattle.verdict_merge.proofs.Going.{passes_by, refuses_here, steps_over}
+use Rattle.verdict_merge.proofs.judge.go_over.Goals as goal
+use Rattle.verdict_merge.proofs.judge.go_over.Goals.{then-touches+in_default, else-touches}
+
+-- from a record on: the record, and what is behind it
+from_here : (records : List Ordered) (index : ℕ) (ordered : Ordered) → index < length records → ordered ≡ get_or records index ordered
+    → drop index records ≡ ordered ∷ drop (suc index) records
+from_here records index ordered within is =
+    subst (λ first. drop index records ≡ first ∷ drop (suc index) records) (sym is) (drop-cons records index ordered within)
+
+pub returns-in-Some-clause-gone : goal.returns-in-Some-clause-gone
+returns-in-Some-clause-gone c =
+    let config = c.args.config.now in
+    let records = c.args.records.now in
+    let index = c.loop-ordered.ordered-index in
+    let ordered = c.ordered-item.result in
+    let cut = from_here records index ordered (omega arith) c.ordered-item.is in
+    let split : records ≡ take index records ++ ordered ∷ drop (suc index) records = sym (take-append-drop index records) ∙ ap (λ rest. take index records ++ rest) cut in
+    let touched : touches config (piece_at config c.args.number) ordered ≡ true = cc in
+    refuses_here config c.args.number c.args.piece.now.part c.loop-ordered.piece.part c.step.new.self.part records (take index records) (drop (suc index) records) ordered
+    c.in-Err.fault c.in-Some.found split c.loop-ordered.invariant.run touched c.in-Err.ensures.refused (sym c.in-Some.ensures)
+
+pub loop-ordered-preserved : goal.loop-ordered-preserved
+loop-ordered-preserved c =
+    let config = c.args.config.now in
+    let records = c.args.records.now in
+    let index = c.loop-ordered.ordered-index in
+    let ordered = c.ordered-item.result in
+    let piece = piece_at config c.args.number in
+    let old = c.args.piece.now.part in
+    let now = c.loop-ordered.piece.part in
+    let next = c.if-touches.piece.part in
+    let cut = from_here records index ordered (omega arith) c.ordered-item.is in
+    let grown : take (index + 1) records ≡ take index records ++ ordered ∷ [] =
+    take_more records index ordered (omega arith) ∙ ap (λ x. take index records ++ x ∷ []) (sym c.ordered-item.is) in
+    let behind : drop (suc index) records ≡ drop (index + 1) records = ap (λ n. drop n records) (sym (add-one index)) in
+    let cores = subst (AreOfCores config.cores) behind (subst (AreOfCores config.cores) cut c.loop-ordered.invariant.of_cores).1 in
+    let places : (place : ℕ) → ArePlaced place records → NoTimeAbove place old → (ordered.pos ≡ place + index) × ArePlaced (place + (index + 1)) (drop (index + 1) records) =
+    λ place placed above.
+    let here = subst (ArePlaced (place + index)) cut (c.loop-ordered.invariant.behind place placed above).0 in
+    let same : suc (place + index) ≡ place + (index + 1) = omega arith in
+    (here.0, subst (λ n. ArePlaced n (drop (index + 1) records)) same (subst (ArePlaced (suc (place + index))) behind here.1)) in
+    elim c.if-touches.branch [
+      | then-touches+in_default w ↦
+          let touched : touches config piece ordered ≡ true = cc in
+          let step : LocalStep config now ordered next = subst (λ held. LocalStep config now ordered held.part) (sym w.piece-is) w.in_default.ensures.ok in
+          record {
+            run = subst (λ list. PieceRun config piece old list next) (sym grown) (steps_over config piece old now next (take index records) ordered c.loop-ordered.invariant.run touched step);
+            of_cores = cores;
+            cores = subst (λ held. HasCores config.cores held.part) (sym w.piece-is) w.in_default.ensures.cores;
+            behind = λ place placed above.
+                let on = places place placed above in
+                (on.1, λ core. omega (arith, on.0, subst (λ held. NoTimeAbove (ordered.pos + 1) held.part) (sym w.piece-is) w.in_default.ensures.behind core));
+          }
+      | else-touches w ↦
+          let untouched : touches config piece ordered ≡ false = cc in
+          record {
+            run = subst (λ held. PieceRun config piece old (take (index + 1) records) held.part) (sym w.piece-is)
+                (subst (λ list. PieceRun config piece old list now) (sym grown) (passes_by config piece old now (take index records) ordered c.loop-ordered.invariant.run untouched));
+            of_cores = cores;
+            cores = subst (λ held. HasCores config.cores held.part) (sym w.piece-is) c.loop-ordered.invariant.cores;
+            behind = λ place placed above.
+                let on = places place placed above in
+                let earlier : NoTimeAbove (place + index) next = subst (λ held. NoTimeAbove (place + index) held.part) (sym w.piece-is) (c.loop-ordered.invariant.behind place placed above).1 in
+                (on.1, λ core. omega (arith, earlier core));
+          }
+    ]
