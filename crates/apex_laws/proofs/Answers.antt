@@ -8,9 +8,9 @@ use Rattle.apex_machine.specs.declared.state.Wait.{Wait}
 use Rattle.apex_machine.specs.declared.state.Wait.TheVariants as wait
 use Rattle.apex_machine.specs.Answer.{Answer, done, waiting, waking}
 use Rattle.apex_machine.specs.Arguments.{is_over}
-use Rattle.apex_machine.specs.Conditions.{created, is_suspension}
-use Rattle.apex_machine.specs.Services.{fellow, is_released, next_release, resuming}
-use Rattle.apex_machine.specs.State.{process_at}
+use Rattle.apex_machine.specs.DueTimes.{is_released, is_suspension, next_release}
+use Rattle.apex_machine.specs.Services.{fellow, resuming}
+use Rattle.apex_machine.specs.State.{created, item_at}
 use Rattle.apex_laws.specs.ProcessLaws.{AnswerIsTheSentence, CreationIsTheSentence}
 use Rattle.apex_laws.specs.ProcessSentences.{IsAtRelease, IsOverOrWaits, IsResuming}
 use Rattle.apex_laws.proofs.Booleans.{cannot_hold}
@@ -68,8 +68,8 @@ pub answer_is_the_sentence : AnswerIsTheSentence
 answer_is_the_sentence now who partition (request.SuspendSelf time_out) answer = over_or_waits (time_out ≡ pos 0) (is_over time_out) answer (over_is time_out) (λ is. ap is_over is)
 answer_is_the_sentence now who partition (request.TimedWait ticks) answer = over_or_waits (ticks ≡ pos 0) (is_over ticks) answer (over_is ticks) (λ is. ap is_over is)
 answer_is_the_sentence now who partition request.PeriodicWait answer =
-    over_or_waits (IsAtRelease now (process_at partition.table who.proc)) (is_released now (process_at partition.table who.proc)) answer
-    (release_is now (process_at partition.table who.proc)) (release_by now (process_at partition.table who.proc))
+    over_or_waits (IsAtRelease now (item_at partition.table who.proc)) (is_released now (item_at partition.table who.proc)) answer
+    (release_is now (item_at partition.table who.proc)) (release_by now (item_at partition.table who.proc))
 answer_is_the_sentence now who partition (request.Resume process) answer =
     (resuming_says (fellow who process) (created partition.table process) answer, resuming_by (fellow who process) (created partition.table process) answer)
 answer_is_the_sentence now who partition _ answer = (λ gives. gives, λ gives. gives)

@@ -6,7 +6,7 @@ use Rattle.apex_types.specs.declared.record.Who.{Who}
 use Rattle.apex_machine.specs.declared.state.Process.{Process}
 use Rattle.apex_machine.specs.declared.state.WaitingSet.{WaitingSet}
 use Rattle.apex_machine.specs.Choice.{IsReady, choice_in, choice_of, foremost, ready_entries, waits_for_nothing}
-use Rattle.apex_machine.specs.State.{Partition, Table, process_at}
+use Rattle.apex_machine.specs.State.{Partition, Table, item_at}
 use Rattle.apex_machine.specs.Waiting.{is_in, waits_at}
 use Rattle.apex_laws.specs.Laws.{are_distinct}
 use Rattle.apex_laws.proofs.Choices.{choice_is}
@@ -22,21 +22,21 @@ pub record StandsReady (core : ℕ) (found : Option Process) : Type 0 where
 
 -- the choice of a partition stands in its table and is ready
 pub choice_stands : (number core : ℕ) (table : Table) (who : Who) → are_distinct table ≡ true → choice_in number core table ≡ Some who
-    → StandsReady core (process_at table who.proc)
+    → StandsReady core (item_at table who.proc)
 choice_stands number core table who distinct chosen = by (foremost (ready_entries core table)) refl chosen
   where
     by : (first : Option (ℕ × Process)) → foremost (ready_entries core table) ≡ first
-        → option_map (λ entry. record { part = number; proc = entry.0 }) first ≡ Some who → StandsReady core (process_at table who.proc)
+        → option_map (λ entry. record { part = number; proc = entry.0 }) first ≡ Some who → StandsReady core (item_at table who.proc)
     by None none chosen = cc
     by (Some entry) some chosen =
         let same : ◌≡◌ {A = Who} (record { part = number; proc = entry.0 }) who = cc in
         let is = foremost_is_chosen core table entry some in
-        let at : process_at table entry.0 ≡ Some entry.1 = All-contains (λ one. process_at table one.0 ≡ Some one.1) table entry (at_its_number table distinct) is.stands in
-        record { process = entry.1; stands = subst (λ number. process_at table number ≡ Some entry.1) (ap (λ one. one.proc) same) at; ready = is.ready }
+        let at : item_at table entry.0 ≡ Some entry.1 = All-contains (λ one. item_at table one.0 ≡ Some one.1) table entry (at_its_number table distinct) is.stands in
+        record { process = entry.1; stands = subst (λ number. item_at table number ≡ Some entry.1) (ap (λ one. one.proc) same) at; ready = is.ready }
 
 -- the choice of a core stands in its partition's table and is ready
 pub chosen_stands : (window : Option ℕ) (partitions : ℕ → Partition) (core : ℕ) (who : Who) → are_distinct (partitions who.part).table ≡ true
-    → choice_of window partitions core ≡ Some who → StandsReady core (process_at (partitions who.part).table who.proc)
+    → choice_of window partitions core ≡ Some who → StandsReady core (item_at (partitions who.part).table who.proc)
 chosen_stands window partitions core who distinct chosen =
     choice_stands who.part core (partitions who.part).table who distinct (choice_is window partitions core who chosen).choice
 

@@ -9,12 +9,13 @@ use Rattle.apex_types.specs.declared.record.Who.{Who}
 use Rattle.apex_types.specs.declared.request.Request.{Request}
 use Rattle.apex_types.specs.declared.request.Request.TheVariants as request
 use Rattle.apex_machine.specs.After.{is_done}
-use Rattle.apex_machine.specs.Conditions.{codes_for, created, start_codes, when}
+use Rattle.apex_machine.specs.ProcessConditions.{start_codes}
+use Rattle.apex_machine.specs.Conditions.{codes_for, when}
 use Rattle.apex_machine.specs.Configuration.{Configuration}
 use Rattle.apex_machine.specs.ServiceConditions.{condition_codes}
 use Rattle.apex_machine.specs.Services.{Answer}
 use Rattle.apex_machine.specs.declared.state.Process.{Process}
-use Rattle.apex_machine.specs.State.{Blackboard, Buffer, Partition, given_object}
+use Rattle.apex_machine.specs.State.{Blackboard, Buffer, Partition, created, given_object}
 use Rattle.apex_machine.specs.Step.{HasCode, HasOutcome, IsAmong}
 use Rattle.apex_machine.specs.Waiting.{is_no_error}
 

@@ -22,7 +22,7 @@ use Rattle.apex_machine.specs.Pieces.{Module, OfChannel, OfPartition, Piece, is_
 use Rattle.apex_machine.specs.Ports.{channel_of, suits_use, use_of}
 use Rattle.apex_machine.specs.ServiceConditions.{condition_codes}
 use Rattle.apex_machine.specs.Services.{answer_of}
-use Rattle.apex_machine.specs.State.{Entry, Partition, State, is_named, names_one_of, occupant_of, process_at, time_of}
+use Rattle.apex_machine.specs.State.{Entry, Partition, State, is_named, names_one_of, occupant_of, item_at, time_of}
 use Rattle.apex_machine.specs.Step.{HasOutcome, IsLawful, IsLawfulBody, IsLawfulCall, IsLawfulReturn, IsThrough, channel_answer, due_of, outcome_returned}
 use Rattle.apex_machine.specs.Waiting.{waits_at}
 use Rattle.apex_laws.specs.Laws.{AllEntries, AreTied, IsTied}
@@ -148,7 +148,7 @@ all_wait : (partitions : ℕ → Partition) (number : ℕ) (wanted : WaitingSet)
     → ((who : Who) → is_named who others ≡ true → IsTrue (waits_at wanted (found partitions who))) → AllWaitAt wanted number (partitions number).table others
 all_wait partitions number wanted [] wait = tt
 all_wait partitions number wanted (who ∷ others) wait = (
-  λ same. subst (λ part. IsTrue (waits_at wanted (process_at (partitions part).table who.proc))) same (wait who (first_holds _ _ (same_itself who))),
+  λ same. subst (λ part. IsTrue (waits_at wanted (item_at (partitions part).table who.proc))) same (wait who (first_holds _ _ (same_itself who))),
   all_wait partitions number wanted others (λ one named. wait one (later_holds _ _ named)),
 )
 
@@ -212,7 +212,7 @@ call_demanded judged configuration state core call ends tied law number false is
 return_demanded : (judged : Service → Bool) (configuration : Configuration) (state : State) (core : ℕ) (ret : Return) → IsLawfulReturn configuration state core ret
     → AllHold (partition_demands judged configuration ret.who.part state.cores (state.partitions ret.who.part) core (Ret ret))
 return_demanded judged configuration state core ret law =
-    let due = due_of (process_at (state.partitions ret.who.part).table ret.who.proc) in
+    let due = due_of (item_at (state.partitions ret.who.part).table ret.who.proc) in
     let chosen = choice_is (window_now configuration state.cores core) state.partitions core ret.who law.choice in (
       chosen.of,
       (

@@ -2,6 +2,7 @@
 use Rattle.std.proofs.Common.{◌≡◌, ℕ, ◌≤◌, List, [], ◌∷◌, ◌++◌, Bool, true, false, cond, nat_eq, nat_le, nat_lt, Option, Some, None, ℤ, pos, negsuc, is_some, is_none, refl, sym, ap, subst, ◌∙◌, ◌&&◌}
 use Rattle.std.proofs.lemmas.Bool.{and_parts, eqb-true, leb-true, ltb-true}
 use Rattle.std.proofs.lemmas.List.{append-nil}
+use Rattle.apex_types.specs.Bounds.{greatest_number}
 use Rattle.apex_types.specs.declared.code.Code.{Code}
 use Rattle.apex_types.specs.declared.record.Body.{Body}
 use Rattle.apex_types.specs.declared.record.Body.TheVariants.{Call, Ret, Disp, Tick}
@@ -18,7 +19,7 @@ use Rattle.apex_machine.specs.Ports.{channel_of, suits_use, use_of}
 use Rattle.apex_machine.specs.Processes.{new_process}
 use Rattle.apex_machine.specs.ServiceConditions.{condition_codes}
 use Rattle.apex_machine.specs.Services.{Answer, answer_of}
-use Rattle.apex_machine.specs.State.{Partition, State, Table, each_process, is_free_process, process_at, time_of}
+use Rattle.apex_machine.specs.State.{Partition, State, Table, each_item, is_free, item_at, time_of}
 use Rattle.apex_machine.specs.Step.{HasOutcome, IsAnswered, IsLawfulBody, channel_answer}
 use Rattle.apex_laws.specs.Laws.{are_distinct}
 use Rattle.apex_laws.proofs.Codes.{are_errors, done_is_lawful}
@@ -35,30 +36,30 @@ nothing (Some process) none = cc
 pub record IsNew (table : Table) (claimed : Option ℤ) : Type 0 where
   pub number : ℕ
   pub is : claimed ≡ Some (pos number)
-  pub within : (1 ≤ number) × (number ≤ 2147483647)
-  pub none : process_at table number ≡ None
+  pub within : (1 ≤ number) × (number ≤ greatest_number)
+  pub none : item_at table number ≡ None
 
 -- the test says so
-pub new_is : (table : Table) (claimed : Option ℤ) → is_new (is_free_process table) claimed ≡ true → IsNew table claimed
+pub new_is : (table : Table) (claimed : Option ℤ) → is_new (is_free table) claimed ≡ true → IsNew table claimed
 new_is table None new = cc
 new_is table (Some (negsuc n)) new = cc
 new_is table (Some (pos n)) new =
-    let first = and_parts (nat_lt 0 n) (nat_le n 2147483647 && is_none (process_at table n)) new in
-    let second = and_parts (nat_le n 2147483647) (is_none (process_at table n)) first.1 in
-    record { number = n; is = refl; within = (ltb-true 0 n first.0, leb-true n 2147483647 second.0); none = nothing (process_at table n) second.1 }
+    let first = and_parts (nat_lt 0 n) (nat_le n greatest_number && is_none (item_at table n)) new in
+    let second = and_parts (nat_le n greatest_number) (is_none (item_at table n)) first.1 in
+    record { number = n; is = refl; within = (ltb-true 0 n first.0, leb-true n greatest_number second.0); none = nothing (item_at table n) second.1 }
 
 -- a table with each process changed, and a process under a number that was new
 distinct_numbered : (change : ℕ → Process → Process) (table : Table) (claimed : Option ℤ) (process : Process) → are_distinct table ≡ true
-    → is_new (is_free_process table) claimed ≡ true → are_distinct (each_process change table ++ numbered claimed process) ≡ true
+    → is_new (is_free table) claimed ≡ true → are_distinct (each_item change table ++ numbered claimed process) ≡ true
 distinct_numbered change table claimed process distinct new =
     let is = new_is table claimed new in
-    subst (λ one. are_distinct (each_process change table ++ numbered one process) ≡ true) (sym is.is)
-    (distinct_push (each_process change table) is.number process (distinct_each change table ∙ distinct)
+    subst (λ one. are_distinct (each_item change table ++ numbered one process) ≡ true) (sym is.is)
+    (distinct_push (each_item change table) is.number process (distinct_each change table ∙ distinct)
     (some_at_each change table is.number ∙ ap (λ found. is_some found) is.none))
 
 -- a table with each process changed, and nobody created
-distinct_alone : (change : ℕ → Process → Process) (table : Table) → are_distinct table ≡ true → are_distinct (each_process change table ++ []) ≡ true
-distinct_alone change table distinct = ap are_distinct (append-nil (each_process change table)) ∙ distinct_each change table ∙ distinct
+distinct_alone : (change : ℕ → Process → Process) (table : Table) → are_distinct table ≡ true → are_distinct (each_item change table ++ []) ≡ true
+distinct_alone change table distinct = ap are_distinct (append-nil (each_item change table)) ∙ distinct_each change table ∙ distinct
 
 -- where no condition holds and no channel is used, the outcome is the service's
 answered : (codes : List Code) (answer : Answer) (suited : ℕ → Bool) (through : ℕ → Answer) (claim : Claim) → codes ≡ []
@@ -69,9 +70,9 @@ answered (code ∷ codes) answer suited through claim none has = cc
 -- the table of the caller's partition
 distinct_called : (configuration : Configuration) (partition : Partition) (now core : ℕ) (call : CallRecord) (asked : Request) (change : ℕ → Process → Process) (suited : ℕ → Bool) (through : ℕ → Answer)
     → HasOutcome (condition_codes configuration call.who partition asked) (channel_of partition asked) (answer_of now call.who partition asked) suited through call.claim
-    → are_distinct partition.table ≡ true → are_distinct (each_process change partition.table ++ created_by core call asked) ≡ true
+    → are_distinct partition.table ≡ true → are_distinct (each_item change partition.table ++ created_by core call asked) ≡ true
 distinct_called configuration partition now core call (request.CreateProcess name priority period) change suited through has distinct =
-    elim (is_done call.claim.out) as (λ done. is_done call.claim.out ≡ done → are_distinct (each_process change partition.table
+    elim (is_done call.claim.out) as (λ done. is_done call.claim.out ≡ done → are_distinct (each_item change partition.table
     ++ cond done (numbered call.claim.val (new_process core name priority period)) []) ≡ true) [
       | true ↦ λ done.
           let asked : Request = request.CreateProcess name priority period in
@@ -91,14 +92,14 @@ distinct_by judged configuration state place core (Disp who) law number distinct
 distinct_by judged configuration state place core (Tick woken) law number distinct = distinct_each (ticked place number woken) (state.partitions number).table ∙ distinct
 distinct_by judged configuration state place core (Ret ret) law number distinct =
     elim (nat_eq ret.who.part number) as (λ own. are_distinct (cond own
-    (record (state.partitions number) { table = each_process (returned ret.who.proc) (state.partitions number).table }) (state.partitions number)).table ≡ true) [
+    (record (state.partitions number) { table = each_item (returned ret.who.proc) (state.partitions number).table }) (state.partitions number)).table ≡ true) [
       | true ↦ distinct_each (returned ret.who.proc) (state.partitions number).table ∙ distinct
       | false ↦ distinct
     ]
 distinct_by judged configuration state place core (Call call) law number distinct =
     let foreign : ℕ → Process → Process = λ other process. roused place call (record { part = number; proc = other }) process in
     elim (nat_eq call.who.part number) as (λ own. nat_eq call.who.part number ≡ own → are_distinct (cond own
-    (partition_called configuration state.cores place core call (state.partitions number)) (record (state.partitions number) { table = each_process foreign (state.partitions number).table })).table ≡ true) [
+    (partition_called configuration state.cores place core call (state.partitions number)) (record (state.partitions number) { table = each_item foreign (state.partitions number).table })).table ≡ true) [
       | true ↦ λ own.
           let here = eqb-true call.who.part number own in
           subst (λ of. are_distinct (state.partitions of).table ≡ true → are_distinct (partition_called configuration state.cores place core call (state.partitions of)).table ≡ true) here

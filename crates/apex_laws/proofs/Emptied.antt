@@ -3,18 +3,18 @@ use Rattle.std.proofs.Common.{◌≡◌, ℕ, List, [], ◌∷◌, refl}
 use Rattle.apex_machine.specs.declared.state.WaitingSet.{WaitingSet}
 use Rattle.apex_machine.specs.declared.state.WaitingSet.TheVariants as set
 use Rattle.apex_machine.specs.After.{each_set}
-use Rattle.apex_machine.specs.State.{Blackboard, Buffer, Entry, Event, Mutex, Partition, Semaphore, each_object}
+use Rattle.apex_machine.specs.State.{Blackboard, Buffer, Entry, Event, Mutex, Partition, Semaphore, each_item}
 use Rattle.apex_laws.specs.RecordSentences.{emptied}
 
 -- a change after another that hides it
 each_twice : {Object : Type 0} (one other : ℕ → Object → Object) → ((number : ℕ) (object : Object) → one number (other number object) ≡ one number object)
-    → (objects : List (ℕ × Object)) → each_object one (each_object other objects) ≡ each_object one objects
+    → (objects : List (ℕ × Object)) → each_item one (each_item other objects) ≡ each_item one objects
 each_twice one other hides [] = refl
 each_twice one other hides (entry ∷ entries) = λ i. (entry.0, hides entry.0 entry.1 i) ∷ each_twice one other hides entries i
 
 -- a change that leaves each object
 each_same : {Object : Type 0} (change : ℕ → Object → Object) → ((number : ℕ) (object : Object) → change number object ≡ object)
-    → (objects : List (ℕ × Object)) → each_object change objects ≡ objects
+    → (objects : List (ℕ × Object)) → each_item change objects ≡ objects
 each_same change leaves [] = refl
 each_same change leaves (entry ∷ entries) = λ i. (entry.0, leaves entry.0 entry.1 i) ∷ each_same change leaves entries i
 

@@ -9,11 +9,12 @@ use Rattle.apex_machine.specs.declared.state.Direction.{Direction}
 use Rattle.apex_machine.specs.declared.state.Direction.TheVariants as direction
 use Rattle.apex_machine.specs.Arguments.{is_length, is_longer}
 use Rattle.apex_machine.specs.Channels.{is_receiver, is_sender}
-use Rattle.apex_machine.specs.Conditions.{codes_for, destination_codes, is_source, source_codes, time_out_codes, waiting_codes, when}
+use Rattle.apex_machine.specs.PortConditions.{destination_codes, is_source, source_codes}
+use Rattle.apex_machine.specs.Conditions.{codes_for, time_out_codes, waiting_codes, when}
 use Rattle.apex_machine.specs.Configuration.{Configuration}
 use Rattle.apex_machine.specs.Ports.{channel_by, channel_of}
 use Rattle.apex_machine.specs.ServiceConditions.{condition_codes}
-use Rattle.apex_machine.specs.State.{Partition, Port, given_object, object_at}
+use Rattle.apex_machine.specs.State.{Partition, Port, given_object, item_at}
 use Rattle.apex_laws.specs.Laws.{AllPorts, IsAtEnd}
 
 -- codes of which there is none
@@ -39,10 +40,10 @@ is_created None codes none = cc
 is_created (Some object) codes none = (object, refl, none)
 
 -- a port that is found has what all ports have
-port_found : (Fact : Port → Type 0) (ports : List (ℕ × Port)) (number : ℕ) (port : Port) → AllPorts Fact ports → object_at ports number ≡ Some port → Fact port
+port_found : (Fact : Port → Type 0) (ports : List (ℕ × Port)) (number : ℕ) (port : Port) → AllPorts Fact ports → item_at ports number ≡ Some port → Fact port
 port_found Fact [] number port all is = cc
 port_found Fact (entry ∷ entries) number port all is =
-    elim (nat_eq number entry.0) as (λ same. cond same (Some entry.1) (object_at entries number) ≡ Some port → Fact port) [
+    elim (nat_eq number entry.0) as (λ same. cond same (Some entry.1) (item_at entries number) ≡ Some port → Fact port) [
       | true ↦ λ is. let same : entry.1 ≡ port = cc in subst Fact same all.0
       | false ↦ λ is. port_found Fact entries number port all.1 is
     ] is

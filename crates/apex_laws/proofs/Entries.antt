@@ -4,7 +4,7 @@ use Rattle.std.specs.Prelude.{All, Contains}
 use Rattle.std.proofs.lemmas.Bool.{and_parts, cases_Bool, eqb-true}
 use Rattle.std.proofs.lemmas.List.Elements.{All-cons, All-contains, All-contains_itself, All-filter, All-nil, All-weaker, Contains-append_left, Contains-append_right, Contains-push, filter_passes}
 use Rattle.apex_machine.specs.declared.state.Process.{Process}
-use Rattle.apex_machine.specs.State.{Table, process_at}
+use Rattle.apex_machine.specs.State.{Table, item_at}
 use Rattle.apex_laws.specs.Laws.{are_distinct}
 use Rattle.apex_laws.proofs.Booleans.{is_itself}
 
@@ -50,16 +50,16 @@ kept test entries entry stands passes =
 -- the entry of a number
 
 -- in a table of distinct numbers each entry is found under its number
-pub at_its_number : (table : Table) → are_distinct table ≡ true → All (λ entry. process_at table entry.0 ≡ Some entry.1) table
+pub at_its_number : (table : Table) → are_distinct table ≡ true → All (λ entry. item_at table entry.0 ≡ Some entry.1) table
 at_its_number [] distinct = All-nil _
 at_its_number (entry ∷ entries) distinct =
-    let parts = and_parts (not (is_some (process_at entries entry.0))) (are_distinct entries) distinct in
-    All-cons (λ one. process_at (entry ∷ entries) one.0 ≡ Some one.1) entry entries (rw is_itself refl)
-    (All-weaker (λ one. process_at entries one.0 ≡ Some one.1) (λ one. process_at (entry ∷ entries) one.0 ≡ Some one.1)
+    let parts = and_parts (not (is_some (item_at entries entry.0))) (are_distinct entries) distinct in
+    All-cons (λ one. item_at (entry ∷ entries) one.0 ≡ Some one.1) entry entries (rw is_itself refl)
+    (All-weaker (λ one. item_at entries one.0 ≡ Some one.1) (λ one. item_at (entry ∷ entries) one.0 ≡ Some one.1)
     (λ one at. elim (cases_Bool (nat_eq one.0 entry.0)) [
       | inl same ↦
           let number : one.0 ≡ entry.0 = eqb-true one.0 entry.0 same in
-          let here : process_at entries entry.0 ≡ Some one.1 = subst (λ number. process_at entries number ≡ Some one.1) number at in
+          let here : item_at entries entry.0 ≡ Some one.1 = subst (λ number. item_at entries number ≡ Some one.1) number at in
           absurd (true≢false (sym parts.0 ∙ ap (λ found. not (is_some found)) here))
       | inr other ↦ rw other at
     ])
@@ -69,8 +69,8 @@ at_its_number (entry ∷ entries) distinct =
 pub one_entry : (table : Table) → are_distinct table ≡ true → (one other : ℕ × Process) → Contains table one → Contains table other → one.0 ≡ other.0 → one ≡ other
 one_entry table distinct one other stands also number =
     let all = at_its_number table distinct in
-    let first : process_at table one.0 ≡ Some one.1 = All-contains (λ entry. process_at table entry.0 ≡ Some entry.1) table one all stands in
-    let second : process_at table other.0 ≡ Some other.1 = All-contains (λ entry. process_at table entry.0 ≡ Some entry.1) table other all also in
-    let found : ◌≡◌ {A = Option Process} (Some one.1) (Some other.1) = sym first ∙ ap (process_at table) number ∙ second in
+    let first : item_at table one.0 ≡ Some one.1 = All-contains (λ entry. item_at table entry.0 ≡ Some entry.1) table one all stands in
+    let second : item_at table other.0 ≡ Some other.1 = All-contains (λ entry. item_at table entry.0 ≡ Some entry.1) table other all also in
+    let found : ◌≡◌ {A = Option Process} (Some one.1) (Some other.1) = sym first ∙ ap (item_at table) number ∙ second in
     let process : one.1 ≡ other.1 = cc in
     λ i. (number i, process i)

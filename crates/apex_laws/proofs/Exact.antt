@@ -22,7 +22,7 @@ use Rattle.apex_machine.specs.Objects.{acquired, buffer_received, buffer_sent, s
 use Rattle.apex_machine.specs.Ports.{channel_of, suits_use, use_of}
 use Rattle.apex_machine.specs.ServiceConditions.{condition_codes}
 use Rattle.apex_machine.specs.Services.{answer_of}
-use Rattle.apex_machine.specs.State.{Buffer, Entry, Partition, State, change_at, cold_state, each_process, given_object, initialising_process, is_named, is_same, object_at, process_at, time_of}
+use Rattle.apex_machine.specs.State.{Buffer, Entry, Partition, State, change_at, cold_state, each_item, given_object, initialising_process, is_named, is_same, item_at, time_of}
 use Rattle.apex_machine.specs.Step.{IsLawfulBody, IsLawfulCall, RunJudging, StepJudging, channel_answer}
 use Rattle.apex_machine.specs.Waiting.{ends_wait, enters, entry_of, is_the_set, is_waiting, set_after, set_of, waits_at, without}
 use Rattle.apex_laws.specs.Laws.{AreTied, WaitersStand, WhoWaitsStands, entries_at, entries_in, entries_of}
@@ -30,7 +30,8 @@ use Rattle.apex_laws.proofs.Booleans.{first_holds, is_itself, later_holds, other
 use Rattle.apex_laws.proofs.Codes.{are_errors, done_is_lawful}
 use Rattle.apex_laws.proofs.Keeps.{leaves}
 use Rattle.apex_laws.proofs.ObjectCalls.{message_there, mutex_there, object_there}
-use Rattle.apex_laws.proofs.Objects.{each_set_holds, object_at_each, objects_have, stands_at}
+use Rattle.apex_laws.proofs.Objects.{each_set_holds, objects_have, stands_at}
+use Rattle.apex_laws.proofs.Tables.{at_each}
 use Rattle.apex_laws.proofs.Ends.{first_empty}
 use Rattle.apex_laws.proofs.Standing.{Entering, who_waits}
 use Rattle.apex_laws.proofs.Stays.{called_sets, same_sets, step_tied}
@@ -99,12 +100,12 @@ there_if who entries_of (Some object) stands = refl
 
 -- the object of a set in which a process stands is created
 standing_there : (who : Who) (partition : Partition) (wanted : WaitingSet) → stands_in who (entries_at partition wanted) ≡ true → stands_at partition wanted ≡ true
-standing_there who partition (set.BufferSenders number) stands = there_if who (λ one. one.senders) (object_at partition.buffers number) stands
-standing_there who partition (set.BufferReceivers number) stands = there_if who (λ one. one.receivers) (object_at partition.buffers number) stands
-standing_there who partition (set.BlackboardReaders number) stands = there_if who (λ one. one.readers) (object_at partition.blackboards number) stands
-standing_there who partition (set.SemaphoreWaiters number) stands = there_if who (λ one. one.waiters) (object_at partition.semaphores number) stands
-standing_there who partition (set.EventWaiters number) stands = there_if who (λ one. one.waiters) (object_at partition.events number) stands
-standing_there who partition (set.MutexWaiters number) stands = there_if who (λ one. one.waiters) (object_at partition.mutexes number) stands
+standing_there who partition (set.BufferSenders number) stands = there_if who (λ one. one.senders) (item_at partition.buffers number) stands
+standing_there who partition (set.BufferReceivers number) stands = there_if who (λ one. one.receivers) (item_at partition.buffers number) stands
+standing_there who partition (set.BlackboardReaders number) stands = there_if who (λ one. one.readers) (item_at partition.blackboards number) stands
+standing_there who partition (set.SemaphoreWaiters number) stands = there_if who (λ one. one.waiters) (item_at partition.semaphores number) stands
+standing_there who partition (set.EventWaiters number) stands = there_if who (λ one. one.waiters) (item_at partition.events number) stands
+standing_there who partition (set.MutexWaiters number) stands = there_if who (λ one. one.waiters) (item_at partition.mutexes number) stands
 standing_there who partition (set.ChannelSenders channel) stands = absurd (true≢false (sym stands))
 standing_there who partition (set.ChannelReceivers channel) stands = absurd (true≢false (sym stands))
 
@@ -128,15 +129,15 @@ mapped : {Object : Type 0} (change : Object → Object) (found : Option Object) 
 mapped change None there = absurd (true≢false (sym there))
 mapped change (Some object) there = refl
 
-given_there : {Object : Type 0} (objects : List (ℕ × Object)) (given : ℤ) (found : Object) → given_object objects given ≡ Some found → is_some (object_at objects (natural_of given)) ≡ true
+given_there : {Object : Type 0} (objects : List (ℕ × Object)) (given : ℤ) (found : Object) → given_object objects given ≡ Some found → is_some (item_at objects (natural_of given)) ≡ true
 given_there objects (pos number) found at = ap is_some at
 given_there objects (negsuc n) found at = cc
 
 changed_there : {Object : Type 0} (objects : List (ℕ × Object)) (given : ℤ) (found : Object) (change : Object → Object) → given_object objects given ≡ Some found
-    → is_some (object_at (change_at (natural_of given) change objects) (natural_of given)) ≡ true
+    → is_some (item_at (change_at (natural_of given) change objects) (natural_of given)) ≡ true
 changed_there {Object} objects given found change at =
-    ap is_some (object_at_each (λ other (object : Object). cond (nat_eq other (natural_of given)) (change object) object) objects (natural_of given))
-    ∙ mapped (λ (object : Object). cond (nat_eq (natural_of given) (natural_of given)) (change object) object) (object_at objects (natural_of given)) (given_there objects given found at)
+    ap is_some (at_each (λ other (object : Object). cond (nat_eq other (natural_of given)) (change object) object) objects (natural_of given))
+    ∙ mapped (λ (object : Object). cond (nat_eq (natural_of given) (natural_of given)) (change object) object) (item_at objects (natural_of given)) (given_there objects given found at)
 
 waits_there : (configuration : Configuration) (who : Who) (claimed : Option ℤ) (asked : Request) (chan : Option ℕ) (partition : Partition) (wanted : WaitingSet)
     → ((other : ℕ) → ¬ (wanted ≡ set.ChannelSenders other)) → ((other : ℕ) → ¬ (wanted ≡ set.ChannelReceivers other))
@@ -207,7 +208,7 @@ partition_stands : (judged : Service → Bool) (configuration : Configuration) (
     → IsLawfulBody judged configuration state core body → (who : Who) (wanted : WaitingSet)
     → ((other : ℕ) → ¬ (wanted ≡ set.ChannelSenders other)) → ((other : ℕ) → ¬ (wanted ≡ set.ChannelReceivers other))
     → (waits_at wanted (found state.partitions who) ≡ true → stands_in who (entries_at (state.partitions who.part) wanted) ≡ true)
-    → waits_at wanted (process_at (partition_by configuration state.cores place core who.part body (state.partitions who.part)).table who.proc) ≡ true
+    → waits_at wanted (item_at (partition_by configuration state.cores place core who.part body (state.partitions who.part)).table who.proc) ≡ true
     → stands_in who (entries_at (partition_by configuration state.cores place core who.part body (state.partitions who.part)) wanted) ≡ true
 partition_stands judged configuration state place core (Disp one) tied law who wanted not_sending not_receiving before waits =
     elim (who_waits judged configuration state place core (Disp one) tied law who wanted waits) [
@@ -217,8 +218,8 @@ partition_stands judged configuration state place core (Disp one) tied law who w
 partition_stands judged configuration state place core (Ret ret) tied law who wanted not_sending not_receiving before waits =
     elim (who_waits judged configuration state place core (Ret ret) tied law who wanted waits) [
       | inl goes ↦ elim (nat_eq ret.who.part who.part) as (λ own. stands_in who (entries_at (cond own
-          (record (state.partitions who.part) { table = each_process (returned ret.who.proc) (state.partitions who.part).table }) (state.partitions who.part)) wanted) ≡ true) [
-            | true ↦ subst (λ entries. stands_in who entries ≡ true) (sym (same_sets (state.partitions who.part) (each_process (returned ret.who.proc) (state.partitions who.part).table) wanted)) (before goes.1)
+          (record (state.partitions who.part) { table = each_item (returned ret.who.proc) (state.partitions who.part).table }) (state.partitions who.part)) wanted) ≡ true) [
+            | true ↦ subst (λ entries. stands_in who entries ≡ true) (sym (same_sets (state.partitions who.part) (each_item (returned ret.who.proc) (state.partitions who.part).table) wanted)) (before goes.1)
             | false ↦ before goes.1
           ]
       | inr enters ↦ absurd enters
@@ -227,7 +228,7 @@ partition_stands judged configuration state place core (Tick woken) tied law who
     elim (who_waits judged configuration state place core (Tick woken) tied law who wanted waits) [
       | inl goes ↦
           let partition = state.partitions who.part in
-          subst (λ entries. stands_in who entries ≡ true) (sym (same_sets (each_set (set_after place (Tick woken)) partition) (each_process (ticked place who.part woken) partition.table) wanted))
+          subst (λ entries. stands_in who entries ≡ true) (sym (same_sets (each_set (set_after place (Tick woken)) partition) (each_item (ticked place who.part woken) partition.table) wanted))
           (each_stands who (set_after place (Tick woken)) partition wanted (standing_there who partition wanted (before goes.1))
           (set_keeps place (Tick woken) who wanted (entries_at partition wanted) goes.0 (before goes.1)))
       | inr enters ↦ absurd enters
@@ -240,10 +241,10 @@ partition_stands judged configuration state place core (Call call) tied law who 
           let used = used_stands who configuration call partition wanted (before goes.1) in
           let foreign : ℕ → Process → Process = λ other process. roused place call (record { part = who.part; proc = other }) process in
           elim (nat_eq call.who.part who.part) as (λ own. stands_in who (entries_at (cond own (partition_called configuration state.cores place core call partition)
-          (record partition { table = each_process foreign partition.table })) wanted) ≡ true) [
+          (record partition { table = each_item foreign partition.table })) wanted) ≡ true) [
             | true ↦ subst (λ entries. stands_in who entries ≡ true) (sym (called_sets configuration state place core call partition wanted))
                 (each_stands who (set_after place (Call call)) objects wanted (standing_there who objects wanted used) (set_keeps place (Call call) who wanted (entries_at objects wanted) goes.0 used))
-            | false ↦ subst (λ entries. stands_in who entries ≡ true) (sym (same_sets partition (each_process foreign partition.table) wanted)) (before goes.1)
+            | false ↦ subst (λ entries. stands_in who entries ≡ true) (sym (same_sets partition (each_item foreign partition.table) wanted)) (before goes.1)
           ]
       | inr entering ↦
           subst (λ one. stands_in one (entries_at (partition_by configuration state.cores place core one.part (Call call) (state.partitions one.part)) wanted) ≡ true) (sym entering.0)
@@ -256,7 +257,7 @@ partition_stands judged configuration state place core (Call call) tied law who 
 channel_stands : (judged : Service → Bool) (configuration : Configuration) (state : State) (place core : ℕ) (body : Body) → AreTied configuration state
     → IsLawfulBody judged configuration state core body → (who : Who) (wanted : WaitingSet) (entries : List Entry)
     → (waits_at wanted (found state.partitions who) ≡ true → stands_in who entries ≡ true)
-    → waits_at wanted (process_at (partition_by configuration state.cores place core who.part body (state.partitions who.part)).table who.proc) ≡ true
+    → waits_at wanted (item_at (partition_by configuration state.cores place core who.part body (state.partitions who.part)).table who.proc) ≡ true
     → stands_in who (set_after place body wanted entries) ≡ true
 channel_stands judged configuration state place core body tied law who wanted entries before waits =
     elim (who_waits judged configuration state place core body tied law who wanted waits) [

@@ -14,7 +14,7 @@ use Rattle.apex_machine.specs.After.{each_set, is_done, objects_by, partition_by
 use Rattle.apex_machine.specs.Channels.{is_receiver, is_sender}
 use Rattle.apex_machine.specs.Configuration.{Configuration}
 use Rattle.apex_machine.specs.Demands.{stands_in}
-use Rattle.apex_machine.specs.State.{Entry, Partition, State, cold_state, each_process, is_named, is_same}
+use Rattle.apex_machine.specs.State.{Entry, Partition, State, cold_state, each_item, is_named, is_same}
 use Rattle.apex_machine.specs.Step.{IsLawfulBody, RunJudging, StepJudging}
 use Rattle.apex_machine.specs.Waiting.{ends_wait, enters, entry_of, set_after, without}
 use Rattle.apex_laws.specs.Laws.{AllEntries, AllPairs, SetsAreInOrder, AreTied, IsEarlier, IsInOrder, IsTied, StaysInOrder, entries_at}
@@ -139,19 +139,19 @@ partition_in_order judged configuration state place core (Disp who) at tied law 
 partition_in_order judged configuration state place core (Ret ret) at tied law order number wanted =
     let later = order_later state.count (entries_at (state.partitions number) wanted) (order.objects number wanted) in
     elim (nat_eq ret.who.part number) as (λ own. IsInOrder (suc state.count) (entries_at (cond own
-    (record (state.partitions number) { table = each_process (returned ret.who.proc) (state.partitions number).table }) (state.partitions number)) wanted)) [
-      | true ↦ subst (IsInOrder (suc state.count)) (sym (same_sets (state.partitions number) (each_process (returned ret.who.proc) (state.partitions number).table) wanted)) later
+    (record (state.partitions number) { table = each_item (returned ret.who.proc) (state.partitions number).table }) (state.partitions number)) wanted)) [
+      | true ↦ subst (IsInOrder (suc state.count)) (sym (same_sets (state.partitions number) (each_item (returned ret.who.proc) (state.partitions number).table) wanted)) later
       | false ↦ later
     ]
 partition_in_order judged configuration state place core (Tick woken) at tied law order number wanted =
-    subst (IsInOrder (suc state.count)) (sym (same_sets (each_set (set_after place (Tick woken)) (state.partitions number)) (each_process (ticked place number woken) (state.partitions number).table) wanted))
+    subst (IsInOrder (suc state.count)) (sym (same_sets (each_set (set_after place (Tick woken)) (state.partitions number)) (each_item (ticked place number woken) (state.partitions number).table) wanted))
     (each_set_has (IsInOrder (suc state.count)) (none_in_order (suc state.count)) (set_after place (Tick woken)) (state.partitions number) wanted
     (set_in_order state.count place (Tick woken) wanted (entries_at (state.partitions number) wanted) at tt (order.objects number wanted)))
 partition_in_order judged configuration state place core (Call call) at tied law order number wanted =
     let foreign : ℕ → Process → Process = λ other process. roused place call (record { part = number; proc = other }) process in
     elim (nat_eq call.who.part number) as (λ own. IsInOrder (suc state.count) (entries_at (cond own
     (partition_called configuration state.cores place core call (state.partitions number))
-    (record (state.partitions number) { table = each_process foreign (state.partitions number).table })) wanted)) [
+    (record (state.partitions number) { table = each_item foreign (state.partitions number).table })) wanted)) [
       | true ↦
           let objects : Partition = cond (is_done call.claim.out) (objects_by configuration call.who call.claim.val call.request (state.partitions number)) (state.partitions number) in
           let used = used_in_order state.count configuration call (state.partitions number) wanted
@@ -160,7 +160,7 @@ partition_in_order judged configuration state place core (Call call) at tied law
           (each_set_has (IsInOrder (suc state.count)) (none_in_order (suc state.count)) (set_after place (Call call)) objects wanted
           (set_in_order state.count place (Call call) wanted (entries_at objects wanted) at used.1 used.0))
       | false ↦
-          subst (IsInOrder (suc state.count)) (sym (same_sets (state.partitions number) (each_process foreign (state.partitions number).table) wanted))
+          subst (IsInOrder (suc state.count)) (sym (same_sets (state.partitions number) (each_item foreign (state.partitions number).table) wanted))
           (order_later state.count (entries_at (state.partitions number) wanted) (order.objects number wanted))
     ]
 

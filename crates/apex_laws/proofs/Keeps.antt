@@ -18,14 +18,15 @@ use Rattle.apex_machine.specs.declared.state.Wait.TheVariants as wait
 use Rattle.apex_machine.specs.declared.state.WaitingSet.{WaitingSet}
 use Rattle.apex_machine.specs.After.{adjusted, called, caller_after, created_by, is_done, partition_by, returned, roused, ticked}
 use Rattle.apex_machine.specs.Arguments.{is_number, natural_of}
-use Rattle.apex_machine.specs.Conditions.{created, start_codes}
+use Rattle.apex_machine.specs.ProcessConditions.{start_codes}
 use Rattle.apex_machine.specs.Configuration.{Configuration, first_core, period_of}
 use Rattle.apex_machine.specs.Objects.{is_owner}
 use Rattle.apex_machine.specs.Ports.{channel_of, suits_use, use_of}
-use Rattle.apex_machine.specs.Processes.{after_normal, by_mutex, entry_wait, on_ownership, set_by, started, wait_in, wait_of, waits_for_normal, due_of_call, time_out_of}
+use Rattle.apex_machine.specs.DueTimes.{due_of_call, entry_wait, time_out_of, wait_in, wait_of, waits_for_normal}
+use Rattle.apex_machine.specs.Processes.{after_normal, by_mutex, on_ownership, set_by, started}
 use Rattle.apex_machine.specs.ServiceConditions.{condition_codes}
 use Rattle.apex_machine.specs.Services.{answer_of}
-use Rattle.apex_machine.specs.State.{Mutex, Partition, State, Table, each_process, given_object, is_named, process_at, time_of}
+use Rattle.apex_machine.specs.State.{Mutex, Partition, State, Table, created, each_item, given_object, is_named, item_at, time_of}
 use Rattle.apex_machine.specs.Step.{IsLawfulBody, IsLawfulCall, channel_answer}
 use Rattle.apex_machine.specs.Waiting.{ends_wait, enters, is_in, is_the_set, is_waiting, set_of, stops, waits_at}
 use Rattle.apex_machine.specs.Demands.{window_now}
@@ -140,18 +141,18 @@ set_by_wait place period cores partition caller _ number x starts normal = refl
 -- START starts nobody that is alive
 
 -- a number that isn't a process's
-not_number : (table : Table) (process : ℤ) (number : ℕ) (x : Process) → process_at table number ≡ Some x → x.alive ≡ true → start_codes (created table process) ≡ [] → is_number process number ≡ false
+not_number : (table : Table) (process : ℤ) (number : ℕ) (x : Process) → item_at table number ≡ Some x → x.alive ≡ true → start_codes (created table process) ≡ [] → is_number process number ≡ false
 not_number table (negsuc n) number x at alive none = refl
 not_number table (pos zero) number x at alive none = cc
 not_number table (pos (suc n)) number x at alive none =
     elim (cases_Bool (nat_eq (suc n) number)) [
       | inl same ↦
-          let codes : start_codes (Some x) ≡ [] = subst (λ one. start_codes one ≡ []) (subst (λ one. process_at table one ≡ Some x) (sym (eqb-true (suc n) number same)) at) none in
+          let codes : start_codes (Some x) ≡ [] = subst (λ one. start_codes one ≡ []) (subst (λ one. item_at table one ≡ Some x) (sym (eqb-true (suc n) number same)) at) none in
           absurd (true≢false (sym alive ∙ no_condition x.alive code.NoAction codes))
       | inr differs ↦ differs
     ]
 
-not_started : (configuration : Configuration) (who : Who) (partition : Partition) (asked : Request) (number : ℕ) (x : Process) → process_at partition.table number ≡ Some x → x.alive ≡ true
+not_started : (configuration : Configuration) (who : Who) (partition : Partition) (asked : Request) (number : ℕ) (x : Process) → item_at partition.table number ≡ Some x → x.alive ≡ true
     → condition_codes configuration who partition asked ≡ [] → IsNotStarted asked number
 not_started configuration who partition (request.Start process) number x at alive none = not_number partition.table process number x at alive none
 not_started configuration who partition _ number x at alive none = tt
@@ -160,7 +161,7 @@ not_started configuration who partition _ number x at alive none = tt
 
 -- what a lawful call sets leaves a waiting process alive and waiting
 pub adjusted_waits : (judged : Service → Bool) (configuration : Configuration) (state : State) (place period core : ℕ) (call : CallRecord) → IsLawfulCall judged configuration state core call
-    → (number : ℕ) (x : Process) (wanted : WaitingSet) → process_at (state.partitions call.who.part).table number ≡ Some x → x.alive ≡ true → is_in wanted x.wait ≡ true
+    → (number : ℕ) (x : Process) (wanted : WaitingSet) → item_at (state.partitions call.who.part).table number ≡ Some x → x.alive ≡ true → is_in wanted x.wait ≡ true
     → ((adjusted place period state.cores (state.partitions call.who.part) call number x).alive ≡ true)
     × (is_in wanted (adjusted place period state.cores (state.partitions call.who.part) call number x).wait ≡ true)
 adjusted_waits judged configuration state place period core call law number x wanted at alive waits =
@@ -180,19 +181,19 @@ adjusted_waits judged configuration state place period core call law number x wa
     ] refl
 
 -- a process that stands is found in a longer table too
-pub found_in_front : (table more : Table) (number : ℕ) (x : Process) → process_at table number ≡ Some x → process_at (table ++ more) number ≡ Some x
+pub found_in_front : (table more : Table) (number : ℕ) (x : Process) → item_at table number ≡ Some x → item_at (table ++ more) number ≡ Some x
 found_in_front [] more number x at = cc
 found_in_front (entry ∷ entries) more number x at =
-    elim (nat_eq number entry.0) as (λ same. cond same (Some entry.1) (process_at entries number) ≡ Some x → cond same (Some entry.1) (process_at (entries ++ more) number) ≡ Some x) [
+    elim (nat_eq number entry.0) as (λ same. cond same (Some entry.1) (item_at entries number) ≡ Some x → cond same (Some entry.1) (item_at (entries ++ more) number) ≡ Some x) [
       | true ↦ λ at. at
       | false ↦ λ at. found_in_front entries more number x at
     ] at
 
 -- a process after its table was changed
-pub found_changed : (change : ℕ → Process → Process) (table more : Table) (number : ℕ) (x : Process) → process_at table number ≡ Some x
-    → process_at (each_process change table ++ more) number ≡ Some (change number x)
+pub found_changed : (change : ℕ → Process → Process) (table more : Table) (number : ℕ) (x : Process) → item_at table number ≡ Some x
+    → item_at (each_item change table ++ more) number ≡ Some (change number x)
 found_changed change table more number x at =
-    found_in_front (each_process change table) more number (change number x) (at_each change table number ∙ ap (option_map (change number)) at)
+    found_in_front (each_item change table) more number (change number x) (at_each change table number ∙ ap (option_map (change number)) at)
 
 -- whether a record ends the wait of a process
 abbrev pub leaves : Body → Who → Bool
@@ -203,7 +204,7 @@ leaves (Call call) one = ends_wait call one
 
 -- a process of the caller's partition that the call doesn't wake or stop, and that isn't the caller
 called_waits : (judged : Service → Bool) (configuration : Configuration) (state : State) (place now core : ℕ) (call : CallRecord) → IsLawfulCall judged configuration state core call
-    → (number : ℕ) (x : Process) (wanted : WaitingSet) → process_at (state.partitions call.who.part).table number ≡ Some x → x.alive ≡ true → is_in wanted x.wait ≡ true
+    → (number : ℕ) (x : Process) (wanted : WaitingSet) → item_at (state.partitions call.who.part).table number ≡ Some x → x.alive ≡ true → is_in wanted x.wait ≡ true
     → nat_eq number call.who.proc ≡ false → ends_wait call (record { part = call.who.part; proc = number }) ≡ false
     → let new = called place now (period_of configuration call.who.part) state.cores (state.partitions call.who.part) call number x in
     (new.alive ≡ true) × (is_in wanted new.wait ≡ true)
@@ -222,24 +223,24 @@ returned_waits wanted false x alive waits = (alive, waits)
 -- a process goes on waiting at a lawful record that doesn't end its wait
 pub keeps_waiting : (judged : Service → Bool) (configuration : Configuration) (state : State) (place core : ℕ) (body : Body) → AreTied configuration state
     → IsLawfulBody judged configuration state core body → (who : Who) (wanted : WaitingSet) → leaves body who ≡ false → waits_at wanted (found state.partitions who) ≡ true
-    → waits_at wanted (process_at (partition_by configuration state.cores place core who.part body (state.partitions who.part)).table who.proc) ≡ true
+    → waits_at wanted (item_at (partition_by configuration state.cores place core who.part body (state.partitions who.part)).table who.proc) ≡ true
 keeps_waiting judged configuration state place core (Disp one) tied law who wanted stays waits = waits
 keeps_waiting judged configuration state place core (Tick woken) tied law who wanted stays waits =
     let old = waits_stands wanted (found state.partitions who) waits in
     let table = (state.partitions who.part).table in
-    let is : process_at (each_process (ticked place who.part woken) table) who.proc ≡ Some (ticked place who.part woken who.proc old.process) =
+    let is : item_at (each_item (ticked place who.part woken) table) who.proc ≡ Some (ticked place who.part woken who.proc old.process) =
     at_each (ticked place who.part woken) table who.proc ∙ ap (option_map (ticked place who.part woken who.proc)) old.stands in
     let same : ticked place who.part woken who.proc old.process ≡ old.process = rw stays refl in
-    goes_on wanted (process_at (each_process (ticked place who.part woken) table) who.proc) old.process (is ∙ ap Some same) old.alive old.waits
+    goes_on wanted (item_at (each_item (ticked place who.part woken) table) who.proc) old.process (is ∙ ap Some same) old.alive old.waits
 keeps_waiting judged configuration state place core (Ret ret) tied law who wanted stays waits =
     let old = waits_stands wanted (found state.partitions who) waits in
     let table = (state.partitions who.part).table in
-    elim (nat_eq ret.who.part who.part) as (λ own. waits_at wanted (process_at (cond own (record (state.partitions who.part) { table = each_process (returned ret.who.proc) table }) (state.partitions who.part)).table who.proc) ≡ true) [
+    elim (nat_eq ret.who.part who.part) as (λ own. waits_at wanted (item_at (cond own (record (state.partitions who.part) { table = each_item (returned ret.who.proc) table }) (state.partitions who.part)).table who.proc) ≡ true) [
       | true ↦
-          let is : process_at (each_process (returned ret.who.proc) table) who.proc ≡ Some (returned ret.who.proc who.proc old.process) =
+          let is : item_at (each_item (returned ret.who.proc) table) who.proc ≡ Some (returned ret.who.proc who.proc old.process) =
           at_each (returned ret.who.proc) table who.proc ∙ ap (option_map (returned ret.who.proc who.proc)) old.stands in
           let new = returned_waits wanted (nat_eq who.proc ret.who.proc) old.process old.alive old.waits in
-          goes_on wanted (process_at (each_process (returned ret.who.proc) table) who.proc) (returned ret.who.proc who.proc old.process) is new.0 new.1
+          goes_on wanted (item_at (each_item (returned ret.who.proc) table) who.proc) (returned ret.who.proc who.proc old.process) is new.0 new.1
       | false ↦ waits
     ]
 keeps_waiting judged configuration state place core (Call call) tied law who wanted stays waits =
@@ -248,7 +249,7 @@ keeps_waiting judged configuration state place core (Call call) tied law who wan
       | inl own ↦
           let here : call.who.part ≡ who.part = eqb-true call.who.part who.part own in
           let same : who ≡ record { part = call.who.part; proc = who.proc } = same_who who (record { part = call.who.part; proc = who.proc }) (sym here) refl in
-          let at : process_at (state.partitions call.who.part).table who.proc ≡ Some old.process = subst (λ part. process_at (state.partitions part).table who.proc ≡ Some old.process) (sym here) old.stands in
+          let at : item_at (state.partitions call.who.part).table who.proc ≡ Some old.process = subst (λ part. item_at (state.partitions part).table who.proc ≡ Some old.process) (sym here) old.stands in
           let ready = chosen_stands (window_now configuration state.cores core) state.partitions core call.who (tied.distinct call.who.part) law.choice in
           let other : nat_eq who.proc call.who.proc ≡ false = elim (cases_Bool (nat_eq who.proc call.who.proc)) [
             | inl caller ↦ absurd (ready_waits_not core (found state.partitions call.who) wanted ready
@@ -259,17 +260,17 @@ keeps_waiting judged configuration state place core (Call call) tied law who wan
           (subst (λ one. ends_wait call one ≡ false) same stays) in
           let change = called place (time_of state.cores core) (period_of configuration call.who.part) state.cores (state.partitions call.who.part) call in
           let is = found_changed change (state.partitions call.who.part).table (created_by (first_core configuration call.who.part) call call.request) who.proc old.process at in
-          subst (λ part. waits_at wanted (process_at (partition_by configuration state.cores place core part (Call call) (state.partitions part)).table who.proc) ≡ true) here
+          subst (λ part. waits_at wanted (item_at (partition_by configuration state.cores place core part (Call call) (state.partitions part)).table who.proc) ≡ true) here
           (rw (is_itself call.who.part) (goes_on wanted
-          (process_at (each_process change (state.partitions call.who.part).table ++ created_by (first_core configuration call.who.part) call call.request) who.proc)
+          (item_at (each_item change (state.partitions call.who.part).table ++ created_by (first_core configuration call.who.part) call call.request) who.proc)
           (change who.proc old.process) is new.0 new.1))
       | inr foreign ↦
           let table = (state.partitions who.part).table in
           let change : ℕ → Process → Process = λ number process. roused place call (record { part = who.part; proc = number }) process in
           let named : is_named who call.claim.woken ≡ false = neither_first (is_named who call.claim.woken) (stops call who) stays in
-          let is : process_at (each_process change table) who.proc ≡ Some (change who.proc old.process) = at_each change table who.proc ∙ ap (option_map (change who.proc)) old.stands in
+          let is : item_at (each_item change table) who.proc ≡ Some (change who.proc old.process) = at_each change table who.proc ∙ ap (option_map (change who.proc)) old.stands in
           let same : change who.proc old.process ≡ old.process = rw named refl in
-          rw foreign (goes_on wanted (process_at (each_process change table) who.proc) old.process (is ∙ ap Some same) old.alive old.waits)
+          rw foreign (goes_on wanted (item_at (each_item change table) who.proc) old.process (is ∙ ap Some same) old.alive old.waits)
     ]
 
 -- a caller that waits
@@ -295,7 +296,7 @@ waiting_caller place now call x wanted _ given waits alive is = absurd (true≢f
 
 pub entered_waits : (judged : Service → Bool) (configuration : Configuration) (state : State) (place core : ℕ) (call : CallRecord) → AreTied configuration state
     → IsLawfulCall judged configuration state core call → (wanted : WaitingSet) → enters call wanted ≡ true
-    → waits_at wanted (process_at (partition_by configuration state.cores place core call.who.part (Call call) (state.partitions call.who.part)).table call.who.proc) ≡ true
+    → waits_at wanted (item_at (partition_by configuration state.cores place core call.who.part (Call call) (state.partitions call.who.part)).table call.who.proc) ≡ true
 entered_waits judged configuration state place core call tied law wanted enters =
     let partition = state.partitions call.who.part in
     let ready = chosen_stands (window_now configuration state.cores core) state.partitions core call.who (tied.distinct call.who.part) law.choice in
@@ -308,5 +309,5 @@ entered_waits judged configuration state place core call tied law wanted enters 
     let change = called place (time_of state.cores core) period state.cores partition call in
     let is = found_changed change partition.table (created_by (first_core configuration call.who.part) call call.request) call.who.proc ready.process ready.stands in
     let caller : change call.who.proc ready.process ≡ caller_after place (time_of state.cores core) call changed = rw (is_itself call.who.proc) refl in
-    rw (is_itself call.who.part) (goes_on wanted (process_at (each_process change partition.table ++ created_by (first_core configuration call.who.part) call call.request) call.who.proc)
+    rw (is_itself call.who.part) (goes_on wanted (item_at (each_item change partition.table ++ created_by (first_core configuration call.who.part) call call.request) call.who.proc)
     (caller_after place (time_of state.cores core) call changed) (is ∙ ap Some caller) new.0 new.1)

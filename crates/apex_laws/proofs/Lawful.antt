@@ -16,7 +16,7 @@ use Rattle.apex_machine.specs.Pieces.{Module, OfChannel, OfPartition, Piece, is_
 use Rattle.apex_machine.specs.Ports.{channel_of, suits_use, use_of}
 use Rattle.apex_machine.specs.ServiceConditions.{condition_codes}
 use Rattle.apex_machine.specs.Services.{answer_of}
-use Rattle.apex_machine.specs.State.{State, occupant_of, process_at, time_of}
+use Rattle.apex_machine.specs.State.{State, occupant_of, item_at, time_of}
 use Rattle.apex_machine.specs.Step.{ChannelConfigured, IsLawful, IsLawfulBody, IsLawfulCall, IsLawfulReturn, channel_answer, due_of}
 use Rattle.apex_laws.proofs.Booleans.{first_holds, is_itself}
 use Rattle.apex_laws.proofs.Choices.{choice_from, joined_choice}
@@ -90,7 +90,7 @@ lawful_return judged configuration state core ret of_module own = record {
   names = of_module.0;
   occupant = own.1.0.0;
   choice = choice_from (window_now configuration state.cores core) state.partitions core ret.who own.0 own.1.0.1;
-  due = returned_is_due (due_of (process_at (state.partitions ret.who.part).table ret.who.proc)) ret own.1.1.0 own.1.1.1.0 own.1.1.1.1.0 own.1.1.1.1.1.0;
+  due = returned_is_due (due_of (item_at (state.partitions ret.who.part).table ret.who.proc)) ret own.1.1.0 own.1.1.1.0 own.1.1.1.1.0 own.1.1.1.1.1.0;
 }
 
 -- any record

@@ -1,5 +1,5 @@
 -- The services of objects use and change exactly the object that they name, by the sentences of its rule.
-use Rattle.std.proofs.Common.{◌≡◌, ℕ, List, [], ◌∷◌, ◌++◌, Bool, true, false, cond, not, nat_eq, nat_lt, ℤ, pos, negsuc, Option, Some, None, option_map, refl, sym, ap, subst, ◌∙◌}
+use Rattle.std.proofs.Common.{◌≡◌, ℕ, List, [], ◌++◌, Bool, true, false, cond, not, nat_eq, nat_lt, ℤ, pos, negsuc, Option, Some, None, option_map, refl, sym, ap, subst, ◌∙◌}
 use Rattle.std.proofs.lemmas.Bool.{eqb-true}
 use Rattle.apex_types.specs.declared.code.Code.{Code}
 use Rattle.apex_types.specs.declared.code.Code.TheVariants as code
@@ -10,11 +10,12 @@ use Rattle.apex_machine.specs.After.{new_blackboard, new_buffer, new_event, new_
 use Rattle.apex_machine.specs.Answer.{Answer, Effect, NewNumber, done, done_with}
 use Rattle.apex_machine.specs.Arguments.{is_length, is_longer, natural_of}
 use Rattle.apex_machine.specs.Channels.{QueuingPort, SamplingPort, queuing_port, sampling_port}
-use Rattle.apex_machine.specs.Conditions.{acquire_codes, codes_for, creation_codes, is_queuing_port, is_sampling_port, is_taken, message_codes, of_caller, owns_another, time_out_codes, waiting_codes, when}
+use Rattle.apex_machine.specs.ObjectConditions.{acquire_codes, message_codes, object_codes, owns_another}
+use Rattle.apex_machine.specs.PortConditions.{is_queuing_port, is_sampling_port}
+use Rattle.apex_machine.specs.Conditions.{codes_for, creation_codes, is_taken, of_caller, time_out_codes, waiting_codes, when}
 use Rattle.apex_machine.specs.Objects.{acquired, board_read, buffer_received, buffer_sent, cleared, displayed, event_reset, event_set, event_waited, is_owner, mutex_released, semaphore_waited, signalled}
-use Rattle.apex_machine.specs.ServiceConditions.{object_codes}
 use Rattle.apex_machine.specs.Services.{answer_by}
-use Rattle.apex_machine.specs.State.{Blackboard, Buffer, Entry, Event, Mutex, Partition, Port, Semaphore, change_at, given_object, is_free_object, object_at, process_at}
+use Rattle.apex_machine.specs.State.{Blackboard, Buffer, Entry, Event, Mutex, Partition, Port, Semaphore, change_at, given_object, is_free, item_at}
 use Rattle.apex_machine.specs.Waiting.{first_waiter}
 use Rattle.apex_laws.specs.CallSentences.{Creates, OneBecomes, Operates}
 use Rattle.apex_laws.specs.ObjectSentences.{IsClearing, IsReleasing, IsResetting}
@@ -23,7 +24,7 @@ use Rattle.apex_laws.specs.ObjectLaws.{AreApart, ObjectCallIsTheSentence}
 use Rattle.apex_laws.proofs.Booleans.{cannot_hold, is_itself}
 use Rattle.apex_laws.proofs.Ends.{first_empty, is_created, second_empty}
 use Rattle.apex_laws.proofs.ObjectRules.{blackboard_is_the_sentence, event_is_the_sentence, mutex_is_the_sentence, queue_is_the_sentence, semaphore_is_the_sentence}
-use Rattle.apex_laws.proofs.Objects.{object_at_each}
+use Rattle.apex_laws.proofs.Tables.{at_each, at_others, at_pushed}
 
 -- one object changes
 
@@ -32,14 +33,14 @@ same_found : {Object : Type 0} (test : Bool) (change : Object → Object) (found
 same_found test change None differs = refl
 same_found test change (Some object) differs = rw differs refl
 
-changes_one : {Object : Type 0} (number : ℕ) (change : Object → Object) (objects : List (ℕ × Object)) (found : Object) → object_at objects number ≡ Some found
+changes_one : {Object : Type 0} (number : ℕ) (change : Object → Object) (objects : List (ℕ × Object)) (found : Object) → item_at objects number ≡ Some found
     → OneBecomes objects (change_at number change objects) number (change found)
 changes_one {Object} number change objects found at = record {
-  here = object_at_each (λ other (object : Object). cond (nat_eq other number) (change object) object) objects number
+  here = at_each (λ other (object : Object). cond (nat_eq other number) (change object) object) objects number
       ∙ ap (option_map (λ (object : Object). cond (nat_eq number number) (change object) object)) at
       ∙ ap (λ test. Some (cond test (change found) found)) (is_itself number);
-  others = λ other differs. object_at_each (λ one (object : Object). cond (nat_eq one number) (change object) object) objects other
-      ∙ same_found (nat_eq other number) change (object_at objects other) (cannot_hold (nat_eq other number) (λ same. differs (eqb-true other number same)));
+  others = λ other differs. at_each (λ one (object : Object). cond (nat_eq one number) (change object) object) objects other
+      ∙ same_found (nat_eq other number) change (item_at objects other) (cannot_hold (nat_eq other number) (λ same. differs (eqb-true other number same)));
 }
 
 -- a service of an object that is there
@@ -84,29 +85,13 @@ looks_at {Object} {Value} objects (pos number) found at Rule put rule_of rule sa
 
 -- creations
 
-pushed : {Object : Type 0} (objects : List (ℕ × Object)) (number : ℕ) (new : Object) → object_at objects number ≡ None → object_at (objects ++ (number, new) ∷ []) number ≡ Some new
-pushed [] number new none = rw is_itself refl
-pushed {Object} (entry ∷ entries) number new none =
-    elim (nat_eq number entry.0) as (λ same. cond same (Some entry.1) (object_at entries number) ≡ None → cond same (Some entry.1) (object_at (entries ++ (number, new) ∷ []) number) ≡ Some new) [
-      | true ↦ λ none. (let some : ◌≡◌ {A = Option Object} (Some entry.1) None = none in cc)
-      | false ↦ λ none. pushed entries number new none
-    ] none
-
-beside : {Object : Type 0} (objects : List (ℕ × Object)) (number other : ℕ) (new : Object) → nat_eq other number ≡ false → object_at (objects ++ (number, new) ∷ []) other ≡ object_at objects other
-beside [] number other new differs = rw differs refl
-beside (entry ∷ entries) number other new differs =
-    elim (nat_eq other entry.0) as (λ same. cond same (Some entry.1) (object_at (entries ++ (number, new) ∷ []) other) ≡ cond same (Some entry.1) (object_at entries other)) [
-      | true ↦ refl
-      | false ↦ beside entries number other new differs
-    ]
-
 creates : {Object : Type 0} (objects : List (ℕ × Object)) (claimed : Option ℤ) (new : Object)
-    → Creates objects (objects ++ numbered claimed new) claimed new (done_with (NewNumber (is_free_object objects)))
+    → Creates objects (objects ++ numbered claimed new) claimed new (done_with (NewNumber (is_free objects)))
 creates {Object} objects claimed new = record {
   gives = refl;
   put = λ number is none. subst (λ (one : Option ℤ). OneBecomes objects (objects ++ numbered one new) number new) (sym is) (record {
-    here = pushed objects number new none;
-    others = λ other differs. beside objects number other new (cannot_hold (nat_eq other number) (λ same. differs (eqb-true other number same)));
+    here = at_pushed objects number new none;
+    others = λ other differs. at_others objects number other new (cannot_hold (nat_eq other number) (λ same. differs (eqb-true other number same)));
   });
 }
 
@@ -135,7 +120,7 @@ lone_there found none = let is = is_created found (λ object. []) none in (is.0,
 -- the mutex that is to be acquired is there, where no condition holds
 pub mutex_there : (who : Who) (partition : Partition) (mutex time_out : ℤ) → acquire_codes who partition mutex time_out ≡ [] → (found : Mutex) × (given_object partition.mutexes mutex ≡ Some found)
 mutex_there who partition mutex time_out none =
-    let codes : Mutex → List Code = λ found. when (of_caller (λ process. nat_lt found.priority process.current_priority) (process_at partition.table who.proc)) code.InvalidMode in
+    let codes : Mutex → List Code = λ found. when (of_caller (λ process. nat_lt found.priority process.current_priority) (item_at partition.table who.proc)) code.InvalidMode in
     let found_codes = codes_for (given_object partition.mutexes mutex) codes in
     let second = found_codes ++ time_out_codes time_out in
     let third = second ++ when (nat_eq who.proc 0) code.InvalidMode in
@@ -145,7 +130,7 @@ mutex_there who partition mutex time_out none =
 
 -- the sets of an object that is there are apart
 given_entries : {Object : Type 0} (entries_of : Object → List Entry) (objects : List (ℕ × Object)) (given : ℤ) (found : Object) → given_object objects given ≡ Some found
-    → AreApart (entries_in entries_of (object_at objects (natural_of given))) → AreApart (entries_of found)
+    → AreApart (entries_in entries_of (item_at objects (natural_of given))) → AreApart (entries_of found)
 given_entries entries_of objects (pos number) found at apart = subst (λ one. AreApart (entries_in entries_of one)) at apart
 given_entries entries_of objects (negsuc n) found at apart = cc
 
@@ -260,7 +245,7 @@ object_call_is_the_sentence configuration now who claimed (request.CreateSamplin
       (
         port,
         there.1,
-        subst (λ found. Creates partition.sampling_ports (partition.sampling_ports ++ new_sampling_port name claimed found) claimed new (done_with (NewNumber (is_free_object partition.sampling_ports))))
+        subst (λ found. Creates partition.sampling_ports (partition.sampling_ports ++ new_sampling_port name claimed found) claimed new (done_with (NewNumber (is_free partition.sampling_ports))))
             (sym there.1) (creates partition.sampling_ports claimed new),
       ),
     )
@@ -273,7 +258,7 @@ object_call_is_the_sentence configuration now who claimed (request.CreateQueuing
       (
         port,
         there.1,
-        subst (λ found. Creates partition.queuing_ports (partition.queuing_ports ++ new_queuing_port name claimed found) claimed new (done_with (NewNumber (is_free_object partition.queuing_ports))))
+        subst (λ found. Creates partition.queuing_ports (partition.queuing_ports ++ new_queuing_port name claimed found) claimed new (done_with (NewNumber (is_free partition.queuing_ports))))
             (sym there.1) (creates partition.queuing_ports claimed new),
       ),
     )

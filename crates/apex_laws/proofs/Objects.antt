@@ -1,6 +1,5 @@
 -- The waiting sets of a partition's objects, when its objects change.
-use Rattle.std.proofs.Common.{◌≡◌, ℕ, List, [], ◌∷◌, ◌++◌, Bool, true, false, cond, nat_eq, nat_lt, ℤ, pos, negsuc, Option, Some, None, is_some, option_map, refl, sym, ap, subst, inl, inr}
-use Rattle.std.proofs.lemmas.Bool.{cases_Bool, eqb-true}
+use Rattle.std.proofs.Common.{◌≡◌, ℕ, List, [], ◌∷◌, ◌++◌, Bool, true, false, cond, nat_eq, nat_lt, ℤ, pos, negsuc, Option, Some, None, is_some, option_map, refl, sym, subst}
 use Rattle.apex_types.specs.declared.record.Who.{Who}
 use Rattle.apex_types.specs.declared.request.Request.{Request}
 use Rattle.apex_types.specs.declared.request.Request.TheVariants as request
@@ -10,19 +9,10 @@ use Rattle.apex_machine.specs.After.{each_set, new_blackboard, new_buffer, new_e
 use Rattle.apex_machine.specs.Arguments.{natural_of}
 use Rattle.apex_machine.specs.Configuration.{Configuration}
 use Rattle.apex_machine.specs.Objects.{acquired, acquired_again, acquired_from, buffer_received, buffer_sent, cleared, displayed, event_reset, event_set, handed_on, mutex_released, not_acquired, released_once, semaphore_waited, signalled}
-use Rattle.apex_machine.specs.State.{Blackboard, Buffer, Entry, Event, Mutex, Partition, Semaphore, change_at, each_object, object_at}
+use Rattle.apex_machine.specs.State.{Blackboard, Buffer, Entry, Event, Mutex, Partition, Semaphore, change_at, each_item, item_at}
 use Rattle.apex_machine.specs.Waiting.{first_waiter}
 use Rattle.apex_laws.specs.Laws.{entries_at, entries_in}
-
--- where each object is changed, the one of a number is
-pub object_at_each : {Object : Type 0} (change : ℕ → Object → Object) (objects : List (ℕ × Object)) (number : ℕ)
-    → object_at (each_object change objects) number ≡ option_map (change number) (object_at objects number)
-object_at_each change [] number = refl
-object_at_each {Object} change (entry ∷ entries) number =
-    elim (cases_Bool (nat_eq number entry.0)) [
-      | inl same ↦ rw same (ap (λ (one : ℕ). Some (change one entry.1)) (sym (eqb-true number entry.0 same)))
-      | inr other ↦ rw other (object_at_each change entries number)
-    ]
+use Rattle.apex_laws.proofs.Tables.{at_each}
 
 -- a change of each object that changes its entries in one way
 changed_entries : {Object : Type 0} (Holds : List Entry → Type 0) (entries_of : Object → List Entry) (change : ℕ → Object → Object) (through : List Entry → List Entry) (number : ℕ)
@@ -32,20 +22,20 @@ changed_entries Holds entries_of change through number is None absent all = abse
 changed_entries Holds entries_of change through number is (Some object) absent all = subst Holds (sym (is object)) all
 
 entries_of_each : {Object : Type 0} (Holds : List Entry → Type 0) (entries_of : Object → List Entry) (change : ℕ → Object → Object) (through : List Entry → List Entry) (number : ℕ)
-    → ((object : Object) → entries_of (change number object) ≡ through (entries_of object)) → (objects : List (ℕ × Object)) → (is_some (object_at objects number) ≡ false → Holds [])
-    → Holds (through (entries_in entries_of (object_at objects number))) → Holds (entries_in entries_of (object_at (each_object change objects) number))
+    → ((object : Object) → entries_of (change number object) ≡ through (entries_of object)) → (objects : List (ℕ × Object)) → (is_some (item_at objects number) ≡ false → Holds [])
+    → Holds (through (entries_in entries_of (item_at objects number))) → Holds (entries_in entries_of (item_at (each_item change objects) number))
 entries_of_each Holds entries_of change through number is objects absent all =
-    subst (λ found. Holds (entries_in entries_of found)) (sym (object_at_each change objects number))
-    (changed_entries Holds entries_of change through number is (object_at objects number) absent all)
+    subst (λ found. Holds (entries_in entries_of found)) (sym (at_each change objects number))
+    (changed_entries Holds entries_of change through number is (item_at objects number) absent all)
 
 -- whether the object of a waiting set of a partition is created; a channel's set is no partition's
 abbrev pub stands_at : Partition → WaitingSet → Bool
-stands_at partition (set.BufferSenders number) = is_some (object_at partition.buffers number)
-stands_at partition (set.BufferReceivers number) = is_some (object_at partition.buffers number)
-stands_at partition (set.BlackboardReaders number) = is_some (object_at partition.blackboards number)
-stands_at partition (set.SemaphoreWaiters number) = is_some (object_at partition.semaphores number)
-stands_at partition (set.EventWaiters number) = is_some (object_at partition.events number)
-stands_at partition (set.MutexWaiters number) = is_some (object_at partition.mutexes number)
+stands_at partition (set.BufferSenders number) = is_some (item_at partition.buffers number)
+stands_at partition (set.BufferReceivers number) = is_some (item_at partition.buffers number)
+stands_at partition (set.BlackboardReaders number) = is_some (item_at partition.blackboards number)
+stands_at partition (set.SemaphoreWaiters number) = is_some (item_at partition.semaphores number)
+stands_at partition (set.EventWaiters number) = is_some (item_at partition.events number)
+stands_at partition (set.MutexWaiters number) = is_some (item_at partition.mutexes number)
 stands_at partition (set.ChannelSenders channel) = false
 stands_at partition (set.ChannelReceivers channel) = false
 
@@ -90,17 +80,17 @@ same_entries Holds entries_of change keeps (Some object) all = subst Holds (sym 
 
 one_changed : {Object : Type 0} (Holds : List Entry → Type 0) (entries_of : Object → List Entry) (at : ℕ) (change : Object → Object) (number : ℕ)
     → ((object : Object) → entries_of (change object) ≡ entries_of object) → (objects : List (ℕ × Object))
-    → Holds (entries_in entries_of (object_at objects number)) → Holds (entries_in entries_of (object_at (change_at at change objects) number))
+    → Holds (entries_in entries_of (item_at objects number)) → Holds (entries_in entries_of (item_at (change_at at change objects) number))
 one_changed {Object} Holds entries_of at change number keeps objects all =
-    subst (λ found. Holds (entries_in entries_of found)) (sym (object_at_each (λ other (object : Object). cond (nat_eq other at) (change object) object) objects number))
+    subst (λ found. Holds (entries_in entries_of found)) (sym (at_each (λ other (object : Object). cond (nat_eq other at) (change object) object) objects number))
     (same_entries Holds entries_of (λ (object : Object). cond (nat_eq number at) (change object) object)
     (λ (object : Object). elim (nat_eq number at) as (λ same. entries_of (cond same (change object) object) ≡ entries_of object) [ true ↦ keeps object | false ↦ refl ])
-    (object_at objects number) all)
+    (item_at objects number) all)
 
 -- a created object has no entries
 one_created : {Object : Type 0} (Holds : List Entry → Type 0) (entries_of : Object → List Entry) (claimed : Option ℤ) (object : Object) (number : ℕ) → entries_of object ≡ []
-    → (objects : List (ℕ × Object)) → Holds (entries_in entries_of (object_at objects number))
-    → Holds (entries_in entries_of (object_at (objects ++ numbered claimed object) number))
+    → (objects : List (ℕ × Object)) → Holds (entries_in entries_of (item_at objects number))
+    → Holds (entries_in entries_of (item_at (objects ++ numbered claimed object) number))
 one_created Holds entries_of None object number none [] all = all
 one_created Holds entries_of (Some (negsuc n)) object number none [] all = all
 one_created Holds entries_of (Some (pos n)) object number none [] all =
@@ -109,8 +99,8 @@ one_created Holds entries_of (Some (pos n)) object number none [] all =
       | false ↦ all
     ]
 one_created Holds entries_of claimed object number none (entry ∷ entries) all =
-    elim (nat_eq number entry.0) as (λ same. Holds (entries_in entries_of (cond same (Some entry.1) (object_at entries number)))
-    → Holds (entries_in entries_of (cond same (Some entry.1) (object_at (entries ++ numbered claimed object) number)))) [
+    elim (nat_eq number entry.0) as (λ same. Holds (entries_in entries_of (cond same (Some entry.1) (item_at entries number)))
+    → Holds (entries_in entries_of (cond same (Some entry.1) (item_at (entries ++ numbered claimed object) number)))) [
       | true ↦ λ all. all
       | false ↦ λ all. one_created Holds entries_of claimed object number none entries all
     ] all

@@ -18,9 +18,9 @@ use Rattle.apex_machine.specs.declared.state.WaitingSet.{WaitingSet}
 use Rattle.apex_machine.specs.Arguments.{is_number, is_over, natural_of}
 use Rattle.apex_machine.specs.Conditions.{is_normal}
 use Rattle.apex_machine.specs.Objects.{acquired, is_owner, mutex_released}
-use Rattle.apex_machine.specs.Processes.{after_normal, by_mutex, caller_after, caller_with, code_when_due, due_of_call, entry_wait, first_release, on_ownership, outcome_of, owed, released, release_taken, service_of_wait, wait_ended, renews, started, stopped, time_out_of, wait_in, wait_of, waits_for_normal, woken_by}
+use Rattle.apex_machine.specs.DueTimes.{due_by, due_of_call, entry_wait, first_release, time_out_of, wait_in, wait_of, waits_for_normal}
+use Rattle.apex_machine.specs.Processes.{after_normal, by_mutex, caller_after, caller_with, code_when_due, on_ownership, outcome_of, owed, released, release_taken, service_of_wait, wait_ended, renews, started, stopped, woken_by}
 use Rattle.apex_machine.specs.State.{Mutex, given_object, time_of}
-use Rattle.apex_machine.specs.Step.{due_by}
 use Rattle.apex_machine.specs.Waiting.{first_waiter, is_waiting, set_of}
 use Rattle.apex_laws.specs.ProcessLaws.{CallerIsTheSentence, DueIsTheSentence, ReleaseIsTheSentence, SettingIsTheSentence, StoppingIsTheSentence, WakingIsTheSentence}
 use Rattle.apex_laws.specs.ProcessSentences.{HasDueTime, IsBegun, IsCaller, IsEntry, IsFirstRelease, IsMutexChange, IsNormalEntered, IsOwnerChange, IsReleased, IsStarted, IsWoken, OnTarget, Renews, WaitsForOther, taking}

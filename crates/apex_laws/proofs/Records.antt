@@ -10,8 +10,9 @@ use Rattle.apex_machine.specs.declared.state.WaitingSet.TheVariants as set
 use Rattle.apex_machine.specs.After.{each_set, partition_by, returned, ticked}
 use Rattle.apex_machine.specs.Configuration.{Configuration, has_partition}
 use Rattle.apex_machine.specs.Processes.{released}
-use Rattle.apex_machine.specs.State.{Blackboard, Buffer, Entry, Event, Mutex, Partition, Semaphore, State, Table, each_object, each_process, is_named, is_same, object_at, occupant_of, process_at, time_of}
-use Rattle.apex_machine.specs.Step.{AllConfigured, IsLawfulTick, falls_due, outcome_returned}
+use Rattle.apex_machine.specs.State.{Blackboard, Buffer, Entry, Event, Mutex, Partition, Semaphore, State, Table, each_item, is_named, is_same, item_at, occupant_of, time_of}
+use Rattle.apex_machine.specs.DueTimes.{falls_due}
+use Rattle.apex_machine.specs.Step.{AllConfigured, IsLawfulTick, outcome_returned}
 use Rattle.apex_machine.specs.Waiting.{set_after, without}
 use Rattle.apex_laws.specs.Laws.{entries_at, entries_in}
 use Rattle.apex_laws.specs.RecordLaws.{DispatchIsTheSentence, ReturnIsTheSentence, TickIsTheSentence}
@@ -20,7 +21,6 @@ use Rattle.apex_laws.proofs.Booleans.{cannot_hold, is_itself, other_holds}
 use Rattle.apex_laws.proofs.Cores.{count_stays, occupant_changes, occupants_stay, other_occupants, other_times, time_changes, times_stay}
 use Rattle.apex_laws.proofs.Emptied.{emptied_same}
 use Rattle.apex_laws.proofs.Kept.{keeps_only}
-use Rattle.apex_laws.proofs.Objects.{object_at_each}
 use Rattle.apex_laws.proofs.ProcessRules.{due_is_the_sentence, release_is_the_sentence}
 use Rattle.apex_laws.proofs.Stays.{same_sets}
 use Rattle.apex_laws.proofs.Steps.{lawful_body, next_channel, next_cores, next_partition}
@@ -46,14 +46,14 @@ dispatch_is_the_sentence judged configuration state ordered who next step is wit
 -- processes
 
 -- a process in a table that was changed
-pub turns_each : (change : ℕ → Process → Process) (table : Table) (number : ℕ) (old : Process) → process_at table number ≡ Some old
-    → process_at (each_process change table) number ≡ Some (change number old)
+pub turns_each : (change : ℕ → Process → Process) (table : Table) (number : ℕ) (old : Process) → item_at table number ≡ Some old
+    → item_at (each_item change table) number ≡ Some (change number old)
 turns_each change table number old at = at_each change table number ∙ ap (option_map (change number)) at
 
 -- where nothing of a process changes it stays
-pub stays_each : (change : ℕ → Process → Process) (table : Table) (number : ℕ) → ((old : Process) → process_at table number ≡ Some old → change number old ≡ old)
-    → process_at (each_process change table) number ≡ process_at table number
-stays_each change table number leaves = at_each change table number ∙ by (process_at table number) leaves
+pub stays_each : (change : ℕ → Process → Process) (table : Table) (number : ℕ) → ((old : Process) → item_at table number ≡ Some old → change number old ≡ old)
+    → item_at (each_item change table) number ≡ item_at table number
+stays_each change table number leaves = at_each change table number ∙ by (item_at table number) leaves
   where
     by : (found : Option Process) → ((old : Process) → found ≡ Some old → change number old ≡ old) → option_map (change number) found ≡ found
     by None leaves = refl
@@ -67,18 +67,18 @@ return_is_the_sentence judged configuration state ordered ret next step is =
     let partitions = next_partition judged configuration state ordered next (Ret ret) step is in
     let old = due_stands (process_in state ret.who) (outcome_returned ret) law.due in
     let table = (state.partitions ret.who.part).table in
-    let own : next.partitions ret.who.part ≡ record (state.partitions ret.who.part) { table = each_process (returned ret.who.proc) table } =
-    partitions ret.who.part ∙ ap (λ test. cond test (record (state.partitions ret.who.part) { table = each_process (returned ret.who.proc) table }) (state.partitions ret.who.part)) (is_itself ret.who.part) in
+    let own : next.partitions ret.who.part ≡ record (state.partitions ret.who.part) { table = each_item (returned ret.who.proc) table } =
+    partitions ret.who.part ∙ ap (λ test. cond test (record (state.partitions ret.who.part) { table = each_item (returned ret.who.proc) table }) (state.partitions ret.who.part)) (is_itself ret.who.part) in
     record {
       changed = record {
         old = old.0;
         new = record old.0 { due = None };
         before = old.1;
-        after = ap (λ (one : Partition). process_at one.table ret.who.proc) own ∙ turns_each (returned ret.who.proc) table ret.who.proc old.0 old.1
+        after = ap (λ (one : Partition). item_at one.table ret.who.proc) own ∙ turns_each (returned ret.who.proc) table ret.who.proc old.0 old.1
             ∙ ap (λ test. Some (cond test (record old.0 { due = None }) old.0)) (is_itself ret.who.proc);
         change = refl;
       };
-      others = λ other differs. ap (λ (one : Partition). process_at one.table other.proc) (partitions other.part)
+      others = λ other differs. ap (λ (one : Partition). item_at one.table other.proc) (partitions other.part)
           ∙ elim (cases_Bool (nat_eq ret.who.part other.part)) [
             | inl here ↦
                 rw here (stays_each (returned ret.who.proc) (state.partitions other.part).table other.proc
@@ -95,8 +95,8 @@ return_is_the_sentence judged configuration state ordered ret next step is =
   where
     by : (number : ℕ) → next.partitions number ≡ partition_by configuration state.cores ordered.pos ordered.core number (Ret ret) (state.partitions number)
         → next.partitions number ≡ record (state.partitions number) { table = (next.partitions number).table }
-    by number at = at ∙ elim (nat_eq ret.who.part number) as (λ own. cond own (record (state.partitions number) { table = each_process (returned ret.who.proc) (state.partitions number).table }) (state.partitions number)
-        ≡ record (state.partitions number) { table = (cond own (record (state.partitions number) { table = each_process (returned ret.who.proc) (state.partitions number).table }) (state.partitions number)).table }) [
+    by number at = at ∙ elim (nat_eq ret.who.part number) as (λ own. cond own (record (state.partitions number) { table = each_item (returned ret.who.proc) (state.partitions number).table }) (state.partitions number)
+        ≡ record (state.partitions number) { table = (cond own (record (state.partitions number) { table = each_item (returned ret.who.proc) (state.partitions number).table }) (state.partitions number)).table }) [
           | true ↦ refl
           | false ↦ refl
         ] ∙ ap (λ (one : Partition). let back : Partition = record (state.partitions number) { table = one.table } in back) (sym at)
@@ -135,9 +135,9 @@ due_named configuration state core woken law who falls =
 -- the entries of a set of a partition whose sets changed
 entries_changed : {Object : Type 0} (entries_of : Object → List Entry) (change : ℕ → Object → Object) (through : List Entry → List Entry) (number : ℕ) → through [] ≡ []
     → ((object : Object) → entries_of (change number object) ≡ through (entries_of object)) → (objects : List (ℕ × Object))
-    → entries_in entries_of (object_at (each_object change objects) number) ≡ through (entries_in entries_of (object_at objects number))
+    → entries_in entries_of (item_at (each_item change objects) number) ≡ through (entries_in entries_of (item_at objects number))
 entries_changed {Object} entries_of change through number none is objects =
-    ap (entries_in entries_of) (object_at_each change objects number) ∙ by (object_at objects number)
+    ap (entries_in entries_of) (at_each change objects number) ∙ by (item_at objects number)
   where
     by : (found : Option Object) → entries_in entries_of (option_map (change number) found) ≡ through (entries_in entries_of found)
     by None = sym none
@@ -172,10 +172,10 @@ sets_changed change partition none (set.ChannelReceivers channel) = sym (none (s
 
 -- a set of a partition after a tick
 ticked_set : (place number : ℕ) (woken : List Who) (state : State) (wanted : WaitingSet)
-    → entries_at (record (each_set (set_after place (Tick woken)) (state.partitions number)) { table = each_process (ticked place number woken) (state.partitions number).table }) wanted
+    → entries_at (record (each_set (set_after place (Tick woken)) (state.partitions number)) { table = each_item (ticked place number woken) (state.partitions number).table }) wanted
     ≡ without (λ who. is_named who woken) (entries_at (state.partitions number) wanted)
 ticked_set place number woken state wanted =
-    same_sets (each_set (set_after place (Tick woken)) (state.partitions number)) (each_process (ticked place number woken) (state.partitions number).table) wanted
+    same_sets (each_set (set_after place (Tick woken)) (state.partitions number)) (each_item (ticked place number woken) (state.partitions number).table) wanted
     ∙ sets_changed (set_after place (Tick woken)) (state.partitions number) (λ one. refl) wanted
 
 pub tick_is_the_sentence : TickIsTheSentence
@@ -201,12 +201,12 @@ tick_is_the_sentence judged configuration state ordered woken next step is withi
         old = falls.process;
         new = released place falls.process;
         before = falls.stands;
-        after = ap (λ (one : Partition). process_at one.table who.proc) (partitions who.part)
+        after = ap (λ (one : Partition). item_at one.table who.proc) (partitions who.part)
             ∙ turns_each (ticked place who.part woken) (state.partitions who.part).table who.proc falls.process falls.stands
             ∙ ap (λ test. Some (cond test (released place falls.process) falls.process)) (due_named configuration state core woken law who falls);
         change = (release_is_the_sentence place falls.due.time falls.process (released place falls.process) falls.due.due).0 refl;
       };
-      others = λ who configured differs. ap (λ (one : Partition). process_at one.table who.proc) (partitions who.part)
+      others = λ who configured differs. ap (λ (one : Partition). item_at one.table who.proc) (partitions who.part)
           ∙ stays_each (ticked place who.part woken) (state.partitions who.part).table who.proc
           (λ one at. (let unnamed : is_named who woken ≡ false = cannot_hold (is_named who woken) (λ named. differs (goes who named)) in rw unnamed refl));
       objects = λ number. ap emptied (partitions number) ∙ emptied_same (set_after place (Tick woken)) (state.partitions number);

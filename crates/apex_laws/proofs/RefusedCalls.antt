@@ -22,7 +22,7 @@ use Rattle.apex_machine.specs.Ports.{channel_effect, use_of}
 use Rattle.apex_machine.specs.Processes.{caller_after, caller_with, outcome_of, release_taken, renews}
 use Rattle.apex_machine.specs.ServiceConditions.{condition_codes}
 use Rattle.apex_machine.specs.Services.{Answer}
-use Rattle.apex_machine.specs.State.{Entry, Partition, State, Table, each_process, is_named, process_at, time_of}
+use Rattle.apex_machine.specs.State.{Entry, Partition, State, Table, each_item, is_named, item_at, time_of}
 use Rattle.apex_machine.specs.Step.{HasCode, HasOutcome, IsAmong, IsRefused}
 use Rattle.apex_machine.specs.Waiting.{ends_wait, is_no_error, is_waiting, set_after, stops, without}
 use Rattle.apex_laws.specs.RecordLaws.{RefusalIsTheSentence}
@@ -132,7 +132,7 @@ caller_is place now period cores partition call process not_so = rw (is_itself c
 
 -- its table, with those woken that the call names
 abbrev pub roused_table : ℕ → CallRecord → ℕ → Table → Table
-roused_table place call number table = each_process (λ other process. roused place call (record { part = number; proc = other }) process) table
+roused_table place call number table = each_item (λ other process. roused place call (record { part = number; proc = other }) process) table
 
 foreign_stays : (configuration : Configuration) (place core : ℕ) (call : CallRecord) → call.claim.woken ≡ [] → (state next : State) (other : Who)
     → next.partitions other.part ≡ cond (nat_eq call.who.part other.part) (partition_called configuration state.cores place core call (state.partitions other.part))
@@ -141,7 +141,7 @@ foreign_stays : (configuration : Configuration) (place core : ℕ) (call : CallR
 foreign_stays configuration place core call nobody state next other is elsewhere =
     let there = is ∙ ap (λ test. cond test (partition_called configuration state.cores place core call (state.partitions other.part))
     (record (state.partitions other.part) { table = roused_table place call other.part (state.partitions other.part).table })) elsewhere in
-    ap (λ (found : Partition). process_at found.table other.proc) there
+    ap (λ (found : Partition). item_at found.table other.proc) there
     ∙ stays_each (λ number process. roused place call (record { part = other.part; proc = number }) process) (state.partitions other.part).table other.proc
     (λ process at. (let named : is_named other call.claim.woken ≡ false = ap (is_named other) nobody in rw named refl))
 
@@ -173,8 +173,8 @@ refusal_is_the_sentence judged configuration state ordered call next step is som
     let more = created_by (first_core configuration call.who.part) call call.request in
     let own : next.partitions call.who.part ≡ partition_called configuration state.cores place core call (state.partitions call.who.part) =
     partitions call.who.part ∙ ap (λ test. cond test (partition_called configuration state.cores place core call (state.partitions call.who.part))
-    (record (state.partitions call.who.part) { table = each_process (λ other process. roused place call (record { part = call.who.part; proc = other }) process) table })) (is_itself call.who.part) in
-    let all : each_process change table ++ more ≡ each_process change table = ap (λ rest. each_process change table ++ rest) (none_created (first_core configuration call.who.part) call call.request not_so) ∙ append-nil (each_process change table) in
+    (record (state.partitions call.who.part) { table = each_item (λ other process. roused place call (record { part = call.who.part; proc = other }) process) table })) (is_itself call.who.part) in
+    let all : each_item change table ++ more ≡ each_item change table = ap (λ rest. each_item change table ++ rest) (none_created (first_core configuration call.who.part) call call.request not_so) ∙ append-nil (each_item change table) in
     record {
       code = one.code;
       condition = one.among;
@@ -183,15 +183,15 @@ refusal_is_the_sentence judged configuration state ordered call next step is som
           old = old.0;
           new = record old.0 { due = Some (record { service = service_of call.request; code = one.code; val = None; bytes = [] }); called_at = now };
           before = old.1;
-          after = ap (λ (found : Partition). process_at found.table call.who.proc) own ∙ ap (λ found. process_at found call.who.proc) all ∙ turns_each change table call.who.proc old.0 old.1
+          after = ap (λ (found : Partition). item_at found.table call.who.proc) own ∙ ap (λ found. item_at found call.who.proc) all ∙ turns_each change table call.who.proc old.0 old.1
               ∙ ap Some (caller_is place now period state.cores (state.partitions call.who.part) call old.0 not_so ∙ refused_caller place now call one.code old.0 one.is code_not_done refusal.val refusal.bytes);
           change = refl;
         };
         others = λ other differs. elim (cases_Bool (nat_eq call.who.part other.part)) [
           | inl here ↦
               let part : call.who.part ≡ other.part = eqb-true call.who.part other.part here in
-              subst (λ number. process_at (next.partitions number).table other.proc ≡ process_at (state.partitions number).table other.proc) part
-              (ap (λ (found : Partition). process_at found.table other.proc) own ∙ ap (λ found. process_at found other.proc) all
+              subst (λ number. item_at (next.partitions number).table other.proc ≡ item_at (state.partitions number).table other.proc) part
+              (ap (λ (found : Partition). item_at found.table other.proc) own ∙ ap (λ found. item_at found other.proc) all
               ∙ stays_each change table other.proc (λ process at. refused_other place now period state.cores (state.partitions call.who.part) call other.proc process not_so refusal.woken
               (elim (cases_Bool (nat_eq other.proc call.who.proc)) [ inl same ↦ absurd (differs (same_who other call.who (sym part) (eqb-true other.proc call.who.proc same))) | inr apart ↦ apart ])))
           | inr elsewhere ↦ foreign_stays configuration place core call refusal.woken state next other (partitions other.part) elsewhere

@@ -19,8 +19,9 @@ use Rattle.apex_machine.specs.Arguments.{is_number, natural_of}
 use Rattle.apex_machine.specs.Conditions.{is_normal}
 use Rattle.apex_machine.specs.Configuration.{Configuration, first_core, period_of}
 use Rattle.apex_machine.specs.Demands.{window_now}
-use Rattle.apex_machine.specs.Processes.{by_mutex, caller_with, due_of_call, entry_wait, gift_of, new_process, released, set_by, started, stopped, time_out_of, wait_in, wait_of, waits_for_normal, woken_by}
-use Rattle.apex_machine.specs.State.{Mutex, Partition, State, Table, each_process, given_object, is_named, process_at, time_of}
+use Rattle.apex_machine.specs.DueTimes.{due_of_call, entry_wait, time_out_of, wait_in, wait_of, waits_for_normal}
+use Rattle.apex_machine.specs.Processes.{by_mutex, caller_with, gift_of, new_process, released, set_by, started, stopped, woken_by}
+use Rattle.apex_machine.specs.State.{Mutex, Partition, State, Table, each_item, given_object, is_named, item_at, time_of}
 use Rattle.apex_machine.specs.Step.{IsLawfulBody}
 use Rattle.apex_machine.specs.Waiting.{ends_wait, enters, is_in, is_no_error, is_target, is_the_set, is_waiting, set_of, stop_of, stops, waits_at}
 use Rattle.apex_laws.specs.Laws.{AreTied}
@@ -143,7 +144,7 @@ called_back place now period cores partition call number x wanted waits =
     ] refl waits
 
 -- a created process doesn't wait
-numbered_not : (claimed : Option ℤ) (core : ℕ) (name : List ℕ) (priority period : ℤ) (number : ℕ) (wanted : WaitingSet) → waits_at wanted (process_at (numbered claimed (new_process core name priority period)) number) ≡ true → ⊥
+numbered_not : (claimed : Option ℤ) (core : ℕ) (name : List ℕ) (priority period : ℤ) (number : ℕ) (wanted : WaitingSet) → waits_at wanted (item_at (numbered claimed (new_process core name priority period)) number) ≡ true → ⊥
 numbered_not None core name priority period number wanted waits = true≢false (sym waits)
 numbered_not (Some (negsuc n)) core name priority period number wanted waits = true≢false (sym waits)
 numbered_not (Some (pos n)) core name priority period number wanted waits =
@@ -152,9 +153,9 @@ numbered_not (Some (pos n)) core name priority period number wanted waits =
       | false ↦ λ waits. true≢false (sym waits)
     ] waits
 
-created_not : (core : ℕ) (call : CallRecord) (asked : Request) (number : ℕ) (wanted : WaitingSet) → waits_at wanted (process_at (created_by core call asked) number) ≡ true → ⊥
+created_not : (core : ℕ) (call : CallRecord) (asked : Request) (number : ℕ) (wanted : WaitingSet) → waits_at wanted (item_at (created_by core call asked) number) ≡ true → ⊥
 created_not core call (request.CreateProcess name priority period) number wanted waits =
-    elim (is_done call.claim.out) as (λ done. waits_at wanted (process_at (cond done (numbered call.claim.val (new_process core name priority period)) []) number) ≡ true → ⊥) [
+    elim (is_done call.claim.out) as (λ done. waits_at wanted (item_at (cond done (numbered call.claim.val (new_process core name priority period)) []) number) ≡ true → ⊥) [
       | true ↦ λ waits. numbered_not call.claim.val core name priority period number wanted waits
       | false ↦ λ waits. true≢false (sym waits)
     ] waits
@@ -164,24 +165,24 @@ created_not core call _ number wanted waits = true≢false (sym waits)
 
 -- a process of a changed table is one that stood there
 each_back : (Fact : Type 0) (change : ℕ → Process → Process) (table : Table) (number : ℕ) (wanted : WaitingSet)
-    → ((x : Process) → process_at table number ≡ Some x → waits_at wanted (Some (change number x)) ≡ true → Fact)
-    → waits_at wanted (process_at (each_process change table) number) ≡ true → Fact
+    → ((x : Process) → item_at table number ≡ Some x → waits_at wanted (Some (change number x)) ≡ true → Fact)
+    → waits_at wanted (item_at (each_item change table) number) ≡ true → Fact
 each_back Fact change table number wanted fact waits =
-    by (process_at table number) refl (subst (λ one. waits_at wanted one ≡ true) (at_each change table number) waits)
+    by (item_at table number) refl (subst (λ one. waits_at wanted one ≡ true) (at_each change table number) waits)
   where
-    by : (one : Option Process) → process_at table number ≡ one → waits_at wanted (option_map (change number) one) ≡ true → Fact
+    by : (one : Option Process) → item_at table number ≡ one → waits_at wanted (option_map (change number) one) ≡ true → Fact
     by None at waits = absurd (true≢false (sym waits))
     by (Some x) at waits = fact x at waits
 
 -- and one of a longer table too, where nobody waits that was added
 longer_back : (Fact : Type 0) (change : ℕ → Process → Process) (table more : Table) (number : ℕ) (wanted : WaitingSet)
-    → ((x : Process) → process_at table number ≡ Some x → waits_at wanted (Some (change number x)) ≡ true → Fact) → (waits_at wanted (process_at more number) ≡ true → ⊥)
-    → waits_at wanted (process_at (each_process change table ++ more) number) ≡ true → Fact
-longer_back Fact change table more number wanted fact added waits = by (process_at table number) refl
+    → ((x : Process) → item_at table number ≡ Some x → waits_at wanted (Some (change number x)) ≡ true → Fact) → (waits_at wanted (item_at more number) ≡ true → ⊥)
+    → waits_at wanted (item_at (each_item change table ++ more) number) ≡ true → Fact
+longer_back Fact change table more number wanted fact added waits = by (item_at table number) refl
   where
-    by : (one : Option Process) → process_at table number ≡ one → Fact
+    by : (one : Option Process) → item_at table number ≡ one → Fact
     by None at = absurd (added (subst (λ one. waits_at wanted one ≡ true)
-        (found_behind (each_process change table) more number (at_each change table number ∙ ap (option_map (change number)) at)) waits))
+        (found_behind (each_item change table) more number (at_each change table number ∙ ap (option_map (change number)) at)) waits))
     by (Some x) at = fact x at (subst (λ one. waits_at wanted one ≡ true) (found_changed change table more number x at) waits)
 
 -- a call stops nobody of another partition
@@ -199,7 +200,7 @@ Entering _ who wanted = ⊥
 -- who waits in a set after a record waited there and goes on, or enters
 pub who_waits : (judged : Service → Bool) (configuration : Configuration) (state : State) (place core : ℕ) (body : Body) → AreTied configuration state
     → IsLawfulBody judged configuration state core body → (who : Who) (wanted : WaitingSet)
-    → waits_at wanted (process_at (partition_by configuration state.cores place core who.part body (state.partitions who.part)).table who.proc) ≡ true
+    → waits_at wanted (item_at (partition_by configuration state.cores place core who.part body (state.partitions who.part)).table who.proc) ≡ true
     → ((leaves body who ≡ false) × (waits_at wanted (found state.partitions who) ≡ true)) ⊎ Entering body who wanted
 who_waits judged configuration state place core (Disp one) tied law who wanted waits = inl (refl, waits)
 who_waits judged configuration state place core (Tick woken) tied law who wanted waits =
@@ -207,7 +208,7 @@ who_waits judged configuration state place core (Tick woken) tied law who wanted
     (λ x at waits. (let back = ticked_back place who.part woken who.proc x wanted waits in inl (back.0, subst (λ one. waits_at wanted one ≡ true) (sym at) back.1))) waits
 who_waits judged configuration state place core (Ret ret) tied law who wanted waits =
     let Fact : Type 0 = ((false ≡ false) × (waits_at wanted (found state.partitions who) ≡ true)) ⊎ ⊥ in
-    elim (nat_eq ret.who.part who.part) as (λ own. waits_at wanted (process_at (cond own (record (state.partitions who.part) { table = each_process (returned ret.who.proc) (state.partitions who.part).table })
+    elim (nat_eq ret.who.part who.part) as (λ own. waits_at wanted (item_at (cond own (record (state.partitions who.part) { table = each_item (returned ret.who.proc) (state.partitions who.part).table })
     (state.partitions who.part)).table who.proc) ≡ true → Fact) [
       | true ↦ λ waits. each_back Fact (returned ret.who.proc) (state.partitions who.part).table who.proc wanted
           (λ x at waits. inl (refl, subst (λ one. waits_at wanted one ≡ true) (sym at) (one_back wanted (nat_eq who.proc ret.who.proc) (record x { due = None }) x (λ waits. waits) waits))) waits
@@ -224,19 +225,19 @@ who_waits judged configuration state place core (Call call) tied law who wanted 
           let same : record { part = call.who.part; proc = who.proc } ≡ who = same_who (record { part = call.who.part; proc = who.proc }) who here refl in
           let change = called place now period state.cores (state.partitions call.who.part) call in
           let ready = chosen_stands (window_now configuration state.cores core) state.partitions core call.who (tied.distinct call.who.part) law.choice in
-          let at_home : waits_at wanted (process_at (partition_by configuration state.cores place core call.who.part (Call call) (state.partitions call.who.part)).table who.proc) ≡ true =
-          subst (λ part. waits_at wanted (process_at (partition_by configuration state.cores place core part (Call call) (state.partitions part)).table who.proc) ≡ true) (sym here) waits in
+          let at_home : waits_at wanted (item_at (partition_by configuration state.cores place core call.who.part (Call call) (state.partitions call.who.part)).table who.proc) ≡ true =
+          subst (λ part. waits_at wanted (item_at (partition_by configuration state.cores place core part (Call call) (state.partitions part)).table who.proc) ≡ true) (sym here) waits in
           let foreign : ℕ → Process → Process = λ number process. roused place call (record { part = call.who.part; proc = number }) process in
-          let in_table : waits_at wanted (process_at (each_process change own_table ++ created_by (first_core configuration call.who.part) call call.request) who.proc) ≡ true =
-          subst (λ test. waits_at wanted (process_at (cond test (partition_called configuration state.cores place core call (state.partitions call.who.part))
-          (record (state.partitions call.who.part) { table = each_process foreign own_table })).table who.proc) ≡ true) (is_itself call.who.part) at_home in
+          let in_table : waits_at wanted (item_at (each_item change own_table ++ created_by (first_core configuration call.who.part) call call.request) who.proc) ≡ true =
+          subst (λ test. waits_at wanted (item_at (cond test (partition_called configuration state.cores place core call (state.partitions call.who.part))
+          (record (state.partitions call.who.part) { table = each_item foreign own_table })).table who.proc) ≡ true) (is_itself call.who.part) at_home in
           longer_back Fact change own_table (created_by (first_core configuration call.who.part) call call.request) who.proc wanted
           (λ x at waits. elim (called_back place now period state.cores (state.partitions call.who.part) call who.proc x wanted waits) [
             | inl caller ↦
                 let number : who.proc ≡ call.who.proc = eqb-true who.proc call.who.proc caller.0 in
                 let begun = caller_back place now call (adjusted place period state.cores (state.partitions call.who.part) call who.proc x) wanted call.claim.out
                 (λ waits. ready_waits_not core (found state.partitions call.who) wanted ready
-                (subst (λ one. waits_at wanted one ≡ true) (sym at ∙ ap (process_at own_table) number)
+                (subst (λ one. waits_at wanted one ≡ true) (sym at ∙ ap (item_at own_table) number)
                 (adjusted_back place period state.cores (state.partitions call.who.part) call who.proc x wanted waits))) caller.1 in
                 inr (same_who who call.who (sym here) number, and_from _ _ begun.0 begun.1)
             | inr other ↦ inl (
@@ -248,9 +249,9 @@ who_waits judged configuration state place core (Call call) tied law who wanted 
       | inr elsewhere ↦
           let table = (state.partitions who.part).table in
           let change : ℕ → Process → Process = λ number process. roused place call (record { part = who.part; proc = number }) process in
-          let in_table : waits_at wanted (process_at (each_process change table) who.proc) ≡ true =
-          subst (λ test. waits_at wanted (process_at (cond test (partition_called configuration state.cores place core call (state.partitions who.part))
-          (record (state.partitions who.part) { table = each_process change table })).table who.proc) ≡ true) elsewhere waits in
+          let in_table : waits_at wanted (item_at (each_item change table) who.proc) ≡ true =
+          subst (λ test. waits_at wanted (item_at (cond test (partition_called configuration state.cores place core call (state.partitions who.part))
+          (record (state.partitions who.part) { table = each_item change table })).table who.proc) ≡ true) elsewhere waits in
           each_back Fact change table who.proc wanted
           (λ x at waits. (let back = roused_back place call who x wanted waits in
           let stays : stops call who ≡ false = not_stopped call who elsewhere in

@@ -20,7 +20,7 @@ use Rattle.apex_machine.specs.Configuration.{Configuration}
 use Rattle.apex_machine.specs.Ports.{channel_of, suits_use, use_of}
 use Rattle.apex_machine.specs.ServiceConditions.{condition_codes}
 use Rattle.apex_machine.specs.Services.{answer_of}
-use Rattle.apex_machine.specs.State.{Entry, Partition, State, Table, cold_state, each_process, is_named, time_of}
+use Rattle.apex_machine.specs.State.{Entry, Partition, State, Table, cold_state, each_item, is_named, time_of}
 use Rattle.apex_machine.specs.Step.{HasOutcome, IsLawfulBody, IsLawfulCall, RunJudging, StepJudging, channel_answer}
 use Rattle.apex_machine.specs.Waiting.{ends_wait, enters, entry_of, is_no_error, is_target, is_the_set, is_waiting, set_after, set_of, stop_of, stops, waits_at, without}
 use Rattle.apex_laws.specs.Laws.{AllEntries, AllPorts, AreTied, IsAtEnd, IsTied, StaysTied, entries_at}
@@ -195,13 +195,13 @@ own_sets judged configuration state place core (Ret ret) tied law number wanted 
     let all : AllEntries Then (entries_at (state.partitions number) wanted) =
     set_tied judged configuration state place core (Ret ret) tied law (λ home. home ≡ number) wanted tt (entries_at (state.partitions number) wanted) (tied.objects number wanted) in
     elim (nat_eq ret.who.part number) as (λ own. AllEntries Then (entries_at (cond own
-    (record (state.partitions number) { table = each_process (returned ret.who.proc) (state.partitions number).table }) (state.partitions number)) wanted)) [
-      | true ↦ subst (AllEntries Then) (sym (same_sets (state.partitions number) (each_process (returned ret.who.proc) (state.partitions number).table) wanted)) all
+    (record (state.partitions number) { table = each_item (returned ret.who.proc) (state.partitions number).table }) (state.partitions number)) wanted)) [
+      | true ↦ subst (AllEntries Then) (sym (same_sets (state.partitions number) (each_item (returned ret.who.proc) (state.partitions number).table) wanted)) all
       | false ↦ all
     ]
 own_sets judged configuration state place core (Tick woken) tied law number wanted =
     let Then : Entry → Type 0 = IsTied (λ home. home ≡ number) wanted (Next configuration state place core (Tick woken)) in
-    subst (AllEntries Then) (sym (same_sets (each_set (set_after place (Tick woken)) (state.partitions number)) (each_process (ticked place number woken) (state.partitions number).table) wanted))
+    subst (AllEntries Then) (sym (same_sets (each_set (set_after place (Tick woken)) (state.partitions number)) (each_item (ticked place number woken) (state.partitions number).table) wanted))
     (each_set_has (AllEntries Then) tt (set_after place (Tick woken)) (state.partitions number) wanted
     (set_tied judged configuration state place core (Tick woken) tied law (λ home. home ≡ number) wanted tt (entries_at (state.partitions number) wanted) (tied.objects number wanted)))
 own_sets judged configuration state place core (Call call) tied law number wanted =
@@ -209,7 +209,7 @@ own_sets judged configuration state place core (Call call) tied law number wante
     let foreign : ℕ → Process → Process = λ other process. roused place call (record { part = number; proc = other }) process in
     elim (nat_eq call.who.part number) as (λ own. nat_eq call.who.part number ≡ own → AllEntries Then (entries_at (cond own
     (partition_called configuration state.cores place core call (state.partitions number))
-    (record (state.partitions number) { table = each_process foreign (state.partitions number).table })) wanted)) [
+    (record (state.partitions number) { table = each_item foreign (state.partitions number).table })) wanted)) [
       | true ↦ λ own.
           let objects : Partition = cond (is_done call.claim.out) (objects_by configuration call.who call.claim.val call.request (state.partitions number)) (state.partitions number) in
           subst (AllEntries Then) (sym (called_sets configuration state place core call (state.partitions number) wanted))
@@ -217,7 +217,7 @@ own_sets judged configuration state place core (Call call) tied law number wante
           (set_tied judged configuration state place core (Call call) tied law (λ home. home ≡ number) wanted (λ here. eqb-true call.who.part number own) (entries_at objects wanted)
           (objects_tied (IsTied (λ home. home ≡ number) wanted state.partitions) configuration call (state.partitions number) wanted (tied.objects number wanted))))
       | false ↦ λ elsewhere.
-          subst (AllEntries Then) (sym (same_sets (state.partitions number) (each_process foreign (state.partitions number).table) wanted))
+          subst (AllEntries Then) (sym (same_sets (state.partitions number) (each_item foreign (state.partitions number).table) wanted))
           (foreign_sets judged configuration state place core call tied law number elsewhere wanted)
     ] refl
 
@@ -317,12 +317,12 @@ ports_by configuration state place core (Disp who) number all = all
 ports_by configuration state place core (Tick woken) number all = all
 ports_by configuration state place core (Ret ret) number all =
     elim (nat_eq ret.who.part number) as (λ own. AllPorts (λ port. IsAtEnd configuration number port.direction port.channel) (cond own
-    (record (state.partitions number) { table = each_process (returned ret.who.proc) (state.partitions number).table }) (state.partitions number)).queuing_ports) [ true ↦ all | false ↦ all ]
+    (record (state.partitions number) { table = each_item (returned ret.who.proc) (state.partitions number).table }) (state.partitions number)).queuing_ports) [ true ↦ all | false ↦ all ]
 ports_by configuration state place core (Call call) number all =
     let foreign : ℕ → Process → Process = λ other process. roused place call (record { part = number; proc = other }) process in
     elim (nat_eq call.who.part number) as (λ own. nat_eq call.who.part number ≡ own → AllPorts (λ port. IsAtEnd configuration number port.direction port.channel) (cond own
     (partition_called configuration state.cores place core call (state.partitions number))
-    (record (state.partitions number) { table = each_process foreign (state.partitions number).table })).queuing_ports) [
+    (record (state.partitions number) { table = each_item foreign (state.partitions number).table })).queuing_ports) [
       | true ↦ λ own. called_ports configuration state place core call number (eqb-true call.who.part number own) all
       | false ↦ λ elsewhere. all
     ] refl

@@ -1,18 +1,18 @@
--- The process of a number in a table that was changed.
-use Rattle.std.proofs.Common.{◌≡◌, ℕ, [], ◌∷◌, ◌++◌, true, false, cond, not, nat_eq, Option, Some, None, is_some, option_map, refl, sym, ap, ◌∙◌, inl, inr, true≢false, ◌&&◌}
+-- The process or object of a number, where those of its kind were changed.
+use Rattle.std.proofs.Common.{◌≡◌, ℕ, List, [], ◌∷◌, ◌++◌, true, false, cond, not, nat_eq, Option, Some, None, is_some, option_map, refl, sym, ap, ◌∙◌, inl, inr, true≢false, ◌&&◌}
 use Rattle.std.proofs.lemmas.Bool.{and_from, and_parts, cases_Bool, eqb-true, ne_eqb, eqb-false}
 use Rattle.apex_machine.specs.declared.state.Process.{Process}
-use Rattle.apex_machine.specs.State.{Table, each_process, process_at}
+use Rattle.apex_machine.specs.State.{Table, each_item, item_at}
 use Rattle.apex_laws.specs.Laws.{are_distinct}
 use Rattle.apex_laws.proofs.Booleans.{is_itself}
 
--- where each process is changed, the one of a number is
-pub at_each : (change : ℕ → Process → Process) (table : Table) (number : ℕ)
-    → process_at (each_process change table) number ≡ option_map (change number) (process_at table number)
+-- where each is changed, the one of a number is
+pub at_each : {Item : Type 0} (change : ℕ → Item → Item) (items : List (ℕ × Item)) (number : ℕ)
+    → item_at (each_item change items) number ≡ option_map (change number) (item_at items number)
 at_each change [] number = refl
 at_each change (entry ∷ entries) number =
     elim (cases_Bool (nat_eq number entry.0)) [
-      | inl same ↦ rw same (ap (λ one. Some (change one entry.1)) (sym (eqb-true number entry.0 same)))
+      | inl same ↦ rw same (ap (λ (one : ℕ). Some (change one entry.1)) (sym (eqb-true number entry.0 same)))
       | inr other ↦ rw other (at_each change entries number)
     ]
 
@@ -28,41 +28,40 @@ some_mapped change None = refl
 some_mapped change (Some process) = refl
 
 pub some_at_each : (change : ℕ → Process → Process) (table : Table) (number : ℕ)
-    → is_some (process_at (each_process change table) number) ≡ is_some (process_at table number)
-some_at_each change table number = ap (λ found. is_some found) (at_each change table number) ∙ some_mapped (change number) (process_at table number)
+    → is_some (item_at (each_item change table) number) ≡ is_some (item_at table number)
+some_at_each change table number = ap (λ found. is_some found) (at_each change table number) ∙ some_mapped (change number) (item_at table number)
 
 -- so distinct numbers stay distinct
-pub distinct_each : (change : ℕ → Process → Process) (table : Table) → are_distinct (each_process change table) ≡ are_distinct table
+pub distinct_each : (change : ℕ → Process → Process) (table : Table) → are_distinct (each_item change table) ≡ are_distinct table
 distinct_each change [] = refl
 distinct_each change (entry ∷ entries) =
     λ i. not (some_at_each change entries entry.0 i) && distinct_each change entries i
 
--- a process of a new number at the end
+-- a process or object of a new number at the end
 
 -- the others are found as before
-pub at_others : (table : Table) (number other : ℕ) (process : Process) → nat_eq other number ≡ false
-    → process_at (table ++ (number, process) ∷ []) other ≡ process_at table other
-at_others [] number other process differs = rw differs refl
-at_others (entry ∷ entries) number other process differs =
-    elim (nat_eq other entry.0) as (λ same. cond same (Some entry.1) (process_at (entries ++ (number, process) ∷ []) other) ≡ cond same (Some entry.1) (process_at entries other)) [
+pub at_others : {Item : Type 0} (items : List (ℕ × Item)) (number other : ℕ) (new : Item) → nat_eq other number ≡ false
+    → item_at (items ++ (number, new) ∷ []) other ≡ item_at items other
+at_others [] number other new differs = rw differs refl
+at_others (entry ∷ entries) number other new differs =
+    elim (nat_eq other entry.0) as (λ same. cond same (Some entry.1) (item_at (entries ++ (number, new) ∷ []) other) ≡ cond same (Some entry.1) (item_at entries other)) [
       | true ↦ refl
-      | false ↦ at_others entries number other process differs
+      | false ↦ at_others entries number other new differs
     ]
 
 -- and it is found under its number
-pub at_pushed : (table : Table) (number : ℕ) (process : Process) → process_at table number ≡ None
-    → process_at (table ++ (number, process) ∷ []) number ≡ Some process
-at_pushed [] number process none = rw is_itself refl
-at_pushed (entry ∷ entries) number process none =
-    elim (cases_Bool (nat_eq number entry.0)) [
-      | inl same ↦
-          let some : ◌≡◌ {A = Option Process} (Some entry.1) None = rw same at none in cc
-      | inr other ↦ rw other (at_pushed entries number process (rw other at none))
-    ]
+pub at_pushed : {Item : Type 0} (items : List (ℕ × Item)) (number : ℕ) (new : Item) → item_at items number ≡ None
+    → item_at (items ++ (number, new) ∷ []) number ≡ Some new
+at_pushed [] number new none = rw is_itself refl
+at_pushed {Item} (entry ∷ entries) number new none =
+    elim (nat_eq number entry.0) as (λ same. cond same (Some entry.1) (item_at entries number) ≡ None → cond same (Some entry.1) (item_at (entries ++ (number, new) ∷ []) number) ≡ Some new) [
+      | true ↦ λ none. (let some : ◌≡◌ {A = Option Item} (Some entry.1) None = none in cc)
+      | false ↦ λ none. at_pushed entries number new none
+    ] none
 
 -- a number that none of a list has differs from the first, and none of the rest has it
-new_number : (entry : ℕ × Process) (entries : Table) (number : ℕ) → is_some (process_at (entry ∷ entries) number) ≡ false
-    → (nat_eq entry.0 number ≡ false) × (is_some (process_at entries number) ≡ false)
+new_number : (entry : ℕ × Process) (entries : Table) (number : ℕ) → is_some (item_at (entry ∷ entries) number) ≡ false
+    → (nat_eq entry.0 number ≡ false) × (is_some (item_at entries number) ≡ false)
 new_number entry entries number new =
     elim (cases_Bool (nat_eq number entry.0)) [
       | inl same ↦ absurd (true≢false (rw same at new))
@@ -70,11 +69,11 @@ new_number entry entries number new =
     ]
 
 -- the numbers stay distinct
-pub distinct_push : (table : Table) (number : ℕ) (process : Process) → are_distinct table ≡ true → is_some (process_at table number) ≡ false
+pub distinct_push : (table : Table) (number : ℕ) (process : Process) → are_distinct table ≡ true → is_some (item_at table number) ≡ false
     → are_distinct (table ++ (number, process) ∷ []) ≡ true
 distinct_push [] number process distinct new = refl
 distinct_push (entry ∷ entries) number process distinct new =
-    let parts = and_parts (not (is_some (process_at entries entry.0))) (are_distinct entries) distinct in
+    let parts = and_parts (not (is_some (item_at entries entry.0))) (are_distinct entries) distinct in
     let others = new_number entry entries number new in
     and_from _ _ (ap (λ found. not (is_some found)) (at_others entries number entry.0 process others.0) ∙ parts.0)
     (distinct_push entries number process parts.1 others.1)

@@ -19,7 +19,7 @@ use Rattle.apex_machine.specs.Configuration.{Configuration}
 use Rattle.apex_machine.specs.Pieces.{ChannelPart, Module, OfChannel, OfPartition, PartitionPart, Piece, part, stops_at_end, times_of, touched_by, touches}
 use Rattle.apex_machine.specs.ServiceConditions.{condition_codes}
 use Rattle.apex_machine.specs.Ports.{channel_of}
-use Rattle.apex_machine.specs.State.{Entry, Partition, State, Table, each_process, is_named, time_of}
+use Rattle.apex_machine.specs.State.{Entry, Partition, State, Table, each_item, is_named, time_of}
 use Rattle.apex_machine.specs.Step.{IsLawful, IsLawfulBody, IsLawfulCall}
 use Rattle.apex_machine.specs.Waiting.{ends_wait, enters, is_no_error, is_target, is_the_set, is_waiting, set_after, set_of, stop_of, stops}
 use Rattle.apex_laws.specs.Laws.{AllEntries, AreTied, IsTied}
@@ -32,7 +32,7 @@ use Rattle.apex_laws.proofs.Woken.{IsWokenBy, woken}
 -- partitions
 
 -- a table whose processes all stay
-pub each_stays : (change : ℕ → Process → Process) (table : Table) → ((number : ℕ) (process : Process) → change number process ≡ process) → each_process change table ≡ table
+pub each_stays : (change : ℕ → Process → Process) (table : Table) → ((number : ℕ) (process : Process) → change number process ≡ process) → each_item change table ≡ table
 each_stays change [] stays = refl
 each_stays change (entry ∷ entries) stays = λ i. (entry.0, stays entry.0 entry.1 i) ∷ each_stays change entries stays i
 

@@ -10,13 +10,13 @@ use Rattle.apex_machine.specs.declared.state.WaitingSet.TheVariants as set
 use Rattle.apex_machine.specs.Answer.{Answer, answering, done, unmet, waiting, waking}
 use Rattle.apex_machine.specs.Arguments.{is_over}
 use Rattle.apex_machine.specs.Channels.{capacity_of, receiving_discipline, refresh_of, sending_discipline}
-use Rattle.apex_machine.specs.Conditions.{created, is_suspension}
+use Rattle.apex_machine.specs.DueTimes.{is_released, is_suspension}
 use Rattle.apex_machine.specs.Configuration.{Configuration}
 use Rattle.apex_machine.specs.Objects.{acquired, acquired_again, acquired_from, at_maximum, board_read, buffer_received, buffer_sent, displayed, event_set, event_waited, handed_on, mutex_released, not_acquired, raised, released_once, semaphore_waited, signalled}
 use Rattle.apex_machine.specs.Ports.{Receive, Read, Send, Use, Write, channel_effect, used, reading_of}
 use Rattle.apex_machine.specs.Queue.{Messages, appended, not_yet, received, sent}
-use Rattle.apex_machine.specs.Services.{answer_by, answer_of, fellow, is_released, resuming}
-use Rattle.apex_machine.specs.State.{Buffer, Blackboard, Channel, Content, Entry, Event, Mutex, Partition, Queued, Sampled, Semaphore, Stamped, given_object, is_named, object_at, process_at}
+use Rattle.apex_machine.specs.Services.{answer_by, answer_of, fellow, resuming}
+use Rattle.apex_machine.specs.State.{Blackboard, Buffer, Channel, Content, Entry, Event, Mutex, Partition, Queued, Sampled, Semaphore, Stamped, created, given_object, is_named, item_at}
 use Rattle.apex_machine.specs.Waiting.{first_waiter}
 use Rattle.apex_laws.specs.Laws.{AllEntries, entries_at, entries_in}
 use Rattle.apex_laws.proofs.Waiters.{all_named, first_has, only_named}
@@ -123,21 +123,21 @@ pub answer_wakes : (Fact : Who → Type 0) (now : ℕ) (who : Who) (partition : 
     → ((process : ℤ) (target : Process) → created partition.table process ≡ Some target → is_suspension target.wait ≡ true → Fact (fellow who process))
     → (one : Who) → is_named one (answer_of now who partition asked).woken ≡ true → Fact one
 answer_wakes Fact now who partition (request.SendBuffer (pos buffer) length time_out message) all suspended one named =
-    by_object (Fact one) one (object_at partition.buffers buffer) (λ found. (buffer_sent message time_out found).answer)
+    by_object (Fact one) one (item_at partition.buffers buffer) (λ found. (buffer_sent message time_out found).answer)
     (λ found is named. sent_wakes Fact found.capacity message time_out (first_waiter found.discipline found.receivers) found.messages
     (λ entry first. first_has (λ entry. Fact entry.who) found.discipline found.receivers entry
-    (entries_found (λ entry. Fact entry.who) (λ (found : Buffer). found.receivers) (object_at partition.buffers buffer) found is (all (set.BufferReceivers buffer))) first) one named) named
+    (entries_found (λ entry. Fact entry.who) (λ (found : Buffer). found.receivers) (item_at partition.buffers buffer) found is (all (set.BufferReceivers buffer))) first) one named) named
 answer_wakes Fact now who partition (request.SendBuffer (negsuc buffer) length time_out message) all suspended one named = nobody one [] refl named
 answer_wakes Fact now who partition (request.ReceiveBuffer (pos buffer) time_out) all suspended one named =
-    by_object (Fact one) one (object_at partition.buffers buffer) (λ found. (buffer_received time_out found).answer)
+    by_object (Fact one) one (item_at partition.buffers buffer) (λ found. (buffer_received time_out found).answer)
     (λ found is named. received_wakes Fact time_out (first_waiter found.discipline found.senders) found.messages
     (λ entry first. first_has (λ entry. Fact entry.who) found.discipline found.senders entry
-    (entries_found (λ entry. Fact entry.who) (λ (found : Buffer). found.senders) (object_at partition.buffers buffer) found is (all (set.BufferSenders buffer))) first) one named) named
+    (entries_found (λ entry. Fact entry.who) (λ (found : Buffer). found.senders) (item_at partition.buffers buffer) found is (all (set.BufferSenders buffer))) first) one named) named
 answer_wakes Fact now who partition (request.ReceiveBuffer (negsuc buffer) time_out) all suspended one named = nobody one [] refl named
 answer_wakes Fact now who partition (request.DisplayBlackboard (pos blackboard) length message) all suspended one named =
-    by_object (Fact one) one (object_at partition.blackboards blackboard) (λ found. (displayed message found.readers).answer)
+    by_object (Fact one) one (item_at partition.blackboards blackboard) (λ found. (displayed message found.readers).answer)
     (λ found is named. all_named Fact found.readers
-    (entries_found (λ entry. Fact entry.who) (λ (found : Blackboard). found.readers) (object_at partition.blackboards blackboard) found is (all (set.BlackboardReaders blackboard))) one named) named
+    (entries_found (λ entry. Fact entry.who) (λ (found : Blackboard). found.readers) (item_at partition.blackboards blackboard) found is (all (set.BlackboardReaders blackboard))) one named) named
 answer_wakes Fact now who partition (request.DisplayBlackboard (negsuc blackboard) length message) all suspended one named = nobody one [] refl named
 answer_wakes Fact now who partition (request.ReadBlackboard blackboard time_out) all suspended one named =
     by_object (Fact one) one (given_object partition.blackboards blackboard) (λ found. (board_read time_out found.message).answer)
@@ -146,16 +146,16 @@ answer_wakes Fact now who partition (request.WaitSemaphore semaphore time_out) a
     by_object (Fact one) one (given_object partition.semaphores semaphore) (λ found. (semaphore_waited time_out found.value).answer)
     (λ found is named. nobody one (semaphore_waited time_out found.value).answer.woken (wait_wakes time_out found.value) named) named
 answer_wakes Fact now who partition (request.SignalSemaphore (pos semaphore)) all suspended one named =
-    by_object (Fact one) one (object_at partition.semaphores semaphore)
+    by_object (Fact one) one (item_at partition.semaphores semaphore)
     (λ found. (signalled found.maximum (first_waiter found.discipline found.waiters) found.value).answer)
     (λ found is named. signal_wakes Fact found.maximum (first_waiter found.discipline found.waiters) found.value
     (λ entry first. first_has (λ entry. Fact entry.who) found.discipline found.waiters entry
-    (entries_found (λ entry. Fact entry.who) (λ (found : Semaphore). found.waiters) (object_at partition.semaphores semaphore) found is (all (set.SemaphoreWaiters semaphore))) first) one named) named
+    (entries_found (λ entry. Fact entry.who) (λ (found : Semaphore). found.waiters) (item_at partition.semaphores semaphore) found is (all (set.SemaphoreWaiters semaphore))) first) one named) named
 answer_wakes Fact now who partition (request.SignalSemaphore (negsuc semaphore)) all suspended one named = nobody one [] refl named
 answer_wakes Fact now who partition (request.SetEvent (pos event)) all suspended one named =
-    by_object (Fact one) one (object_at partition.events event) (λ found. (event_set found.waiters).answer)
+    by_object (Fact one) one (item_at partition.events event) (λ found. (event_set found.waiters).answer)
     (λ found is named. all_named Fact found.waiters
-    (entries_found (λ entry. Fact entry.who) (λ (found : Event). found.waiters) (object_at partition.events event) found is (all (set.EventWaiters event))) one named) named
+    (entries_found (λ entry. Fact entry.who) (λ (found : Event). found.waiters) (item_at partition.events event) found is (all (set.EventWaiters event))) one named) named
 answer_wakes Fact now who partition (request.SetEvent (negsuc event)) all suspended one named = nobody one [] refl named
 answer_wakes Fact now who partition (request.WaitEvent event time_out) all suspended one named =
     by_object (Fact one) one (given_object partition.events event) (λ found. (event_waited time_out found.up).answer)
@@ -164,17 +164,17 @@ answer_wakes Fact now who partition (request.AcquireMutex mutex time_out) all su
     by_object (Fact one) one (given_object partition.mutexes mutex) (λ found. (acquired who.proc time_out found).answer)
     (λ found is named. nobody one (acquired who.proc time_out found).answer.woken (acquire_wakes who.proc time_out found found.owner) named) named
 answer_wakes Fact now who partition (request.ReleaseMutex (pos mutex)) all suspended one named =
-    by_object (Fact one) one (object_at partition.mutexes mutex) (λ found. (mutex_released (first_waiter found.discipline found.waiters) found).answer)
+    by_object (Fact one) one (item_at partition.mutexes mutex) (λ found. (mutex_released (first_waiter found.discipline found.waiters) found).answer)
     (λ found is named. release_wakes Fact (first_waiter found.discipline found.waiters) found
     (λ entry first. first_has (λ entry. Fact entry.who) found.discipline found.waiters entry
-    (entries_found (λ entry. Fact entry.who) (λ (found : Mutex). found.waiters) (object_at partition.mutexes mutex) found is (all (set.MutexWaiters mutex))) first) one named) named
+    (entries_found (λ entry. Fact entry.who) (λ (found : Mutex). found.waiters) (item_at partition.mutexes mutex) found is (all (set.MutexWaiters mutex))) first) one named) named
 answer_wakes Fact now who partition (request.ReleaseMutex (negsuc mutex)) all suspended one named = nobody one [] refl named
 answer_wakes Fact now who partition (request.Resume process) all suspended one named =
     resume_wakes Fact (fellow who process) (created partition.table process) (λ target found suspends. suspended process target found suspends) one named
 answer_wakes Fact now who partition (request.SuspendSelf time_out) all suspended one named = nobody one (cond (is_over time_out) done waiting).woken (done_or_waiting (is_over time_out)) named
 answer_wakes Fact now who partition (request.TimedWait delay) all suspended one named = nobody one (cond (is_over delay) done waiting).woken (done_or_waiting (is_over delay)) named
 answer_wakes Fact now who partition request.PeriodicWait all suspended one named =
-    nobody one (cond (is_released now (process_at partition.table who.proc)) done waiting).woken (done_or_waiting (is_released now (process_at partition.table who.proc))) named
+    nobody one (cond (is_released now (item_at partition.table who.proc)) done waiting).woken (done_or_waiting (is_released now (item_at partition.table who.proc))) named
 answer_wakes Fact now who partition _ all suspended one named = nobody one [] refl named
 
 -- channels

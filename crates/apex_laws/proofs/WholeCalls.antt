@@ -22,15 +22,15 @@ use Rattle.apex_machine.specs.After.{adjusted, called, created_by, each_set, is_
 use Rattle.apex_machine.specs.Answer.{Answer, Effect, HasValue, NamesExactly, done, waking}
 use Rattle.apex_machine.specs.Arguments.{natural_of}
 use Rattle.apex_machine.specs.Channels.{is_receiver, is_sender}
-use Rattle.apex_machine.specs.Conditions.{created, is_suspension}
+use Rattle.apex_machine.specs.DueTimes.{is_suspension, wait_of, waits_for_normal}
 use Rattle.apex_machine.specs.Configuration.{Configuration, first_core, period_of}
 use Rattle.apex_machine.specs.Demands.{CanHave}
 use Rattle.apex_machine.specs.Objects.{at_maximum, displayed, event_set, handed_on, mutex_released, raised, released_once, signalled}
 use Rattle.apex_machine.specs.Ports.{Use, channel_effect, channel_of, suits, suits_use, use_of, used}
-use Rattle.apex_machine.specs.Processes.{caller_after, gift_of, new_process, set_by, stopped, wait_of, waits_for_normal, woken_by}
+use Rattle.apex_machine.specs.Processes.{caller_after, gift_of, new_process, set_by, stopped, woken_by}
 use Rattle.apex_machine.specs.ServiceConditions.{condition_codes}
 use Rattle.apex_machine.specs.Services.{answer_by, answer_of, fellow, resuming}
-use Rattle.apex_machine.specs.State.{Channel, Content, Entry, Mutex, Partition, State, Table, each_process, given_object, is_named, process_at, time_of}
+use Rattle.apex_machine.specs.State.{Channel, Content, Entry, Mutex, Partition, State, Table, created, each_item, given_object, is_named, item_at, time_of}
 use Rattle.apex_machine.specs.Step.{HasCode, HasOutcome, IsLawfulCall, channel_answer}
 use Rattle.apex_machine.specs.Waiting.{first_waiter, is_in, is_waiting, set_after, stops, waits_at}
 use Rattle.apex_laws.specs.Laws.{AllEntries, SetsAreInOrder, AreTied, IsTied, entries_at}
@@ -294,17 +294,17 @@ objects_are configuration cores place core call partition objects is =
 -- what a call adds
 
 -- a process that is not among these is found behind them
-pub found_behind : (table more : Table) (number : ℕ) → process_at table number ≡ None → process_at (table ++ more) number ≡ process_at more number
+pub found_behind : (table more : Table) (number : ℕ) → item_at table number ≡ None → item_at (table ++ more) number ≡ item_at more number
 found_behind [] more number none = refl
 found_behind (entry ∷ entries) more number none =
-    elim (nat_eq number entry.0) as (λ same. cond same (Some entry.1) (process_at entries number) ≡ None → cond same (Some entry.1) (process_at (entries ++ more) number) ≡ process_at more number) [
+    elim (nat_eq number entry.0) as (λ same. cond same (Some entry.1) (item_at entries number) ≡ None → cond same (Some entry.1) (item_at (entries ++ more) number) ≡ item_at more number) [
       | true ↦ λ none. (let some : ◌≡◌ {A = Option Process} (Some entry.1) None = none in cc)
       | false ↦ λ none. found_behind entries more number none
     ] none
 
 -- the process under a claimed number
 numbered_is : (claimed : Option ℤ) (process : Process) (number : ℕ)
-    → ((claimed ≡ Some (pos number)) × (process_at (numbered claimed process) number ≡ Some process)) ⊎ ((¬ (claimed ≡ Some (pos number))) × (process_at (numbered claimed process) number ≡ None))
+    → ((claimed ≡ Some (pos number)) × (item_at (numbered claimed process) number ≡ Some process)) ⊎ ((¬ (claimed ≡ Some (pos number))) × (item_at (numbered claimed process) number ≡ None))
 numbered_is None process number = inr (λ is. (let no : ◌≡◌ {A = Option ℤ} None (Some (pos number)) = is in cc), refl)
 numbered_is (Some (negsuc n)) process number = inr (λ is. (let both : ◌≡◌ {A = Option ℤ} (Some (negsuc n)) (Some (pos number)) = is in let no : negsuc n ≡ pos number = cc in cc), refl)
 numbered_is (Some (pos n)) process number =
@@ -322,10 +322,10 @@ numbered_is (Some (pos n)) process number =
 
 -- a call adds a created process, or nobody
 adds : (configuration : Configuration) (call : CallRecord) (asked : Request) (number : ℕ) → call.request ≡ asked
-    → IsAdded configuration call number (process_at (created_by (first_core configuration call.who.part) call asked) number)
+    → IsAdded configuration call number (item_at (created_by (first_core configuration call.who.part) call asked) number)
 adds configuration call (request.CreateProcess name priority period) number is =
     let new : Process = new_process (first_core configuration call.who.part) name priority period in
-    elim (is_done call.claim.out) as (λ done. is_done call.claim.out ≡ done → IsAdded configuration call number (process_at (cond done (numbered call.claim.val new) []) number)) [
+    elim (is_done call.claim.out) as (λ done. is_done call.claim.out ≡ done → IsAdded configuration call number (item_at (cond done (numbered call.claim.val new) []) number)) [
       | true ↦ λ done. elim (numbered_is call.claim.val new number) [
         | inl here ↦ IsAdded.created name priority period new is done here.0 here.1 (creation_is_the_sentence (first_core configuration call.who.part) name priority period)
         | inr none ↦ IsAdded.not_created (λ name priority period asks done. none.0) none.1
@@ -383,13 +383,13 @@ call_is_the_sentence judged configuration state ordered call next above tied ord
     let sets : ℕ → Process → Process = adjusted place period state.cores partition call in
     let own : next.partitions part ≡ partition_called configuration state.cores place core call partition =
     partitions part ∙ ap (λ test. cond test (partition_called configuration state.cores place core call partition) (record partition { table = roused_table place call part table })) (is_itself part) in
-    let arrives : (number : ℕ) (old : Process) → process_at table number ≡ Some old → process_at (next.partitions part).table number ≡ Some (change number old) = λ number old at.
-    ap (λ (one : Partition). process_at one.table number) own ∙ found_changed change table more number old at in
+    let arrives : (number : ℕ) (old : Process) → item_at table number ≡ Some old → item_at (next.partitions part).table number ≡ Some (change number old) = λ number old at.
+    ap (λ (one : Partition). item_at one.table number) own ∙ found_changed change table more number old at in
     let fellow_at : (who : Who) → who.part ≡ part → who ≡ record { part = part; proc = who.proc } = λ who here. same_who who (record { part = part; proc = who.proc }) here refl in
-    let old_at : (who : Who) (old : Process) → who.part ≡ part → process_in state who ≡ Some old → process_at table who.proc ≡ Some old = λ who old here at.
-    subst (λ one. process_at (state.partitions one).table who.proc ≡ Some old) here at in
-    let new_at : (who : Who) (new : Process) → who.part ≡ part → process_at (next.partitions part).table who.proc ≡ Some new → process_in next who ≡ Some new = λ who new here at.
-    subst (λ one. process_at (next.partitions one).table who.proc ≡ Some new) (sym here) at in
+    let old_at : (who : Who) (old : Process) → who.part ≡ part → process_in state who ≡ Some old → item_at table who.proc ≡ Some old = λ who old here at.
+    subst (λ one. item_at (state.partitions one).table who.proc ≡ Some old) here at in
+    let new_at : (who : Who) (new : Process) → who.part ≡ part → item_at (next.partitions part).table who.proc ≡ Some new → process_in next who ≡ Some new = λ who new here at.
+    subst (λ one. item_at (next.partitions one).table who.proc ≡ Some new) (sym here) at in
     let apart : (who : Who) → who.part ≡ part → ¬ (who ≡ call.who) → nat_eq who.proc call.who.proc ≡ false = λ who here differs.
     cannot_hold (nat_eq who.proc call.who.proc) (λ same. differs (same_who who call.who here (eqb-true who.proc call.who.proc same))) in
     let caller = free_stands (process_in state call.who) law.due in
@@ -453,8 +453,8 @@ call_is_the_sentence judged configuration state ordered call next above tied ord
             old = old;
             new = woken_by place (gift_of call.request) old;
             before = at;
-            after = ap (λ (one : Partition). process_at one.table who.proc) (partitions who.part)
-                ∙ ap (λ test. process_at (cond test (partition_called configuration state.cores place core call (state.partitions who.part)) (record (state.partitions who.part) { table = roused_table place call who.part (state.partitions who.part).table })).table who.proc) foreign
+            after = ap (λ (one : Partition). item_at one.table who.proc) (partitions who.part)
+                ∙ ap (λ test. item_at (cond test (partition_called configuration state.cores place core call (state.partitions who.part)) (record (state.partitions who.part) { table = roused_table place call who.part (state.partitions who.part).table })).table who.proc) foreign
                 ∙ turns_each rouse (state.partitions who.part).table who.proc old at
                 ∙ ap (λ test. Some (cond test (woken_by place (gift_of call.request) old) old)) named;
             change = (waking_is_the_sentence place (gift_of call.request) old (woken_by place (gift_of call.request) old)
@@ -462,12 +462,12 @@ call_is_the_sentence judged configuration state ordered call next above tied ord
           };
       added = λ number none.
           let is_added = adds configuration call call.request number refl in
-          let not_among : process_at (each_process change table) number ≡ None = at_each change table number ∙ ap (option_map (change number)) none in
-          subst (IsAdded configuration call number) (sym (ap (λ (one : Partition). process_at one.table number) own ∙ found_behind (each_process change table) more number not_among)) is_added;
+          let not_among : item_at (each_item change table) number ≡ None = at_each change table number ∙ ap (option_map (change number)) none in
+          subst (IsAdded configuration call number) (sym (ap (λ (one : Partition). item_at one.table number) own ∙ found_behind (each_item change table) more number not_among)) is_added;
       elsewhere = λ who there not_named.
           let foreign : nat_eq part who.part ≡ false = cannot_hold (nat_eq part who.part) (λ same. there (sym (eqb-true part who.part same))) in
-          ap (λ (one : Partition). process_at one.table who.proc) (partitions who.part)
-          ∙ ap (λ test. process_at (cond test (partition_called configuration state.cores place core call (state.partitions who.part)) (record (state.partitions who.part) { table = roused_table place call who.part (state.partitions who.part).table })).table who.proc) foreign
+          ap (λ (one : Partition). item_at one.table who.proc) (partitions who.part)
+          ∙ ap (λ test. item_at (cond test (partition_called configuration state.cores place core call (state.partitions who.part)) (record (state.partitions who.part) { table = roused_table place call who.part (state.partitions who.part).table })).table who.proc) foreign
           ∙ stays_each (λ number process. roused place call (record { part = who.part; proc = number }) process) (state.partitions who.part).table who.proc
           (λ one at. ap (λ test. cond test (woken_by place (gift_of call.request) one) one) not_named);
       mode = ap (λ (one : Partition). one.mode) own;

@@ -12,11 +12,11 @@ use Rattle.apex_machine.specs.declared.state.Wait.TheVariants as wait
 use Rattle.apex_machine.specs.declared.state.WaitingSet.{WaitingSet}
 use Rattle.apex_machine.specs.declared.state.WaitingSet.TheVariants as set
 use Rattle.apex_machine.specs.Channels.{is_receiver, is_sender}
-use Rattle.apex_machine.specs.Conditions.{created, is_suspension}
+use Rattle.apex_machine.specs.DueTimes.{is_suspension}
 use Rattle.apex_machine.specs.Configuration.{Configuration}
 use Rattle.apex_machine.specs.Ports.{suits_use, use_of}
 use Rattle.apex_machine.specs.Services.{answer_of, fellow}
-use Rattle.apex_machine.specs.State.{Entry, Partition, State, Table, is_named, process_at}
+use Rattle.apex_machine.specs.State.{Entry, Partition, State, Table, created, is_named, item_at}
 use Rattle.apex_machine.specs.Step.{HasOutcome, channel_answer}
 use Rattle.apex_machine.specs.Waiting.{is_in, waits_at}
 use Rattle.apex_laws.specs.Laws.{AllEntries, AreTied, IsTied, entries_at}
@@ -26,7 +26,7 @@ use Rattle.apex_laws.proofs.WaitSets.{one_set}
 
 -- a process by its partition and number
 abbrev pub found : (ℕ → Partition) → Who → Option Process
-found partitions who = process_at (partitions who.part).table who.proc
+found partitions who = item_at (partitions who.part).table who.proc
 
 -- a channel's waiting set isn't one of this partition, and who waits there is woken through that channel alone
 pub record IsWokenBy (partitions : ℕ → Partition) (number : ℕ) (chan : Option ℕ) (who : Who) : Type 0 where
@@ -62,7 +62,7 @@ own_waiter partitions number wanted chan entries at all = by wanted at all
     by (set.MutexWaiters object) at all = all_weaker _ _ (λ entry tied. one_of (set.MutexWaiters object) entry.who tied.0 tied.1 (λ channel. λ e. cc) (λ channel. λ e. cc)) entries all
 
 -- a created process is found under its number
-pub created_is : (table : Table) (process : ℤ) (target : Process) → created table process ≡ Some target → (number : ℕ) × (process ≡ pos number) × (process_at table number ≡ Some target)
+pub created_is : (table : Table) (process : ℤ) (target : Process) → created table process ≡ Some target → (number : ℕ) × (process ≡ pos number) × (item_at table number ≡ Some target)
 created_is table (pos zero) target is = cc
 created_is table (pos (suc number)) target is = (suc number, refl, is)
 created_is table (negsuc n) target is = cc

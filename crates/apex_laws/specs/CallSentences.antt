@@ -8,20 +8,20 @@ use Rattle.apex_machine.specs.Answer.{Answer, Effect, NewNumber, done_with}
 use Rattle.apex_machine.specs.Arguments.{discipline_given, natural_of}
 use Rattle.apex_machine.specs.Channels.{QueuingPort, SamplingPort, queuing_port, sampling_port}
 use Rattle.apex_machine.specs.Configuration.{Configuration}
-use Rattle.apex_machine.specs.State.{Partition, is_free_object, object_at}
+use Rattle.apex_machine.specs.State.{Partition, is_free, item_at}
 use Rattle.apex_laws.specs.ObjectSentences.{IsAcquiring, IsClearing, IsDisplay, IsEventWait, IsReading, IsReceiving, IsReleasing, IsResetting, IsSemaphoreWait, IsSending, IsSetting, IsSignal}
 
 -- the object of this number is this one afterwards, and the others are as before
 pub record OneBecomes {Object : Type 0} (before after : List (ℕ × Object)) (number : ℕ) (new : Object) : Type 0 where
-  pub here : object_at after number ≡ Some new
-  pub others : (other : ℕ) → ¬ (other ≡ number) → object_at after other ≡ object_at before other
+  pub here : item_at after number ≡ Some new
+  pub others : (other : ℕ) → ¬ (other ≡ number) → item_at after other ≡ item_at before other
 
 -- a service of an object: the object is there, the rule gives the answer, and the object keeps all but what the rule changes
 pub record Operates {Object Value : Type 0} (before after : List (ℕ × Object)) (given : ℤ) (Rule : Object → Effect Value → Type 0) (put : Object → Value → Object) (answer : Answer) : Type 0 where
   pub number : ℕ
   pub is : given ≡ pos number
   pub found : Object
-  pub stands : object_at before number ≡ Some found
+  pub stands : item_at before number ≡ Some found
   pub effect : Effect Value
   pub rule : Rule found effect
   pub gives : answer ≡ effect.answer
@@ -29,8 +29,8 @@ pub record Operates {Object Value : Type 0} (before after : List (ℕ × Object)
 
 -- a creation: the answer is a new number of the kind, and under the number claimed stands what is created, if it was free
 pub record Creates {Object : Type 0} (before after : List (ℕ × Object)) (claimed : Option ℤ) (new : Object) (answer : Answer) : Type 0 where
-  pub gives : answer ≡ done_with (NewNumber (is_free_object before))
-  pub put : (number : ℕ) → claimed ≡ Some (pos number) → object_at before number ≡ None → OneBecomes before after number new
+  pub gives : answer ≡ done_with (NewNumber (is_free before))
+  pub put : (number : ℕ) → claimed ≡ Some (pos number) → item_at before number ≡ None → OneBecomes before after number new
 
 -- the services of objects, by the objects of the partition before and after, where no error condition holds
 abbrev pub IsObjectCall : Configuration → Who → Option ℤ → Request → Partition → Answer → Partition → Type 0

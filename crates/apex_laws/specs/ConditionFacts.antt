@@ -10,7 +10,7 @@ use Rattle.apex_machine.specs.Channels.{receiving_discipline, sending_discipline
 use Rattle.apex_machine.specs.Configuration.{Configuration}
 use Rattle.apex_machine.specs.Services.{in_profile, is_built}
 use Rattle.apex_machine.specs.State.{State, cold_state}
-use Rattle.apex_machine.specs.Step.{falls_due}
+use Rattle.apex_machine.specs.DueTimes.{falls_due}
 use Rattle.apex_laws.specs.Worked.{aperiodic, at, codes_for, creates, does, normal, one_partition, play, played, process_of, start, ticks, two_partitions, waits}
 use Rattle.apex_laws.specs.WorkedFacts.{all, connected, one, semaphore, there, three_processes, two}
 

@@ -17,7 +17,7 @@ pub use Rattle.apex_machine.specs.Configuration.{WindowsAreConfigured}
 use Rattle.apex_machine.specs.Demands.{LocalStepJudging, stands_in}
 use Rattle.apex_machine.specs.Pieces.{Part, Piece, is_configured, part, touches}
 use Rattle.apex_machine.specs.Runs.{ArePlaced, FindsJudging, PieceRunJudging, Refusal}
-use Rattle.apex_machine.specs.State.{Blackboard, Buffer, Entry, Event, Mutex, Partition, Port, Semaphore, State, Table, cold_state, is_same, object_at, process_at}
+use Rattle.apex_machine.specs.State.{Blackboard, Buffer, Entry, Event, Mutex, Partition, Port, Semaphore, State, Table, cold_state, is_same, item_at}
 use Rattle.apex_machine.specs.Step.{RunJudging, StepJudging}
 use Rattle.apex_machine.specs.Views.{judge, view_in, view_of}
 use Rattle.apex_machine.specs.Waiting.{waits_at}
@@ -27,7 +27,7 @@ use Rattle.apex_machine.specs.Waiting.{waits_at}
 -- the numbers of a table are distinct
 abbrev pub are_distinct : Table → Bool
 are_distinct [] = true
-are_distinct (entry ∷ entries) = not (is_some (process_at entries entry.0)) && are_distinct entries
+are_distinct (entry ∷ entries) = not (is_some (item_at entries entry.0)) && are_distinct entries
 
 -- the numbers of every table are distinct
 abbrev pub AreDistinct : State → Type 0
@@ -45,19 +45,19 @@ entries_in entries_of (Some object) = entries_of object
 
 -- the entries of a waiting set of a partition; a channel's is no partition's
 abbrev pub entries_at : Partition → WaitingSet → List Entry
-entries_at partition (set.BufferSenders number) = entries_in (λ (buffer : Buffer). buffer.senders) (object_at partition.buffers number)
-entries_at partition (set.BufferReceivers number) = entries_in (λ (buffer : Buffer). buffer.receivers) (object_at partition.buffers number)
-entries_at partition (set.BlackboardReaders number) = entries_in (λ (blackboard : Blackboard). blackboard.readers) (object_at partition.blackboards number)
-entries_at partition (set.SemaphoreWaiters number) = entries_in (λ (semaphore : Semaphore). semaphore.waiters) (object_at partition.semaphores number)
-entries_at partition (set.EventWaiters number) = entries_in (λ (event : Event). event.waiters) (object_at partition.events number)
-entries_at partition (set.MutexWaiters number) = entries_in (λ (mutex : Mutex). mutex.waiters) (object_at partition.mutexes number)
+entries_at partition (set.BufferSenders number) = entries_in (λ (buffer : Buffer). buffer.senders) (item_at partition.buffers number)
+entries_at partition (set.BufferReceivers number) = entries_in (λ (buffer : Buffer). buffer.receivers) (item_at partition.buffers number)
+entries_at partition (set.BlackboardReaders number) = entries_in (λ (blackboard : Blackboard). blackboard.readers) (item_at partition.blackboards number)
+entries_at partition (set.SemaphoreWaiters number) = entries_in (λ (semaphore : Semaphore). semaphore.waiters) (item_at partition.semaphores number)
+entries_at partition (set.EventWaiters number) = entries_in (λ (event : Event). event.waiters) (item_at partition.events number)
+entries_at partition (set.MutexWaiters number) = entries_in (λ (mutex : Mutex). mutex.waiters) (item_at partition.mutexes number)
 entries_at partition (set.ChannelSenders channel) = []
 entries_at partition (set.ChannelReceivers channel) = []
 
 -- who stands in a waiting set is of a partition that is at home there, and waits in that set
 abbrev pub IsTied : (ℕ → Type 0) → WaitingSet → (ℕ → Partition) → Entry → Type 0
 IsTied Home wanted partitions entry =
-    Home entry.who.part × IsTrue (waits_at wanted (process_at (partitions entry.who.part).table entry.who.proc))
+    Home entry.who.part × IsTrue (waits_at wanted (item_at (partitions entry.who.part).table entry.who.proc))
 
 -- a queuing port is at the end of its channel that is its partition's
 abbrev pub IsAtEnd : Configuration → ℕ → Direction → ℕ → Type 0
@@ -129,7 +129,7 @@ entries_of state number wanted = entries_at (state.partitions number) wanted
 
 -- the other side of the tie: every process that waits in a set stands in it
 abbrev pub WaitersStand : State → Type 0
-WaitersStand state = (who : Who) (wanted : WaitingSet) → IsTrue (waits_at wanted (process_at (state.partitions who.part).table who.proc)) → IsTrue (stands_in who (entries_of state who.part wanted))
+WaitersStand state = (who : Who) (wanted : WaitingSet) → IsTrue (waits_at wanted (item_at (state.partitions who.part).table who.proc)) → IsTrue (stands_in who (entries_of state who.part wanted))
 
 -- so it is in the cold state, a step from a tied state keeps it so, and so does a run
 abbrev pub WhoWaitsStands : Type 0

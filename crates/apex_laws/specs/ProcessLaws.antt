@@ -4,13 +4,13 @@ use Rattle.apex_types.specs.declared.record.Call.{Call as CallRecord}
 use Rattle.apex_types.specs.declared.request.Request.{Request}
 use Rattle.apex_machine.specs.declared.state.CoreState.{CoreState}
 use Rattle.apex_machine.specs.declared.state.Process.{Process}
-use Rattle.apex_machine.specs.Processes.{caller_after, new_process, released, set_by, stopped, wait_of, woken_by}
+use Rattle.apex_machine.specs.DueTimes.{falls_due, wait_of}
+use Rattle.apex_machine.specs.Processes.{caller_after, new_process, released, set_by, stopped, woken_by}
 use Rattle.apex_types.specs.declared.record.Who.{Who}
 use Rattle.apex_machine.specs.Answer.{Answer}
 use Rattle.apex_machine.specs.Arguments.{natural_of, period_given}
 use Rattle.apex_machine.specs.Services.{answer_of}
 use Rattle.apex_machine.specs.State.{Partition}
-use Rattle.apex_machine.specs.Step.{falls_due}
 use Rattle.apex_machine.specs.Waiting.{is_waiting}
 use Rattle.apex_laws.specs.ProcessSentences.{HasDueTime, IsBegun, IsCaller, IsDue, IsReleased, IsAnswer, IsCreated, IsSetBy, IsStopped, IsWoken, WaitsForOther}
 

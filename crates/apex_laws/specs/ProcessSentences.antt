@@ -16,13 +16,13 @@ use Rattle.apex_machine.specs.declared.state.Process.{Process}
 use Rattle.apex_machine.specs.declared.state.Wait.{Wait}
 use Rattle.apex_machine.specs.declared.state.Wait.TheVariants as wait
 use Rattle.apex_machine.specs.declared.state.WaitingSet.{WaitingSet}
-use Rattle.apex_machine.specs.Arguments.{due_time, natural_of}
+use Rattle.apex_machine.specs.DueTimes.{due_of_call, due_time, next_release, time_out_of}
+use Rattle.apex_machine.specs.Arguments.{natural_of}
 use Rattle.apex_machine.specs.Objects.{acquired, mutex_released}
-use Rattle.apex_machine.specs.Processes.{due_of_call, outcome_of, time_out_of}
+use Rattle.apex_machine.specs.Processes.{outcome_of}
 use Rattle.apex_machine.specs.Answer.{Answer, NewNumber, Number, done, done_with, never, waiting, waking}
-use Rattle.apex_machine.specs.Conditions.{created}
-use Rattle.apex_machine.specs.Services.{answer_of, fellow, next_release}
-use Rattle.apex_machine.specs.State.{Mutex, Partition, given_object, is_free_process, process_at, time_of}
+use Rattle.apex_machine.specs.Services.{answer_of, fellow}
+use Rattle.apex_machine.specs.State.{Mutex, Partition, created, given_object, is_free, item_at, time_of}
 use Rattle.apex_machine.specs.Waiting.{first_waiter, service_at, set_of}
 
 -- releases and entry into NORMAL
@@ -218,10 +218,10 @@ IsAnswer now who partition (request.SuspendSelf time_out) answer = IsOverOrWaits
 IsAnswer now who partition (request.Resume process) answer = IsResuming (fellow who process) (created partition.table process) answer
 IsAnswer now who partition request.GetMyId answer = answer ≡ done_with (Number (pos who.proc))
 IsAnswer now who partition (request.TimedWait ticks) answer = IsOverOrWaits (ticks ≡ pos 0) answer
-IsAnswer now who partition request.PeriodicWait answer = IsOverOrWaits (IsAtRelease now (process_at partition.table who.proc)) answer
+IsAnswer now who partition request.PeriodicWait answer = IsOverOrWaits (IsAtRelease now (item_at partition.table who.proc)) answer
 IsAnswer now who partition request.GetTime answer = answer ≡ done_with (Number (pos now))
 IsAnswer now who partition (request.SetPartitionMode next) answer = answer ≡ never
-IsAnswer now who partition (request.CreateProcess name priority period) answer = answer ≡ done_with (NewNumber (is_free_process partition.table))
+IsAnswer now who partition (request.CreateProcess name priority period) answer = answer ≡ done_with (NewNumber (is_free partition.table))
 IsAnswer now who partition (request.InitializeProcessCoreAffinity process core) answer = answer ≡ done
 IsAnswer now who partition (request.Start process) answer = answer ≡ done
 IsAnswer now who partition (request.Stop process) answer = answer ≡ done

@@ -15,7 +15,7 @@ use Rattle.apex_machine.specs.Arguments.{natural_of, period_given}
 use Rattle.apex_machine.specs.Configuration.{Configuration, first_core, has_partition, period_of}
 use Rattle.apex_machine.specs.Ports.{Use, use_of}
 use Rattle.apex_machine.specs.Processes.{gift_of}
-use Rattle.apex_machine.specs.State.{Channel, Content, Entry, Partition, State, is_named, occupant_of, process_at, time_of}
+use Rattle.apex_machine.specs.State.{Channel, Content, Entry, Partition, State, is_named, occupant_of, item_at, time_of}
 use Rattle.apex_machine.specs.Step.{IsAmong}
 use Rattle.apex_machine.specs.Waiting.{ends_wait, enters, entry_of, stops}
 use Rattle.apex_laws.specs.Laws.{entries_at}
@@ -26,7 +26,7 @@ use Rattle.apex_laws.specs.ProcessSentences.{IsCaller, IsCreated, IsDue, IsRelea
 
 -- the process of a partition by its number, if there is one
 abbrev pub process_in : State → Who → Option Process
-process_in state who = process_at (state.partitions who.part).table who.proc
+process_in state who = item_at (state.partitions who.part).table who.proc
 
 -- this process stands in the state, and in the next one it stands changed in this way
 pub record Turns (Change : Process → Process → Type 0) (state next : State) (who : Who) : Type 0 where
@@ -195,7 +195,7 @@ pub record IsCallOf (configuration : Configuration) (place now : ℕ) (call : Ca
       → IsFalse (is_named who call.claim.woken) → Turns (SetAnd configuration state place call who.proc IsSame) state next who
   pub woken_elsewhere : (who : Who) (old : Process) → ¬ (who.part ≡ call.who.part) → process_in state who ≡ Some old
       → IsTrue (is_named who call.claim.woken) → Turns (IsWoken place (gift_of call.request)) state next who
-  pub added : (number : ℕ) → process_at (state.partitions call.who.part).table number ≡ None → IsAdded configuration call number (process_at (next.partitions call.who.part).table number)
+  pub added : (number : ℕ) → item_at (state.partitions call.who.part).table number ≡ None → IsAdded configuration call number (item_at (next.partitions call.who.part).table number)
   pub elsewhere : (who : Who) → ¬ (who.part ≡ call.who.part) → IsFalse (is_named who call.claim.woken) → Stays state next who
   pub mode : (next.partitions call.who.part).mode
       ≡ (if is_done call.claim.out then mode_by call.request (state.partitions call.who.part).mode else (state.partitions call.who.part).mode)

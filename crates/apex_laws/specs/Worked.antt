@@ -19,7 +19,7 @@ use Rattle.apex_machine.specs.Answer.{Answer}
 use Rattle.apex_machine.specs.Configuration.{Configuration, PartitionLimits}
 use Rattle.apex_machine.specs.ServiceConditions.{condition_codes}
 use Rattle.apex_machine.specs.Services.{answer_of}
-use Rattle.apex_machine.specs.State.{State, cold_state, process_at, time_of}
+use Rattle.apex_machine.specs.State.{State, cold_state, item_at, time_of}
 use Rattle.apex_machine.specs.Step.{channel_answer, due_of}
 
 -- modules
@@ -158,7 +158,7 @@ aperiodic partition name number priority = creates partition (request.CreateProc
 
 -- a process
 abbrev pub at : State → Who → Option Process
-at state who = process_at (state.partitions who.part).table who.proc
+at state who = item_at (state.partitions who.part).table who.proc
 
 -- what is due to a process
 abbrev pub owes : State → Who → Option Outcome

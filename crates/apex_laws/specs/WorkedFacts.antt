@@ -9,8 +9,9 @@ use Rattle.apex_types.specs.declared.service.Service.TheVariants as service
 use Rattle.apex_machine.specs.Answer.{Answer, Number, answering, done, giving, waiting, waking}
 use Rattle.apex_machine.specs.Choice.{choice}
 use Rattle.apex_machine.specs.Services.{in_profile}
-use Rattle.apex_machine.specs.State.{Mutex, Queued, State, object_at}
-use Rattle.apex_machine.specs.Step.{IsLawful, falls_due}
+use Rattle.apex_machine.specs.State.{Mutex, Queued, State, item_at}
+use Rattle.apex_machine.specs.DueTimes.{falls_due}
+use Rattle.apex_machine.specs.Step.{IsLawful}
 use Rattle.apex_laws.specs.Worked.{Happening, aperiodic, at, claims, codes_for, creates, does, gets, gets_through, idle_ticks, normal, one_partition, outcome, owes, placed, play, played, priority_in, process_of, returns, runs, start, ticks, two_partitions, waits, wakes}
 
 -- process 1, with priority 10
@@ -50,7 +51,7 @@ mutex = creates 0 (request.CreateMutex (codes "M") (pos 50) (pos 0)) (pos 1) ∷
 
 -- the mutex of the partition
 abbrev pub the_mutex : State → Option Mutex
-the_mutex state = object_at (state.partitions 0).mutexes 1
+the_mutex state = item_at (state.partitions 0).mutexes 1
 
 -- the owner of a mutex
 abbrev pub owner_in : Option Mutex → Option ℕ
@@ -59,7 +60,7 @@ owner_in (Some found) = found.owner
 
 -- a semaphore's value
 abbrev pub value_now : State → Option ℕ
-value_now state = option_map (λ found. found.value) (object_at (state.partitions 0).semaphores 1)
+value_now state = option_map (λ found. found.value) (item_at (state.partitions 0).semaphores 1)
 
 -- processes 1 and 2 wait for the semaphore, in this order
 abbrev pub both_wait : ℤ → State

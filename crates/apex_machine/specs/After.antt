@@ -23,7 +23,7 @@ use Rattle.apex_machine.specs.Objects.{acquired, buffer_received, buffer_sent, c
 use Rattle.apex_machine.specs.Ports.{channel_effect, use_of}
 pub use Rattle.apex_machine.specs.Processes.{caller_after, caller_with, outcome_of, released}
 use Rattle.apex_machine.specs.Processes.{gift_of, new_process, set_by, stopped, woken_by}
-use Rattle.apex_machine.specs.State.{Blackboard, Buffer, Channel, Content, Entry, Event, Mutex, Partition, Port, Semaphore, State, Table, at_core, change_at, each_object, each_process, is_named, time_of}
+use Rattle.apex_machine.specs.State.{Blackboard, Buffer, Channel, Content, Entry, Event, Mutex, Partition, Port, Semaphore, State, Table, at_core, change_at, each_item, is_named, time_of}
 use Rattle.apex_machine.specs.Waiting.{first_waiter, set_after, stops}
 
 -- whether a call was carried out: it waits, it does not return, or it answered NO_ERROR
@@ -163,14 +163,14 @@ objects_by configuration who claimed _ partition = partition
 -- each waiting set of a partition changed
 abbrev pub each_set : (WaitingSet → List Entry → List Entry) → Partition → Partition
 each_set change partition = record partition {
-  buffers = each_object (λ number found. record found {
+  buffers = each_item (λ number found. record found {
     senders = change (set.BufferSenders number) found.senders;
     receivers = change (set.BufferReceivers number) found.receivers;
   }) partition.buffers;
-  blackboards = each_object (λ number found. record found { readers = change (set.BlackboardReaders number) found.readers }) partition.blackboards;
-  semaphores = each_object (λ number found. record found { waiters = change (set.SemaphoreWaiters number) found.waiters }) partition.semaphores;
-  events = each_object (λ number found. record found { waiters = change (set.EventWaiters number) found.waiters }) partition.events;
-  mutexes = each_object (λ number found. record found { waiters = change (set.MutexWaiters number) found.waiters }) partition.mutexes;
+  blackboards = each_item (λ number found. record found { readers = change (set.BlackboardReaders number) found.readers }) partition.blackboards;
+  semaphores = each_item (λ number found. record found { waiters = change (set.SemaphoreWaiters number) found.waiters }) partition.semaphores;
+  events = each_item (λ number found. record found { waiters = change (set.EventWaiters number) found.waiters }) partition.events;
+  mutexes = each_item (λ number found. record found { waiters = change (set.MutexWaiters number) found.waiters }) partition.mutexes;
 }
 
 -- partitions
@@ -185,7 +185,7 @@ objects_called configuration place call partition =
 abbrev pub partition_called : Configuration → List CoreState → ℕ → ℕ → CallRecord → Partition → Partition
 partition_called configuration cores place core call partition = record (objects_called configuration place call partition) {
   mode = if is_done call.claim.out then mode_by call.request partition.mode else partition.mode;
-  table = each_process (called place (time_of cores core) (period_of configuration call.who.part) cores partition call) partition.table
+  table = each_item (called place (time_of cores core) (period_of configuration call.who.part) cores partition call) partition.table
       ++ created_by (first_core configuration call.who.part) call call.request;
 }
 
@@ -202,13 +202,13 @@ returned returner number process = if nat_eq number returner then record process
 abbrev pub partition_by : Configuration → List CoreState → ℕ → ℕ → ℕ → Body → Partition → Partition
 partition_by configuration cores place core number (Disp who) partition = partition
 partition_by configuration cores place core number (Tick woken) partition =
-    record (each_set (set_after place (Tick woken)) partition) { table = each_process (ticked place number woken) partition.table }
+    record (each_set (set_after place (Tick woken)) partition) { table = each_item (ticked place number woken) partition.table }
 partition_by configuration cores place core number (Ret ret) partition =
-    if nat_eq ret.who.part number then record partition { table = each_process (returned ret.who.proc) partition.table } else partition
+    if nat_eq ret.who.part number then record partition { table = each_item (returned ret.who.proc) partition.table } else partition
 partition_by configuration cores place core number (Call call) partition =
     if nat_eq call.who.part number
     then partition_called configuration cores place core call partition
-    else record partition { table = each_process (λ other process. roused place call (record { part = number; proc = other }) process) partition.table }
+    else record partition { table = each_item (λ other process. roused place call (record { part = number; proc = other }) process) partition.table }
 
 -- a partition after an ordered record
 abbrev pub partition_after : Configuration → List CoreState → ℕ → Ordered → Partition → Partition

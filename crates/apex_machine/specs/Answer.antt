@@ -5,6 +5,7 @@ use Rattle.apex_types.specs.declared.code.Code.TheVariants as code
 use Rattle.apex_types.specs.declared.record.Out.{Out}
 use Rattle.apex_types.specs.declared.record.Out.TheVariants as out
 use Rattle.apex_types.specs.declared.record.Who.{Who}
+use Rattle.apex_types.specs.Bounds.{greatest_number}
 use Rattle.apex_machine.specs.State.{Entry, is_named}
 use Rattle.apex_machine.specs.Arguments.{is_over}
 
@@ -69,7 +70,7 @@ whos (entry ∷ entries) = entry.who ∷ whos entries
 abbrev pub is_new : (ℕ → Bool) → Option ℤ → Bool
 is_new is_free None = false
 is_new is_free (Some (negsuc n)) = false
-is_new is_free (Some (pos n)) = nat_lt 0 n && (nat_le n 2147483647 && is_free n)
+is_new is_free (Some (pos n)) = nat_lt 0 n && (nat_le n greatest_number && is_free n)
 
 -- whether a claimed value is the one that goes with the outcome
 abbrev pub HasValue : Value → Option ℤ → Type 0

@@ -1,7 +1,8 @@
 -- The numbers that a caller gives: which of them a service takes.
-use Rattle.std.specs.Prelude.{ℕ, zero, ◌+◌, ◌%◌, Option, Some, None, Bool, true, false, ℤ, pos, negsuc, ◌&&◌, nat_eq, nat_lt, nat_le}
+use Rattle.std.specs.Prelude.{ℕ, zero, ◌%◌, Option, Some, None, Bool, true, false, ℤ, pos, negsuc, ◌&&◌, nat_eq, nat_lt, nat_le}
 use Rattle.apex_types.specs.declared.discipline.Discipline.{Discipline}
 use Rattle.apex_types.specs.declared.discipline.Discipline.TheVariants as discipline
+use Rattle.apex_types.specs.Bounds.{greatest_priority}
 use Rattle.apex_machine.specs.declared.state.Direction.{Direction}
 use Rattle.apex_machine.specs.declared.state.Direction.TheVariants as direction
 
@@ -27,8 +28,7 @@ is_between least most (negsuc n) = false
 
 -- a priority is 1 to 239   (section 3, process management)
 abbrev pub is_priority : ℤ → Bool
-is_priority (pos n) = nat_le 1 n && nat_le n 239
-is_priority (negsuc n) = false
+is_priority priority = is_between 1 greatest_priority priority
 
 -- a period is above 0, or -1 for an aperiodic process
 abbrev pub is_period : ℤ → Bool
@@ -69,11 +69,6 @@ is_time_out (negsuc n) = nat_eq n 0
 abbrev pub is_over : ℤ → Bool
 is_over (pos n) = nat_eq n 0
 is_over (negsuc n) = false
-
--- the time at which a time-out falls due that began at this time; -1 never does
-abbrev pub due_time : ℤ → ℕ → Option ℕ
-due_time (pos n) now = Some (now + n)
-due_time (negsuc n) now = None
 
 -- whether a length is above this size
 abbrev pub is_longer : ℕ → ℤ → Bool

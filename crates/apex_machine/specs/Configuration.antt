@@ -1,5 +1,5 @@
 -- What a module's configuration says: cores, frame, skew, partitions with their limits, windows, channels.
-use Rattle.std.specs.Prelude.{◌≡◌, IsTrue, ℕ, ◌+◌, ◌%◌, List, [], ◌∷◌, Option, Some, None, Bool, false, ◌&&◌, nat_eq, nat_le, nat_lt, if◌then◌else◌, is_some}
+use Rattle.std.specs.Prelude.{◌≡◌, IsTrue, ℕ, ◌+◌, ◌%◌, List, [], ◌∷◌, Option, Some, None, Bool, false, ◌&&◌, nat_eq, nat_le, nat_lt, if◌then◌else◌, is_some, ℤ, pos, negsuc}
 use Rattle.std.specs.List.{list_any}
 use Rattle.apex_types.specs.declared.discipline.Discipline.{Discipline}
 
@@ -85,6 +85,11 @@ has_partition configuration number = is_some (limits_of configuration number)
 abbrev pub has_core : ℕ → Option PartitionLimits → Bool
 has_core core None = false
 has_core core (Some limits) = list_any (nat_eq core) limits.cores
+
+-- whether a caller's number is one of the partition's cores
+abbrev pub is_core : Configuration → ℕ → ℤ → Bool
+is_core configuration number (pos core) = has_core core (limits_of configuration number)
+is_core configuration number (negsuc n) = false
 
 -- the first core of a list; a configured partition has one at least
 abbrev pub first_of : List ℕ → ℕ

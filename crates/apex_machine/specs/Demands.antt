@@ -25,11 +25,11 @@ use Rattle.apex_machine.specs.Choice.{choice_in}
 use Rattle.apex_machine.specs.Configuration.{Configuration, has_partition, window_at}
 use Rattle.apex_machine.specs.Pieces.{ChannelPart, ModulePart, Part, PartitionPart, part_after, time_at}
 use Rattle.apex_machine.specs.Ports.{channel_effect, channel_of, suits_use, use_of}
-use Rattle.apex_machine.specs.Processes.{time_out_of}
+use Rattle.apex_machine.specs.DueTimes.{NamesThoseDue, time_out_of}
 use Rattle.apex_machine.specs.ServiceConditions.{condition_codes}
 use Rattle.apex_machine.specs.Services.{Answer, HasValue, NamesExactly, answer_of, is_built}
-use Rattle.apex_machine.specs.State.{Channel, Entry, Partition, Table, is_same, names_one_of, occupant_of, process_at, time_of}
-use Rattle.apex_machine.specs.Step.{AllConfigured, OneConfigured, ChannelConfigured, KeepsSkew, NamesThoseDue, HasNoneDue, HasPriority, HasCode, IsWithinProfile, due_of}
+use Rattle.apex_machine.specs.State.{Channel, Entry, Partition, Table, is_same, names_one_of, occupant_of, item_at, time_of}
+use Rattle.apex_machine.specs.Step.{AllConfigured, OneConfigured, ChannelConfigured, KeepsSkew, HasNoneDue, HasPriority, HasCode, IsWithinProfile, due_of}
 use Rattle.apex_machine.specs.Waiting.{waits_at}
 
 -- what a piece demands of a record, and the cause that it names where that fails
@@ -128,9 +128,9 @@ own_call_demands judged configuration number cores partition core call =
     let codes : List Code = condition_codes configuration call.who partition call.request in
     record { cause = cause.Window; holds = window_now configuration cores core ≡ Some number }
     ∷ record { cause = cause.Choice; holds = IsRunning number cores partition.table core call.who }
-    ∷ record { cause = cause.Return; holds = HasNoneDue (process_at partition.table call.who.proc) }
+    ∷ record { cause = cause.Return; holds = HasNoneDue (item_at partition.table call.who.proc) }
     ∷ record { cause = cause.OutsideProfile; holds = IsWithinProfile judged codes call.who partition call.request }
-    ∷ record { cause = cause.Prio; holds = HasPriority call.claim.prio (process_at partition.table call.who.proc) }
+    ∷ record { cause = cause.Prio; holds = HasPriority call.claim.prio (item_at partition.table call.who.proc) }
     ∷ outcome_demands codes (channel_of partition call.request) number call.request
     (answer_of (time_of cores core) call.who partition call.request) call.claim
 
@@ -139,7 +139,7 @@ own_call_demands judged configuration number cores partition core call =
 -- each process of this partition that is named waits in this set
 abbrev pub AllWaitAt : WaitingSet → ℕ → Table → List Who → Type 0
 AllWaitAt wanted number table [] = Unit {0}
-AllWaitAt wanted number table (who ∷ others) = (who.part ≡ number → IsTrue (waits_at wanted (process_at table who.proc))) × AllWaitAt wanted number table others
+AllWaitAt wanted number table (who ∷ others) = (who.part ≡ number → IsTrue (waits_at wanted (item_at table who.proc))) × AllWaitAt wanted number table others
 
 -- a call of another partition ends only waits at its channel: a send of those that wait to receive, a receive of those that
 -- wait to send
@@ -179,7 +179,7 @@ partition_demands judged configuration number cores partition core (Tick woken) 
 partition_demands judged configuration number cores partition core (Call call) =
     call_demands (nat_eq call.who.part number) judged configuration number cores partition core call
 partition_demands judged configuration number cores partition core (Ret ret) =
-    let due : Option Outcome = due_of (process_at partition.table ret.who.proc) in
+    let due : Option Outcome = due_of (item_at partition.table ret.who.proc) in
     record { cause = cause.Window; holds = window_now configuration cores core ≡ Some number }
     ∷ record { cause = cause.Choice; holds = IsRunning number cores partition.table core ret.who }
     ∷ record { cause = cause.Return; holds = IfDue due (λ outcome. outcome.service ≡ ret.service) }

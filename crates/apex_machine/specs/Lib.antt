@@ -4,11 +4,15 @@ pub mod State
 pub mod Arguments
 pub mod Answer
 pub mod Waiting
+pub mod DueTimes
 pub mod Choice
 pub mod Queue
 pub mod Objects
 pub mod Ports
 pub mod Conditions
+pub mod ProcessConditions
+pub mod ObjectConditions
+pub mod PortConditions
 pub mod ServiceConditions
 pub mod Services
 pub mod Processes

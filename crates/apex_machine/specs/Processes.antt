@@ -1,5 +1,5 @@
 -- What becomes of one process: by a service of its partition, by the end of its wait, by its own call.
-use Rattle.std.specs.Prelude.{ℕ, ◌+◌, ◌*◌, ◌/◌, List, [], Option, Some, None, Bool, true, false, ℤ, pos, ◌&&◌, if◌then◌else◌}
+use Rattle.std.specs.Prelude.{ℕ, List, [], Option, Some, None, Bool, true, false, ℤ, ◌&&◌, if◌then◌else◌}
 use Rattle.apex_types.specs.declared.code.Code.{Code}
 use Rattle.apex_types.specs.declared.code.Code.TheVariants as code
 use Rattle.apex_types.specs.declared.record.Call.{Call as CallRecord}
@@ -16,13 +16,12 @@ use Rattle.apex_machine.specs.declared.state.Outcome.{Outcome}
 use Rattle.apex_machine.specs.declared.state.Process.{Process}
 use Rattle.apex_machine.specs.declared.state.Wait.{Wait}
 use Rattle.apex_machine.specs.declared.state.Wait.TheVariants as wait
-use Rattle.apex_machine.specs.declared.state.WaitingSet.{WaitingSet}
-use Rattle.apex_machine.specs.Arguments.{due_time, is_number, is_over, natural_of, period_given}
+use Rattle.apex_machine.specs.Arguments.{is_number, is_over, natural_of, period_given}
 use Rattle.apex_machine.specs.Conditions.{is_normal}
+use Rattle.apex_machine.specs.DueTimes.{entry_wait, next_release, wait_of, waits_for_normal}
 use Rattle.apex_machine.specs.Objects.{acquired, is_owner, mutex_released}
-use Rattle.apex_machine.specs.Services.{next_release}
 use Rattle.apex_machine.specs.State.{Mutex, Partition, given_object, time_of}
-use Rattle.apex_machine.specs.Waiting.{first_waiter, is_no_error, service_at, set_of}
+use Rattle.apex_machine.specs.Waiting.{first_waiter, is_no_error, service_at}
 
 -- creation, start and stop
 
@@ -44,15 +43,6 @@ new_process core name priority period = record {
   called_at = 0;
 }
 
--- the first release: the least multiple of the partition's period above this time
-abbrev pub first_release : ℕ → ℕ → ℕ
-first_release partition_period now = (now / partition_period + 1) * partition_period
-
--- what a started process waits for in NORMAL: an aperiodic one for nothing, a periodic one for its first release
-abbrev pub entry_wait : ℕ → ℕ → Option ℕ → Wait
-entry_wait partition_period now None = wait.Nothing
-entry_wait partition_period now (Some period) = wait.FirstRelease (first_release partition_period now)
-
 -- START sets the current priority back; the process enters NORMAL at once, or waits for it   (START, section 3)
 abbrev pub started : ℕ → ℕ → ℕ → Mode → Process → Process
 started place partition_period now mode process = record process {
@@ -61,11 +51,6 @@ started place partition_period now mode process = record process {
   wait = if is_normal mode then entry_wait partition_period now process.period else wait.NormalMode;
   ready_position = place;
 }
-
--- whether a wait is that for NORMAL
-abbrev pub waits_for_normal : Wait → Bool
-waits_for_normal wait.NormalMode = true
-waits_for_normal _ = false
 
 -- NORMAL lets those enter that wait for it   (SET_PARTITION_MODE, section 3)
 abbrev pub after_normal : ℕ → ℕ → ℕ → Process → Process
@@ -175,36 +160,6 @@ gift_of (request.SendQueuingMessage port length time_out message) = message
 gift_of _ = []
 
 -- the caller
-
--- the time-out of a service that may wait for something
-abbrev pub time_out_of : Request → Option ℤ
-time_out_of (request.SuspendSelf time_out) = Some time_out
-time_out_of (request.SendBuffer buffer length time_out message) = Some time_out
-time_out_of (request.ReceiveBuffer buffer time_out) = Some time_out
-time_out_of (request.ReadBlackboard blackboard time_out) = Some time_out
-time_out_of (request.WaitSemaphore semaphore time_out) = Some time_out
-time_out_of (request.WaitEvent event time_out) = Some time_out
-time_out_of (request.AcquireMutex mutex time_out) = Some time_out
-time_out_of (request.SendQueuingMessage port length time_out message) = Some time_out
-time_out_of (request.ReceiveQueuingMessage port time_out) = Some time_out
-time_out_of _ = None
-
--- the time at which a time-out falls due, if there is one
-abbrev pub due_of_call : Option ℤ → ℕ → Option ℕ
-due_of_call None now = None
-due_of_call (Some time_out) now = due_time time_out now
-
--- a wait in a set, if there is one
-abbrev pub wait_in : Option WaitingSet → Option ℕ → Wait
-wait_in None due = wait.Nothing
-wait_in (Some set) due = wait.At set due
-
--- what a caller waits for that began to wait at this time of its core
-abbrev pub wait_of : Request → Option ℕ → ℕ → Process → Wait
-wait_of (request.TimedWait (pos delay)) chan now process = wait.Until (now + delay)
-wait_of request.PeriodicWait chan now process = wait.PeriodicRelease (next_release process)
-wait_of (request.SuspendSelf time_out) chan now process = wait.Suspended (due_time time_out now)
-wait_of asked chan now process = wait_in (set_of asked chan) (due_of_call (time_out_of asked) now)
 
 -- a call that renews its caller's ready position: TIMED_WAIT with a delay of 0, PERIODIC_WAIT whose release is reached
 abbrev pub renews : Request → Bool

@@ -1,18 +1,15 @@
--- The error conditions of every service.
-use Rattle.std.specs.Prelude.{List, [], ◌++◌, Option, option_map, ℤ, not, nat_eq, ◌&&◌}
+-- The error conditions of every service, by the request.
+use Rattle.std.specs.Prelude.{List, [], ◌++◌, option_map}
 use Rattle.apex_types.specs.declared.code.Code.{Code}
-use Rattle.apex_types.specs.declared.code.Code.TheVariants as code
 use Rattle.apex_types.specs.declared.record.Who.{Who}
 use Rattle.apex_types.specs.declared.request.Request.{Request}
 use Rattle.apex_types.specs.declared.request.Request.TheVariants as request
-use Rattle.apex_machine.specs.Arguments.{is_mode, is_negative, is_normal_mode}
-use Rattle.apex_machine.specs.Conditions.{acquire_codes, affinity_codes, codes_for, create_blackboard_codes, create_buffer_codes, create_event_codes, create_mutex_codes, create_process_codes, create_queuing_codes, create_sampling_codes, create_semaphore_codes, created, destination_codes, is_normal, may_not_wait, message_codes, periodic_wait_codes, release_codes, resume_codes, set_priority_codes, source_codes, start_codes, stop_codes, suspend_codes, suspend_self_codes, time_out_codes, waiting_codes, when}
+use Rattle.apex_machine.specs.Conditions.{codes_for, time_out_codes, waiting_codes}
 use Rattle.apex_machine.specs.Configuration.{Configuration}
-use Rattle.apex_machine.specs.State.{Blackboard, Buffer, Partition, given_object}
-
--- a created object of a kind, and a wait for it
-abbrev pub object_codes : {Object : Type 0} → Who → Partition → Option Object → ℤ → List Code
-object_codes who partition object time_out = codes_for object (λ found. []) ++ time_out_codes time_out ++ waiting_codes who partition time_out
+use Rattle.apex_machine.specs.ObjectConditions.{acquire_codes, create_blackboard_codes, create_buffer_codes, create_event_codes, create_mutex_codes, create_semaphore_codes, message_codes, object_codes, release_codes}
+use Rattle.apex_machine.specs.PortConditions.{create_queuing_codes, create_sampling_codes, destination_codes, source_codes}
+use Rattle.apex_machine.specs.ProcessConditions.{affinity_codes, create_process_codes, get_my_id_codes, periodic_wait_codes, resume_codes, set_mode_codes, set_priority_codes, start_codes, stop_codes, suspend_codes, suspend_self_codes, timed_wait_codes}
+use Rattle.apex_machine.specs.State.{Blackboard, Buffer, Partition, created, given_object}
 
 -- the codes whose condition holds for a call of this process; STOP_SELF and GET_TIME have none   (section 3)
 abbrev pub condition_codes : Configuration → Who → Partition → Request → List Code
@@ -27,16 +24,11 @@ condition_codes configuration who partition (request.Suspend process) = suspend_
 condition_codes configuration who partition (request.SuspendSelf time_out) = suspend_self_codes who partition time_out
 condition_codes configuration who partition (request.Resume process) = resume_codes who (created partition.table process) process
 condition_codes configuration who partition (request.SetPriority process priority) = set_priority_codes (created partition.table process) priority
--- GET_MY_ID: not the initialising process
-condition_codes configuration who partition request.GetMyId = when (nat_eq who.proc 0) code.InvalidMode
--- TIMED_WAIT: a delay not below 0; a process that may wait
-condition_codes configuration who partition (request.TimedWait delay) =
-    when (is_negative delay) code.InvalidParam ++ when (may_not_wait who partition) code.InvalidMode
+condition_codes configuration who partition request.GetMyId = get_my_id_codes who
+condition_codes configuration who partition (request.TimedWait delay) = timed_wait_codes who partition delay
 condition_codes configuration who partition request.PeriodicWait = periodic_wait_codes who partition
 condition_codes configuration who partition request.GetTime = []
--- SET_PARTITION_MODE: a mode that there is; not NORMAL in NORMAL
-condition_codes configuration who partition (request.SetPartitionMode mode) =
-    when (not (is_mode mode)) code.InvalidParam ++ when (is_normal_mode mode && is_normal partition.mode) code.NoAction
+condition_codes configuration who partition (request.SetPartitionMode mode) = set_mode_codes partition.mode mode
 condition_codes configuration who partition (request.CreateBuffer name size capacity discipline) =
     create_buffer_codes configuration who.part partition name size capacity discipline
 condition_codes configuration who partition (request.SendBuffer buffer length time_out message) =

@@ -1,5 +1,5 @@
 -- Which calls are judged, and what each service gives its caller where no error condition holds.
-use Rattle.std.specs.Prelude.{ℕ, ◌+◌, [], ◌∷◌, Option, Some, None, Bool, true, false, ℤ, pos, not, nat_eq, nat_le, ◌&&◌, ◌||◌, if◌then◌else◌}
+use Rattle.std.specs.Prelude.{ℕ, [], ◌∷◌, Option, Some, None, Bool, true, false, ℤ, pos, not, nat_eq, ◌&&◌, ◌||◌, if◌then◌else◌}
 use Rattle.apex_types.specs.declared.record.Who.{Who}
 use Rattle.apex_types.specs.declared.request.Request.{Request}
 use Rattle.apex_types.specs.declared.request.Request.TheVariants as request
@@ -10,9 +10,10 @@ pub use Rattle.apex_machine.specs.Answer.{Answer, HasValue, Value, Nothing, Numb
 pub use Rattle.apex_machine.specs.Arguments.{is_aperiodic, is_number, is_over, natural_of}
 use Rattle.apex_machine.specs.Answer.{waking}
 use Rattle.apex_machine.specs.Arguments.{is_normal_mode}
-use Rattle.apex_machine.specs.Conditions.{created, is_for_mutex, is_suspension, of_caller, owns_mutex}
+use Rattle.apex_machine.specs.Conditions.{of_caller, owns_mutex}
+use Rattle.apex_machine.specs.DueTimes.{is_for_mutex, is_released, is_suspension}
 use Rattle.apex_machine.specs.Objects.{acquired, board_read, buffer_received, buffer_sent, displayed, event_set, event_waited, mutex_released, semaphore_waited, signalled}
-use Rattle.apex_machine.specs.State.{Partition, Table, given_object, is_free_object, is_free_process, process_at}
+use Rattle.apex_machine.specs.State.{Partition, Table, created, given_object, is_free, item_at}
 use Rattle.apex_machine.specs.Waiting.{first_waiter}
 
 -- the profile
@@ -31,7 +32,7 @@ is_built _ = false
 
 -- whether a process waits for a mutex
 abbrev pub waits_for_mutex : Table → ℕ → Bool
-waits_for_mutex table number = of_caller (λ process. is_for_mutex process.wait) (process_at table number)
+waits_for_mutex table number = of_caller (λ process. is_for_mutex process.wait) (item_at table number)
 
 -- where no error condition holds, these stand outside the profile, for any services that are judged: a periodic process,
 -- unless PERIODIC_WAIT is judged; a stop of a mutex's owner, or of the initialising process by itself; SUSPEND and
@@ -46,22 +47,6 @@ in_profile judged who partition (request.SetPriority process priority) =
     not (owns_mutex partition.mutexes (natural_of process)) && not (waits_for_mutex partition.table (natural_of process))
 in_profile judged who partition (request.SetPartitionMode mode) = is_normal_mode mode
 in_profile judged who partition _ = true
-
--- releases of periodic processes
-
--- the period, of a process that has one
-abbrev pub period_in : Option ℕ → ℕ
-period_in None = 0
-period_in (Some period) = period
-
--- the next release of a periodic process: its period after the last one
-abbrev pub next_release : Process → ℕ
-next_release process = process.last_release + period_in process.period
-
--- whether a process has come to its next release
-abbrev pub is_released : ℕ → Option Process → Bool
-is_released now None = false
-is_released now (Some process) = nat_le (next_release process) now
 
 -- what the caller gets
 
@@ -83,40 +68,40 @@ fellow who process = record { part = who.part; proc = natural_of process }
 -- GET_TIME the time; a wait with a time-out or a delay of 0 is over at once, PERIODIC_WAIT where the next release is reached;
 -- STOP_SELF and SET_PARTITION_MODE to NORMAL do not return
 abbrev pub answer_of : ℕ → Who → Partition → Request → Answer
-answer_of now who partition (request.CreateProcess name priority period) = done_with (NewNumber (is_free_process partition.table))
+answer_of now who partition (request.CreateProcess name priority period) = done_with (NewNumber (is_free partition.table))
 answer_of now who partition request.StopSelf = never
 answer_of now who partition (request.SuspendSelf time_out) = if is_over time_out then done else waiting
 answer_of now who partition (request.Resume process) = resuming (fellow who process) (created partition.table process)
 answer_of now who partition request.GetMyId = done_with (Number (pos who.proc))
 answer_of now who partition (request.TimedWait delay) = if is_over delay then done else waiting
-answer_of now who partition request.PeriodicWait = if is_released now (process_at partition.table who.proc) then done else waiting
+answer_of now who partition request.PeriodicWait = if is_released now (item_at partition.table who.proc) then done else waiting
 answer_of now who partition request.GetTime = done_with (Number (pos now))
 answer_of now who partition (request.SetPartitionMode mode) = never
-answer_of now who partition (request.CreateBuffer name size capacity discipline) = done_with (NewNumber (is_free_object partition.buffers))
+answer_of now who partition (request.CreateBuffer name size capacity discipline) = done_with (NewNumber (is_free partition.buffers))
 answer_of now who partition (request.SendBuffer buffer length time_out message) =
     answer_by (given_object partition.buffers buffer) (λ found. (buffer_sent message time_out found).answer)
 answer_of now who partition (request.ReceiveBuffer buffer time_out) =
     answer_by (given_object partition.buffers buffer) (λ found. (buffer_received time_out found).answer)
-answer_of now who partition (request.CreateBlackboard name size) = done_with (NewNumber (is_free_object partition.blackboards))
+answer_of now who partition (request.CreateBlackboard name size) = done_with (NewNumber (is_free partition.blackboards))
 answer_of now who partition (request.DisplayBlackboard blackboard length message) =
     answer_by (given_object partition.blackboards blackboard) (λ found. (displayed message found.readers).answer)
 answer_of now who partition (request.ReadBlackboard blackboard time_out) =
     answer_by (given_object partition.blackboards blackboard) (λ found. (board_read time_out found.message).answer)
-answer_of now who partition (request.CreateSemaphore name value maximum discipline) = done_with (NewNumber (is_free_object partition.semaphores))
+answer_of now who partition (request.CreateSemaphore name value maximum discipline) = done_with (NewNumber (is_free partition.semaphores))
 answer_of now who partition (request.WaitSemaphore semaphore time_out) =
     answer_by (given_object partition.semaphores semaphore) (λ found. (semaphore_waited time_out found.value).answer)
 answer_of now who partition (request.SignalSemaphore semaphore) =
     answer_by (given_object partition.semaphores semaphore)
     (λ found. (signalled found.maximum (first_waiter found.discipline found.waiters) found.value).answer)
-answer_of now who partition (request.CreateEvent name) = done_with (NewNumber (is_free_object partition.events))
+answer_of now who partition (request.CreateEvent name) = done_with (NewNumber (is_free partition.events))
 answer_of now who partition (request.SetEvent event) = answer_by (given_object partition.events event) (λ found. (event_set found.waiters).answer)
 answer_of now who partition (request.WaitEvent event time_out) =
     answer_by (given_object partition.events event) (λ found. (event_waited time_out found.up).answer)
-answer_of now who partition (request.CreateMutex name priority discipline) = done_with (NewNumber (is_free_object partition.mutexes))
+answer_of now who partition (request.CreateMutex name priority discipline) = done_with (NewNumber (is_free partition.mutexes))
 answer_of now who partition (request.AcquireMutex mutex time_out) =
     answer_by (given_object partition.mutexes mutex) (λ found. (acquired who.proc time_out found).answer)
 answer_of now who partition (request.ReleaseMutex mutex) =
     answer_by (given_object partition.mutexes mutex) (λ found. (mutex_released (first_waiter found.discipline found.waiters) found).answer)
-answer_of now who partition (request.CreateSamplingPort name size direction refresh) = done_with (NewNumber (is_free_object partition.sampling_ports))
-answer_of now who partition (request.CreateQueuingPort name size capacity both) = done_with (NewNumber (is_free_object partition.queuing_ports))
+answer_of now who partition (request.CreateSamplingPort name size direction refresh) = done_with (NewNumber (is_free partition.sampling_ports))
+answer_of now who partition (request.CreateQueuingPort name size capacity both) = done_with (NewNumber (is_free partition.queuing_ports))
 answer_of now who partition _ = done

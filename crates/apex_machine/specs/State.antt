@@ -122,42 +122,34 @@ names_one_of partition (who ∷ others) = nat_eq who.part partition || names_one
 
 -- processes and objects by number
 
--- the process of a number, if it is created
-abbrev pub process_at : Table → ℕ → Option Process
-process_at [] number = None
-process_at (entry ∷ entries) number = if nat_eq number entry.0 then Some entry.1 else process_at entries number
+-- the process or object of a number, if it is created
+abbrev pub item_at : {Item : Type 0} → List (ℕ × Item) → ℕ → Option Item
+item_at [] number = None
+item_at (entry ∷ entries) number = if nat_eq number entry.0 then Some entry.1 else item_at entries number
 
--- the table with each process changed
-abbrev pub each_process : (ℕ → Process → Process) → Table → Table
-each_process change [] = []
-each_process change (entry ∷ entries) = (entry.0, change entry.0 entry.1) ∷ each_process change entries
+-- the processes or objects of a kind, each of them changed
+abbrev pub each_item : {Item : Type 0} → (ℕ → Item → Item) → List (ℕ × Item) → List (ℕ × Item)
+each_item change [] = []
+each_item change (entry ∷ entries) = (entry.0, change entry.0 entry.1) ∷ each_item change entries
 
--- the object of a number, if it is created
-abbrev pub object_at : {Object : Type 0} → List (ℕ × Object) → ℕ → Option Object
-object_at [] number = None
-object_at (entry ∷ entries) number = if nat_eq number entry.0 then Some entry.1 else object_at entries number
+-- those of a kind, with the one of this number changed
+abbrev pub change_at : {Item : Type 0} → ℕ → (Item → Item) → List (ℕ × Item) → List (ℕ × Item)
+change_at number change items = each_item (λ other item. if nat_eq other number then change item else item) items
 
--- the objects with each of them changed
-abbrev pub each_object : {Object : Type 0} → (ℕ → Object → Object) → List (ℕ × Object) → List (ℕ × Object)
-each_object change [] = []
-each_object change (entry ∷ entries) = (entry.0, change entry.0 entry.1) ∷ each_object change entries
-
--- the objects with the one of this number changed
-abbrev pub change_at : {Object : Type 0} → ℕ → (Object → Object) → List (ℕ × Object) → List (ℕ × Object)
-change_at number change objects = each_object (λ other object. if nat_eq other number then change object else object) objects
+-- whether no process or object of a kind has a number
+abbrev pub is_free : {Item : Type 0} → List (ℕ × Item) → ℕ → Bool
+is_free items number = is_none (item_at items number)
 
 -- the object of a number that a caller gives, if it is created
 abbrev pub given_object : {Object : Type 0} → List (ℕ × Object) → ℤ → Option Object
-given_object objects (pos number) = object_at objects number
+given_object objects (pos number) = item_at objects number
 given_object objects (negsuc n) = None
 
--- whether no process has a number
-abbrev pub is_free_process : Table → ℕ → Bool
-is_free_process table number = is_none (process_at table number)
-
--- whether no object of a kind has a number
-abbrev pub is_free_object : {Object : Type 0} → List (ℕ × Object) → ℕ → Bool
-is_free_object objects number = is_none (object_at objects number)
+-- the created process of a number that a caller gives; 0 is none, since nobody created the initialising process
+abbrev pub created : Table → ℤ → Option Process
+created table (pos zero) = None
+created table (pos (suc n)) = item_at table (suc n)
+created table (negsuc n) = None
 
 -- cores
 

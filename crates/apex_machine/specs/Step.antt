@@ -1,6 +1,6 @@
 -- A step of the machine: what a record must claim, and the state that it then leads to. A run is one step after another.
 -- Each is said for any services that are judged, and then for those of today.
-use Rattle.std.specs.Prelude.{◌≡◌, ◌⊎◌, ℕ, ◌+◌, ◌≤◌, List, [], ◌∷◌, Option, Some, None, Bool, false, nat_eq, nat_le, ◌&&◌, IsTrue}
+use Rattle.std.specs.Prelude.{◌≡◌, ◌⊎◌, ℕ, ◌+◌, ◌≤◌, List, [], ◌∷◌, Option, Some, None, Bool, IsTrue}
 use Rattle.apex_types.specs.declared.code.Code.{Code}
 use Rattle.apex_types.specs.declared.record.Body.{Body}
 use Rattle.apex_types.specs.declared.record.Body.TheVariants.{Call, Ret, Disp, Tick}
@@ -17,16 +17,15 @@ use Rattle.apex_types.specs.Requested.{service_of}
 use Rattle.apex_machine.specs.declared.state.CoreState.{CoreState}
 use Rattle.apex_machine.specs.declared.state.Outcome.{Outcome}
 use Rattle.apex_machine.specs.declared.state.Process.{Process}
-use Rattle.apex_machine.specs.declared.state.Wait.{Wait}
-use Rattle.apex_machine.specs.declared.state.Wait.TheVariants as wait
 use Rattle.apex_machine.specs.After.{after}
 use Rattle.apex_machine.specs.Channels.{has_channel}
 use Rattle.apex_machine.specs.Choice.{choice}
 use Rattle.apex_machine.specs.Configuration.{Configuration, has_partition}
+use Rattle.apex_machine.specs.DueTimes.{NamesThoseDue}
 use Rattle.apex_machine.specs.Ports.{channel_effect, channel_of, suits_use, use_of}
 use Rattle.apex_machine.specs.ServiceConditions.{condition_codes}
 use Rattle.apex_machine.specs.Services.{Answer, HasValue, NamesExactly, answer_of, in_profile, is_built}
-use Rattle.apex_machine.specs.State.{Channel, Partition, State, Table, is_named, process_at, time_of, occupant_of}
+use Rattle.apex_machine.specs.State.{Channel, Partition, State, item_at, time_of, occupant_of}
 
 -- names
 
@@ -51,25 +50,6 @@ ChannelConfigured configuration (Some channel) = IsTrue (has_channel configurati
 abbrev pub KeepsSkew : ℕ → ℕ → List CoreState → Type 0
 KeepsSkew time skew [] = Unit {0}
 KeepsSkew time skew (state ∷ states) = (time ≤ state.time + skew) × KeepsSkew time skew states
-
--- a wait is over once its core's time has come to its due time, if it has one
-abbrev pub due_by : ℕ → Wait → Bool
-due_by time (wait.FirstRelease due) = nat_le due time
-due_by time (wait.Until due) = nat_le due time
-due_by time (wait.PeriodicRelease due) = nat_le due time
-due_by time (wait.Suspended (Some due)) = nat_le due time
-due_by time (wait.At set (Some due)) = nat_le due time
-due_by time _ = false
-
--- whether a process of this core falls due at this time
-abbrev pub falls_due : ℕ → ℕ → Option Process → Bool
-falls_due core time None = false
-falls_due core time (Some process) = nat_eq process.affinity core && due_by time process.wait
-
--- of this partition exactly those are named that fall due   (process and time management, section 3)
-abbrev pub NamesThoseDue : ℕ → ℕ → ℕ → Table → List Who → Type 0
-NamesThoseDue partition core time table woken =
-    (number : ℕ) → is_named (record { part = partition; proc = number }) woken ≡ falls_due core time (process_at table number)
 
 -- calls and returns
 
@@ -170,10 +150,10 @@ pub record IsLawfulCall (judged : Service → Bool) (configuration : Configurati
   pub names : IsTrue (has_partition configuration call.who.part) × AllConfigured configuration call.claim.woken × ChannelConfigured configuration call.claim.chan
   pub occupant : occupant_of state.cores core ≡ Some call.who
   pub choice : choice configuration state core ≡ Some call.who
-  pub due : HasNoneDue (process_at (state.partitions call.who.part).table call.who.proc)
+  pub due : HasNoneDue (item_at (state.partitions call.who.part).table call.who.proc)
   pub profile : IsWithinProfile judged (condition_codes configuration call.who (state.partitions call.who.part) call.request)
       call.who (state.partitions call.who.part) call.request
-  pub prio : HasPriority call.claim.prio (process_at (state.partitions call.who.part).table call.who.proc)
+  pub prio : HasPriority call.claim.prio (item_at (state.partitions call.who.part).table call.who.proc)
   pub outcome : HasOutcome (condition_codes configuration call.who (state.partitions call.who.part) call.request)
       (channel_of (state.partitions call.who.part) call.request)
       (answer_of (time_of state.cores core) call.who (state.partitions call.who.part) call.request)
@@ -185,7 +165,7 @@ pub record IsLawfulReturn (configuration : Configuration) (state : State) (core 
   pub names : IsTrue (has_partition configuration ret.who.part)
   pub occupant : occupant_of state.cores core ≡ Some ret.who
   pub choice : choice configuration state core ≡ Some ret.who
-  pub due : due_of (process_at (state.partitions ret.who.part).table ret.who.proc) ≡ Some (outcome_returned ret)
+  pub due : due_of (item_at (state.partitions ret.who.part).table ret.who.proc) ≡ Some (outcome_returned ret)
 
 -- what a record of each kind claims is so
 abbrev pub IsLawfulBody : (Service → Bool) → Configuration → State → ℕ → Body → Type 0

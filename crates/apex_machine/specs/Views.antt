@@ -16,7 +16,7 @@ use Rattle.apex_types.specs.Requested.{service_of}
 use Rattle.apex_machine.specs.declared.state.CoreState.{CoreState}
 use Rattle.apex_machine.specs.declared.state.Process.{Process}
 use Rattle.apex_machine.specs.Pieces.{ChannelPart, Module, ModulePart, OfPartition, Part, PartitionPart, Piece}
-use Rattle.apex_machine.specs.State.{State, Table, process_at, time_of}
+use Rattle.apex_machine.specs.State.{State, Table, item_at, time_of}
 
 -- the view of a record; a field that the record hasn't is -1, and where it names nobody woken is 0
 pub record View : Type 0 where
@@ -164,7 +164,7 @@ core_view kind core time who woken = record {
 abbrev pub view_by : State → ℕ → Body → View
 view_by state core (Call call) = call_view core (time_of state.cores core) call
 view_by state core (Ret ret) =
-    return_view core (time_of state.cores core) (process_at (state.partitions ret.who.part).table ret.who.proc) ret
+    return_view core (time_of state.cores core) (item_at (state.partitions ret.who.part).table ret.who.proc) ret
 view_by state core (Disp who) = core_view 2 core (time_of state.cores core) who 0
 view_by state core (Tick woken) = core_view 3 core (time_of state.cores core + 1) None (length woken)
 
@@ -177,7 +177,7 @@ abbrev pub partition_view : ℕ → List CoreState → Table → ℕ → Body �
 partition_view number cores table core (Call call) =
     if nat_eq call.who.part number then Some (call_view core (time_of cores core) call) else None
 partition_view number cores table core (Ret ret) =
-    if nat_eq ret.who.part number then Some (return_view core (time_of cores core) (process_at table ret.who.proc) ret) else None
+    if nat_eq ret.who.part number then Some (return_view core (time_of cores core) (item_at table ret.who.proc) ret) else None
 partition_view number cores table core _ = None
 
 -- the view that the module gives: of dispatches and ticks

@@ -1,3 +1,4 @@
+pub mod Bounds
 pub mod ServiceName
 pub mod Requested
 pub mod CodeName

@@ -2,6 +2,7 @@
 
 ghost use Rattle.std.specs.Prelude.{◌≡◌, ◌≤◌, ◌<◌, ◌-◌, ◌↔◌, IsTrue, OnOk, OnErr, length, nat_le};
 ghost use Rattle.std.specs.List.{list_all};
+ghost use Rattle.apex_types.specs.Bounds.{place_count};
 ghost use Rattle.apex_machine.specs.State.{time_of, occupant_of};
 ghost use Rattle.dispatch_rule.specs.Clocks.{cold_clocks, advanced, dispatched, MayTick};
 
@@ -80,7 +81,7 @@ impl Clock {
 
     /// Whether the core may tick under this skew, in ticks: it is then at most the skew ahead of each core.
     pub fn may_tick(&self, core: CoreId, skew: u64) -> bool
-        requires { time_of self.now.cores core < 68719476720 }
+        requires { time_of self.now.cores core < place_count }
         ensures { IsTrue result ↔ MayTick core skew self.now.cores }
     {
         let next = self.now(core) + 1;
@@ -92,7 +93,7 @@ impl Clock {
     /// Refused, with nothing changed, where the core would then be more than the clock's skew ahead of another.
     pub fn tick(&mut self, core: CoreId) -> Result<(), Skew>
         requires core { core < length self.old.cores }
-        requires time { time_of self.old.cores core < 68719476720 }
+        requires time { time_of self.old.cores core < place_count }
         ensures within { OnOk result (MayTick core self.old.skew self.old.cores) }
         ensures ok { OnOk result (self.new ≡ advanced core self.old) }
         ensures refused { OnErr result (¬ MayTick core self.old.skew self.old.cores) }
@@ -108,7 +109,7 @@ impl Clock {
     /// Adds one to the time of a core, whatever the times of the others. It serves where another judges the skew.
     pub fn advance(&mut self, core: CoreId)
         requires core { core < length self.old.cores }
-        requires time { time_of self.old.cores core < 68719476720 }
+        requires time { time_of self.old.cores core < place_count }
         ensures { self.new ≡ advanced core self.old }
     {
         let index = core.number() as usize;

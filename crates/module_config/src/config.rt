@@ -2,9 +2,8 @@
 
 ghost use Rattle.std.specs.Prelude.{◌≡◌, ◌≤◌, ◌<◌, IfOk, IfSome, Bool, true, length, slice_index};
 ghost use Rattle.toml.specs.View.{table_view};
-ghost use Rattle.apex_machine.specs.Configuration.{window_at, window_among, has_partition, WindowsAreConfigured, first_core, process_limit, period_of};
+ghost use Rattle.apex_machine.specs.Configuration.{window_at, window_among, has_partition, WindowsAreConfigured, first_core, process_limit, period_of, is_core};
 ghost use Rattle.apex_machine.specs.Channels.{has_channel};
-ghost use Rattle.apex_machine.specs.Conditions.{is_core};
 ghost use Rattle.module_config.specs.Keys.{Gives};
 ghost use Rattle.module_config.specs.Reading.{configuration_of, configuration_under};
 ghost use Rattle.module_config.specs.Limits.{partition_numbers, CoresAreOfModule, HasNoChannel, IsWithinLimits, IsConsistent};

@@ -12,9 +12,9 @@ use Rattle.apex_types.specs.declared.record.Who.{Who}
 use Rattle.apex_types.specs.declared.request.Request.{Request}
 use Rattle.apex_types.specs.declared.request.Request.TheVariants as request
 use Rattle.apex_machine.specs.declared.state.CoreState.{CoreState}
-use Rattle.apex_machine.specs.Configuration.{Configuration}
+use Rattle.apex_machine.specs.Configuration.{Configuration, is_core}
 use Rattle.apex_machine.specs.State.{Partition, time_of}
-use Rattle.apex_machine.specs.Conditions.{when, is_core}
+use Rattle.apex_machine.specs.Conditions.{when}
 use Rattle.apex_machine.specs.ServiceConditions.{condition_codes}
 use Rattle.apex_machine.specs.Services.{Answer, answer_of, is_built}
 use Rattle.apex_machine.specs.After.{is_done}

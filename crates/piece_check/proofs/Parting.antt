@@ -2,6 +2,7 @@
 use Rattle.std.proofs.Common.{◌≡◌, ◌∙◌, ℕ, zero, suc, ◌+◌, ◌≤◌, List, [], ◌∷◌, ◌<◌, length, map, refl, ap, sym, arith}
 use Rattle.std.proofs.lemmas.List.{length-map}
 use Rattle.std.specs.Prelude.{replicate}
+use Rattle.apex_types.specs.Bounds.{place_count}
 use Rattle.apex_types.specs.declared.record.Body.{Body}
 use Rattle.apex_types.specs.declared.record.Body.TheVariants.{Call, Ret, Disp, Tick}
 use Rattle.apex_types.specs.declared.record.Ordered.{Ordered}
@@ -88,7 +89,7 @@ NoTimeAbove_after place configuration (ChannelPart number times channel) ordered
     λ core. omega (arith, times_by_time ordered.core ordered.rec.body times core, behind core)
 
 -- times that are not above a place are those of a recording
-pub TimesFit_behind : (place : ℕ) (cores : List CoreState) → place < 68719476720 → ((core : ℕ) → time_of cores core ≤ place) → TimesFit cores
+pub TimesFit_behind : (place : ℕ) (cores : List CoreState) → place < place_count → ((core : ℕ) → time_of cores core ≤ place) → TimesFit cores
 TimesFit_behind place [] below behind = tt
 TimesFit_behind place (state ∷ cores) below behind =
     (omega (arith, below, behind 0), TimesFit_behind place cores below (λ core. behind (suc core)))

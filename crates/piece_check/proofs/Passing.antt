@@ -8,7 +8,7 @@ use Rattle.apex_machine.specs.Demands.{IsRunning, outcome_demands, own_call_dema
 use Rattle.apex_machine.specs.Ports.{channel_of}
 use Rattle.apex_machine.specs.ServiceConditions.{condition_codes}
 use Rattle.apex_machine.specs.Services.{answer_of, is_built}
-use Rattle.apex_machine.specs.State.{Partition, process_at, time_of}
+use Rattle.apex_machine.specs.State.{Partition, item_at, time_of}
 use Rattle.apex_machine.specs.Step.{HasNoneDue, HasPriority, IsWithinProfile}
 use Rattle.piece_check.specs.Judged.{Judges}
 
@@ -16,9 +16,9 @@ use Rattle.piece_check.specs.Judged.{Judges}
 pub outcome_last : (configuration : Configuration) (number : ℕ) (cores : List CoreState) (partition : Partition) (core : ℕ) (call : CallRecord)
     (judgement : Result (Unit {0}) Cause)
     → window_now configuration cores core ≡ Some number → IsRunning number cores partition.table core call.who
-    → HasNoneDue (process_at partition.table call.who.proc)
+    → HasNoneDue (item_at partition.table call.who.proc)
     → IsWithinProfile is_built (condition_codes configuration call.who partition call.request) call.who partition call.request
-    → HasPriority call.claim.prio (process_at partition.table call.who.proc)
+    → HasPriority call.claim.prio (item_at partition.table call.who.proc)
     → Judges (outcome_demands (condition_codes configuration call.who partition call.request) (channel_of partition call.request) number call.request
     (answer_of (time_of cores core) call.who partition call.request) call.claim) judgement
     → Judges (own_call_demands is_built configuration number cores partition core call) judgement

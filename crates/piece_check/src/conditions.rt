@@ -3,8 +3,9 @@
 ghost use Rattle.std.specs.Prelude.{◌≡◌, ◌<◌, ◌≤◌, ◌+◌, ◌++◌, ◌↔◌, [], IsTrue, length};
 ghost use Rattle.std.specs.Option.{option_copied};
 ghost use Rattle.apex_types.specs.Requested.{service_of};
-ghost use Rattle.apex_machine.specs.Conditions as services;
+ghost use Rattle.apex_machine.specs.Conditions as shared;
 ghost use Rattle.apex_machine.specs.Conditions.{when};
+ghost use Rattle.apex_machine.specs.ProcessConditions as processes;
 ghost use Rattle.apex_machine.specs.ServiceConditions.{condition_codes};
 ghost use Rattle.apex_machine.specs.Services.{is_built};
 ghost use Rattle.apex_machine.specs.Step.{IsAmong, HasCode};
@@ -139,7 +140,7 @@ fn create_process(
     priority: i64,
     period: i64,
 ) -> Conditions
-    ensures { result ≡ services.create_process_codes config.now number table.now name.now priority period }
+    ensures { result ≡ processes.create_process_codes config.now number table.now name.now priority period }
 {
     let is_full = config.process_limit(number) as usize <= table.len();
     let suits = suits_period(config.period(number), period);
@@ -160,7 +161,7 @@ fn initialize_affinity(
     process: i64,
     core: i64,
 ) -> Conditions
-    ensures { result ≡ services.affinity_codes config.now number table.now process core }
+    ensures { result ≡ processes.affinity_codes config.now number table.now process core }
 {
     let target = table.created(process);
     Conditions::none()
@@ -171,7 +172,7 @@ fn initialize_affinity(
 
 // START: a created process, and a dormant one.
 fn start(target: Option<&Process>) -> Conditions
-    ensures { result ≡ services.start_codes (option_copied target.entry) }
+    ensures { result ≡ processes.start_codes (option_copied target.entry) }
 {
     match target {
         Some(process) => Conditions::none().with(process.alive, Code::NoAction),
@@ -180,7 +181,7 @@ fn start(target: Option<&Process>) -> Conditions
 }
 
 fn is_normal(mode: Mode) -> bool
-    ensures { result ≡ services.is_normal mode }
+    ensures { result ≡ shared.is_normal mode }
 {
     mode == Mode::Normal
 }

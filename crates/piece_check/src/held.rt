@@ -1,6 +1,7 @@
 // What a piece holds: the module's part, or a partition's.
 
 ghost use Rattle.std.specs.Prelude.{◌≡◌, ◌<◌, OnOk, OnErr, length};
+ghost use Rattle.apex_types.specs.Bounds.{place_count};
 ghost use Rattle.apex_machine.specs.State.{time_of};
 ghost use Rattle.apex_machine.specs.Demands.{AllHold, demands};
 ghost use Rattle.apex_machine.specs.Pieces.{part_after};
@@ -25,7 +26,7 @@ pub(crate) enum Held {
 impl Held {
     /// Judges a record: the cause is that of the first demand that fails.
     pub(crate) fn judge(&self, config: &Config, ordered: &Ordered) -> Result<(), Cause>
-        requires { time_of (cores_of (part_of self.now)) ordered.now.core < 68719476720 }
+        requires { time_of (cores_of (part_of self.now)) ordered.now.core < place_count }
         ensures { Judges (demands config.now (part_of self.now) ordered.now) result }
     {
         match self {
@@ -39,7 +40,7 @@ impl Held {
     /// AllocError where a call was refused memory; nothing is changed then.
     pub(crate) fn apply(&mut self, config: &Config, ordered: &Ordered) -> Result<(), AllocError>
         requires core { ordered.now.core < length (cores_of (part_of self.old)) }
-        requires time { time_of (cores_of (part_of self.old)) ordered.now.core < 68719476720 }
+        requires time { time_of (cores_of (part_of self.old)) ordered.now.core < place_count }
         requires times { TimesFit (cores_of (part_of self.old)) }
         requires lawful { AllHold (demands config.now (part_of self.old) ordered.now) }
         ensures ok { OnOk result (part_of self.new ≡ part_after config.now (part_of self.old) ordered.now) }

@@ -1,6 +1,7 @@
 // The piece of the module: configured names, the skew, and idle cores in no window.
 
 ghost use Rattle.std.specs.Prelude.{◌≡◌, ◌<◌, is_none, length};
+ghost use Rattle.apex_types.specs.Bounds.{place_count};
 ghost use Rattle.apex_types.specs.declared.record.Body.TheVariants as body;
 ghost use Rattle.apex_machine.specs.State.{time_of};
 ghost use Rattle.apex_machine.specs.After.{cores_after};
@@ -21,7 +22,7 @@ pub(crate) struct ModulePiece {
 impl ModulePiece {
     /// Judges a record: the cause is that of the first demand that fails.
     pub(crate) fn judge(&self, config: &Config, ordered: &Ordered) -> Result<(), Cause>
-        requires { time_of self.now.clock.cores ordered.now.core < 68719476720 }
+        requires { time_of self.now.clock.cores ordered.now.core < place_count }
         ensures { Judges (asked_by_module config.now self.now ordered.now.core ordered.now.rec.body) result }
     {
         match &ordered.rec.body {
@@ -35,7 +36,7 @@ impl ModulePiece {
     /// Makes the part what a record makes of it: a dispatch and a tick change their core.
     pub(crate) fn apply(&mut self, ordered: &Ordered)
         requires core { ordered.now.core < length self.old.clock.cores }
-        requires time { time_of self.old.clock.cores ordered.now.core < 68719476720 }
+        requires time { time_of self.old.clock.cores ordered.now.core < place_count }
         ensures { self.new.clock.cores ≡ cores_after ordered.now self.old.clock.cores }
     {
         match &ordered.rec.body {
@@ -85,7 +86,7 @@ impl ModulePiece {
     }
 
     fn judge_tick(&self, config: &Config, core: CoreId, woken: &Woken) -> Result<(), Cause>
-        requires { time_of self.now.clock.cores core < 68719476720 }
+        requires { time_of self.now.clock.cores core < place_count }
         ensures { Judges (asked_by_module config.now self.now core (body.Tick woken.now)) result }
     {
         if !all_configured(config, woken.as_slice()) {

@@ -2,8 +2,9 @@
 
 ghost use Rattle.std.specs.Prelude.{◌≡◌, ◌<◌, ◌↔◌, IsTrue, Some, OnOk, OnErr, length, false};
 ghost use Rattle.std.specs.Option.{option_copied};
+ghost use Rattle.apex_types.specs.Bounds.{place_count};
 ghost use Rattle.apex_types.specs.declared.record.Body.TheVariants as body;
-ghost use Rattle.apex_machine.specs.State.{process_at, time_of};
+ghost use Rattle.apex_machine.specs.State.{item_at, time_of};
 ghost use Rattle.apex_machine.specs.Step.{HasNoneDue, HasPriority, due_of};
 ghost use Rattle.apex_machine.specs.Demands.{AllHold, IsRunning, WakesHere, own_call_demands, foreign_call_demands, window_now};
 ghost use Rattle.apex_machine.specs.After.{partition_by};
@@ -38,7 +39,7 @@ pub(crate) struct PartitionPiece {
 impl PartitionPiece {
     /// Judges a record: the cause is that of the first demand that fails.
     pub(crate) fn judge(&self, config: &Config, ordered: &Ordered) -> Result<(), Cause>
-        requires { time_of self.now.clock.cores ordered.now.core < 68719476720 }
+        requires { time_of self.now.clock.cores ordered.now.core < place_count }
         ensures { Judges (asked_by_partition config.now self.now ordered.now.core ordered.now.rec.body) result }
     {
         match &ordered.rec.body {
@@ -60,7 +61,7 @@ impl PartitionPiece {
     /// AllocError where a call was refused memory; nothing is changed then.
     pub(crate) fn apply(&mut self, config: &Config, ordered: &Ordered) -> Result<(), AllocError>
         requires core { ordered.now.core < length self.old.clock.cores }
-        requires time { time_of self.old.clock.cores ordered.now.core < 68719476720 }
+        requires time { time_of self.old.clock.cores ordered.now.core < place_count }
         requires times { TimesFit self.old.clock.cores }
         requires lawful { AllHold (asked_by_partition config.now self.old ordered.now.core ordered.now.rec.body) }
         ensures ok { OnOk result (partition_part self.new ≡ part_after config.now (partition_part self.old) ordered.now) }
@@ -123,7 +124,7 @@ impl PartitionPiece {
     // In the partition's windows a tick comes where the occupant is its choice. It names, of the partition, those that
     // fall due.
     fn judge_tick(&self, config: &Config, core: CoreId, woken: &Woken) -> Result<(), Cause>
-        requires { time_of self.now.clock.cores core < 68719476720 }
+        requires { time_of self.now.clock.cores core < place_count }
         ensures { Judges (asked_by_partition config.now self.now core (body.Tick woken.now)) result }
     {
         let occupant = self.clock.on(core);
@@ -241,7 +242,7 @@ impl PartitionPiece {
 
     // The outcome that is due to the process, if it is there and one is.
     fn due_to(&self, number: ProcId) -> Option<&Outcome>
-        ensures { option_copied result ≡ due_of (process_at self.now.table.table number) }
+        ensures { option_copied result ≡ due_of (item_at self.now.table.table number) }
     {
         match self.table.proc(number) {
             Some(process) => process.due.as_ref(),
@@ -251,7 +252,7 @@ impl PartitionPiece {
 
     // Whether the process is there and no outcome is due to it.
     fn has_none_due(&self, number: ProcId) -> bool
-        ensures { IsTrue result ↔ HasNoneDue (process_at self.now.table.table number) }
+        ensures { IsTrue result ↔ HasNoneDue (item_at self.now.table.table number) }
     {
         match self.table.proc(number) {
             Some(process) => process.due.is_none(),
@@ -261,7 +262,7 @@ impl PartitionPiece {
 
     // Whether the process is there and has this current priority.
     fn has_priority(&self, number: ProcId, priority: u8) -> bool
-        ensures { IsTrue result ↔ HasPriority priority (process_at self.now.table.table number) }
+        ensures { IsTrue result ↔ HasPriority priority (item_at self.now.table.table number) }
     {
         match self.table.proc(number) {
             Some(process) => process.current_priority == priority,

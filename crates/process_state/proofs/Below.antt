@@ -5,7 +5,7 @@ use Rattle.indexmap.specs.Layout.{set_value_at}
 use Rattle.apex_machine.specs.declared.state.Process.{Process}
 use Rattle.apex_machine.specs.declared.state.Mode.{Mode}
 use Rattle.apex_machine.specs.declared.state.Mode.TheVariants as mode
-use Rattle.apex_machine.specs.State.{Table, each_process}
+use Rattle.apex_machine.specs.State.{Table, each_item}
 use Rattle.process_state.specs.Partitions.{partition_of}
 
 -- the table with the processes before a place changed
@@ -37,7 +37,7 @@ each_below-more change place table entries old written so_far found is =
     rw (add-one place, so_far) (each_below-next change place table old written found_there is)
 
 each_below-all : (change : Process → Process) (place : ℕ) (table : Table) → length table ≤ place
-    → each_below change place table ≡ each_process (λ number. change) table
+    → each_below change place table ≡ each_item (λ number. change) table
 each_below-all change place [] past = refl
 each_below-all change zero (entry ∷ entries) past = absurd (omega arith)
 each_below-all change (suc place) (entry ∷ entries) past =
@@ -46,7 +46,7 @@ each_below-all change (suc place) (entry ∷ entries) past =
 
 -- past the last place all are changed
 pub each_below-past : (change : Process → Process) (place : ℕ) (table entries : Table) → entries ≡ each_below change place table
-    → length table ≤ place → entries ≡ each_process (λ number. change) table
+    → length table ≤ place → entries ≡ each_item (λ number. change) table
 each_below-past change place table entries so_far past = so_far ∙ each_below-all change place table past
 
 pub length-each_below : (change : Process → Process) (place : ℕ) (table : Table) → length (each_below change place table) ≡ length table
@@ -57,7 +57,7 @@ length-each_below change (suc place) (entry ∷ entries) = ap suc (length-each_b
 -- past the last place the partition is in NORMAL, with all changed
 pub all_entered : (change : Process → Process) (place : ℕ) (old_mode new_mode : Mode) (table entries : Table) → new_mode ≡ mode.Normal
     → entries ≡ each_below change place table → length table ≤ place
-    → partition_of new_mode entries ≡ record (partition_of old_mode table) { mode = mode.Normal; table = each_process (λ number. change) table }
+    → partition_of new_mode entries ≡ record (partition_of old_mode table) { mode = mode.Normal; table = each_item (λ number. change) table }
 all_entered change place old_mode new_mode table entries is_normal so_far past =
     let all = each_below-past change place table entries so_far past in
     λ i. partition_of (is_normal i) (all i)

@@ -12,7 +12,7 @@ use Rattle.apex_machine.specs.declared.state.CoreState.{CoreState}
 use Rattle.apex_machine.specs.declared.state.Mode.{Mode}
 use Rattle.apex_machine.specs.declared.state.Process.{Process}
 use Rattle.apex_machine.specs.Configuration.{Configuration, first_core, period_of}
-use Rattle.apex_machine.specs.State.{Partition, Table, each_process, is_free_process, process_at, time_of}
+use Rattle.apex_machine.specs.State.{Partition, Table, each_item, is_free, item_at, time_of}
 use Rattle.apex_machine.specs.Answer.{is_new}
 use Rattle.apex_machine.specs.Processes.{caller_after, new_process, set_by}
 use Rattle.apex_machine.specs.Services.{is_built}
@@ -23,7 +23,7 @@ use Rattle.process_state.specs.Partitions.{partition_of}
 use Rattle.process_state.specs.Sound.{AsksSoundly, IsSound}
 use Rattle.process_state.proofs.Carried.{append-nothing, carried}
 use Rattle.process_state.proofs.Numbers.{new-absent}
-use Rattle.process_state.proofs.Tables.{each_process-append, each_process-congr, each_process-same, each_process-twice, only-absent}
+use Rattle.process_state.proofs.Tables.{each_item-append, each_item-congr, each_item-same, each_item-twice, only-absent}
 
 -- the mode once a call has set it, if it was carried out
 abbrev mode_between : CallRecord → Mode → Mode
@@ -33,15 +33,15 @@ mode_between call mode = if is_done call.claim.out then mode_by call.request mod
 abbrev pub between : ℕ → ℕ → ℕ → List CoreState → CallRecord → Partition → Partition
 between place period first cores call old = record old {
   mode = mode_between call old.mode;
-  table = each_process (adjusted place period cores old call) old.table ++ created_by first call call.request;
+  table = each_item (adjusted place period cores old call) old.table ++ created_by first call call.request;
 }
 
 pub adjusted-done : (place period first : ℕ) (cores : List CoreState) (call : CallRecord) (old new : Partition) → is_done call.claim.out ≡ true
     → new ≡ carried place period first cores call call.request old → new ≡ between place period first cores call old
 adjusted-done place period first cores call old new done is =
     let mode : mode_by call.request old.mode ≡ mode_between call old.mode = rw done refl in
-    let table : each_process (set_by place period cores old call.who.proc call.request) old.table ≡ each_process (adjusted place period cores old call) old.table
-    = each_process-congr _ (adjusted place period cores old call) (λ number process. rw done refl) old.table in
+    let table : each_item (set_by place period cores old call.who.proc call.request) old.table ≡ each_item (adjusted place period cores old call) old.table
+    = each_item-congr _ (adjusted place period cores old call) (λ number process. rw done refl) old.table in
     is ∙ (λ i. record old { mode = mode i; table = table i ++ created_by first call call.request })
 
 creates-none : (first : ℕ) (call : CallRecord) (asked : Request) → is_done call.claim.out ≡ false → created_by first call asked ≡ []
@@ -52,44 +52,44 @@ pub adjusted-not : (place period first : ℕ) (cores : List CoreState) (call : C
     → old ≡ between place period first cores call old
 adjusted-not place period first cores call old refused =
     let mode : old.mode ≡ mode_between call old.mode = rw refused refl in
-    let table : old.table ≡ each_process (adjusted place period cores old call) old.table ++ created_by first call call.request
+    let table : old.table ≡ each_item (adjusted place period cores old call) old.table ++ created_by first call call.request
     = rw (creates-none first call call.request refused)
-    (sym (append-nothing _ ∙ each_process-same (adjusted place period cores old call) (λ number process. rw refused refl) old.table)) in
+    (sym (append-nothing _ ∙ each_item-same (adjusted place period cores old call) (λ number process. rw refused refl) old.table)) in
     λ i. record old { mode = mode i; table = table i }
 
 -- no created process has the number of a caller that stands in the table
 creates-apart : (first : ℕ) (call : CallRecord) (asked : Request) (table : Table) (caller : ℕ) → AsksSoundly table call asked
-    → is_some (process_at table caller) ≡ true → process_at (created_by first call asked) caller ≡ None
+    → is_some (item_at table caller) ≡ true → item_at (created_by first call asked) caller ≡ None
 creates-apart first call (request.CreateProcess name priority period) table caller sound stands = by (is_done call.claim.out) refl
   where
-    one : (claimed : Option ℤ) → is_new (is_free_process table) claimed ≡ true
-        → process_at (numbered claimed (new_process first name priority period)) caller ≡ None
+    one : (claimed : Option ℤ) → is_new (is_free table) claimed ≡ true
+        → item_at (numbered claimed (new_process first name priority period)) caller ≡ None
     one None new = refl
     one (Some (negsuc n)) new = refl
     one (Some (pos n)) new = apart (nat_eq caller n) refl
       where
-        apart : (b : Bool) → nat_eq caller n ≡ b → process_at ((n, new_process first name priority period) ∷ []) caller ≡ None
+        apart : (b : Bool) → nat_eq caller n ≡ b → item_at ((n, new_process first name priority period) ∷ []) caller ≡ None
         apart true e =
             let same : caller ≡ n = grind (arith, nat_tests) in
-            let none : process_at table caller ≡ None = rw same (new-absent table n new) in
+            let none : item_at table caller ≡ None = rw same (new-absent table n new) in
             let stands_none = rw none at stands in cc
         apart false e = rw e refl
 
     by : (b : Bool) → is_done call.claim.out ≡ b
-        → process_at (if b then numbered call.claim.val (new_process first name priority period) else []) caller ≡ None
+        → item_at (if b then numbered call.claim.val (new_process first name priority period) else []) caller ≡ None
     by true done = one call.claim.val ((sound done).0)
     by false refused = refl
 creates-apart first call _ table caller sound stands = refl
 
-absent-each : (change : ℕ → Process → Process) (table : Table) (number : ℕ) → process_at table number ≡ None
-    → process_at (each_process change table) number ≡ None
+absent-each : (change : ℕ → Process → Process) (table : Table) (number : ℕ) → item_at table number ≡ None
+    → item_at (each_item change table) number ≡ None
 absent-each change [] number none = refl
 absent-each change (entry ∷ entries) number none = by (nat_eq number entry.0) refl (absent-each change entries number)
   where
-    by : (b : Bool) → nat_eq number entry.0 ≡ b → (process_at entries number ≡ None → process_at (each_process change entries) number ≡ None)
-        → process_at (each_process change (entry ∷ entries)) number ≡ None
+    by : (b : Bool) → nat_eq number entry.0 ≡ b → (item_at entries number ≡ None → item_at (each_item change entries) number ≡ None)
+        → item_at (each_item change (entry ∷ entries)) number ≡ None
     by true e rest = let found = rw e at none in cc
-    by false e rest = let others : process_at entries number ≡ None = rw e at none in rw e (rest others)
+    by false e rest = let others : item_at entries number ≡ None = rw e at none in rw e (rest others)
 
 copied-some : (found : Option (Bor Process)) → is_some (option_copied found) ≡ is_some found
 copied-some None = refl
@@ -149,18 +149,18 @@ called-is place now period cores call old number process sound =
 -- each process after the call, by the change of the caller
 called-each : (place now period : ℕ) (cores : List CoreState) (call : CallRecord) (old : Partition) (change : Process → Process)
     → IsSound old.table call → ((process : Process) → change process ≡ caller_after place now call process)
-    → each_process (only call.who.proc change) (each_process (adjusted place period cores old call) old.table)
-    ≡ each_process (called place now period cores old call) old.table
+    → each_item (only call.who.proc change) (each_item (adjusted place period cores old call) old.table)
+    ≡ each_item (called place now period cores old call) old.table
 called-each place now period cores call old change sound same =
-    each_process-twice (adjusted place period cores old call) (only call.who.proc change) old.table
-    ∙ each_process-congr _ (called place now period cores old call)
+    each_item-twice (adjusted place period cores old call) (only call.who.proc change) old.table
+    ∙ each_item-congr _ (called place now period cores old call)
     (λ number process. rw (same (adjusted place period cores old call number process)) (called-is place now period cores call old number process sound)) old.table
 
 -- the partition after the call, by its table
 whole : (configuration : Configuration) (place core period first : ℕ) (cores : List CoreState) (call : CallRecord) (mode : Mode) (table : Table)
     → first_core configuration call.who.part ≡ first → period_of configuration call.who.part ≡ period → is_built (service_of call.request) ≡ true
     → partition_of (mode_between call mode)
-    (each_process (called place (time_of cores core) period cores (partition_of mode table) call) table ++ created_by first call call.request)
+    (each_item (called place (time_of cores core) period cores (partition_of mode table) call) table ++ created_by first call call.request)
     ≡ partition_called configuration cores place core call (partition_of mode table)
 whole configuration place core period first cores call mode table first_is period_is judged =
     let objects = objects-stay configuration place call mode table judged in
@@ -168,7 +168,7 @@ whole configuration place core period first cores call mode table first_is perio
     let ticks : period ≡ period_of configuration call.who.part = sym period_is in
     λ i. record (objects i) {
       mode = mode_between call mode;
-      table = each_process (called place (time_of cores core) (ticks i) cores (partition_of mode table) call) table ++ created_by (own i) call call.request;
+      table = each_item (called place (time_of cores core) (ticks i) cores (partition_of mode table) call) table ++ created_by (own i) call call.request;
     }
 
 -- a caller that stands in the table has become what its call makes of it
@@ -176,18 +176,18 @@ pub called-stands : (configuration : Configuration) (place core period first : �
     (middle new : Partition) (change : Process → Process) (found : Option (Bor Process))
     → first_core configuration call.who.part ≡ first → period_of configuration call.who.part ≡ period
     → middle ≡ between place period first cores call (partition_of mode table) → IsSound table call
-    → option_copied found ≡ process_at table call.who.proc → is_some found ≡ true
+    → option_copied found ≡ item_at table call.who.proc → is_some found ≡ true
     → ((process : Process) → change process ≡ caller_after place (time_of cores core) call process)
     → new ≡ with_each (only call.who.proc change) middle → new ≡ partition_called configuration cores place core call (partition_of mode table)
 called-stands configuration place core period first cores call mode table middle new change found first_is period_is adjusts sound looked stands same is =
-    let there : is_some (process_at table call.who.proc) ≡ true = ap is_some (sym looked) ∙ copied-some found ∙ stands in
+    let there : is_some (item_at table call.who.proc) ≡ true = ap is_some (sym looked) ∙ copied-some found ∙ stands in
     let created : Table = created_by first call call.request in
-    let each : each_process (only call.who.proc change) (each_process (adjusted place period cores (partition_of mode table) call) table ++ created)
-    ≡ each_process (called place (time_of cores core) period cores (partition_of mode table) call) table ++ created
-    = each_process-append (only call.who.proc change) (each_process (adjusted place period cores (partition_of mode table) call) table) created
-    ∙ ap (λ t. t ++ each_process (only call.who.proc change) created)
+    let each : each_item (only call.who.proc change) (each_item (adjusted place period cores (partition_of mode table) call) table ++ created)
+    ≡ each_item (called place (time_of cores core) period cores (partition_of mode table) call) table ++ created
+    = each_item-append (only call.who.proc change) (each_item (adjusted place period cores (partition_of mode table) call) table) created
+    ∙ ap (λ t. t ++ each_item (only call.who.proc change) created)
     (called-each place (time_of cores core) period cores call (partition_of mode table) change sound same)
-    ∙ ap (λ t. each_process (called place (time_of cores core) period cores (partition_of mode table) call) table ++ t)
+    ∙ ap (λ t. each_item (called place (time_of cores core) period cores (partition_of mode table) call) table ++ t)
     (only-absent call.who.proc change created (creates-apart first call call.request table call.who.proc sound.asks there)) in
     is ∙ ap (with_each (only call.who.proc change)) adjusts ∙ ap (partition_of (mode_between call mode)) each
     ∙ whole configuration place core period first cores call mode table first_is period_is sound.judged
@@ -197,16 +197,16 @@ pub called-absent : (configuration : Configuration) (place core period first : �
     (middle : Partition) (found : Option (Bor Process))
     → first_core configuration call.who.part ≡ first → period_of configuration call.who.part ≡ period
     → middle ≡ between place period first cores call (partition_of mode table) → IsSound table call
-    → option_copied found ≡ process_at table call.who.proc → is_some found ≡ false
+    → option_copied found ≡ item_at table call.who.proc → is_some found ≡ false
     → middle ≡ partition_called configuration cores place core call (partition_of mode table)
 called-absent configuration place core period first cores call mode table middle found first_is period_is adjusts sound looked absent =
-    let none : process_at table call.who.proc ≡ None = none-some _ (ap is_some (sym looked) ∙ copied-some found ∙ absent) in
+    let none : item_at table call.who.proc ≡ None = none-some _ (ap is_some (sym looked) ∙ copied-some found ∙ absent) in
     let change : Process → Process = caller_after place (time_of cores core) call in
-    let none_too : process_at (each_process (adjusted place period cores (partition_of mode table) call) table) call.who.proc ≡ None
+    let none_too : item_at (each_item (adjusted place period cores (partition_of mode table) call) table) call.who.proc ≡ None
     = absent-each (adjusted place period cores (partition_of mode table) call) table call.who.proc none in
-    let each : each_process (adjusted place period cores (partition_of mode table) call) table
-    ≡ each_process (called place (time_of cores core) period cores (partition_of mode table) call) table
-    = sym (only-absent call.who.proc change (each_process (adjusted place period cores (partition_of mode table) call) table) none_too)
+    let each : each_item (adjusted place period cores (partition_of mode table) call) table
+    ≡ each_item (called place (time_of cores core) period cores (partition_of mode table) call) table
+    = sym (only-absent call.who.proc change (each_item (adjusted place period cores (partition_of mode table) call) table) none_too)
     ∙ called-each place (time_of cores core) period cores call (partition_of mode table) change sound (λ process. refl) in
     adjusts ∙ ap (λ t. partition_of (mode_between call mode) (t ++ created_by first call call.request)) each
     ∙ whole configuration place core period first cores call mode table first_is period_is sound.judged
@@ -217,12 +217,12 @@ pub called-stands-in : (configuration : Configuration) (place core period first 
     (old middle new : Partition) (change : Process → Process) (found : Option (Bor Process)) → partition_of mode table ≡ old
     → first_core configuration call.who.part ≡ first → period_of configuration call.who.part ≡ period
     → middle ≡ between place period first cores call old → IsSound old.table call
-    → option_copied found ≡ process_at old.table call.who.proc → is_some found ≡ true
+    → option_copied found ≡ item_at old.table call.who.proc → is_some found ≡ true
     → ((process : Process) → change process ≡ caller_after place (time_of cores core) call process)
     → new ≡ with_each (only call.who.proc change) middle → new ≡ partition_called configuration cores place core call old
 called-stands-in configuration place core period first cores call mode table old middle new change found view first_is period_is adjusts sound looked stands same is =
     let P : Partition → Type 0 = λ seen. middle ≡ between place period first cores call seen → IsSound seen.table call
-    → option_copied found ≡ process_at seen.table call.who.proc → new ≡ partition_called configuration cores place core call seen in
+    → option_copied found ≡ item_at seen.table call.who.proc → new ≡ partition_called configuration cores place core call seen in
     subst P view
     (λ adjusts_it sound_it looked_it. called-stands configuration place core period first cores call mode table middle new change found first_is period_is adjusts_it sound_it looked_it stands same is)
     adjusts sound looked
@@ -231,11 +231,11 @@ pub called-absent-in : (configuration : Configuration) (place core period first 
     (old middle : Partition) (found : Option (Bor Process)) → partition_of mode table ≡ old
     → first_core configuration call.who.part ≡ first → period_of configuration call.who.part ≡ period
     → middle ≡ between place period first cores call old → IsSound old.table call
-    → option_copied found ≡ process_at old.table call.who.proc → is_some found ≡ false
+    → option_copied found ≡ item_at old.table call.who.proc → is_some found ≡ false
     → middle ≡ partition_called configuration cores place core call old
 called-absent-in configuration place core period first cores call mode table old middle found view first_is period_is adjusts sound looked absent =
     let P : Partition → Type 0 = λ seen. middle ≡ between place period first cores call seen → IsSound seen.table call
-    → option_copied found ≡ process_at seen.table call.who.proc → middle ≡ partition_called configuration cores place core call seen in
+    → option_copied found ≡ item_at seen.table call.who.proc → middle ≡ partition_called configuration cores place core call seen in
     subst P view
     (λ adjusts_it sound_it looked_it. called-absent configuration place core period first cores call mode table middle found first_is period_is adjusts_it sound_it looked_it absent)
     adjusts sound looked

@@ -8,17 +8,16 @@ use Rattle.apex_types.specs.Requested.{service_of}
 use Rattle.apex_machine.specs.declared.state.CoreState.{CoreState}
 use Rattle.apex_machine.specs.declared.state.Process.{Process}
 use Rattle.apex_machine.specs.declared.state.Mode.TheVariants as mode
-use Rattle.apex_machine.specs.State.{Partition, Table, each_process, is_free_process, time_of}
+use Rattle.apex_machine.specs.State.{Partition, Table, each_item, is_free, time_of}
 use Rattle.apex_machine.specs.Answer.{is_new}
-use Rattle.apex_machine.specs.Conditions.{is_priority}
-use Rattle.apex_machine.specs.Arguments.{natural_of}
+use Rattle.apex_machine.specs.Arguments.{is_priority, natural_of}
 use Rattle.apex_machine.specs.Processes.{after_normal, new_process, set_by, started}
 use Rattle.apex_machine.specs.Services.{is_built}
 use Rattle.apex_machine.specs.After.{created_by, is_done, mode_by}
 use Rattle.process_state.specs.Changes.{moved_to, named, only, with_each}
 use Rattle.process_state.specs.Numbers.{NumbersFit, number_of}
 use Rattle.process_state.specs.Sound.{AsksSoundly}
-use Rattle.process_state.proofs.Tables.{each_process-congr, each_process-same, nat_eq-swap, with_table}
+use Rattle.process_state.proofs.Tables.{each_item-congr, each_item-same, nat_eq-swap, with_table}
 
 pub append-nothing : (table : Table) → table ++ [] ≡ table
 append-nothing [] = refl
@@ -30,7 +29,7 @@ pub named-found : (change : Process → Process) (given : ℤ) (number : ℕ) (p
     → with_each (only number change) partition ≡ with_each (named given change) partition
 named-found change (pos n) number partition found =
     let same : n ≡ number = grind (arith, nat_tests) in
-    ap (with_table partition) (each_process-congr _ _ (λ other process. rw (same, nat_eq-swap number other) refl) partition.table)
+    ap (with_table partition) (each_item-congr _ _ (λ other process. rw (same, nat_eq-swap number other) refl) partition.table)
 named-found change (negsuc n) number partition found = cc
 
 -- a change by any other number
@@ -41,24 +40,24 @@ named-none change (pos n) partition none fit = ap (with_table partition) (sym (s
     apart : (number : ℕ) → number < 2 ^ 32 → nat_eq n number ≡ false
     apart number bound = grind (arith, nat_tests)
 
-    stays : (entries : Table) → NumbersFit entries → each_process (named (pos n) change) entries ≡ entries
+    stays : (entries : Table) → NumbersFit entries → each_item (named (pos n) change) entries ≡ entries
     stays [] h = refl
     stays (entry ∷ entries) h = rw (apart entry.0 h.0, stays entries h.1) refl
 named-none change (negsuc n) partition none fit =
-    ap (with_table partition) (sym (each_process-same _ (λ number process. refl) partition.table))
+    ap (with_table partition) (sym (each_item-same _ (λ number process. refl) partition.table))
 
 -- a partition once a call has set in it what it sets, beside what becomes of its caller
 abbrev pub carried : ℕ → ℕ → ℕ → List CoreState → CallRecord → Request → Partition → Partition
 carried place period first cores call asked old = record old {
   mode = mode_by asked old.mode;
-  table = each_process (set_by place period cores old call.who.proc asked) old.table ++ created_by first call asked;
+  table = each_item (set_by place period cores old call.who.proc asked) old.table ++ created_by first call asked;
 }
 
 -- the table of a service that changes each process so, and creates none
 table-set : (place period first : ℕ) (cores : List CoreState) (call : CallRecord) (asked : Request) (old : Partition) (set : ℕ → Process → Process)
     → created_by first call asked ≡ [] → ((number : ℕ) (process : Process) → set number process ≡ set_by place period cores old call.who.proc asked number process)
-    → each_process set old.table ≡ each_process (set_by place period cores old call.who.proc asked) old.table ++ created_by first call asked
-table-set place period first cores call asked old set none same = rw none (each_process-congr _ _ same old.table ∙ sym (append-nothing _))
+    → each_item set old.table ≡ each_item (set_by place period cores old call.who.proc asked) old.table ++ created_by first call asked
+table-set place period first cores call asked old set none same = rw none (each_item-congr _ _ same old.table ∙ sym (append-nothing _))
 
 -- a judged service that sets nothing beside its caller
 pub carried-none : (place period first : ℕ) (cores : List CoreState) (call : CallRecord) (asked : Request) (old : Partition)
@@ -75,19 +74,19 @@ carried-none place period first cores call (request.SetPartitionMode mode) old j
 carried-none place period first cores call request.StopSelf old judged not_create not_move not_start not_mode = same-table
   where
     same-table : old ≡ carried place period first cores call request.StopSelf old
-    same-table = ap (with_table old) (sym (append-nothing _ ∙ each_process-same _ (λ number process. refl) old.table))
+    same-table = ap (with_table old) (sym (append-nothing _ ∙ each_item-same _ (λ number process. refl) old.table))
 carried-none place period first cores call request.GetMyId old judged not_create not_move not_start not_mode =
-    ap (with_table old) (sym (append-nothing _ ∙ each_process-same _ (λ number process. refl) old.table))
+    ap (with_table old) (sym (append-nothing _ ∙ each_item-same _ (λ number process. refl) old.table))
 carried-none place period first cores call (request.TimedWait delay) old judged not_create not_move not_start not_mode =
-    ap (with_table old) (sym (append-nothing _ ∙ each_process-same _ (λ number process. refl) old.table))
+    ap (with_table old) (sym (append-nothing _ ∙ each_item-same _ (λ number process. refl) old.table))
 carried-none place period first cores call request.GetTime old judged not_create not_move not_start not_mode =
-    ap (with_table old) (sym (append-nothing _ ∙ each_process-same _ (λ number process. refl) old.table))
+    ap (with_table old) (sym (append-nothing _ ∙ each_item-same _ (λ number process. refl) old.table))
 carried-none place period first cores call _ old judged not_create not_move not_start not_mode = cc
 
 -- CREATE_PROCESS
 
 -- the number that a sound call claims for its process
-claims-number : (table : Table) (claimed : Option ℤ) (found : Option ℕ) (number : ℕ) → is_new (is_free_process table) claimed ≡ true
+claims-number : (table : Table) (claimed : Option ℤ) (found : Option ℕ) (number : ℕ) → is_new (is_free table) claimed ≡ true
     → MatchOption claimed (found ≡ None) (λ given. found ≡ number_of given) → found ≡ Some number → claimed ≡ Some (pos number)
 claims-number table None found number new is there = cc
 claims-number table (Some (negsuc n)) found number new is there = cc
@@ -110,13 +109,13 @@ pub carried-create : (place period first : ℕ) (cores : List CoreState) (call :
 carried-create place period first cores call name priority own old new found number cast is_new_one kept done sound is there =
     let facts = sound done in
     let table : old.table ++ (number, new_process first name (pos cast) own) ∷ []
-    ≡ each_process (set_by place period cores old call.who.proc (request.CreateProcess name priority own)) old.table
+    ≡ each_item (set_by place period cores old call.who.proc (request.CreateProcess name priority own)) old.table
     ++ created_by first call (request.CreateProcess name priority own)
     = ap (λ (p : ℤ). old.table ++ (number, new_process first name p own) ∷ []) (ap pos kept ∙ priority-kept priority facts.1)
     ∙ (rw (
       claims-number old.table call.claim.val found number facts.0 is there,
       done,
-      each_process-same (set_by place period cores old call.who.proc (request.CreateProcess name priority own)) (λ other process. refl) old.table,
+      each_item-same (set_by place period cores old call.who.proc (request.CreateProcess name priority own)) (λ other process. refl) old.table,
     ) refl) in
     is_new_one ∙ ap (with_table old) table
 
@@ -135,7 +134,7 @@ carried-move place period first cores call given core old new is = is ∙ ap (wi
 -- SET_PARTITION_MODE to NORMAL
 
 pub carried-mode : (place period first : ℕ) (cores : List CoreState) (call : CallRecord) (given : ℤ) (old new : Partition)
-    → new ≡ record old { mode = mode.Normal; table = each_process (λ number process. after_normal place period (time_of cores process.affinity) process) old.table }
+    → new ≡ record old { mode = mode.Normal; table = each_item (λ number process. after_normal place period (time_of cores process.affinity) process) old.table }
     → new ≡ carried place period first cores call (request.SetPartitionMode given) old
 carried-mode place period first cores call given old new is =
     is ∙ ap (λ (t : Table). record old { mode = mode.Normal; table = t }) (sym (append-nothing _))

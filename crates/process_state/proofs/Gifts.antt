@@ -1,5 +1,5 @@
 -- Copies of one message.
-use Rattle.std.proofs.Common.{◌≡◌, ℕ, List, [], ◌∷◌, ◌++◌, refl}
+use Rattle.std.proofs.Common.{◌≡◌, ℕ, List, [], ◌∷◌, ◌++◌}
 use Rattle.process_state.specs.Gifts.{AreCopies}
 
 -- one more copy

@@ -1,9 +1,9 @@
 -- The numbers of processes: new ones, and those that callers give.
 use Rattle.std.proofs.Common.{◌≡◌, ℕ, zero, suc, ◌<◌, ◌≤◌, ◌^◌, true, is_none, nat_le, nat_lt, Option, Some, None, ℤ, pos, negsuc, refl, arith}
 use Rattle.std.proofs.lemmas.Bool.Decides.{nat_tests}
+use Rattle.apex_types.specs.Bounds.{greatest_number}
 use Rattle.apex_machine.specs.declared.state.Process.{Process}
-use Rattle.apex_machine.specs.State.{Table, is_free_process, process_at}
-use Rattle.apex_machine.specs.Conditions.{created}
+use Rattle.apex_machine.specs.State.{Table, created, is_free, item_at}
 use Rattle.apex_machine.specs.Answer.{is_new}
 use Rattle.process_state.specs.Numbers.{NumbersFit, number_of}
 use Rattle.process_state.proofs.Tables.{absent-above}
@@ -14,13 +14,13 @@ none_of None h = refl
 none_of (Some process) h = cc
 
 -- no process has a new number
-pub new-absent : (table : Table) (number : ℕ) → is_new (is_free_process table) (Some (pos number)) ≡ true → process_at table number ≡ None
+pub new-absent : (table : Table) (number : ℕ) → is_new (is_free table) (Some (pos number)) ≡ true → item_at table number ≡ None
 new-absent table number new = none_of _ (both-right _ _ (both-right _ _ new))
 
 -- a new number fits
-pub new-fits : (table : Table) (number : ℕ) → is_new (is_free_process table) (Some (pos number)) ≡ true → number < 2 ^ 32
+pub new-fits : (table : Table) (number : ℕ) → is_new (is_free table) (Some (pos number)) ≡ true → number < 2 ^ 32
 new-fits table number new =
-    let least : nat_le number 2147483647 ≡ true = both-left (nat_le number 2147483647) _ (both-right (nat_lt 0 number) _ new) in
+    let least : nat_le number greatest_number ≡ true = both-left (nat_le number greatest_number) _ (both-right (nat_lt 0 number) _ new) in
     grind (arith, nat_tests)
 
 -- a number that can be no process's has no process
@@ -37,7 +37,7 @@ pub created-zero : (table : Table) (given : ℤ) → given ≡ pos 0 → created
 created-zero table given is = rw is refl
 
 -- another number has the process of the table
-pub created-some : (table : Table) (given : ℤ) (number : ℕ) → number_of given ≡ Some number → ¬ (given ≡ pos 0) → created table given ≡ process_at table number
+pub created-some : (table : Table) (given : ℤ) (number : ℕ) → number_of given ≡ Some number → ¬ (given ≡ pos 0) → created table given ≡ item_at table number
 created-some table (pos zero) number found apart = absurd (apart refl)
 created-some table (pos (suc n)) number found apart =
     let same : suc n ≡ number = grind (arith, nat_tests) in

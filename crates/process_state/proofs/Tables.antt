@@ -5,89 +5,89 @@ use Rattle.std.specs.List.{AllByRecursion, IsDistinct}
 use Rattle.std.specs.Map.{keys_of, lookup, set_value}
 use Rattle.apex_machine.specs.declared.state.Process.{Process}
 use Rattle.apex_machine.specs.declared.state.Mode.{Mode}
-use Rattle.apex_machine.specs.State.{Partition, Table, each_process, process_at}
+use Rattle.apex_machine.specs.State.{Partition, Table, each_item, item_at}
 use Rattle.process_state.specs.Changes.{only, with_each}
 use Rattle.process_state.specs.Numbers.{NumbersFit}
 use Rattle.process_state.specs.Partitions.{partition_of}
 
 -- what a look-up finds is the process at the number
-pub lookup-process_at : (number : ℕ) (entries : Table) → lookup (nat_eq number) entries ≡ process_at entries number
-lookup-process_at number [] = refl
-lookup-process_at number (entry ∷ entries) = ap (λ rest. cond (nat_eq number entry.0) (Some entry.1) rest) (lookup-process_at number entries)
+pub lookup-item_at : (number : ℕ) (entries : Table) → lookup (nat_eq number) entries ≡ item_at entries number
+lookup-item_at number [] = refl
+lookup-item_at number (entry ∷ entries) = ap (λ rest. cond (nat_eq number entry.0) (Some entry.1) rest) (lookup-item_at number entries)
 
 -- a pointwise equal change gives an equal table
-pub each_process-congr : (f g : ℕ → Process → Process) → ((number : ℕ) (process : Process) → f number process ≡ g number process)
-    → (entries : Table) → each_process f entries ≡ each_process g entries
-each_process-congr f g same [] = refl
-each_process-congr f g same (entry ∷ entries) =
-    rw (same entry.0 entry.1, each_process-congr f g same entries)
+pub each_item-congr : (f g : ℕ → Process → Process) → ((number : ℕ) (process : Process) → f number process ≡ g number process)
+    → (entries : Table) → each_item f entries ≡ each_item g entries
+each_item-congr f g same [] = refl
+each_item-congr f g same (entry ∷ entries) =
+    rw (same entry.0 entry.1, each_item-congr f g same entries)
 
 -- one change after another is the change by both
-pub each_process-twice : (f g : ℕ → Process → Process) (entries : Table)
-    → each_process g (each_process f entries) ≡ each_process (λ number process. g number (f number process)) entries
-each_process-twice f g [] = refl
-each_process-twice f g (entry ∷ entries) = ap (λ rest. (entry.0, g entry.0 (f entry.0 entry.1)) ∷ rest) (each_process-twice f g entries)
+pub each_item-twice : (f g : ℕ → Process → Process) (entries : Table)
+    → each_item g (each_item f entries) ≡ each_item (λ number process. g number (f number process)) entries
+each_item-twice f g [] = refl
+each_item-twice f g (entry ∷ entries) = ap (λ rest. (entry.0, g entry.0 (f entry.0 entry.1)) ∷ rest) (each_item-twice f g entries)
 
 -- no change leaves the table
-pub each_process-same : (f : ℕ → Process → Process) → ((number : ℕ) (process : Process) → f number process ≡ process)
-    → (entries : Table) → each_process f entries ≡ entries
-each_process-same f same [] = refl
-each_process-same f same (entry ∷ entries) = rw (same entry.0 entry.1, each_process-same f same entries)
+pub each_item-same : (f : ℕ → Process → Process) → ((number : ℕ) (process : Process) → f number process ≡ process)
+    → (entries : Table) → each_item f entries ≡ entries
+each_item-same f same [] = refl
+each_item-same f same (entry ∷ entries) = rw (same entry.0 entry.1, each_item-same f same entries)
 
 -- a change of each of two tables
-pub each_process-append : (f : ℕ → Process → Process) (a b : Table) → each_process f (a ++ b) ≡ each_process f a ++ each_process f b
-each_process-append f [] b = refl
-each_process-append f (entry ∷ a) b = ap (λ rest. (entry.0, f entry.0 entry.1) ∷ rest) (each_process-append f a b)
+pub each_item-append : (f : ℕ → Process → Process) (a b : Table) → each_item f (a ++ b) ≡ each_item f a ++ each_item f b
+each_item-append f [] b = refl
+each_item-append f (entry ∷ a) b = ap (λ rest. (entry.0, f entry.0 entry.1) ∷ rest) (each_item-append f a b)
 
 pub nat_eq-swap : (a b : ℕ) → nat_eq a b ≡ nat_eq b a
 nat_eq-swap a b = grind (arith, nat_tests)
 
 -- a change of one number leaves a table that has not the number
 pub only-absent : (number : ℕ) (change : Process → Process) (entries : Table)
-    → process_at entries number ≡ None → each_process (only number change) entries ≡ entries
+    → item_at entries number ≡ None → each_item (only number change) entries ≡ entries
 only-absent number change [] none = refl
 only-absent number change (entry ∷ entries) none = by (nat_eq number entry.0) refl (only-absent number change entries)
   where
-    by : (b : Bool) → nat_eq number entry.0 ≡ b → (process_at entries number ≡ None → each_process (only number change) entries ≡ entries)
-        → each_process (only number change) (entry ∷ entries) ≡ entry ∷ entries
+    by : (b : Bool) → nat_eq number entry.0 ≡ b → (item_at entries number ≡ None → each_item (only number change) entries ≡ entries)
+        → each_item (only number change) (entry ∷ entries) ≡ entry ∷ entries
     by true e others = let found = rw e at none in cc
     by false e others =
         let apart : nat_eq entry.0 number ≡ false = rw (nat_eq-swap entry.0 number) e in
-        let rest : process_at entries number ≡ None = rw e at none in
+        let rest : item_at entries number ≡ None = rw e at none in
         rw (apart, others rest)
 
 -- a number that no key of the rest equals is none of the rest's
-pub absent_from : (number : ℕ) (entries : Table) → AllByRecursion (λ key. nat_eq number key ≡ false) (keys_of entries) → process_at entries number ≡ None
+pub absent_from : (number : ℕ) (entries : Table) → AllByRecursion (λ key. nat_eq number key ≡ false) (keys_of entries) → item_at entries number ≡ None
 absent_from number [] apart = refl
 absent_from number (entry ∷ entries) apart = rw (apart.0) (absent_from number entries apart.1)
 
 -- what is written at a number that has a process is a change of this number alone
 pub only-written : (number : ℕ) (change : Process → Process) (old written : Process) (entries : Table)
-    → IsDistinct nat_eq (keys_of entries) → process_at entries number ≡ Some old → written ≡ change old
-    → set_value (nat_eq number) entries written ≡ each_process (only number change) entries
+    → IsDistinct nat_eq (keys_of entries) → item_at entries number ≡ Some old → written ≡ change old
+    → set_value (nat_eq number) entries written ≡ each_item (only number change) entries
 unfolding IsDistinct
 only-written number change old written [] distinct found is = refl
 only-written number change old written (entry ∷ entries) distinct found is =
     by (nat_eq number entry.0) refl (λ rest. only-written number change old written entries distinct.1 rest is)
   where
     by : (b : Bool) → nat_eq number entry.0 ≡ b
-        → (process_at entries number ≡ Some old → set_value (nat_eq number) entries written ≡ each_process (only number change) entries)
-        → set_value (nat_eq number) (entry ∷ entries) written ≡ each_process (only number change) (entry ∷ entries)
+        → (item_at entries number ≡ Some old → set_value (nat_eq number) entries written ≡ each_item (only number change) entries)
+        → set_value (nat_eq number) (entry ∷ entries) written ≡ each_item (only number change) (entry ∷ entries)
     by true e others =
         let here : nat_eq entry.0 number ≡ true = rw (nat_eq-swap entry.0 number) e in
         let same : number ≡ entry.0 = grind (arith, nat_tests) in
         let found_here = rw e at found in
         let old_is : old ≡ entry.1 = cc in
-        let rest : each_process (only number change) entries ≡ entries = only-absent number change entries (rw same (absent_from entry.0 entries distinct.0)) in
+        let rest : each_item (only number change) entries ≡ entries = only-absent number change entries (rw same (absent_from entry.0 entries distinct.0)) in
         rw (e, here, rest, is, old_is)
     by false e others =
         let apart : nat_eq entry.0 number ≡ false = rw (nat_eq-swap entry.0 number) e in
-        let found_rest : process_at entries number ≡ Some old = rw e at found in
+        let found_rest : item_at entries number ≡ Some old = rw e at found in
         rw (e, apart, others found_rest)
 
 -- numbers that fit stay so
 
-pub NumbersFit-each : (f : ℕ → Process → Process) (entries : Table) → NumbersFit entries → NumbersFit (each_process f entries)
+pub NumbersFit-each : (f : ℕ → Process → Process) (entries : Table) → NumbersFit entries → NumbersFit (each_item f entries)
 NumbersFit-each f [] fit = tt
 NumbersFit-each f (entry ∷ entries) fit = (fit.0, NumbersFit-each f entries fit.1)
 
@@ -96,7 +96,7 @@ NumbersFit-push [] number process fit bound = (bound, tt)
 NumbersFit-push (entry ∷ entries) number process fit bound = (fit.0, NumbersFit-push entries number process fit.1 bound)
 
 -- a number past 32 bits has no process
-pub absent-above : (entries : Table) (number : ℕ) → NumbersFit entries → 2 ^ 32 ≤ number → process_at entries number ≡ None
+pub absent-above : (entries : Table) (number : ℕ) → NumbersFit entries → 2 ^ 32 ≤ number → item_at entries number ≡ None
 absent-above [] number fit above = refl
 absent-above (entry ∷ entries) number fit above =
     let apart : nat_eq number entry.0 ≡ false = grind (arith, nat_tests) in
@@ -114,14 +114,14 @@ pub partition-written : (mode : Mode) (number : ℕ) (change : Process → Proce
     → next ≡ set_value (nat_eq number) entries written
     → partition_of mode next ≡ with_each (only number change) (partition_of mode entries)
 partition-written mode number change old written entries next distinct found is written_so =
-    ap (partition_of mode) (written_so ∙ only-written number change old written entries distinct (sym (found ∙ lookup-process_at number entries)) is)
+    ap (partition_of mode) (written_so ∙ only-written number change old written entries distinct (sym (found ∙ lookup-item_at number entries)) is)
 
 -- a partition that has no process of the number
 pub partition-kept : (mode : Mode) (number : ℕ) (change : Process → Process) (entries next : Table)
     → None ≡ lookup (nat_eq number) entries → next ≡ entries
     → partition_of mode next ≡ with_each (only number change) (partition_of mode entries)
 partition-kept mode number change entries next none kept =
-    ap (partition_of mode) (kept ∙ sym (only-absent number change entries (sym (none ∙ lookup-process_at number entries))))
+    ap (partition_of mode) (kept ∙ sym (only-absent number change entries (sym (none ∙ lookup-item_at number entries))))
 
 -- a written value leaves the numbers
 NumbersFit-set : (test : ℕ → Bool) (written : Process) (entries : Table) → NumbersFit entries → NumbersFit (set_value test entries written)

@@ -6,7 +6,7 @@ use Rattle.apex_machine.specs.declared.state.Process.{Process}
 use Rattle.apex_machine.specs.State.{Partition, is_named, is_same}
 use Rattle.process_state.specs.Changes.{only, with_each}
 use Rattle.process_state.proofs.Booleans.{both-left, both-right}
-use Rattle.process_state.proofs.Tables.{each_process-congr, each_process-same, each_process-twice, with_table}
+use Rattle.process_state.proofs.Tables.{each_item-congr, each_item-same, each_item-twice, with_table}
 
 either-grouped : (a b c : Bool) → (a || b) || c ≡ a || (b || c)
 either-grouped true b c = refl
@@ -27,7 +27,7 @@ each_named part named change number process = if is_named (record { part = part;
 
 -- nobody is named at first
 pub named-none-yet : (part : ℕ) (change : Process → Process) (partition : Partition) → partition ≡ with_each (each_named part [] change) partition
-named-none-yet part change partition = ap (with_table partition) (sym (each_process-same _ (λ number process. refl) partition.table))
+named-none-yet part change partition = ap (with_table partition) (sym (each_item-same _ (λ number process. refl) partition.table))
 
 -- a process that one walk has not changed, and the next one changes
 once : (a d : Bool) (change : Process → Process) (process : Process) → (d ≡ true → a ≡ false)
@@ -53,7 +53,7 @@ pub named-more : (part : ℕ) (named : List Who) (who : Who) (change : Process �
     ≡ with_each (each_named part (named ++ who ∷ []) change) partition
 named-more part named who change partition here new =
     ap (with_table partition)
-    (each_process-twice (each_named part named change) (only who.proc change) partition.table ∙ each_process-congr _ _ one partition.table)
+    (each_item-twice (each_named part named change) (only who.proc change) partition.table ∙ each_item-congr _ _ one partition.table)
   where
     one : (number : ℕ) (process : Process)
         → only who.proc change number (each_named part named change number process) ≡ each_named part (named ++ who ∷ []) change number process
@@ -66,7 +66,7 @@ named-more part named who change partition here new =
 pub named-same : (part : ℕ) (named : List Who) (who : Who) (change : Process → Process) (partition : Partition)
     → nat_eq who.part part && not (is_named who named) ≡ false
     → with_each (each_named part named change) partition ≡ with_each (each_named part (named ++ who ∷ []) change) partition
-named-same part named who change partition not_new = ap (with_table partition) (each_process-congr _ _ one partition.table)
+named-same part named who change partition not_new = ap (with_table partition) (each_item-congr _ _ one partition.table)
   where
     by : (a d : Bool) (process : Process) → (d ≡ true → a ≡ true) → (if a then change process else process) ≡ (if a || d then change process else process)
     by true d process was = refl

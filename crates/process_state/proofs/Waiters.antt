@@ -5,12 +5,12 @@ use Rattle.std.specs.List.{list_all}
 use Rattle.apex_types.specs.declared.record.Who.{Who}
 use Rattle.apex_machine.specs.declared.state.WaitingSet.{WaitingSet}
 use Rattle.apex_machine.specs.Demands.{AllWaitAt}
-use Rattle.apex_machine.specs.State.{Table, process_at}
+use Rattle.apex_machine.specs.State.{Table, item_at}
 use Rattle.apex_machine.specs.Waiting.{waits_at}
 
 -- whether one who is named is of another partition, or waits in this set
 abbrev pub waits_if_here : WaitingSet → ℕ → Table → Who → Bool
-waits_if_here wanted part table who = not (nat_eq who.part part) || waits_at wanted (process_at table who.proc)
+waits_if_here wanted part table who = not (nat_eq who.part part) || waits_at wanted (item_at table who.proc)
 
 pub AllWaitAt_all : (wanted : WaitingSet) (part : ℕ) (table : Table) (named : List Who)
     → IsTrue (list_all (waits_if_here wanted part table) named) ↔ AllWaitAt wanted part table named

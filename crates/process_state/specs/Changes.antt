@@ -5,11 +5,11 @@ use Rattle.apex_machine.specs.declared.state.Process.{Process}
 use Rattle.apex_machine.specs.declared.state.Wait.{Wait}
 use Rattle.apex_machine.specs.Arguments.{is_number}
 use Rattle.apex_machine.specs.Processes.{stopped}
-use Rattle.apex_machine.specs.State.{Partition, each_process}
+use Rattle.apex_machine.specs.State.{Partition, each_item}
 
 -- the partition with each process changed
 abbrev pub with_each : (ℕ → Process → Process) → Partition → Partition
-with_each change partition = record partition { table = each_process change partition.table }
+with_each change partition = record partition { table = each_item change partition.table }
 
 -- a change of the process of one number alone
 abbrev pub only : ℕ → (Process → Process) → ℕ → Process → Process

@@ -1,15 +1,15 @@
 -- Whether a list names those who fall due, seen from either side.
 use Rattle.std.specs.Prelude.{ℕ, List, IsTrue}
 use Rattle.apex_types.specs.declared.record.Who.{Who}
-use Rattle.apex_machine.specs.State.{Table, is_named, process_at}
-use Rattle.apex_machine.specs.Step.{falls_due}
+use Rattle.apex_machine.specs.State.{Table, is_named, item_at}
+use Rattle.apex_machine.specs.DueTimes.{falls_due}
 
 -- each process of the partition that is named falls due
 abbrev pub NamedFallDue : ℕ → ℕ → ℕ → Table → List Who → Type 0
 NamedFallDue partition core time table woken = (number : ℕ)
-    → IsTrue (is_named (record { part = partition; proc = number }) woken) → IsTrue (falls_due core time (process_at table number))
+    → IsTrue (is_named (record { part = partition; proc = number }) woken) → IsTrue (falls_due core time (item_at table number))
 
 -- each process of the partition that falls due is named
 abbrev pub DueAreNamed : ℕ → ℕ → ℕ → Table → List Who → Type 0
 DueAreNamed partition core time table woken = (number : ℕ)
-    → IsTrue (falls_due core time (process_at table number)) → IsTrue (is_named (record { part = partition; proc = number }) woken)
+    → IsTrue (falls_due core time (item_at table number)) → IsTrue (is_named (record { part = partition; proc = number }) woken)

@@ -4,9 +4,9 @@ use Rattle.apex_types.specs.declared.record.Call.{Call as CallRecord}
 use Rattle.apex_types.specs.declared.request.Request.{Request}
 use Rattle.apex_types.specs.declared.request.Request.TheVariants as request
 use Rattle.apex_types.specs.Requested.{service_of}
-use Rattle.apex_machine.specs.State.{Table, is_free_process}
+use Rattle.apex_machine.specs.State.{Table, is_free}
 use Rattle.apex_machine.specs.Answer.{is_new}
-use Rattle.apex_machine.specs.Conditions.{is_priority}
+use Rattle.apex_machine.specs.Arguments.{is_priority}
 use Rattle.apex_machine.specs.Services.{is_built}
 use Rattle.apex_machine.specs.After.{is_done}
 
@@ -19,7 +19,7 @@ is_core_number (negsuc n) = false
 -- that was carried out gives the number of a core
 abbrev pub AsksSoundly : Table → CallRecord → Request → Type 0
 AsksSoundly table call (request.CreateProcess name priority period) =
-    IsTrue (is_done call.claim.out) → IsTrue (is_new (is_free_process table) call.claim.val) × IsTrue (is_priority priority)
+    IsTrue (is_done call.claim.out) → IsTrue (is_new (is_free table) call.claim.val) × IsTrue (is_priority priority)
 AsksSoundly table call (request.InitializeProcessCoreAffinity process core) = IsTrue (is_done call.claim.out) → IsTrue (is_core_number core)
 AsksSoundly table call _ = Unit {0}
 

@@ -1,8 +1,10 @@
 // What becomes of a caller by its call.
 
 ghost use Rattle.std.specs.Prelude.{◌≡◌, ◌<◌, ℕ, IfOk, IsTrue, Option};
+ghost use Rattle.apex_types.specs.Bounds.{place_count};
 ghost use Rattle.apex_types.specs.Requested.{service_of};
 ghost use Rattle.apex_machine.specs.declared.state.Process.{Process as ProcessValue};
+ghost use Rattle.apex_machine.specs.DueTimes as due_times;
 ghost use Rattle.apex_machine.specs.Processes as processes;
 ghost use Rattle.apex_machine.specs.Services.{is_built};
 ghost use Rattle.apex_machine.specs.After as after;
@@ -45,7 +47,7 @@ pub fn settling_of(
     now: u64,
     call: &Call,
 ) -> Result<Settling, AllocError>
-    requires time { now < 68719476720 }
+    requires time { now < place_count }
     requires judged { IsTrue (is_built (service_of call.now.request)) }
     ensures { IfOk result (λ settling. (process : ProcessValue) → settled now settling process ≡ after.caller_after place now call.now process) }
 {
@@ -79,9 +81,9 @@ fn outcome_of(alloc: Global, call: &Call, code: Code) -> Result<Outcome, AllocEr
 
 // What a caller of a service that is judged waits for, that began to wait when its core's time was `now`.
 fn wait_of(request: &Request, now: u64) -> Wait
-    requires time { now < 68719476720 }
+    requires time { now < place_count }
     requires judged { IsTrue (is_built (service_of request.now)) }
-    ensures { (chan : Option ℕ) (process : ProcessValue) → result ≡ processes.wait_of request.now chan now process }
+    ensures { (chan : Option ℕ) (process : ProcessValue) → result ≡ due_times.wait_of request.now chan now process }
 {
     match request {
         Request::TimedWait { delay } => {

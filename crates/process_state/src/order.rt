@@ -4,7 +4,7 @@ ghost use Rattle.std.specs.Prelude.{◌≡◌, ◌&&◌, ℕ, Some, MatchOption,
 ghost use Rattle.apex_machine.specs.declared.state.Process.{Process as ProcessValue};
 ghost use Rattle.apex_machine.specs.Choice as choice;
 ghost use Rattle.apex_machine.specs.State as state;
-ghost use Rattle.apex_machine.specs.Step as step;
+ghost use Rattle.apex_machine.specs.DueTimes as due_times;
 ghost use Rattle.process_state.specs.Ranks.{rank_of};
 
 use crate::wait;
@@ -20,7 +20,7 @@ pub fn is_ready(process: &Process, core: CoreId) -> bool
 
 /// Whether the process's wait is over once its core, this one, comes to this time, in ticks.
 pub fn falls_due(process: &Process, core: CoreId, time: u64) -> bool
-    ensures { result ≡ step.falls_due core time (Some process.now) }
+    ensures { result ≡ due_times.falls_due core time (Some process.now) }
 {
     process.affinity == core && wait::is_due(process.wait, time)
 }

@@ -1,6 +1,7 @@
 // The changes of one process.
 
 ghost use Rattle.std.specs.Prelude.{◌≡◌, ◌<◌, ◌≤◌, None, pos, IfOk};
+ghost use Rattle.apex_types.specs.Bounds.{greatest_span, place_count};
 ghost use Rattle.apex_machine.specs.Arguments.{period_given};
 ghost use Rattle.apex_machine.specs.Processes as processes;
 ghost use Rattle.apex_machine.specs.State.{initialising_process};
@@ -78,8 +79,8 @@ pub fn move_to(process: &mut Process, core: CoreId)
 /// partition's, in ticks.
 pub fn start(process: &mut Process, place: Place, period: u64, now: u64, mode: Mode)
     requires least { 1 ≤ period }
-    requires most { period ≤ 4294967295 }
-    requires time { now < 68719476720 }
+    requires most { period ≤ greatest_span }
+    requires time { now < place_count }
     ensures { process.new ≡ processes.started place period now mode process.old }
 {
     process.current_priority = process.base_priority;
@@ -95,8 +96,8 @@ pub fn start(process: &mut Process, place: Place, period: u64, now: u64, mode: M
 /// partition's, in ticks.
 pub fn enter_normal(process: &mut Process, place: Place, period: u64, now: u64)
     requires least { 1 ≤ period }
-    requires most { period ≤ 4294967295 }
-    requires time { now < 68719476720 }
+    requires most { period ≤ greatest_span }
+    requires time { now < place_count }
     ensures { process.new ≡ processes.after_normal place period now process.old }
 {
     if wait::is_for_normal(process.wait) {

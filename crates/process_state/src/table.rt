@@ -2,12 +2,14 @@
 
 ghost use Rattle.std.specs.Prelude.{◌≡◌, ◌∷◌, ◌↔◌, [], IfOk, IsTrue};
 ghost use Rattle.std.specs.Option.{option_copied};
-ghost use Rattle.apex_machine.specs.State.{initialising_process, is_free_process, process_at};
+ghost use Rattle.apex_machine.specs.declared.state.Process.{Process as ProcessValue};
+ghost use Rattle.apex_machine.specs.State.{created, initialising_process, is_free, item_at};
 ghost use Rattle.apex_machine.specs.Choice.{choice_in};
 ghost use Rattle.apex_machine.specs.Answer.{is_new};
-ghost use Rattle.apex_machine.specs.Conditions.{created, created_count, has_name, owns_mutex};
+ghost use Rattle.apex_machine.specs.ProcessConditions.{created_count};
+ghost use Rattle.apex_machine.specs.Conditions.{is_taken, owns_mutex};
 ghost use Rattle.apex_machine.specs.Demands.{AllWaitAt};
-ghost use Rattle.apex_machine.specs.Step as step;
+ghost use Rattle.apex_machine.specs.DueTimes as due_times;
 ghost use Rattle.apex_machine.specs.Waiting.{waits_at};
 ghost use Rattle.process_state.specs.Due.{DueAreNamed, NamedFallDue};
 ghost use Rattle.process_state.specs.Partitions.{partition_of};
@@ -24,6 +26,9 @@ use apex_types::{CoreId, Name, PartId, ProcId, Who};
 use indexmap::IndexMap;
 use std::alloc::{AllocError, Global};
 use std::marker::Model;
+
+/// The greatest number of a process.
+const GREATEST_NUMBER: i64 = 2_147_483_647;
 
 /// The processes of one partition, in the order of their creation, and the partition's mode. A contract sees the
 /// partition of the definitions; it has no object and no port, since no service that creates one is judged yet. Process
@@ -70,7 +75,7 @@ impl ProcTable {
 
     /// The process of this number, the initialising one included, or None where there is none.
     pub fn proc(&self, number: ProcId) -> Option<&Process>
-        ensures { option_copied result ≡ process_at self.now.table number }
+        ensures { option_copied result ≡ item_at self.now.table number }
     {
         self.processes.get(&number)
     }
@@ -89,7 +94,7 @@ impl ProcTable {
 
     /// Whether a process has this name.
     pub fn named(&self, name: &Name) -> bool
-        ensures { result ≡ has_name name.now self.now.table }
+        ensures { result ≡ is_taken (λ (process : ProcessValue). process.name) name.now self.now.table }
     {
         self.processes
             .values()
@@ -126,19 +131,19 @@ impl ProcTable {
     /// Whether, of this partition, the list names exactly the processes of the core whose wait is over once the core comes
     /// to this time, in ticks.
     pub fn names_those_due(&self, part: PartId, core: CoreId, time: u64, woken: &[Who]) -> bool
-        ensures { IsTrue result ↔ step.NamesThoseDue part core time self.now.table woken.now }
+        ensures { IsTrue result ↔ due_times.NamesThoseDue part core time self.now.table woken.now }
     {
         self.named_fall_due(part, core, time, woken) && self.due_are_named(part, core, time, woken)
     }
 
     /// Whether a claimed value is a number that a new process can take: 1 to 2,147,483,647, and no process has it.
     pub fn is_new_number(&self, claimed: Option<i64>) -> bool
-        ensures { result ≡ is_new (is_free_process self.now.table) claimed }
+        ensures { result ≡ is_new (is_free self.now.table) claimed }
     {
         match claimed {
             Some(number) => {
                 number > 0
-                    && number <= 2_147_483_647
+                    && number <= GREATEST_NUMBER
                     && self.proc(ProcId::new(number as u32)).is_none()
             }
             None => false,
@@ -165,7 +170,7 @@ impl ProcTable {
 
     // Whether a process of this number stands that waits in this set.
     fn waits_at(&self, wanted: WaitingSet, number: ProcId) -> bool
-        ensures { result ≡ waits_at wanted (process_at self.now.table number) }
+        ensures { result ≡ waits_at wanted (item_at self.now.table number) }
     {
         match self.proc(number) {
             Some(process) => process.alive && wait::is_in(process.wait, wanted),
@@ -198,7 +203,7 @@ impl ProcTable {
 
     // Whether there is a process of this number on this core whose wait is over once the core comes to this time.
     fn is_due(&self, number: ProcId, core: CoreId, time: u64) -> bool
-        ensures { result ≡ step.falls_due core time (process_at self.now.table number) }
+        ensures { result ≡ due_times.falls_due core time (item_at self.now.table number) }
     {
         match self.proc(number) {
             Some(process) => falls_due(process, core, time),

@@ -1,9 +1,10 @@
 // What a process waits for: when that is over, and what is due then.
 
 ghost use Rattle.std.specs.Prelude.{◌≡◌, ◌<◌, ◌≤◌, ◌↔◌, IsTrue};
+ghost use Rattle.apex_types.specs.Bounds.{greatest_span, place_count};
 ghost use Rattle.apex_machine.specs.Choice as choice;
 ghost use Rattle.apex_machine.specs.Processes as processes;
-ghost use Rattle.apex_machine.specs.Step as step;
+ghost use Rattle.apex_machine.specs.DueTimes as due_times;
 ghost use Rattle.apex_machine.specs.Waiting as waiting;
 
 use apex_machine::{Wait, WaitingSet};
@@ -26,7 +27,7 @@ pub fn is_none(wait: Wait) -> bool
 
 /// Whether a wait is that for NORMAL.
 pub fn is_for_normal(wait: Wait) -> bool
-    ensures { result ≡ processes.waits_for_normal wait }
+    ensures { result ≡ due_times.waits_for_normal wait }
 {
     match wait {
         Wait::NormalMode => true,
@@ -41,7 +42,7 @@ pub fn is_for_normal(wait: Wait) -> bool
 
 /// Whether a wait is over once its core comes to this time, in ticks.
 pub fn is_due(wait: Wait, time: u64) -> bool
-    ensures { result ≡ step.due_by time wait }
+    ensures { result ≡ due_times.due_by time wait }
 {
     match wait {
         Wait::FirstRelease(due) | Wait::Until(due) | Wait::PeriodicRelease(due) => due <= time,
@@ -108,9 +109,9 @@ pub fn release_reached(wait: Wait, last: u64) -> u64
 /// its first release, a multiple of the partition's period. Periods are in ticks.
 pub fn on_entry(partition_period: u64, now: u64, period: Option<u64>) -> Wait
     requires least { 1 ≤ partition_period }
-    requires most { partition_period ≤ 4294967295 }
-    requires time { now < 68719476720 }
-    ensures { result ≡ processes.entry_wait partition_period now period }
+    requires most { partition_period ≤ greatest_span }
+    requires time { now < place_count }
+    ensures { result ≡ due_times.entry_wait partition_period now period }
 {
     match period {
         Some(_) => Wait::FirstRelease(first_release(partition_period, now)),
@@ -122,9 +123,9 @@ pub fn on_entry(partition_period: u64, now: u64, period: Option<u64>) -> Wait
 #[tactic(auto, using(crate::proofs::Releases::next_multiple))]
 fn first_release(partition_period: u64, now: u64) -> u64
     requires least { 1 ≤ partition_period }
-    requires most { partition_period ≤ 4294967295 }
-    requires time { now < 68719476720 }
-    ensures { result ≡ processes.first_release partition_period now }
+    requires most { partition_period ≤ greatest_span }
+    requires time { now < place_count }
+    ensures { result ≡ due_times.first_release partition_period now }
 {
     now - now % partition_period + partition_period
 }

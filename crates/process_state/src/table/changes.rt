@@ -1,9 +1,10 @@
 // The changes of a partition, one at a time.
 
 ghost use Rattle.std.specs.Prelude.{◌≡◌, ◌<◌, ◌++◌, ◌∷◌, [], Some, pos, IsTrue, OnOk, OnErr};
+ghost use Rattle.apex_types.specs.Bounds.{place_count};
 ghost use Rattle.apex_machine.specs.Answer.{is_new};
 ghost use Rattle.apex_machine.specs.Processes.{after_normal, new_process, released, started, woken_by};
-ghost use Rattle.apex_machine.specs.State.{each_process, is_free_process, time_of};
+ghost use Rattle.apex_machine.specs.State.{each_item, is_free, time_of};
 ghost use Rattle.apex_machine.specs.After.{returned};
 ghost use Rattle.process_state.specs.Changes.{answered, moved_to, named, only, stopped_self, waiting_for, with_each};
 ghost use Rattle.process_state.specs.Timely.{IsTimely, TimesFit};
@@ -28,7 +29,7 @@ impl ProcTable {
         priority: u8,
         period: i64,
     ) -> Result<(), AllocError>
-        requires new { IsTrue (is_new (is_free_process self.old.table) (Some (pos number))) }
+        requires new { IsTrue (is_new (is_free self.old.table) (Some (pos number))) }
         ensures added { OnOk result (self.new ≡ record self.old { table = self.old.table ++ (number, new_process first_core name.now (pos priority) period) ∷ [] }) }
         ensures unchanged { OnErr result (self.new ≡ self.old) }
     {
@@ -89,7 +90,7 @@ impl ProcTable {
         requires { IsTimely period cores.now }
         ensures { self.new ≡ record self.old {
           mode = Mode.Normal;
-          table = each_process (λ number process. after_normal place period (time_of cores.now process.affinity) process) self.old.table;
+          table = each_item (λ number process. after_normal place period (time_of cores.now process.affinity) process) self.old.table;
         } }
     {
         self.mode = Mode::Normal;
@@ -149,7 +150,7 @@ impl ProcTable {
 
     /// The outcome that was due to this process has been returned. Takes no memory.
     pub fn ret(&mut self, returner: ProcId)
-        ensures { self.new ≡ record self.old { table = each_process (returned returner) self.old.table } }
+        ensures { self.new ≡ record self.old { table = each_item (returned returner) self.old.table } }
     {
         if let Some(process) = self.processes.get_mut(&returner) {
             process::give_back(process);
@@ -161,7 +162,7 @@ impl ProcTable {
 pub(super) fn time_at(cores: &[CoreState], core: CoreId) -> u64
     requires { TimesFit cores.now }
     ensures value { result ≡ time_of cores.now core }
-    ensures below { result < 68719476720 }
+    ensures below { result < place_count }
 {
     time_among(cores, core)
 }

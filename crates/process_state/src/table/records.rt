@@ -6,7 +6,7 @@ ghost use Rattle.apex_types.specs.declared.record.Body.TheVariants as body;
 ghost use Rattle.apex_machine.specs.declared.state.CoreState.{CoreState as CoreValue};
 ghost use Rattle.apex_machine.specs.Configuration as configured;
 ghost use Rattle.apex_machine.specs.Configuration.{Configuration};
-ghost use Rattle.apex_machine.specs.State.{each_process, time_of};
+ghost use Rattle.apex_machine.specs.State.{each_item, time_of};
 ghost use Rattle.apex_machine.specs.Processes.{gift_of, set_by};
 ghost use Rattle.apex_machine.specs.Services.{is_built};
 ghost use Rattle.apex_machine.specs.After as after;
@@ -108,7 +108,7 @@ impl ProcTable {
         requires sound { IsSound self.old.table call.now }
         ensures ok { OnOk result (self.new ≡ record self.old {
           mode = after.mode_by call.now.request self.old.mode;
-          table = each_process (set_by place period cores.now self.old call.now.who.proc call.now.request) self.old.table ++ after.created_by first_core call.now call.now.request;
+          table = each_item (set_by place period cores.now self.old call.now.who.proc call.now.request) self.old.table ++ after.created_by first_core call.now call.now.request;
         }) }
         ensures unchanged { OnErr result (self.new ≡ self.old) }
     {

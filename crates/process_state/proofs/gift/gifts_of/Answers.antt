@@ -1,5 +1,5 @@
 -- One more copy.
-use Rattle.std.proofs.Common.{◌≡◌, ◌∙◌, List, ℕ, arith}
+use Rattle.std.proofs.Common.{◌∙◌, arith}
 use Rattle.process_state.proofs.Gifts.{AreCopies-push}
 use Rattle.process_state.proofs.gift.gifts_of.Goals as goal
 

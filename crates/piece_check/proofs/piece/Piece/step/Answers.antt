@@ -4,6 +4,7 @@ use Rattle.piece_check.specs.Held.{part_of}
 use Rattle.piece_check.specs.Parts.{cores_of}
 use Rattle.piece_check.proofs.Parting.{HasCores_after, NoTimeAbove_after, TimesFit_behind}
 use Rattle.piece_check.proofs.piece.Piece.step.Goals as goal
+use Rattle.apex_types.specs.Bounds.{place_count}
 
 pub returns-in-Ok-clause-cores : goal.returns-in-Ok-clause-cores
 returns-in-Ok-clause-cores c =
@@ -20,5 +21,5 @@ returns-in-Ok-clause-behind c =
 pub apply-requires-clause-times : goal.apply-requires-clause-times
 apply-requires-clause-times c =
     let behind = rw (← c.self.view_is) at c.requires.behind in
-    let bound : c.args.ordered.now.pos < 68719476720 = omega (arith, c.number-place.ensures.number, c.number-place.ensures.bound) in
+    let bound : c.args.ordered.now.pos < place_count = omega (arith, c.number-place.ensures.number, c.number-place.ensures.bound) in
     TimesFit_behind c.args.ordered.now.pos (cores_of (part_of c.self.inside.held)) bound behind

@@ -1,7 +1,7 @@
 use Rattle.std.proofs.Common.{◌≡◌, refl, sym, ◌∙◌, pos}
 use Rattle.std.proofs.lemmas.Int.{to_z-of_z}
 use Rattle.process_state.proofs.Numbers.{created-none, created-some}
-use Rattle.process_state.proofs.Tables.{lookup-process_at}
+use Rattle.process_state.proofs.Tables.{lookup-item_at}
 use Rattle.process_state.proofs.table.ProcTable.created.Goals as goal
 
 pub returns-in_err-process : goal.returns-in_err-process
@@ -17,5 +17,5 @@ returns c =
     let apart : ¬ (c.args.number ≡ pos 0) = λ is. c.if-number-eq0.false (rw is refl) in
     rw (← c.self.view_is)
     (c.get.ensures.value
-    ∙ lookup-process_at c.in_ok-process.process c.self.inside.processes.entries
+    ∙ lookup-item_at c.in_ok-process.process c.self.inside.processes.entries
     ∙ sym (created-some _ c.args.number c.in_ok-process.process found apart))

@@ -3,11 +3,11 @@ use Rattle.std.proofs.lemmas.Iterator.Consumers.{YieldsList-from_rest}
 use Rattle.std.proofs.lemmas.Iterator.Search.{any_from_yields_List}
 use Rattle.std.specs.Str.{bytes_eq}
 use Rattle.apex_machine.specs.declared.state.Process.{Process}
-use Rattle.process_state.proofs.Searches.{has_name-any}
+use Rattle.process_state.proofs.Searches.{is_taken-any}
 use Rattle.process_state.proofs.table.ProcTable.named.Goals as goal
 
 pub returns : goal.returns
 returns c =
     rw (← c.self.view_is)
     (any_from_yields_List (λ (process : Process). bytes_eq c.args.name.now process.name) _ _ _ c.any.ensures.ran (YieldsList-from_rest _ c.values.ensures.rest) (λ x b q k. search (rules, tests))
-    ∙ sym (has_name-any c.args.name.now c.self.inside.processes.entries))
+    ∙ sym (is_taken-any c.args.name.now c.self.inside.processes.entries))

@@ -1,4 +1,4 @@
-use Rattle.std.proofs.Common.{◌≡◌, ◌≤◌, ◌+◌, List, ℕ, sym, ap, ◌∙◌, take, length, ◌<◌, vec_len, arith}
+use Rattle.std.proofs.Common.{sym, ◌∙◌, take, length, ◌<◌, arith}
 use Rattle.std.proofs.lemmas.List.{take_more}
 use Rattle.apex_machine.specs.Processes.{gift_of, woken_by}
 use Rattle.process_state.proofs.Gifts.{AreCopies-last, AreCopies-rest}

@@ -1,0 +1,112 @@
+-- Waits and due times: what a process waits for, from when on, and when its wait is over.
+use Rattle.std.specs.Prelude.{◌≡◌, ℕ, ◌+◌, ◌*◌, ◌/◌, List, Option, Some, None, Bool, true, false, ℤ, pos, negsuc, nat_eq, nat_le, ◌&&◌}
+use Rattle.apex_types.specs.declared.record.Who.{Who}
+use Rattle.apex_types.specs.declared.request.Request.{Request}
+use Rattle.apex_types.specs.declared.request.Request.TheVariants as request
+use Rattle.apex_machine.specs.declared.state.Process.{Process}
+use Rattle.apex_machine.specs.declared.state.Wait.{Wait}
+use Rattle.apex_machine.specs.declared.state.Wait.TheVariants as wait
+use Rattle.apex_machine.specs.declared.state.WaitingSet.{WaitingSet}
+use Rattle.apex_machine.specs.declared.state.WaitingSet.TheVariants as set
+use Rattle.apex_machine.specs.State.{Table, is_named, item_at}
+use Rattle.apex_machine.specs.Waiting.{set_of}
+
+-- what a wait is for
+
+-- whether a wait is that for NORMAL
+abbrev pub waits_for_normal : Wait → Bool
+waits_for_normal wait.NormalMode = true
+waits_for_normal _ = false
+
+-- whether a wait is that of a process that suspended itself
+abbrev pub is_suspension : Wait → Bool
+is_suspension (wait.Suspended due) = true
+is_suspension _ = false
+
+-- whether a wait is one for a mutex
+abbrev pub is_for_mutex : Wait → Bool
+is_for_mutex (wait.At (set.MutexWaiters mutex) due) = true
+is_for_mutex _ = false
+
+-- releases of periodic processes
+
+-- the first release: the least multiple of the partition's period above this time
+abbrev pub first_release : ℕ → ℕ → ℕ
+first_release partition_period now = (now / partition_period + 1) * partition_period
+
+-- what a started process waits for in NORMAL: an aperiodic one for nothing, a periodic one for its first release
+abbrev pub entry_wait : ℕ → ℕ → Option ℕ → Wait
+entry_wait partition_period now None = wait.Nothing
+entry_wait partition_period now (Some period) = wait.FirstRelease (first_release partition_period now)
+
+-- the release that follows one: a period after it, of a process that has one
+abbrev pub release_after : ℕ → Option ℕ → ℕ
+release_after last None = last
+release_after last (Some period) = last + period
+
+-- the next release of a periodic process
+abbrev pub next_release : Process → ℕ
+next_release process = release_after process.last_release process.period
+
+-- whether a process has come to its next release
+abbrev pub is_released : ℕ → Option Process → Bool
+is_released now None = false
+is_released now (Some process) = nat_le (next_release process) now
+
+-- what a caller waits for
+
+-- the time at which a time-out falls due that began at this time; -1 never does
+abbrev pub due_time : ℤ → ℕ → Option ℕ
+due_time (pos n) now = Some (now + n)
+due_time (negsuc n) now = None
+
+-- the time-out of a service that may wait for something
+abbrev pub time_out_of : Request → Option ℤ
+time_out_of (request.SuspendSelf time_out) = Some time_out
+time_out_of (request.SendBuffer buffer length time_out message) = Some time_out
+time_out_of (request.ReceiveBuffer buffer time_out) = Some time_out
+time_out_of (request.ReadBlackboard blackboard time_out) = Some time_out
+time_out_of (request.WaitSemaphore semaphore time_out) = Some time_out
+time_out_of (request.WaitEvent event time_out) = Some time_out
+time_out_of (request.AcquireMutex mutex time_out) = Some time_out
+time_out_of (request.SendQueuingMessage port length time_out message) = Some time_out
+time_out_of (request.ReceiveQueuingMessage port time_out) = Some time_out
+time_out_of _ = None
+
+-- the time at which a time-out falls due, if there is one
+abbrev pub due_of_call : Option ℤ → ℕ → Option ℕ
+due_of_call None now = None
+due_of_call (Some time_out) now = due_time time_out now
+
+-- a wait in a set, if there is one
+abbrev pub wait_in : Option WaitingSet → Option ℕ → Wait
+wait_in None due = wait.Nothing
+wait_in (Some set) due = wait.At set due
+
+-- what a caller waits for that began to wait at this time of its core
+abbrev pub wait_of : Request → Option ℕ → ℕ → Process → Wait
+wait_of (request.TimedWait (pos delay)) chan now process = wait.Until (now + delay)
+wait_of request.PeriodicWait chan now process = wait.PeriodicRelease (next_release process)
+wait_of (request.SuspendSelf time_out) chan now process = wait.Suspended (due_time time_out now)
+wait_of asked chan now process = wait_in (set_of asked chan) (due_of_call (time_out_of asked) now)
+
+-- when a wait is over
+
+-- a wait is over once its core's time has come to its due time, if it has one
+abbrev pub due_by : ℕ → Wait → Bool
+due_by time (wait.FirstRelease due) = nat_le due time
+due_by time (wait.Until due) = nat_le due time
+due_by time (wait.PeriodicRelease due) = nat_le due time
+due_by time (wait.Suspended (Some due)) = nat_le due time
+due_by time (wait.At set (Some due)) = nat_le due time
+due_by time _ = false
+
+-- whether a process of this core falls due at this time
+abbrev pub falls_due : ℕ → ℕ → Option Process → Bool
+falls_due core time None = false
+falls_due core time (Some process) = nat_eq process.affinity core && due_by time process.wait
+
+-- of this partition exactly those are named that fall due   (process and time management, section 3)
+abbrev pub NamesThoseDue : ℕ → ℕ → ℕ → Table → List Who → Type 0
+NamesThoseDue partition core time table woken =
+    (number : ℕ) → is_named (record { part = partition; proc = number }) woken ≡ falls_due core time (item_at table number)
