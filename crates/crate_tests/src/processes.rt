@@ -335,6 +335,5 @@ fn wakes_a_receiver(rt: HostRuntime) -> Result<(), Fail> {
     };
     assert!(rt; bytes);
     assert!(rt; ready(&table) == (Some(who(2)), None));
-    assert!(rt; !table.owns_mutex(ProcId::new(2)));
     Ok(())
 }

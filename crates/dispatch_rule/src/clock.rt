@@ -88,7 +88,7 @@ impl Clock {
         keeps_skew(next, skew, self.states())
     }
 
-    /// Adds one to the time of a core.
+    /// Adds one to the time of a core, for callers of the library that let the clock judge the skew.
     ///
     /// Refused, with nothing changed, where the core would then be more than the clock's skew ahead of another.
     pub fn tick(&mut self, core: CoreId) -> Result<(), Skew>
@@ -106,7 +106,8 @@ impl Clock {
         Ok(())
     }
 
-    /// Adds one to the time of a core, whatever the times of the others. It serves where another judges the skew.
+    /// Adds one to the time of a core, whatever the times of the others. It serves where the skew is judged before: the module
+    /// alone judges it, and the pieces of the partitions follow.
     pub fn advance(&mut self, core: CoreId)
         requires core { core < length self.old.cores }
         requires time { time_of self.old.cores core < place_count }

@@ -21,6 +21,9 @@ pub fn owns_window(config: &Config, clock: &Clock, part: PartId, core: CoreId) -
 
 /// The process of this partition that the core is to run now: none where no process is ready there, or where the present
 /// window is not the partition's.
+///
+/// It is the rule whole, for callers of the library. The pieces test the window first, since a table is walked only in the
+/// partition's own windows.
 pub fn choice(
     config: &Config,
     clock: &Clock,
@@ -37,7 +40,8 @@ pub fn choice(
     }
 }
 
-/// Whether the core runs what this partition has it run now: its occupant is the choice.
+/// Whether the core runs what this partition has it run now: its occupant is the choice. For callers of the library, as
+/// [`choice`].
 pub fn settled(
     config: &Config,
     clock: &Clock,

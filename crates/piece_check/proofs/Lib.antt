@@ -4,3 +4,4 @@ pub mod Numbering
 pub mod Parting
 pub mod Judged
 pub mod Passing
+pub mod Owned

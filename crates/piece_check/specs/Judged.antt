@@ -7,6 +7,7 @@ use Rattle.apex_machine.specs.Demands.{Demand, AllHold, FirstFails, module_deman
 use Rattle.apex_machine.specs.Services.{is_built}
 use Rattle.piece_check.specs.declared.module_piece.ModulePiece.{ModulePiece}
 use Rattle.piece_check.specs.declared.partition_piece.PartitionPiece.{PartitionPiece}
+use Rattle.piece_check.specs.States.{partition_of}
 
 -- all demands hold, or the cause is that of the first that fails
 abbrev pub Judges : List {1} Demand → Result (Unit {0}) Cause → Type 0
@@ -18,4 +19,4 @@ asked_by_module configuration piece core body = module_demands configuration pie
 
 -- what a partition's piece demands of a record of this core
 abbrev pub asked_by_partition : Configuration → PartitionPiece → ℕ → Body → List {1} Demand
-asked_by_partition configuration piece core body = partition_demands is_built configuration piece.number piece.clock.cores piece.table core body
+asked_by_partition configuration piece core body = partition_demands is_built configuration piece.number piece.clock.cores (partition_of piece.state) core body

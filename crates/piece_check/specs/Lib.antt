@@ -1,5 +1,6 @@
 pub mod Answers
 pub mod Parts
 pub mod Refused
+pub mod States
 pub mod Held
 pub mod Judged

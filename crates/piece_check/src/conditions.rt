@@ -9,14 +9,15 @@ ghost use Rattle.apex_machine.specs.ProcessConditions as processes;
 ghost use Rattle.apex_machine.specs.ServiceConditions.{condition_codes};
 ghost use Rattle.apex_machine.specs.Services.{is_built};
 ghost use Rattle.apex_machine.specs.Step.{IsAmong, HasCode};
+ghost use Rattle.piece_check.specs.States.{partition_of};
 
 use crate::arguments::{
     is_mode, is_negative, is_normal_mode, is_period, is_priority, suits_period,
 };
+use crate::partition_state::PartitionState;
 use apex_machine::{Mode, Process};
 use apex_types::{Call, Code, Name, Out, PartId, Request};
 use module_config::Config;
-use process_state::ProcTable;
 use std::marker::Model;
 
 /// How many error conditions a service has at most.
@@ -100,22 +101,22 @@ fn is_among(codes: &[Code], code: Code) -> bool
 }
 
 /// The error conditions that hold for a call of one of the partition's processes, of a service that is judged.
-pub(crate) fn conditions_of(config: &Config, table: &ProcTable, call: &Call) -> Conditions
+pub(crate) fn conditions_of(config: &Config, state: &PartitionState, call: &Call) -> Conditions
     requires { IsTrue (is_built (service_of call.now.request)) }
-    ensures { result ≡ condition_codes config.now call.now.who table.now call.now.request }
+    ensures { result ≡ condition_codes config.now call.now.who (partition_of state.now) call.now.request }
 {
     let initialising = call.who.proc.number() == 0;
-    let may_not_wait = initialising || table.owns_mutex(call.who.proc);
+    let may_not_wait = initialising || state.owns_mutex(call.who.proc);
     match &call.request {
         Request::CreateProcess {
             name,
             priority,
             period,
-        } => create_process(config, call.who.part, table, name, *priority, *period),
+        } => create_process(config, call.who.part, state, name, *priority, *period),
         Request::InitializeProcessCoreAffinity { process, core } => {
-            initialize_affinity(config, call.who.part, table, *process, *core)
+            initialize_affinity(config, call.who.part, state, *process, *core)
         }
-        Request::Start { process } => start(table.created(*process)),
+        Request::Start { process } => start(state.processes.created(*process)),
         Request::GetMyId => Conditions::none().with(initialising, Code::InvalidMode),
         Request::TimedWait { delay } => Conditions::none()
             .with(is_negative(*delay), Code::InvalidParam)
@@ -123,7 +124,7 @@ pub(crate) fn conditions_of(config: &Config, table: &ProcTable, call: &Call) -> 
         Request::SetPartitionMode { mode } => Conditions::none()
             .with(!is_mode(*mode), Code::InvalidParam)
             .with(
-                is_normal_mode(*mode) && is_normal(table.mode()),
+                is_normal_mode(*mode) && is_normal(state.processes.mode()),
                 Code::NoAction,
             ),
         _ => Conditions::none(),
@@ -135,18 +136,18 @@ pub(crate) fn conditions_of(config: &Config, table: &ProcTable, call: &Call) -> 
 fn create_process(
     config: &Config,
     number: PartId,
-    table: &ProcTable,
+    state: &PartitionState,
     name: &Name,
     priority: i64,
     period: i64,
 ) -> Conditions
-    ensures { result ≡ processes.create_process_codes config.now number table.now name.now priority period }
+    ensures { result ≡ processes.create_process_codes config.now number (partition_of state.now) name.now priority period }
 {
-    let is_full = config.process_limit(number) as usize <= table.len();
+    let is_full = config.process_limit(number) as usize <= state.processes.len();
     let suits = suits_period(config.period(number), period);
     Conditions::none()
-        .with(is_normal(table.mode()), Code::InvalidMode)
-        .with(table.named(name), Code::NoAction)
+        .with(is_normal(state.processes.mode()), Code::InvalidMode)
+        .with(state.processes.named(name), Code::NoAction)
         .with(is_full, Code::InvalidConfig)
         .with(!is_priority(priority), Code::InvalidParam)
         .with(!is_period(period), Code::InvalidParam)
@@ -157,16 +158,16 @@ fn create_process(
 fn initialize_affinity(
     config: &Config,
     number: PartId,
-    table: &ProcTable,
+    state: &PartitionState,
     process: i64,
     core: i64,
 ) -> Conditions
-    ensures { result ≡ processes.affinity_codes config.now number table.now process core }
+    ensures { result ≡ processes.affinity_codes config.now number (partition_of state.now) process core }
 {
-    let target = table.created(process);
+    let target = state.processes.created(process);
     Conditions::none()
         .with(target.is_none(), Code::InvalidParam)
-        .with(is_normal(table.mode()), Code::InvalidMode)
+        .with(is_normal(state.processes.mode()), Code::InvalidMode)
         .with(!config.has_core(number, core), Code::InvalidConfig)
 }
 

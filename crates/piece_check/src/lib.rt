@@ -13,6 +13,7 @@ mod module_piece;
 mod names;
 mod outcome;
 mod partition_piece;
+mod partition_state;
 mod piece;
 mod profile;
 

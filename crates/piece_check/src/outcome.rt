@@ -10,12 +10,13 @@ ghost use Rattle.apex_machine.specs.Ports.{channel_of};
 ghost use Rattle.apex_machine.specs.State.{Partition};
 ghost use Rattle.piece_check.specs.Answers.{given, value_of};
 ghost use Rattle.piece_check.specs.Judged.{Judges};
+ghost use Rattle.piece_check.specs.States.{partition_of};
 
 use crate::arguments::is_over;
 use crate::conditions::Conditions;
 use crate::names::names_nobody;
+use crate::partition_state::PartitionState;
 use apex_types::{Call, Cause, Claim, Code, Out, ProcId, Request, Who};
-use process_state::ProcTable;
 
 /// Which value goes with an outcome.
 #[derive(Clone, Copy)]
@@ -82,14 +83,14 @@ fn answer_of(now: u64, who: Who, request: &Request) -> Answer
 }
 
 /// Whether a claimed value is the one that goes with the outcome.
-fn has_value(table: &ProcTable, due: Due, claimed: Option<i64>) -> bool
-    ensures { IsTrue result ↔ HasValue (value_of table.now due) claimed }
+fn has_value(state: &PartitionState, due: Due, claimed: Option<i64>) -> bool
+    ensures { IsTrue result ↔ HasValue (value_of (partition_of state.now) due) claimed }
 {
     match due {
         Due::Nothing => claimed.is_none(),
         Due::Number(process) => claimed == Some(i64::from(process.number())),
         Due::Time(now) => claimed.is_some_and(|value| value >= 0 && value as u64 == now),
-        Due::NewNumber => table.is_new_number(claimed),
+        Due::NewNumber => state.processes.is_new_number(claimed),
     }
 }
 
@@ -97,15 +98,15 @@ fn has_value(table: &ProcTable, due: Due, claimed: Option<i64>) -> bool
 /// their codes and nothing else, or where none holds what the service gives when its core's time is `now`.
 pub(crate) fn judge_outcome(
     conditions: &Conditions,
-    table: &ProcTable,
+    state: &PartitionState,
     now: u64,
     call: &Call,
 ) -> Result<(), Cause>
     requires { IsTrue (services.is_built (service_of call.now.request)) }
-    ensures { (number : ℕ) → Judges (outcome_demands conditions.now (channel_of table.now call.now.request) number call.now.request (services.answer_of now call.now.who table.now call.now.request) call.now.claim) result }
+    ensures { (number : ℕ) → Judges (outcome_demands conditions.now (channel_of (partition_of state.now) call.now.request) number call.now.request (services.answer_of now call.now.who (partition_of state.now) call.now.request) call.now.claim) result }
 {
     if conditions.is_empty() {
-        judge_answered(table, answer_of(now, call.who, &call.request), &call.claim)
+        judge_answered(state, answer_of(now, call.who, &call.request), &call.claim)
     } else {
         judge_refused(conditions, &call.claim)
     }
@@ -113,8 +114,8 @@ pub(crate) fn judge_outcome(
 
 // No error condition holds, and the service goes through no channel: the outcome, the value and the message are the
 // service's, and so are those whose wait ends.
-fn judge_answered(table: &ProcTable, answer: Answer, claim: &Claim) -> Result<(), Cause>
-    ensures { (number : ℕ) (asked : RequestValue) → Judges (outcome_demands [] None number asked (given table.now answer) claim.now) result }
+fn judge_answered(state: &PartitionState, answer: Answer, claim: &Claim) -> Result<(), Cause>
+    ensures { (number : ℕ) (asked : RequestValue) → Judges (outcome_demands [] None number asked (given (partition_of state.now) answer) claim.now) result }
 {
     if claim.chan.is_some() {
         return Err(Cause::Chan);
@@ -122,7 +123,7 @@ fn judge_answered(table: &ProcTable, answer: Answer, claim: &Claim) -> Result<()
     if claim.out != answer.out {
         return Err(Cause::Out);
     }
-    if !has_value(table, answer.val, claim.val) {
+    if !has_value(state, answer.val, claim.val) {
         return Err(Cause::Val);
     }
     if !claim.bytes.as_bytes().is_empty() {

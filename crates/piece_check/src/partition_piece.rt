@@ -8,16 +8,18 @@ ghost use Rattle.apex_machine.specs.State.{item_at, time_of};
 ghost use Rattle.apex_machine.specs.Step.{HasNoneDue, HasPriority, due_of};
 ghost use Rattle.apex_machine.specs.Demands.{AllHold, IsRunning, WakesHere, own_call_demands, foreign_call_demands, window_now};
 ghost use Rattle.apex_machine.specs.After.{partition_by};
-ghost use Rattle.apex_machine.specs.Pieces.{part_after};
+ghost use Rattle.apex_machine.specs.Pieces.{PartitionPart, part_after};
 ghost use Rattle.apex_machine.specs.Services.{is_built};
 ghost use Rattle.piece_check.specs.Held.{partition_part};
 ghost use Rattle.piece_check.specs.Judged.{Judges, asked_by_partition};
 ghost use Rattle.piece_check.specs.Parts.{IsCall};
+ghost use Rattle.piece_check.specs.States.{partition_of};
 ghost use Rattle.process_state.specs.Sound.{IsSound};
 ghost use Rattle.process_state.specs.Timely.{TimesFit};
 
 use crate::conditions::conditions_of;
 use crate::outcome::judge_outcome;
+use crate::partition_state::PartitionState;
 use crate::profile::{is_built, is_within};
 use apex_machine::{Outcome, WaitingSet};
 use apex_types::{
@@ -25,15 +27,14 @@ use apex_types::{
 };
 use dispatch_rule::{Clock, owns_window};
 use module_config::Config;
-use process_state::ProcTable;
 use std::alloc::AllocError;
 
-/// The piece of a partition: the cores, and the partition's mode and processes.
+/// The piece of a partition: its number, the cores, and its state.
 #[derive(Drop)]
 pub(crate) struct PartitionPiece {
     pub(crate) number: PartId,
     pub(crate) clock: Clock,
-    pub(crate) table: ProcTable,
+    pub(crate) state: PartitionState,
 }
 
 impl PartitionPiece {
@@ -75,12 +76,14 @@ impl PartitionPiece {
             }
             Body::Ret(ret) => {
                 if ret.who.part == self.number {
-                    self.table.ret(ret.who.proc);
+                    self.state.processes.ret(ret.who.proc);
                 }
             }
             Body::Disp(who) => self.clock.dispatch(ordered.core, *who),
             Body::Tick(woken) => {
-                self.table.tick(self.number, ordered.pos, woken.as_slice());
+                self.state
+                    .processes
+                    .tick(self.number, ordered.pos, woken.as_slice());
                 self.clock.advance(ordered.core);
             }
         }
@@ -96,18 +99,19 @@ impl PartitionPiece {
         call: &Call,
     ) -> Result<(), AllocError>
         requires times { TimesFit self.old.clock.cores }
-        requires sound { call.now.who.part ≡ self.old.number → IsSound self.old.table.table call.now }
-        ensures ok { OnOk result (self.new ≡ record self.old { table = partition_by config.now self.old.clock.cores ordered.now.pos ordered.now.core self.old.number (body.Call call.now) self.old.table }) }
+        requires sound { call.now.who.part ≡ self.old.number → IsSound self.old.state.processes.table call.now }
+        ensures ok { OnOk result (partition_part self.new ≡ PartitionPart self.old.number self.old.clock.cores (partition_by config.now self.old.clock.cores ordered.now.pos ordered.now.core self.old.number (body.Call call.now) (partition_of self.old.state))) }
         ensures unchanged { OnErr result (self.new ≡ self.old) }
     {
         if call.who.part == self.number {
             let first_core = config.first_core(self.number);
             let period = config.period(self.number);
             let cores = self.clock.states();
-            self.table
+            self.state
+                .processes
                 .call(first_core, period, cores, ordered.pos, ordered.core, call)
         } else {
-            self.table.rouse(self.number, ordered.pos, call)
+            self.state.processes.rouse(self.number, ordered.pos, call)
         }
     }
 
@@ -115,7 +119,9 @@ impl PartitionPiece {
     fn judge_dispatch(&self, config: &Config, core: CoreId, who: Option<Who>) -> Result<(), Cause>
         ensures { Judges (asked_by_partition config.now self.now core (body.Disp who)) result }
     {
-        if self.is_in_window(config, core) && self.table.ready_on(self.number, core) != who {
+        if self.is_in_window(config, core)
+            && self.state.processes.ready_on(self.number, core) != who
+        {
             return Err(Cause::Choice);
         }
         Ok(())
@@ -128,12 +134,15 @@ impl PartitionPiece {
         ensures { Judges (asked_by_partition config.now self.now core (body.Tick woken.now)) result }
     {
         let occupant = self.clock.on(core);
-        if self.is_in_window(config, core) && self.table.ready_on(self.number, core) != occupant {
+        if self.is_in_window(config, core)
+            && self.state.processes.ready_on(self.number, core) != occupant
+        {
             return Err(Cause::Choice);
         }
         let next = self.clock.now(core) + 1;
         if !self
-            .table
+            .state
+            .processes
             .names_those_due(self.number, core, next, woken.as_slice())
         {
             return Err(Cause::Woken);
@@ -143,7 +152,7 @@ impl PartitionPiece {
 
     // A call of one of the partition's processes.
     fn judge_own_call(&self, config: &Config, core: CoreId, call: &Call) -> Result<(), Cause>
-        ensures { Judges (own_call_demands is_built config.now self.now.number self.now.clock.cores self.now.table core call.now) result }
+        ensures { Judges (own_call_demands is_built config.now self.now.number self.now.clock.cores (partition_of self.now.state) core call.now) result }
     {
         if !self.is_in_window(config, core) {
             return Err(Cause::Window);
@@ -157,19 +166,19 @@ impl PartitionPiece {
         if !is_built(call.request.service()) {
             return Err(Cause::OutsideProfile);
         }
-        let conditions = conditions_of(config, &self.table, call);
-        if !is_within(&conditions, &self.table, call.who, &call.request) {
+        let conditions = conditions_of(config, &self.state, call);
+        if !is_within(&conditions, &self.state, call.who, &call.request) {
             return Err(Cause::OutsideProfile);
         }
         if !self.has_priority(call.who.proc, call.claim.prio) {
             return Err(Cause::Prio);
         }
-        judge_outcome(&conditions, &self.table, self.clock.now(core), call)
+        judge_outcome(&conditions, &self.state, self.clock.now(core), call)
     }
 
     // A call of another partition's process ends only waits at the end of a queuing channel that is this partition's.
     fn judge_foreign_call(&self, config: &Config, core: CoreId, call: &Call) -> Result<(), Cause>
-        ensures { Judges (foreign_call_demands config.now self.now.number self.now.clock.cores self.now.table core call.now) result }
+        ensures { Judges (foreign_call_demands config.now self.now.number self.now.clock.cores (partition_of self.now.state) core call.now) result }
     {
         if self.is_in_window(config, core) && !self.is_running(core, call.who) {
             return Err(Cause::Choice);
@@ -183,7 +192,7 @@ impl PartitionPiece {
     // Whether a call of another partition ends only waits at its channel: a send of those that wait to receive, a receive
     // of those that wait to send.
     fn wakes_here(&self, call: &Call) -> bool
-        ensures { IsTrue result ↔ WakesHere call.now.request call.now.claim.chan self.now.number self.now.table.table call.now.claim.woken }
+        ensures { IsTrue result ↔ WakesHere call.now.request call.now.claim.chan self.now.number self.now.state.processes.table call.now.claim.woken }
     {
         let Some(channel) = call.claim.chan else {
             return false;
@@ -193,7 +202,8 @@ impl PartitionPiece {
             Request::ReceiveQueuingMessage { .. } => WaitingSet::ChannelSenders(channel),
             _ => return false,
         };
-        self.table
+        self.state
+            .processes
             .all_wait_at(wanted, self.number, call.claim.woken.as_slice())
     }
 
@@ -234,17 +244,18 @@ impl PartitionPiece {
 
     // Whether this process is the core's occupant and the partition's choice.
     fn is_running(&self, core: CoreId, who: Who) -> bool
-        ensures { IsTrue result ↔ IsRunning self.now.number self.now.clock.cores self.now.table.table core who }
+        ensures { IsTrue result ↔ IsRunning self.now.number self.now.clock.cores self.now.state.processes.table core who }
     {
         let running = Some(who);
-        self.clock.on(core) == running && self.table.ready_on(self.number, core) == running
+        self.clock.on(core) == running
+            && self.state.processes.ready_on(self.number, core) == running
     }
 
     // The outcome that is due to the process, if it is there and one is.
     fn due_to(&self, number: ProcId) -> Option<&Outcome>
-        ensures { option_copied result ≡ due_of (item_at self.now.table.table number) }
+        ensures { option_copied result ≡ due_of (item_at self.now.state.processes.table number) }
     {
-        match self.table.proc(number) {
+        match self.state.processes.proc(number) {
             Some(process) => process.due.as_ref(),
             None => None,
         }
@@ -252,9 +263,9 @@ impl PartitionPiece {
 
     // Whether the process is there and no outcome is due to it.
     fn has_none_due(&self, number: ProcId) -> bool
-        ensures { IsTrue result ↔ HasNoneDue (item_at self.now.table.table number) }
+        ensures { IsTrue result ↔ HasNoneDue (item_at self.now.state.processes.table number) }
     {
-        match self.table.proc(number) {
+        match self.state.processes.proc(number) {
             Some(process) => process.due.is_none(),
             None => false,
         }
@@ -262,9 +273,9 @@ impl PartitionPiece {
 
     // Whether the process is there and has this current priority.
     fn has_priority(&self, number: ProcId, priority: u8) -> bool
-        ensures { IsTrue result ↔ HasPriority priority (item_at self.now.table.table number) }
+        ensures { IsTrue result ↔ HasPriority priority (item_at self.now.state.processes.table number) }
     {
-        match self.table.proc(number) {
+        match self.state.processes.proc(number) {
             Some(process) => process.current_priority == priority,
             None => false,
         }

@@ -13,6 +13,7 @@ use crate::held::Held;
 use crate::module_piece::ModulePiece;
 use crate::names::names_one_of;
 use crate::partition_piece::PartitionPiece;
+use crate::partition_state::PartitionState;
 use apex_types::{Body, Cause, Ordered, PartId, Place};
 use dispatch_rule::Clock;
 use module_config::Config;
@@ -89,11 +90,11 @@ impl Piece {
             return Ok(Piece { held, spent: false });
         }
         let number = config.partition_number(piece - 1);
-        let table = ProcTable::new(alloc, config.first_core(number))?;
+        let processes = ProcTable::new(alloc, config.first_core(number))?;
         let held = Held::Partition(PartitionPiece {
             number,
             clock,
-            table,
+            state: PartitionState { processes },
         });
         Ok(Piece { held, spent: false })
     }

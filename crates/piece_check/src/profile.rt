@@ -4,24 +4,25 @@ ghost use Rattle.std.specs.Prelude.{◌≡◌, ◌↔◌, IsTrue};
 ghost use Rattle.apex_types.specs.Requested.{service_of};
 ghost use Rattle.apex_machine.specs.Services as services;
 ghost use Rattle.apex_machine.specs.Step.{WhereNone};
+ghost use Rattle.piece_check.specs.States.{partition_of};
 
 use crate::arguments::{is_aperiodic, is_normal_mode};
 use crate::conditions::Conditions;
+use crate::partition_state::PartitionState;
 use apex_types::{Request, Service, Who};
-use process_state::ProcTable;
 
 /// Whether a call of a service that is judged stands within the profile, where these error conditions hold: where none
 /// holds the service is used as the profile has it.
 pub(crate) fn is_within(
     conditions: &Conditions,
-    table: &ProcTable,
+    state: &PartitionState,
     who: Who,
     request: &Request,
 ) -> bool
     requires { IsTrue (services.is_built (service_of request.now)) }
-    ensures { IsTrue result ↔ WhereNone conditions.now (IsTrue (services.in_profile services.is_built who table.now request.now)) }
+    ensures { IsTrue result ↔ WhereNone conditions.now (IsTrue (services.in_profile services.is_built who (partition_of state.now) request.now)) }
 {
-    !conditions.is_empty() || in_profile(table, who, request)
+    !conditions.is_empty() || in_profile(state, who, request)
 }
 
 /// Whether a service is judged.
@@ -43,15 +44,15 @@ pub(crate) fn is_built(service: Service) -> bool
 
 /// Whether a request on which no error condition holds is used as the profile has it: a periodic process wants a service
 /// that is judged, and neither the initialising process nor the owner of a mutex stops itself.
-fn in_profile(table: &ProcTable, who: Who, request: &Request) -> bool
+fn in_profile(state: &PartitionState, who: Who, request: &Request) -> bool
     requires { IsTrue (services.is_built (service_of request.now)) }
-    ensures { result ≡ services.in_profile services.is_built who table.now request.now }
+    ensures { result ≡ services.in_profile services.is_built who (partition_of state.now) request.now }
 {
     match request {
         Request::CreateProcess { period, .. } => {
             is_aperiodic(*period) || is_built(Service::PeriodicWait)
         }
-        Request::StopSelf => who.proc.number() != 0 && !table.owns_mutex(who.proc),
+        Request::StopSelf => who.proc.number() != 0 && !state.owns_mutex(who.proc),
         Request::SetPartitionMode { mode } => is_normal_mode(*mode),
         _ => true,
     }

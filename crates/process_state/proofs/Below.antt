@@ -6,7 +6,7 @@ use Rattle.apex_machine.specs.declared.state.Process.{Process}
 use Rattle.apex_machine.specs.declared.state.Mode.{Mode}
 use Rattle.apex_machine.specs.declared.state.Mode.TheVariants as mode
 use Rattle.apex_machine.specs.State.{Table, each_item}
-use Rattle.process_state.specs.Partitions.{partition_of}
+use Rattle.process_state.specs.Processes.{processes_in}
 
 -- the table with the processes before a place changed
 abbrev pub each_below : (Process → Process) → ℕ → Table → Table
@@ -54,10 +54,10 @@ length-each_below change place [] = refl
 length-each_below change zero (entry ∷ entries) = refl
 length-each_below change (suc place) (entry ∷ entries) = ap suc (length-each_below change place entries)
 
--- past the last place the partition is in NORMAL, with all changed
+-- past the last place the mode is NORMAL, with all changed
 pub all_entered : (change : Process → Process) (place : ℕ) (old_mode new_mode : Mode) (table entries : Table) → new_mode ≡ mode.Normal
     → entries ≡ each_below change place table → length table ≤ place
-    → partition_of new_mode entries ≡ record (partition_of old_mode table) { mode = mode.Normal; table = each_item (λ number. change) table }
+    → processes_in new_mode entries ≡ record (processes_in old_mode table) { mode = mode.Normal; table = each_item (λ number. change) table }
 all_entered change place old_mode new_mode table entries is_normal so_far past =
     let all = each_below-past change place table entries so_far past in
-    λ i. partition_of (is_normal i) (all i)
+    λ i. processes_in (is_normal i) (all i)

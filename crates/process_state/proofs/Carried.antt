@@ -16,6 +16,7 @@ use Rattle.apex_machine.specs.Services.{is_built}
 use Rattle.apex_machine.specs.After.{created_by, is_done, mode_by}
 use Rattle.process_state.specs.Changes.{moved_to, named, only, with_each}
 use Rattle.process_state.specs.Numbers.{NumbersFit, number_of}
+use Rattle.process_state.specs.Processes.{Processes}
 use Rattle.process_state.specs.Sound.{AsksSoundly}
 use Rattle.process_state.proofs.Tables.{each_item-congr, each_item-same, nat_eq-swap, with_table}
 
@@ -25,17 +26,17 @@ append-nothing (entry ∷ entries) = ap (λ rest. entry ∷ rest) (append-nothin
 
 -- a change of a process by a caller's number that is its own
 
-pub named-found : (change : Process → Process) (given : ℤ) (number : ℕ) (partition : Partition) → number_of given ≡ Some number
-    → with_each (only number change) partition ≡ with_each (named given change) partition
-named-found change (pos n) number partition found =
+pub named-found : (change : Process → Process) (given : ℤ) (number : ℕ) (processes : Processes) → number_of given ≡ Some number
+    → with_each (only number change) processes ≡ with_each (named given change) processes
+named-found change (pos n) number processes found =
     let same : n ≡ number = grind (arith, nat_tests) in
-    ap (with_table partition) (each_item-congr _ _ (λ other process. rw (same, nat_eq-swap number other) refl) partition.table)
-named-found change (negsuc n) number partition found = cc
+    ap (with_table processes) (each_item-congr _ _ (λ other process. rw (same, nat_eq-swap number other) refl) processes.table)
+named-found change (negsuc n) number processes found = cc
 
 -- a change by any other number
-pub named-none : (change : Process → Process) (given : ℤ) (partition : Partition) → number_of given ≡ None → NumbersFit partition.table
-    → partition ≡ with_each (named given change) partition
-named-none change (pos n) partition none fit = ap (with_table partition) (sym (stays partition.table fit))
+pub named-none : (change : Process → Process) (given : ℤ) (processes : Processes) → number_of given ≡ None → NumbersFit processes.table
+    → processes ≡ with_each (named given change) processes
+named-none change (pos n) processes none fit = ap (with_table processes) (sym (stays processes.table fit))
   where
     apart : (number : ℕ) → number < 2 ^ 32 → nat_eq n number ≡ false
     apart number bound = grind (arith, nat_tests)
@@ -43,45 +44,45 @@ named-none change (pos n) partition none fit = ap (with_table partition) (sym (s
     stays : (entries : Table) → NumbersFit entries → each_item (named (pos n) change) entries ≡ entries
     stays [] h = refl
     stays (entry ∷ entries) h = rw (apart entry.0 h.0, stays entries h.1) refl
-named-none change (negsuc n) partition none fit =
-    ap (with_table partition) (sym (each_item-same _ (λ number process. refl) partition.table))
+named-none change (negsuc n) processes none fit =
+    ap (with_table processes) (sym (each_item-same _ (λ number process. refl) processes.table))
 
--- a partition once a call has set in it what it sets, beside what becomes of its caller
-abbrev pub carried : ℕ → ℕ → ℕ → List CoreState → CallRecord → Request → Partition → Partition
-carried place period first cores call asked old = record old {
+-- the mode and the processes once a call has set what it sets in them, beside what becomes of its caller
+abbrev pub carried : ℕ → ℕ → ℕ → List CoreState → CallRecord → Request → Partition → Processes → Processes
+carried place period first cores call asked partition old = record old {
   mode = mode_by asked old.mode;
-  table = each_item (set_by place period cores old call.who.proc asked) old.table ++ created_by first call asked;
+  table = each_item (set_by place period cores partition call.who.proc asked) old.table ++ created_by first call asked;
 }
 
 -- the table of a service that changes each process so, and creates none
-table-set : (place period first : ℕ) (cores : List CoreState) (call : CallRecord) (asked : Request) (old : Partition) (set : ℕ → Process → Process)
-    → created_by first call asked ≡ [] → ((number : ℕ) (process : Process) → set number process ≡ set_by place period cores old call.who.proc asked number process)
-    → each_item set old.table ≡ each_item (set_by place period cores old call.who.proc asked) old.table ++ created_by first call asked
-table-set place period first cores call asked old set none same = rw none (each_item-congr _ _ same old.table ∙ sym (append-nothing _))
+table-set : (place period first : ℕ) (cores : List CoreState) (call : CallRecord) (asked : Request) (partition : Partition) (old : Processes) (set : ℕ → Process → Process)
+    → created_by first call asked ≡ [] → ((number : ℕ) (process : Process) → set number process ≡ set_by place period cores partition call.who.proc asked number process)
+    → each_item set old.table ≡ each_item (set_by place period cores partition call.who.proc asked) old.table ++ created_by first call asked
+table-set place period first cores call asked partition old set none same = rw none (each_item-congr _ _ same old.table ∙ sym (append-nothing _))
 
 -- a judged service that sets nothing beside its caller
-pub carried-none : (place period first : ℕ) (cores : List CoreState) (call : CallRecord) (asked : Request) (old : Partition)
+pub carried-none : (place period first : ℕ) (cores : List CoreState) (call : CallRecord) (asked : Request) (partition : Partition) (old : Processes)
     → is_built (service_of asked) ≡ true
     → ((name : List ℕ) (priority own : ℤ) → asked ≡ request.CreateProcess name priority own → ⊥)
     → ((process core : ℤ) → asked ≡ request.InitializeProcessCoreAffinity process core → ⊥)
     → ((process : ℤ) → asked ≡ request.Start process → ⊥)
     → ((mode : ℤ) → asked ≡ request.SetPartitionMode mode → ⊥)
-    → old ≡ carried place period first cores call asked old
-carried-none place period first cores call (request.CreateProcess name priority own) old judged not_create not_move not_start not_mode = absurd (not_create name priority own refl)
-carried-none place period first cores call (request.InitializeProcessCoreAffinity process on) old judged not_create not_move not_start not_mode = absurd (not_move process on refl)
-carried-none place period first cores call (request.Start process) old judged not_create not_move not_start not_mode = absurd (not_start process refl)
-carried-none place period first cores call (request.SetPartitionMode mode) old judged not_create not_move not_start not_mode = absurd (not_mode mode refl)
-carried-none place period first cores call request.StopSelf old judged not_create not_move not_start not_mode = same-table
+    → old ≡ carried place period first cores call asked partition old
+carried-none place period first cores call (request.CreateProcess name priority own) partition old judged not_create not_move not_start not_mode = absurd (not_create name priority own refl)
+carried-none place period first cores call (request.InitializeProcessCoreAffinity process on) partition old judged not_create not_move not_start not_mode = absurd (not_move process on refl)
+carried-none place period first cores call (request.Start process) partition old judged not_create not_move not_start not_mode = absurd (not_start process refl)
+carried-none place period first cores call (request.SetPartitionMode mode) partition old judged not_create not_move not_start not_mode = absurd (not_mode mode refl)
+carried-none place period first cores call request.StopSelf partition old judged not_create not_move not_start not_mode = same-table
   where
-    same-table : old ≡ carried place period first cores call request.StopSelf old
+    same-table : old ≡ carried place period first cores call request.StopSelf partition old
     same-table = ap (with_table old) (sym (append-nothing _ ∙ each_item-same _ (λ number process. refl) old.table))
-carried-none place period first cores call request.GetMyId old judged not_create not_move not_start not_mode =
+carried-none place period first cores call request.GetMyId partition old judged not_create not_move not_start not_mode =
     ap (with_table old) (sym (append-nothing _ ∙ each_item-same _ (λ number process. refl) old.table))
-carried-none place period first cores call (request.TimedWait delay) old judged not_create not_move not_start not_mode =
+carried-none place period first cores call (request.TimedWait delay) partition old judged not_create not_move not_start not_mode =
     ap (with_table old) (sym (append-nothing _ ∙ each_item-same _ (λ number process. refl) old.table))
-carried-none place period first cores call request.GetTime old judged not_create not_move not_start not_mode =
+carried-none place period first cores call request.GetTime partition old judged not_create not_move not_start not_mode =
     ap (with_table old) (sym (append-nothing _ ∙ each_item-same _ (λ number process. refl) old.table))
-carried-none place period first cores call _ old judged not_create not_move not_start not_mode = cc
+carried-none place period first cores call _ partition old judged not_create not_move not_start not_mode = cc
 
 -- CREATE_PROCESS
 
@@ -99,42 +100,44 @@ priority-kept : (priority : ℤ) → is_priority priority ≡ true → pos (nat_
 priority-kept (pos n) h = refl
 priority-kept (negsuc n) h = cc
 
-pub carried-create : (place period first : ℕ) (cores : List CoreState) (call : CallRecord) (name : List ℕ) (priority own : ℤ) (old new : Partition)
+pub carried-create : (place period first : ℕ) (cores : List CoreState) (call : CallRecord) (name : List ℕ) (priority own : ℤ) (partition : Partition) (old new : Processes)
     (found : Option ℕ) (number cast : ℕ)
     → new ≡ with_table old (old.table ++ (number, new_process first name (pos cast) own) ∷ [])
     → cast ≡ nat_abs priority
     → is_done call.claim.out ≡ true → AsksSoundly old.table call (request.CreateProcess name priority own)
     → MatchOption call.claim.val (found ≡ None) (λ given. found ≡ number_of given) → found ≡ Some number
-    → new ≡ carried place period first cores call (request.CreateProcess name priority own) old
-carried-create place period first cores call name priority own old new found number cast is_new_one kept done sound is there =
+    → new ≡ carried place period first cores call (request.CreateProcess name priority own) partition old
+carried-create place period first cores call name priority own partition old new found number cast is_new_one kept done sound is there =
     let facts = sound done in
     let table : old.table ++ (number, new_process first name (pos cast) own) ∷ []
-    ≡ each_item (set_by place period cores old call.who.proc (request.CreateProcess name priority own)) old.table
+    ≡ each_item (set_by place period cores partition call.who.proc (request.CreateProcess name priority own)) old.table
     ++ created_by first call (request.CreateProcess name priority own)
     = ap (λ (p : ℤ). old.table ++ (number, new_process first name p own) ∷ []) (ap pos kept ∙ priority-kept priority facts.1)
     ∙ (rw (
       claims-number old.table call.claim.val found number facts.0 is there,
       done,
-      each_item-same (set_by place period cores old call.who.proc (request.CreateProcess name priority own)) (λ other process. refl) old.table,
+      each_item-same (set_by place period cores partition call.who.proc (request.CreateProcess name priority own)) (λ other process. refl) old.table,
     ) refl) in
     is_new_one ∙ ap (with_table old) table
 
 -- START, and INITIALIZE_PROCESS_CORE_AFFINITY, of the process that the caller names
 
-pub carried-start : (place period first : ℕ) (cores : List CoreState) (call : CallRecord) (given : ℤ) (old new : Partition)
-    → new ≡ with_each (named given (λ found. started place period (time_of cores found.affinity) old.mode found)) old
-    → new ≡ carried place period first cores call (request.Start given) old
-carried-start place period first cores call given old new is = is ∙ ap (with_table old) (sym (append-nothing _))
+pub carried-start : (place period first : ℕ) (cores : List CoreState) (call : CallRecord) (given : ℤ) (partition : Partition) (old new : Processes)
+    → partition.mode ≡ old.mode → new ≡ with_each (named given (λ found. started place period (time_of cores found.affinity) old.mode found)) old
+    → new ≡ carried place period first cores call (request.Start given) partition old
+carried-start place period first cores call given partition old new mode is =
+    is ∙ ap (λ current. with_each (named given (λ found. started place period (time_of cores found.affinity) current found)) old) (sym mode)
+    ∙ ap (with_table old) (sym (append-nothing _))
 
-pub carried-move : (place period first : ℕ) (cores : List CoreState) (call : CallRecord) (given core : ℤ) (old new : Partition)
+pub carried-move : (place period first : ℕ) (cores : List CoreState) (call : CallRecord) (given core : ℤ) (partition : Partition) (old new : Processes)
     → new ≡ with_each (named given (moved_to (natural_of core))) old
-    → new ≡ carried place period first cores call (request.InitializeProcessCoreAffinity given core) old
-carried-move place period first cores call given core old new is = is ∙ ap (with_table old) (sym (append-nothing _))
+    → new ≡ carried place period first cores call (request.InitializeProcessCoreAffinity given core) partition old
+carried-move place period first cores call given core partition old new is = is ∙ ap (with_table old) (sym (append-nothing _))
 
 -- SET_PARTITION_MODE to NORMAL
 
-pub carried-mode : (place period first : ℕ) (cores : List CoreState) (call : CallRecord) (given : ℤ) (old new : Partition)
+pub carried-mode : (place period first : ℕ) (cores : List CoreState) (call : CallRecord) (given : ℤ) (partition : Partition) (old new : Processes)
     → new ≡ record old { mode = mode.Normal; table = each_item (λ number process. after_normal place period (time_of cores process.affinity) process) old.table }
-    → new ≡ carried place period first cores call (request.SetPartitionMode given) old
-carried-mode place period first cores call given old new is =
+    → new ≡ carried place period first cores call (request.SetPartitionMode given) partition old
+carried-mode place period first cores call given partition old new is =
     is ∙ ap (λ (t : Table). record old { mode = mode.Normal; table = t }) (sym (append-nothing _))

@@ -5,10 +5,10 @@ use Rattle.std.specs.List.{AllByRecursion, IsDistinct}
 use Rattle.std.specs.Map.{keys_of, lookup, set_value}
 use Rattle.apex_machine.specs.declared.state.Process.{Process}
 use Rattle.apex_machine.specs.declared.state.Mode.{Mode}
-use Rattle.apex_machine.specs.State.{Partition, Table, each_item, item_at}
+use Rattle.apex_machine.specs.State.{Table, each_item, item_at}
 use Rattle.process_state.specs.Changes.{only, with_each}
 use Rattle.process_state.specs.Numbers.{NumbersFit}
-use Rattle.process_state.specs.Partitions.{partition_of}
+use Rattle.process_state.specs.Processes.{Processes, processes_in}
 
 -- what a look-up finds is the process at the number
 pub lookup-item_at : (number : ℕ) (entries : Table) → lookup (nat_eq number) entries ≡ item_at entries number
@@ -102,26 +102,26 @@ absent-above (entry ∷ entries) number fit above =
     let apart : nat_eq number entry.0 ≡ false = grind (arith, nat_tests) in
     rw apart (absent-above entries number fit.1 above)
 
--- of a partition
+-- with a mode
 
--- the partition with another table
-abbrev pub with_table : Partition → Table → Partition
-with_table partition table = record partition { table = table }
+-- the processes with another table
+abbrev pub with_table : Processes → Table → Processes
+with_table processes table = record processes { table = table }
 
--- a partition whose table has this process written at its number
-pub partition-written : (mode : Mode) (number : ℕ) (change : Process → Process) (old written : Process) (entries next : Table)
+-- a table that has this process written at its number
+pub processes-written : (mode : Mode) (number : ℕ) (change : Process → Process) (old written : Process) (entries next : Table)
     → IsDistinct nat_eq (keys_of entries) → Some old ≡ lookup (nat_eq number) entries → written ≡ change old
     → next ≡ set_value (nat_eq number) entries written
-    → partition_of mode next ≡ with_each (only number change) (partition_of mode entries)
-partition-written mode number change old written entries next distinct found is written_so =
-    ap (partition_of mode) (written_so ∙ only-written number change old written entries distinct (sym (found ∙ lookup-item_at number entries)) is)
+    → processes_in mode next ≡ with_each (only number change) (processes_in mode entries)
+processes-written mode number change old written entries next distinct found is written_so =
+    ap (processes_in mode) (written_so ∙ only-written number change old written entries distinct (sym (found ∙ lookup-item_at number entries)) is)
 
--- a partition that has no process of the number
-pub partition-kept : (mode : Mode) (number : ℕ) (change : Process → Process) (entries next : Table)
+-- a table that has no process of the number
+pub processes-kept : (mode : Mode) (number : ℕ) (change : Process → Process) (entries next : Table)
     → None ≡ lookup (nat_eq number) entries → next ≡ entries
-    → partition_of mode next ≡ with_each (only number change) (partition_of mode entries)
-partition-kept mode number change entries next none kept =
-    ap (partition_of mode) (kept ∙ sym (only-absent number change entries (sym (none ∙ lookup-item_at number entries))))
+    → processes_in mode next ≡ with_each (only number change) (processes_in mode entries)
+processes-kept mode number change entries next none kept =
+    ap (processes_in mode) (kept ∙ sym (only-absent number change entries (sym (none ∙ lookup-item_at number entries))))
 
 -- a written value leaves the numbers
 NumbersFit-set : (test : ℕ → Bool) (written : Process) (entries : Table) → NumbersFit entries → NumbersFit (set_value test entries written)

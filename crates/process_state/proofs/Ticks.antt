@@ -3,8 +3,9 @@ use Rattle.std.proofs.Common.{◌≡◌, ℕ, Bool, true, false, ◌||◌, ◌&&
 use Rattle.std.proofs.lemmas.Bool.Decides.{nat_tests}
 use Rattle.apex_types.specs.declared.record.Who.{Who}
 use Rattle.apex_machine.specs.declared.state.Process.{Process}
-use Rattle.apex_machine.specs.State.{Partition, is_named, is_same}
+use Rattle.apex_machine.specs.State.{is_named, is_same}
 use Rattle.process_state.specs.Changes.{only, with_each}
+use Rattle.process_state.specs.Processes.{Processes}
 use Rattle.process_state.proofs.Booleans.{both-left, both-right}
 use Rattle.process_state.proofs.Tables.{each_item-congr, each_item-same, each_item-twice, with_table}
 
@@ -26,8 +27,8 @@ abbrev pub each_named : ℕ → List Who → (Process → Process) → ℕ → P
 each_named part named change number process = if is_named (record { part = part; proc = number }) named then change process else process
 
 -- nobody is named at first
-pub named-none-yet : (part : ℕ) (change : Process → Process) (partition : Partition) → partition ≡ with_each (each_named part [] change) partition
-named-none-yet part change partition = ap (with_table partition) (sym (each_item-same _ (λ number process. refl) partition.table))
+pub named-none-yet : (part : ℕ) (change : Process → Process) (processes : Processes) → processes ≡ with_each (each_named part [] change) processes
+named-none-yet part change processes = ap (with_table processes) (sym (each_item-same _ (λ number process. refl) processes.table))
 
 -- a process that one walk has not changed, and the next one changes
 once : (a d : Bool) (change : Process → Process) (process : Process) → (d ≡ true → a ≡ false)
@@ -47,13 +48,13 @@ unnamed part number named who here new same =
     rw whole new
 
 -- a change of each process that is named: of one more of this partition, which is not named before
-pub named-more : (part : ℕ) (named : List Who) (who : Who) (change : Process → Process) (partition : Partition) → nat_eq who.part part ≡ true
+pub named-more : (part : ℕ) (named : List Who) (who : Who) (change : Process → Process) (processes : Processes) → nat_eq who.part part ≡ true
     → is_named who named ≡ false
-    → with_each (only who.proc change) (with_each (each_named part named change) partition)
-    ≡ with_each (each_named part (named ++ who ∷ []) change) partition
-named-more part named who change partition here new =
-    ap (with_table partition)
-    (each_item-twice (each_named part named change) (only who.proc change) partition.table ∙ each_item-congr _ _ one partition.table)
+    → with_each (only who.proc change) (with_each (each_named part named change) processes)
+    ≡ with_each (each_named part (named ++ who ∷ []) change) processes
+named-more part named who change processes here new =
+    ap (with_table processes)
+    (each_item-twice (each_named part named change) (only who.proc change) processes.table ∙ each_item-congr _ _ one processes.table)
   where
     one : (number : ℕ) (process : Process)
         → only who.proc change number (each_named part named change number process) ≡ each_named part (named ++ who ∷ []) change number process
@@ -63,10 +64,10 @@ named-more part named who change partition here new =
         (once (is_named (record { part = part; proc = number }) named) (nat_eq number who.proc) change process (unnamed part number named who here_too new))
 
 -- one who is named before, or is of another partition, changes nothing
-pub named-same : (part : ℕ) (named : List Who) (who : Who) (change : Process → Process) (partition : Partition)
+pub named-same : (part : ℕ) (named : List Who) (who : Who) (change : Process → Process) (processes : Processes)
     → nat_eq who.part part && not (is_named who named) ≡ false
-    → with_each (each_named part named change) partition ≡ with_each (each_named part (named ++ who ∷ []) change) partition
-named-same part named who change partition not_new = ap (with_table partition) (each_item-congr _ _ one partition.table)
+    → with_each (each_named part named change) processes ≡ with_each (each_named part (named ++ who ∷ []) change) processes
+named-same part named who change processes not_new = ap (with_table processes) (each_item-congr _ _ one processes.table)
   where
     by : (a d : Bool) (process : Process) → (d ≡ true → a ≡ true) → (if a then change process else process) ≡ (if a || d then change process else process)
     by true d process was = refl

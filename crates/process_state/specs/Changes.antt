@@ -1,15 +1,16 @@
--- Changes of one process of a table, and of one partition's table.
+-- Changes of one process of a table, and of each.
 use Rattle.std.specs.Prelude.{ℕ, Option, Some, None, nat_eq, if◌then◌else◌, ℤ}
 use Rattle.apex_machine.specs.declared.state.Outcome.{Outcome}
 use Rattle.apex_machine.specs.declared.state.Process.{Process}
 use Rattle.apex_machine.specs.declared.state.Wait.{Wait}
 use Rattle.apex_machine.specs.Arguments.{is_number}
 use Rattle.apex_machine.specs.Processes.{stopped}
-use Rattle.apex_machine.specs.State.{Partition, each_item}
+use Rattle.apex_machine.specs.State.{each_item}
+use Rattle.process_state.specs.Processes.{Processes}
 
--- the partition with each process changed
-abbrev pub with_each : (ℕ → Process → Process) → Partition → Partition
-with_each change partition = record partition { table = each_item change partition.table }
+-- the processes, each of them changed
+abbrev pub with_each : (ℕ → Process → Process) → Processes → Processes
+with_each change processes = record processes { table = each_item change processes.table }
 
 -- a change of the process of one number alone
 abbrev pub only : ℕ → (Process → Process) → ℕ → Process → Process

@@ -1,5 +1,5 @@
 pub mod Numbers
-pub mod Partitions
+pub mod Processes
 pub mod Changes
 pub mod Due
 pub mod Settled

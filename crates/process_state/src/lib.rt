@@ -1,8 +1,8 @@
 //! The processes of one partition and its mode: what a record sets in them, and which process its core is to run.
 //!
-//! Promises: a table is seen as the partition of the definitions, with its processes in the order of their creation;
-//! each change is the one that the definitions give to every process at once, made in place at the few that it
-//! touches; the choice is the ready process before which no other goes; where memory is refused, nothing has changed.
+//! Promises: a table is seen as its partition's mode and its processes in the order of their creation, whatever objects and
+//! ports stand beside them; each change is the one that the definitions give to every process at once, made in place at
+//! the few that it touches; the choice is the ready process before which no other goes; where memory is refused, nothing has changed.
 #![tactic(auto)]
 
 mod caller;

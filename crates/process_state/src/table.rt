@@ -7,12 +7,12 @@ ghost use Rattle.apex_machine.specs.State.{created, initialising_process, is_fre
 ghost use Rattle.apex_machine.specs.Choice.{choice_in};
 ghost use Rattle.apex_machine.specs.Answer.{is_new};
 ghost use Rattle.apex_machine.specs.ProcessConditions.{created_count};
-ghost use Rattle.apex_machine.specs.Conditions.{is_taken, owns_mutex};
+ghost use Rattle.apex_machine.specs.Conditions.{is_taken};
 ghost use Rattle.apex_machine.specs.Demands.{AllWaitAt};
 ghost use Rattle.apex_machine.specs.DueTimes as due_times;
 ghost use Rattle.apex_machine.specs.Waiting.{waits_at};
 ghost use Rattle.process_state.specs.Due.{DueAreNamed, NamedFallDue};
-ghost use Rattle.process_state.specs.Partitions.{partition_of};
+ghost use Rattle.process_state.specs.Processes.{processes_in};
 
 mod changes;
 mod records;
@@ -30,9 +30,8 @@ use std::marker::Model;
 /// The greatest number of a process.
 const GREATEST_NUMBER: i64 = 2_147_483_647;
 
-/// The processes of one partition, in the order of their creation, and the partition's mode. A contract sees the
-/// partition of the definitions; it has no object and no port, since no service that creates one is judged yet. Process
-/// number 0 is the initialising process.
+/// The processes of one partition, in the order of their creation, and the partition's mode. What it promises holds for
+/// any partition that has this mode and these processes. Process number 0 is the initialising process.
 #[derive(Drop)]
 pub struct ProcTable {
     mode: Mode,
@@ -40,13 +39,12 @@ pub struct ProcTable {
 }
 
 impl Model for ProcTable {
-    ghost use Rattle.apex_machine.specs.State.{Partition};
     ghost use Rattle.process_state.specs.Numbers.{NumbersFit};
-    ghost use Rattle.process_state.specs.Partitions.{partition_of};
+    ghost use Rattle.process_state.specs.Processes.{Processes, processes_in};
 
-    ghost Value = { Partition };
+    ghost Value = { Processes };
 
-    ghost view = { λ table. partition_of table.mode table.processes.entries };
+    ghost view = { λ table. processes_in table.mode table.processes.entries };
 
     ghost invariant = { λ table. NumbersFit table.processes.entries };
 }
@@ -56,7 +54,7 @@ impl ProcTable {
     ///
     /// AllocError where memory is refused.
     pub fn new(alloc: Global, first_core: CoreId) -> Result<ProcTable, AllocError>
-        ensures { IfOk result (λ table. table ≡ partition_of Mode.ColdStart ((0, initialising_process first_core) ∷ [])) }
+        ensures { IfOk result (λ table. table ≡ processes_in Mode.ColdStart ((0, initialising_process first_core) ∷ [])) }
     {
         let mut processes = IndexMap::new(alloc);
         processes.insert(ProcId::new(0), initialising(alloc, first_core))?;
@@ -148,15 +146,6 @@ impl ProcTable {
             }
             None => false,
         }
-    }
-
-    /// Whether a process owns a mutex: none does, since no mutex is created yet.
-    pub fn owns_mutex(&self, _number: ProcId) -> bool
-        ensures { result ≡ owns_mutex self.now.mutexes _number }
-    {
-        // That no mutex is held is known where one of the fields is used.
-        let _ = &self.processes;
-        false
     }
 
     /// Whether each process of this partition that the list names waits in this set.

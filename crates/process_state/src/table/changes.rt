@@ -1,7 +1,9 @@
-// The changes of a partition, one at a time.
+// The changes of a table, one at a time.
 
 ghost use Rattle.std.specs.Prelude.{◌≡◌, ◌<◌, ◌++◌, ◌∷◌, [], Some, pos, IsTrue, OnOk, OnErr};
+ghost use Rattle.std.specs.Fn.{FnOnceReturnsAtMut};
 ghost use Rattle.apex_types.specs.Bounds.{place_count};
+ghost use Rattle.apex_machine.specs.declared.state.Process.{Process as ProcessValue};
 ghost use Rattle.apex_machine.specs.Answer.{is_new};
 ghost use Rattle.apex_machine.specs.Processes.{after_normal, new_process, released, started, woken_by};
 ghost use Rattle.apex_machine.specs.State.{each_item, is_free, time_of};
@@ -12,7 +14,7 @@ ghost use Rattle.process_state.specs.Timely.{IsTimely, TimesFit};
 use super::ProcTable;
 use crate::number::process_number;
 use crate::process;
-use apex_machine::{CoreState, Mode, Outcome, Wait};
+use apex_machine::{CoreState, Mode, Outcome, Process, Wait};
 use apex_types::{CoreId, Message, Name, Place, ProcId};
 use std::alloc::AllocError;
 
@@ -43,9 +45,7 @@ impl ProcTable {
     pub fn set_affinity(&mut self, process: ProcId, core: CoreId)
         ensures { self.new ≡ with_each (only process (moved_to core)) self.old }
     {
-        if let Some(process) = self.processes.get_mut(&process) {
-            process::move_to(process, core);
-        }
+        self.change(process, |process| process::move_to(process, core));
     }
 
     /// The same of the process that a caller names by this number: of none, where there is none. Takes no memory.
@@ -66,10 +66,10 @@ impl ProcTable {
         ensures { self.new ≡ with_each (only process (λ found. started place period (time_of cores.now found.affinity) self.old.mode found)) self.old }
     {
         let mode = self.mode;
-        if let Some(process) = self.processes.get_mut(&process) {
+        self.change(process, |process| {
             let now = time_at(cores, process.affinity);
             process::start(process, place, period, now, mode);
-        }
+        });
     }
 
     /// The same of the process that a caller names by this number: of none, where there is none. Takes no memory.
@@ -105,18 +105,14 @@ impl ProcTable {
     pub fn stop_self(&mut self, caller: ProcId, now: u64)
         ensures { self.new ≡ with_each (only caller (stopped_self now)) self.old }
     {
-        if let Some(process) = self.processes.get_mut(&caller) {
-            process::stop_self(process, now);
-        }
+        self.change(caller, |process| process::stop_self(process, now));
     }
 
     /// The caller waits from now on, its core's time. Takes no memory.
     pub fn wait(&mut self, caller: ProcId, now: u64, wait: Wait)
         ensures { self.new ≡ with_each (only caller (waiting_for now wait)) self.old }
     {
-        if let Some(process) = self.processes.get_mut(&caller) {
-            process::begin_wait(process, now, wait);
-        }
+        self.change(caller, |process| process::begin_wait(process, now, wait));
     }
 
     /// The outcome is due to the caller from now on, its core's time; where its ready position is renewed, it is that
@@ -124,9 +120,9 @@ impl ProcTable {
     pub fn answer(&mut self, caller: ProcId, now: u64, renewed: Option<Place>, outcome: Outcome)
         ensures { self.new ≡ with_each (only caller (answered now renewed outcome)) self.old }
     {
-        if let Some(process) = self.processes.get_mut(&caller) {
-            process::owe(process, now, renewed, outcome);
-        }
+        self.change(caller, |process| {
+            process::owe(process, now, renewed, outcome)
+        });
     }
 
     /// The wait of this process ends at a tick, at this place. Takes no memory.
@@ -134,26 +130,30 @@ impl ProcTable {
         ensures { self.new ≡ with_each (only process (released place)) self.old }
     {
         let alloc = *self.processes.allocator();
-        if let Some(process) = self.processes.get_mut(&process) {
-            process::release(process, alloc, place);
-        }
+        self.change(process, |process| process::release(process, alloc, place));
     }
 
     /// The wait of this process ends by a call, at this place, which hands over this message. Takes no memory.
     pub fn wake(&mut self, process: ProcId, place: Place, message: Message)
         ensures { self.new ≡ with_each (only process (woken_by place message)) self.old }
     {
-        if let Some(process) = self.processes.get_mut(&process) {
-            process::wake(process, place, message);
-        }
+        self.change(process, |process| process::wake(process, place, message));
     }
 
     /// The outcome that was due to this process has been returned. Takes no memory.
     pub fn ret(&mut self, returner: ProcId)
-        ensures { self.new ≡ record self.old { table = each_item (returned returner) self.old.table } }
+        ensures { self.new ≡ with_each (returned returner) self.old }
     {
-        if let Some(process) = self.processes.get_mut(&returner) {
-            process::give_back(process);
+        self.change(returner, |process| process::give_back(process));
+    }
+
+    // Changes the process of this number in place, where there is one. Takes no memory.
+    fn change<F: FnOnce(&mut Process)>(&mut self, number: ProcId, change: F)
+        requires { F.IsAlwaysCallable change }
+        ensures { (becomes : ProcessValue → ProcessValue) → ((old new : ProcessValue) → FnOnceReturnsAtMut F.FnOnce change old tt new → new ≡ becomes old) → self.new ≡ with_each (only number becomes) self.old }
+    {
+        if let Some(process) = self.processes.get_mut(&number) {
+            change(process);
         }
     }
 }

@@ -1,16 +1,15 @@
-// What a call and a tick make of a partition.
+// What a call and a tick make of a table.
 
-ghost use Rattle.std.specs.Prelude.{◌≡◌, ◌++◌, ℕ, List, true, OnOk, OnErr, IsTrue};
+ghost use Rattle.std.specs.Prelude.{◌≡◌, ◌++◌, ℕ, true, OnOk, OnErr, IsTrue};
 ghost use Rattle.apex_types.specs.Requested.{service_of};
-ghost use Rattle.apex_types.specs.declared.record.Body.TheVariants as body;
-ghost use Rattle.apex_machine.specs.declared.state.CoreState.{CoreState as CoreValue};
 ghost use Rattle.apex_machine.specs.Configuration as configured;
 ghost use Rattle.apex_machine.specs.Configuration.{Configuration};
-ghost use Rattle.apex_machine.specs.State.{each_item, time_of};
+ghost use Rattle.apex_machine.specs.State.{Partition, each_item, time_of};
 ghost use Rattle.apex_machine.specs.Processes.{gift_of, set_by};
 ghost use Rattle.apex_machine.specs.Services.{is_built};
 ghost use Rattle.apex_machine.specs.After as after;
 ghost use Rattle.process_state.specs.Changes.{only, with_each};
+ghost use Rattle.process_state.specs.Processes.{processes_of};
 ghost use Rattle.process_state.specs.Settled.{settled};
 ghost use Rattle.process_state.specs.Sound.{IsSound};
 ghost use Rattle.process_state.specs.Timely.{IsTimely};
@@ -42,7 +41,7 @@ impl ProcTable {
     ) -> Result<(), AllocError>
         requires timely { IsTimely period cores.now }
         requires sound { IsSound self.old.table call.now }
-        ensures ok { OnOk result ((configuration : Configuration) → configured.first_core configuration call.now.who.part ≡ first_core → configured.period_of configuration call.now.who.part ≡ period → self.new ≡ after.partition_called configuration cores.now place core call.now self.old) }
+        ensures ok { OnOk result ((configuration : Configuration) (partition : Partition) → configured.first_core configuration call.now.who.part ≡ first_core → configured.period_of configuration call.now.who.part ≡ period → processes_of partition ≡ self.old → self.new ≡ processes_of (after.partition_called configuration cores.now place core call.now partition)) }
         ensures unchanged { OnErr result (self.new ≡ self.old) }
     {
         let alloc = *self.processes.allocator();
@@ -82,10 +81,8 @@ impl ProcTable {
 
     /// A tick that ends the waits of these processes, at this place; those of other partitions stay out. Takes no memory.
     pub fn tick(&mut self, part: PartId, place: Place, woken: &[Who])
-        ensures { (configuration : Configuration) (cores : List CoreValue) (core : ℕ) → self.new ≡ after.partition_by configuration cores place core part (body.Tick woken.now) self.old }
+        ensures { self.new ≡ with_each (after.ticked place part woken.now) self.old }
     {
-        // That no waiting set is held is known where one of the fields is used.
-        let _ = &self.processes;
         for (index, who) in woken.iter().enumerate() {
             // A wait ends once, also where a list names its process twice.
             if is_newly_named(*who, part, &woken[..index]) {
@@ -106,9 +103,9 @@ impl ProcTable {
         requires timely { IsTimely period cores.now }
         requires done { after.is_done call.now.claim.out ≡ true }
         requires sound { IsSound self.old.table call.now }
-        ensures ok { OnOk result (self.new ≡ record self.old {
+        ensures ok { OnOk result ((partition : Partition) → processes_of partition ≡ self.old → self.new ≡ record self.old {
           mode = after.mode_by call.now.request self.old.mode;
-          table = each_item (set_by place period cores.now self.old call.now.who.proc call.now.request) self.old.table ++ after.created_by first_core call.now call.now.request;
+          table = each_item (set_by place period cores.now partition call.now.who.proc call.now.request) self.old.table ++ after.created_by first_core call.now call.now.request;
         }) }
         ensures unchanged { OnErr result (self.new ≡ self.old) }
     {

@@ -10,7 +10,7 @@ returns-then-piece-eq0-clause-behind c = λ core. rw c.new-clock.ensures (cold_t
 pub returns-clause-part : goal.returns-clause-part
 returns-clause-part c =
     let some : 0 < c.args.piece = omega arith in
-    rw (piece_at_more c.args.config.now c.args.piece c.keeps_limits.ensures.channels some c.requires, ← c.partition_number-number.ensures.value, c.new-clock.ensures, c.cores.ensures.value, c.in_ok-table.ensures, c.first_core.ensures.value)
+    rw (piece_at_more c.args.config.now c.args.piece c.keeps_limits.ensures.channels some c.requires, ← c.partition_number-number.ensures.value, c.new-clock.ensures, c.cores.ensures.value, c.in_ok-processes.ensures, c.first_core.ensures.value)
 
 pub returns-clause-behind : goal.returns-clause-behind
 returns-clause-behind c = λ core. rw c.new-clock.ensures (cold_time c.cores.result core)

@@ -1,21 +1,6 @@
--- The one process of the number is changed in place, and the numbers stay.
-use Rattle.std.proofs.Common.{None, refl}
-use Rattle.process_state.proofs.Tables.{NumbersFit-written, partition-kept, partition-written}
+-- The outcome of the returner alone is cleared.
+use Rattle.std.proofs.Common.{None, rules}
 use Rattle.process_state.proofs.table.ProcTable.ret.Goals as goal
-use Rattle.process_state.proofs.table.ProcTable.ret.Goals.{in-Some, in_default}
-
-pub invariant_of-self : goal.invariant_of-self
-invariant_of-self c =
-    elim c.match-get_mut.branch [
-      | in-Some w ↦ rw w.self-inside-is (NumbersFit-written _ _ _ _ c.self.invariant (c.get_mut.follows.holds w.give_back.new.process).0)
-      | in_default w ↦ rw w.self-inside-is (rw c.get_mut.follows.holds-at-none c.self.invariant)
-    ]
 
 pub returns : goal.returns
-returns c =
-    elim c.match-get_mut.branch [
-      | in-Some w ↦ rw (w.self-inside-is, ← c.self.view_is)
-          (partition-written _ c.args.returner (λ process. record process { due = None }) _ _ _ _ c.get_mut.ensures.unique w.in-Some.ensures.value w.give_back.ensures (c.get_mut.follows.holds w.give_back.new.process).0)
-      | in_default w ↦ rw (w.self-inside-is, ← c.self.view_is)
-          (partition-kept _ c.args.returner (λ process. record process { due = None }) _ _ (rw w.in_default.is at c.get_mut.ensures.value) (rw c.get_mut.follows.holds-at-none refl))
-    ]
+returns c = c.change.ensures (λ process. record process { due = None }) (λ old new ran. search rules)
