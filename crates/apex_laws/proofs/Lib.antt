@@ -43,3 +43,6 @@ pub mod Standing
 pub mod ObjectCalls
 pub mod Exact
 pub mod Joins
+pub mod ConditionTests
+pub mod ConditionCodes
+pub mod ConditionsMet

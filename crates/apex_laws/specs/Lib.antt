@@ -10,3 +10,5 @@ pub mod WorkedFacts
 pub mod ConditionFacts
 pub mod RecordSentences
 pub mod RecordLaws
+pub mod ConditionSentences
+pub mod ConditionLaws

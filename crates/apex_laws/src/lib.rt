@@ -10,6 +10,7 @@ ghost use Rattle.apex_laws.specs.JoinLaws.{FindingsJoin, FoundIsRefused, Nothing
 ghost use Rattle.apex_laws.specs.ObjectLaws.{BlackboardIsTheSentence, ChannelIsTheSentence, EventIsTheSentence, FirstIsTheSentence, MutexIsTheSentence, ObjectCallIsTheSentence, OrderIsApart, QueueIsTheSentence, SamplingIsTheSentence, SemaphoreIsTheSentence};
 ghost use Rattle.apex_laws.specs.RecordLaws.{CallIsTheSentence, DispatchIsTheSentence, RefusalIsTheSentence, ReturnIsTheSentence, SetIsTheSentence, TickIsTheSentence};
 ghost use Rattle.apex_laws.specs.ConditionFacts.{ConditionFacts};
+ghost use Rattle.apex_laws.specs.ConditionLaws.{CodesAreTheSentences};
 ghost use Rattle.apex_laws.specs.WorkedFacts.{LawfulFacts, WorkedFacts};
 ghost use Rattle.apex_laws.specs.ProcessLaws.{AnswerIsTheSentence, CallerIsTheSentence, CreationIsTheSentence, DueIsTheSentence, ReleaseIsTheSentence, SettingIsTheSentence, StoppingIsTheSentence, WakingIsTheSentence};
 
@@ -233,4 +234,9 @@ pub fn lawful_facts()
 /// what the services state.
 pub fn condition_facts()
     ensures { ConditionFacts }
+{}
+
+/// A code is among those of a call exactly where an error condition of its service with that code holds.
+pub fn codes_are_the_sentences()
+    ensures { CodesAreTheSentences }
 {}

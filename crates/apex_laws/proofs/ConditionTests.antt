@@ -1,0 +1,436 @@
+-- Which facts the tests of the error conditions tell.
+use Rattle.std.proofs.Common.{◌≡◌, ◌⊎◌, ℕ, zero, suc, ◌+◌, ◌*◌, ◌/◌, ◌%◌, ◌<◌, ◌≤◌, ℤ, pos, negsuc, List, [], ◌∷◌, Option, Some, None, Bool, true, false, not, ◌&&◌, ◌||◌, nat_eq, nat_lt, nat_le, is_some, refl, sym, ap, subst, ◌∙◌, inl, inr, arith, true≢false}
+use Rattle.std.specs.Prelude.{◌≤ℤ◌, ◌<ℤ◌, Contains, T, IsTrue}
+use Rattle.std.specs.List.{list_any}
+use Rattle.std.specs.Str.{bytes_eq}
+use Rattle.std.proofs.lemmas.Bool.{cases_Bool, eqb-true, eq-eqb, leb-true}
+use Rattle.std.proofs.lemmas.List.Elements.{All-cons, All-contains, All-contains_itself, All-weaker, Contains-append_left, Contains-append_right, Contains-push}
+use Rattle.std.proofs.lemmas.Slice.Eq.{bytes_eq-Decides}
+use Rattle.std.proofs.Math.Nat.{mul-mod_left}
+use Rattle.std.proofs.lemmas.Nat.{div-add-mod'}
+use Rattle.apex_types.specs.declared.record.Who.{Who}
+use Rattle.apex_machine.specs.declared.state.Direction.{Direction}
+use Rattle.apex_machine.specs.declared.state.Direction.TheVariants as direction
+use Rattle.apex_machine.specs.declared.state.Mode.{Mode}
+use Rattle.apex_machine.specs.declared.state.Mode.TheVariants as mode
+use Rattle.apex_machine.specs.declared.state.Process.{Process}
+use Rattle.apex_machine.specs.declared.state.Wait.{Wait}
+use Rattle.apex_machine.specs.declared.state.Wait.TheVariants as wait
+use Rattle.apex_machine.specs.Arguments.{direction_number, is_between, is_longer, is_length, is_mode, is_negative, is_normal_mode, is_number, is_over, is_period, is_priority, is_time_out, suits_maximum, suits_period}
+use Rattle.apex_machine.specs.Channels.{QueuingPort, SamplingPort, queuing_port, sampling_port}
+use Rattle.apex_machine.specs.Conditions.{both_number, created, has_name, is_core, is_normal, is_periodic, is_queuing_port, is_sampling_port, is_source, is_suspended, is_suspension, is_taken, may_not_wait, of_caller, owns_another, owns_mutex, suits_refresh}
+use Rattle.apex_machine.specs.Configuration.{Configuration, PartitionLimits, has_core, limits_of}
+use Rattle.apex_machine.specs.Objects.{is_owner}
+use Rattle.apex_machine.specs.State.{Mutex, Partition, Table, given_object, process_at}
+use Rattle.apex_laws.specs.ConditionSentences.{IsCalledByPeriodic, IsCoreOf, IsFrom, IsMultipleOf, IsObject, IsPeriodic, IsPriority, IsProcess, IsQueuingPort, IsSamplingPort, IsSuspended, MayNotWait, NamesNoProcess, NamesNone, OneIsNamed, Owns}
+use Rattle.apex_laws.proofs.Booleans.{is_itself}
+
+-- a test tells a fact: it holds exactly where the fact does
+abbrev pub Tells : Bool → Type 0 → Type 0
+Tells test Fact = (test ≡ true → Fact) × (Fact → test ≡ true)
+
+-- its negation
+pub tells_not : (test : Bool) (Fact : Type 0) → Tells test Fact → Tells (not test) (¬ Fact)
+tells_not true Fact tells = (λ fails. absurd (true≢false (sym fails)), λ none. absurd (none (tells.0 refl)))
+tells_not false Fact tells = (λ fails fact. true≢false (sym (tells.1 fact)), λ none. refl)
+
+-- both of two tests
+pub tells_both : (one other : Bool) (First Second : Type 0) → Tells one First → Tells other Second → Tells (one && other) (First × Second)
+tells_both true other First Second first second = (λ holds. (first.0 refl, second.0 holds), λ facts. second.1 facts.1)
+tells_both false other First Second first second = (λ holds. absurd (true≢false (sym holds)), λ facts. first.1 facts.0)
+
+-- one of two tests
+pub tells_either : (one other : Bool) (First Second : Type 0) → Tells one First → Tells other Second → Tells (one || other) (First ⊎ Second)
+tells_either true other First Second first second = (λ holds. inl (first.0 refl), λ facts. refl)
+tells_either false other First Second first second = (
+  λ holds. inr (second.0 holds),
+  elim [ inl fact ↦ absurd (true≢false (sym (first.1 fact))) | inr fact ↦ second.1 fact ],
+)
+
+-- a test of itself
+pub tells_itself : (test : Bool) → Tells test (IsTrue test)
+tells_itself test = (λ holds. holds, λ holds. holds)
+
+-- its failure
+pub tells_false : (test : Bool) → Tells (not test) (test ≡ false)
+tells_false true = (λ fails. sym fails, λ fails. sym fails)
+tells_false false = (λ fails. refl, λ fails. refl)
+
+-- numbers
+
+test_holds : (test : Bool) → test ≡ true → T test
+test_holds true holds = tt
+test_holds false holds = absurd (true≢false (sym holds))
+
+holds_test : (test : Bool) → T test → test ≡ true
+holds_test true holds = refl
+holds_test false holds = absurd holds
+
+pub equal_tells : (one other : ℕ) → Tells (nat_eq one other) (one ≡ other)
+equal_tells one other = (eqb-true one other, eq-eqb one other)
+
+pub at_most_tells : (least greatest : ℕ) → Tells (nat_le least greatest) (least ≤ greatest)
+at_most_tells least greatest = (leb-true least greatest, λ fact. grind arith)
+
+pub below_tells : (one other : ℕ) → Tells (nat_lt one other) (one < other)
+below_tells one other = (λ holds. grind arith, λ fact. grind arith)
+
+-- the same of a caller's numbers
+at_most : (least greatest : ℕ) → Tells (nat_le least greatest) (pos least ≤ℤ pos greatest)
+at_most least greatest = (λ holds. record { le = test_holds (nat_le least greatest) holds }, λ fact. holds_test (nat_le least greatest) fact.le)
+
+below : (one other : ℕ) → Tells (nat_lt one other) (pos one <ℤ pos other)
+below one other = (λ holds. record { lt = test_holds (nat_lt one other) holds }, λ fact. holds_test (nat_lt one other) fact.lt)
+
+not_negative : (n : ℕ) → pos 0 ≤ℤ pos n
+not_negative n = (at_most 0 n).0 ((at_most_tells 0 n).1 (omega arith))
+
+above_none : (n : ℕ) → pos 0 <ℤ pos (suc n)
+above_none n = (below 0 (suc n)).0 ((below_tells 0 (suc n)).1 (omega arith))
+
+not_above : (one other : ℕ) → other ≤ one → ¬ (pos one <ℤ pos other)
+not_above one other most fact = let less : one < other = (below_tells one other).0 ((below one other).1 fact) in omega arith
+
+pub between_tells : (least greatest : ℕ) (given : ℤ) → Tells (is_between least greatest given) (IsFrom (pos least) (pos greatest) given)
+between_tells least greatest (pos n) =
+    tells_both (nat_le least n) (nat_le n greatest) (pos least ≤ℤ pos n) (pos n ≤ℤ pos greatest) (at_most least n) (at_most n greatest)
+between_tells least greatest (negsuc n) = (λ holds. absurd (true≢false (sym holds)), λ fact. absurd fact.0.le)
+
+pub priority_tells : (given : ℤ) → Tells (is_priority given) (IsPriority given)
+priority_tells (pos n) = between_tells 1 239 (pos n)
+priority_tells (negsuc n) = between_tells 1 239 (negsuc n)
+
+-- a mode of 0 to 3
+pub mode_tells : (given : ℤ) → Tells (is_mode given) (IsFrom (pos 0) (pos 3) given)
+mode_tells (pos n) = (λ holds. (not_negative n, (at_most n 3).0 holds), λ fact. (at_most n 3).1 fact.1)
+mode_tells (negsuc n) = (λ holds. absurd (true≢false (sym holds)), λ fact. absurd fact.0.le)
+
+pub number_tells : (given : ℤ) (number : ℕ) → Tells (is_number given number) (given ≡ pos number)
+number_tells (pos n) number = (λ holds. ap pos (eqb-true n number holds), λ fact. ap (λ one. is_number one number) fact ∙ is_itself number)
+number_tells (negsuc n) number = (λ holds. absurd (true≢false (sym holds)), λ fact. ap (λ one. is_number one number) fact ∙ is_itself number)
+
+pub normal_mode_tells : (given : ℤ) → Tells (is_normal_mode given) (given ≡ pos 3)
+normal_mode_tells (pos n) = (λ holds. ap pos (eqb-true n 3 holds), λ fact. ap is_normal_mode fact)
+normal_mode_tells (negsuc n) = (λ holds. absurd (true≢false (sym holds)), λ fact. ap is_normal_mode fact)
+
+pub over_tells : (given : ℤ) → Tells (is_over given) (given ≡ pos 0)
+over_tells (pos n) = (λ holds. ap pos (eqb-true n 0 holds), λ fact. ap is_over fact)
+over_tells (negsuc n) = (λ holds. absurd (true≢false (sym holds)), λ fact. ap is_over fact)
+
+-- a time-out below -1
+pub no_time_out_tells : (given : ℤ) → Tells (not (is_time_out given)) (given <ℤ negsuc 0)
+no_time_out_tells (pos n) = (λ holds. absurd (true≢false (sym holds)), λ fact. absurd fact.lt)
+no_time_out_tells (negsuc n) = (
+  λ holds. let differs = (tells_not (nat_eq n 0) (n ≡ 0) (equal_tells n 0)).0 holds in
+      let above : 0 < n = grind (arith, differs) in
+      record { lt = test_holds (nat_lt 0 n) ((below_tells 0 n).1 above) },
+  λ fact. let above : 0 < n = (below_tells 0 n).0 (holds_test (nat_lt 0 n) fact.lt) in
+      (tells_not (nat_eq n 0) (n ≡ 0) (equal_tells n 0)).1 (λ none. omega arith),
+)
+
+pub negative_tells : (given : ℤ) → Tells (is_negative given) (given <ℤ pos 0)
+negative_tells (pos n) = (λ holds. absurd (true≢false (sym holds)), λ fact. absurd (not_above n 0 (omega arith) fact))
+negative_tells (negsuc n) = (λ holds. record { lt = tt }, λ fact. refl)
+
+-- a length below 1
+pub no_length_tells : (given : ℤ) → Tells (not (is_length given)) (given <ℤ pos 1)
+no_length_tells (pos n) = (
+  λ holds. let none = (tells_not (nat_lt 0 n) (0 < n) (below_tells 0 n)).0 holds in
+      (below n 1).0 ((below_tells n 1).1 (omega (arith, none))),
+  λ fact. (tells_not (nat_lt 0 n) (0 < n) (below_tells 0 n)).1 (λ above. not_above n 1 (omega arith) fact),
+)
+no_length_tells (negsuc n) = (λ holds. record { lt = tt }, λ fact. refl)
+
+pub longer_tells : (size : ℕ) (given : ℤ) → Tells (is_longer size given) (pos size <ℤ given)
+longer_tells size (pos n) = below size n
+longer_tells size (negsuc n) = (λ holds. absurd (true≢false (sym holds)), λ fact. absurd fact.lt)
+
+-- a period that is neither -1 nor above 0
+pub no_period_tells : (given : ℤ) → Tells (not (is_period given)) ((¬ (given ≡ negsuc 0)) × (given ≤ℤ pos 0))
+no_period_tells (pos n) = (
+  λ holds. let none = (tells_not (nat_lt 0 n) (0 < n) (below_tells 0 n)).0 holds in
+      (λ same. let one : ◌≡◌ {A = ℤ} (pos n) (negsuc 0) = same in cc, (at_most n 0).0 ((at_most_tells n 0).1 (omega (arith, none)))),
+  λ fact. let most : n ≤ 0 = (at_most_tells n 0).0 ((at_most n 0).1 fact.1) in
+      (tells_not (nat_lt 0 n) (0 < n) (below_tells 0 n)).1 (λ above. omega arith),
+)
+no_period_tells (negsuc n) = (
+  λ holds. let differs = (tells_not (nat_eq n 0) (n ≡ 0) (equal_tells n 0)).0 holds in
+      (λ same. let one : ◌≡◌ {A = ℤ} (negsuc n) (negsuc 0) = same in let zero : n ≡ 0 = cc in differs zero, record { le = tt }),
+  λ fact. (tells_not (nat_eq n 0) (n ≡ 0) (equal_tells n 0)).1 (λ none. fact.0 (ap negsuc none)),
+)
+
+-- a multiple
+multiple_tells : (period n : ℕ) → Tells (nat_eq (n % period) 0) (IsMultipleOf period (pos n))
+multiple_tells period n = (
+  λ holds. let rest : n % period ≡ 0 = eqb-true (n % period) 0 holds in
+      let all : n / period * period + n % period ≡ n = div-add-mod' n period in
+      (n / period, ap pos (omega (arith, rest, all))),
+  λ fact. let same : n ≡ fact.0 * period = (let one : ◌≡◌ {A = ℤ} (pos n) (pos (fact.0 * period)) = fact.1 in cc) in
+      eq-eqb (n % period) 0 (ap (λ one. one % period) same ∙ mul-mod_left fact.0 period),
+)
+
+-- a period above 0 that is no multiple
+no_multiple : (period n : ℕ) → Tells (not (nat_eq (n % period) 0)) (¬ IsMultipleOf period (pos n))
+no_multiple period n = tells_not (nat_eq (n % period) 0) (IsMultipleOf period (pos n)) (multiple_tells period n)
+
+pub no_multiple_tells : (period : ℕ) (given : ℤ) → Tells (not (suits_period period given)) ((pos 0 <ℤ given) × (¬ IsMultipleOf period given))
+no_multiple_tells period (pos n) = (
+  λ holds. let differs = (no_multiple period n).0 holds in (above n differs, differs),
+  λ fact. (no_multiple period n).1 fact.1,
+)
+  where
+    above : (n : ℕ) → ¬ IsMultipleOf period (pos n) → pos 0 <ℤ pos n
+    above zero none = absurd (none (0, ap pos (let product : 0 * period ≡ 0 = omega arith in sym product)))
+    above (suc n) none = above_none n
+no_multiple_tells period (negsuc n) = (λ holds. absurd (true≢false (sym holds)), λ fact. absurd fact.0.lt)
+
+-- a value of 0 to the maximum
+pub value_tells : (maximum value : ℤ) → Tells (suits_maximum maximum value) (IsFrom (pos 0) maximum value)
+value_tells (pos greatest) (pos n) = (λ holds. (not_negative n, (at_most n greatest).0 holds), λ fact. (at_most n greatest).1 fact.1)
+value_tells (pos greatest) (negsuc n) = (λ holds. absurd (true≢false (sym holds)), λ fact. absurd fact.0.le)
+value_tells (negsuc greatest) (pos n) = (λ holds. absurd (true≢false (sym holds)), λ fact. absurd fact.1.le)
+value_tells (negsuc greatest) (negsuc n) = (λ holds. absurd (true≢false (sym holds)), λ fact. absurd fact.0.le)
+
+-- lists
+
+-- an element is the head of a list or stands behind it
+stands_cases : {X : Type 0} → (x y : X) (xs : List X) → Contains (x ∷ xs) y → (y ≡ x) ⊎ Contains xs y
+stands_cases x y xs stands =
+    All-contains (λ one. (one ≡ x) ⊎ Contains xs one) (x ∷ xs) y
+    (All-cons (λ one. (one ≡ x) ⊎ Contains xs one) x xs (inl refl)
+    (All-weaker (Contains xs) (λ one. (one ≡ x) ⊎ Contains xs one) (λ one there. inr there) xs (All-contains_itself xs))) stands
+
+-- nothing stands in an empty list
+stands_nowhere : {X : Type 0} → (x : X) → Contains [] x → ⊥
+stands_nowhere x stands = let none : stands.0 < 0 = stands.1 in omega arith
+
+-- a walk over a list that tests its elements tells whether one of them has what the test tells
+module _ {X : Type 0} (test : X → Bool) (Fact : X → Type 0) (tells : (x : X) → Tells (test x) (Fact x)) where
+  pub any_tells : (walk : List X → Bool) → walk [] ≡ false → ((x : X) (xs : List X) → walk (x ∷ xs) ≡ (test x || walk xs))
+      → (xs : List X) → Tells (walk xs) ((x : X) × Contains xs x × Fact x)
+  any_tells walk none more [] = (λ holds. absurd (true≢false (sym holds ∙ none)), λ found. absurd (stands_nowhere found.0 found.1))
+  any_tells walk none more (x ∷ xs) =
+      let rest = any_tells walk none more xs in (
+        λ holds. elim (cases_Bool (test x)) [
+          | inl here ↦ (x, Contains-append_left (x ∷ []) xs x (Contains-push [] x), (tells x).0 here)
+          | inr fails ↦
+              let found = rest.0 (elim (test x) as (λ one. one ≡ false → (one || walk xs) ≡ true → walk xs ≡ true) [
+                | true ↦ λ no either. absurd (true≢false no)
+                | false ↦ λ no either. either
+              ] fails (sym (more x xs) ∙ holds)) in
+              (found.0, Contains-append_right (x ∷ []) xs found.0 found.1, found.2)
+        ],
+        λ found. more x xs ∙ elim (stands_cases x found.0 xs found.1) [
+          | inl here ↦ ap (λ one. one || walk xs) ((tells x).1 (subst Fact here found.2))
+          | inr there ↦ ap (λ one. test x || one) (rest.1 (found.0, there, found.2)) ∙ or_true (test x)
+        ],
+      )
+    where
+      or_true : (one : Bool) → (one || true) ≡ true
+      or_true true = refl
+      or_true false = refl
+
+-- processes and objects
+
+pub absent : {X : Type 0} → (x : X) → ◌≡◌ {A = Option X} None (Some x) → ⊥
+absent x same = cc
+
+pub created_is : (partition : Partition) (given : ℤ) (found : Process) → created partition.table given ≡ Some found → IsProcess partition given found
+created_is partition (pos zero) found at = absurd (absent found at)
+created_is partition (pos (suc n)) found at = record { number = suc n; is = refl; created = omega arith; stands = at }
+created_is partition (negsuc n) found at = absurd (absent found at)
+
+at_positive : (table : Table) (number : ℕ) → 0 < number → created table (pos number) ≡ process_at table number
+at_positive table zero above = absurd (let none : 0 < 0 = above in omega arith)
+at_positive table (suc n) above = refl
+
+pub created_by : (partition : Partition) (given : ℤ) (found : Process) → IsProcess partition given found → created partition.table given ≡ Some found
+created_by partition given found is = ap (created partition.table) is.is ∙ at_positive partition.table is.number is.created ∙ is.stands
+
+-- nobody, by what is found
+nobody : {X : Type 0} → (found : Option X) → ((x : X) → found ≡ Some x → ⊥) → found ≡ None
+nobody None none = refl
+nobody (Some x) none = absurd (none x refl)
+
+pub no_process_is : (partition : Partition) (given : ℤ) → created partition.table given ≡ None → NamesNoProcess partition given
+no_process_is partition given none process is = absent process (sym none ∙ created_by partition given process is)
+
+pub no_process_by : (partition : Partition) (given : ℤ) → NamesNoProcess partition given → created partition.table given ≡ None
+no_process_by partition given none = nobody (created partition.table given) (λ process at. none process (created_is partition given process at))
+
+pub object_is : {Object : Type 0} → (objects : List (ℕ × Object)) (given : ℤ) (found : Object) → given_object objects given ≡ Some found → IsObject objects given found
+object_is objects (pos number) found at = record { number = number; is = refl; stands = at }
+object_is objects (negsuc n) found at = absurd (absent found at)
+
+pub object_by : {Object : Type 0} → (objects : List (ℕ × Object)) (given : ℤ) (found : Object) → IsObject objects given found → given_object objects given ≡ Some found
+object_by objects given found is = ap (given_object objects) is.is ∙ is.stands
+
+pub no_object_is : {Object : Type 0} → (objects : List (ℕ × Object)) (given : ℤ) → given_object objects given ≡ None → NamesNone objects given
+no_object_is objects given none object is = absent object (sym none ∙ object_by objects given object is)
+
+pub no_object_by : {Object : Type 0} → (objects : List (ℕ × Object)) (given : ℤ) → NamesNone objects given → given_object objects given ≡ None
+no_object_by objects given none = nobody (given_object objects given) (λ object at. none object (object_is objects given object at))
+
+-- names
+pub named_tells : {Object : Type 0} → (name_of : Object → List ℕ) (name : List ℕ) (objects : List (ℕ × Object)) → Tells (is_taken name_of name objects) (OneIsNamed name name_of objects)
+named_tells {Object} name_of name objects =
+    any_tells (λ entry. bytes_eq name (name_of entry.1)) (λ entry. name_of entry.1 ≡ name)
+    (λ entry. (λ holds. sym ((bytes_eq-Decides name (name_of entry.1)).0 holds), λ fact. (bytes_eq-Decides name (name_of entry.1)).1 (sym fact)))
+    (is_taken name_of name) refl (λ entry entries. refl) objects
+
+pub process_named_tells : (name : List ℕ) (table : Table) → Tells (has_name name table) (OneIsNamed name (λ (process : Process). process.name) table)
+process_named_tells name table =
+    any_tells {X = ℕ × Process} (λ entry. bytes_eq name entry.1.name) (λ entry. entry.1.name ≡ name)
+    (λ entry. (λ holds. sym ((bytes_eq-Decides name entry.1.name).0 holds), λ fact. (bytes_eq-Decides name entry.1.name).1 (sym fact)))
+    (has_name name) refl (λ entry entries. refl) table
+
+-- owners
+
+pub owner_tells : (owner : Option ℕ) (number : ℕ) → Tells (is_owner owner number) (owner ≡ Some number)
+owner_tells None number = (λ holds. absurd (true≢false (sym holds)), λ fact. absurd (absent number fact))
+owner_tells (Some owner) number =
+    (λ holds. ap Some (eqb-true owner number holds), λ fact. let same : owner ≡ number = (let one : ◌≡◌ {A = Option ℕ} (Some owner) (Some number) = fact in cc) in eq-eqb owner number same)
+
+owns_tells : (partition : Partition) (number : ℕ) → Tells (owns_mutex partition.mutexes number) ((held : ℕ) × Owns partition number held)
+owns_tells partition number =
+    let any = any_tells {X = ℕ × Mutex} (λ entry. is_owner entry.1.owner number) (λ entry. entry.1.owner ≡ Some number) (λ entry. owner_tells entry.1.owner number)
+    (λ mutexes. owns_mutex mutexes number) refl (λ entry entries. refl) partition.mutexes in (
+      λ holds. let found = any.0 holds in (found.0.0, record { mutex = found.0.1; stands = found.1; owner = found.2 }),
+      λ fact. any.1 ((fact.0, fact.1.mutex), fact.1.stands, fact.1.owner),
+    )
+
+pub may_not_wait_tells : (who : Who) (partition : Partition) → Tells (may_not_wait who partition) (MayNotWait who partition)
+may_not_wait_tells who partition =
+    tells_either (nat_eq who.proc 0) (owns_mutex partition.mutexes who.proc) (who.proc ≡ 0) ((held : ℕ) × Owns partition who.proc held)
+    (equal_tells who.proc 0) (owns_tells partition who.proc)
+
+-- the owner of another mutex
+pub second_tells : (partition : Partition) (mutex : ℤ) (number : ℕ)
+    → Tells (owns_another partition.mutexes mutex number) ((held : ℕ) × Owns partition number held × (¬ (mutex ≡ pos held)))
+second_tells partition mutex number =
+    let any = any_tells {X = ℕ × Mutex} (λ entry. is_owner entry.1.owner number && not (is_number mutex entry.0)) (λ entry. (entry.1.owner ≡ Some number) × (¬ (mutex ≡ pos entry.0)))
+    (λ entry. tells_both (is_owner entry.1.owner number) (not (is_number mutex entry.0)) (entry.1.owner ≡ Some number) (¬ (mutex ≡ pos entry.0))
+    (owner_tells entry.1.owner number) (tells_not (is_number mutex entry.0) (mutex ≡ pos entry.0) (number_tells mutex entry.0)))
+    (λ mutexes. owns_another mutexes mutex number) refl (λ entry entries. refl) partition.mutexes in (
+      λ holds. let found = any.0 holds in (found.0.0, record { mutex = found.0.1; stands = found.1; owner = found.2.0 }, found.2.1),
+      λ fact. any.1 ((fact.0, fact.1.mutex), fact.1.stands, (fact.1.owner, fact.2)),
+    )
+
+-- the state of a process
+
+pub periodic_tells : (process : Process) → Tells (is_periodic process) (IsPeriodic process)
+periodic_tells process = by process.period
+  where
+    by : (found : Option ℕ) → Tells (is_some found) ((period : ℕ) × (found ≡ Some period))
+    by None = (λ holds. absurd (true≢false (sym holds)), λ fact. absurd (absent fact.0 fact.1))
+    by (Some period) = (λ holds. (period, refl), λ fact. refl)
+
+suspension_tells : (one : Wait) → Tells (is_suspension one) ((due : Option ℕ) × (one ≡ wait.Suspended due))
+suspension_tells (wait.Suspended due) = (λ holds. (due, refl), λ fact. refl)
+suspension_tells one = (λ holds. absurd (true≢false (sym holds)), λ fact. ap is_suspension fact.1)
+
+pub suspended_tells : (process : Process) → Tells (is_suspended process) (IsSuspended process)
+suspended_tells process =
+    tells_either process.suspended (is_suspension process.wait) (IsTrue process.suspended) ((due : Option ℕ) × (process.wait ≡ wait.Suspended due))
+    (tells_itself process.suspended) (suspension_tells process.wait)
+
+pub normal_tells : (current : Mode) → Tells (is_normal current) (current ≡ mode.Normal)
+normal_tells mode.Normal = (λ holds. refl, λ fact. refl)
+normal_tells mode.Idle = (λ holds. absurd (true≢false (sym holds)), λ fact. ap is_normal fact)
+normal_tells mode.ColdStart = (λ holds. absurd (true≢false (sym holds)), λ fact. ap is_normal fact)
+normal_tells mode.WarmStart = (λ holds. absurd (true≢false (sym holds)), λ fact. ap is_normal fact)
+
+-- the caller
+pub caller_tells : (test : Process → Bool) (Fact : Process → Type 0) → ((process : Process) → Tells (test process) (Fact process))
+    → (found : Option Process) → Tells (of_caller test found) ((process : Process) × (found ≡ Some process) × Fact process)
+caller_tells test Fact tells None = (λ holds. absurd (true≢false (sym holds)), λ fact. absurd (absent fact.0 fact.1))
+caller_tells test Fact tells (Some process) = (
+  λ holds. (process, refl, (tells process).0 holds),
+  λ fact. let same : fact.0 ≡ process = (let one : ◌≡◌ {A = Option Process} (Some process) (Some fact.0) = fact.1 in cc) in (tells process).1 (subst Fact same fact.2),
+)
+
+pub periodic_caller_tells : (who : Who) (partition : Partition) → Tells (of_caller is_periodic (process_at partition.table who.proc)) (IsCalledByPeriodic who partition)
+periodic_caller_tells who partition = caller_tells is_periodic IsPeriodic periodic_tells (process_at partition.table who.proc)
+
+-- what the configuration says
+
+pub core_tells : (configuration : Configuration) (partition : ℕ) (given : ℤ) → Tells (is_core configuration partition given) (IsCoreOf configuration partition given)
+core_tells configuration partition (negsuc n) =
+    (λ holds. absurd (true≢false (sym holds)), λ fact. let one : ◌≡◌ {A = ℤ} (negsuc n) (pos fact.core) = fact.is in cc)
+core_tells configuration partition (pos core) = by (limits_of configuration partition) refl
+  where
+    listed : (cores : List ℕ) → Tells (list_any (nat_eq core) cores) ((one : ℕ) × Contains cores one × (one ≡ core))
+    listed cores =
+        any_tells (nat_eq core) (λ one. one ≡ core) (λ one. (λ holds. sym (eqb-true core one holds), λ fact. eq-eqb core one (sym fact)))
+        (list_any (nat_eq core)) refl (λ one others. refl) cores
+
+    by : (found : Option PartitionLimits) → limits_of configuration partition ≡ found → Tells (has_core core found) (IsCoreOf configuration partition (pos core))
+    by None none = (λ holds. absurd (true≢false (sym holds)), λ fact. absurd (absent fact.limits (sym none ∙ fact.of)))
+    by (Some limits) of = (
+      λ holds. let found = (listed limits.cores).0 holds in
+          record { core = core; is = refl; limits = limits; of = of; listed = subst (Contains limits.cores) found.2 found.1 },
+      λ fact. let same : fact.limits ≡ limits = (let one : ◌≡◌ {A = Option PartitionLimits} (Some limits) (Some fact.limits) = sym of ∙ fact.of in cc) in
+          let number : fact.core ≡ core = (let one : ◌≡◌ {A = ℤ} (pos core) (pos fact.core) = fact.is in cc) in
+          (listed limits.cores).1 (fact.core, subst (λ one. Contains one.cores fact.core) same fact.listed, number),
+    )
+
+pub source_tells : (way : Direction) → Tells (is_source way) (way ≡ direction.Source)
+source_tells direction.Source = (λ holds. refl, λ fact. refl)
+source_tells direction.Destination = (λ holds. absurd (true≢false (sym holds)), λ fact. ap is_source fact)
+
+-- a port that is a source is no destination
+pub destination_tells : (way : Direction) → Tells (is_source way) (¬ (way ≡ direction.Destination))
+destination_tells direction.Source = (λ holds same. true≢false (ap is_source same), λ fact. refl)
+destination_tells direction.Destination = (λ holds. absurd (true≢false (sym holds)), λ fact. absurd (fact refl))
+
+refresh_tells : (port : SamplingPort) (refresh : ℤ) → Tells (suits_refresh port refresh) (port.direction ≡ direction.Destination → refresh ≡ pos port.refresh)
+refresh_tells port refresh = by port.direction
+  where
+    by : (way : Direction) → Tells (is_source way || is_number refresh port.refresh) (way ≡ direction.Destination → refresh ≡ pos port.refresh)
+    by direction.Source = (λ holds same. absurd (true≢false (ap is_source same)), λ fact. refl)
+    by direction.Destination = (λ holds same. (number_tells refresh port.refresh).0 holds, λ fact. (number_tells refresh port.refresh).1 (fact refl))
+
+pub sampling_port_tells : (configuration : Configuration) (partition : ℕ) (name : List ℕ) (size way refresh : ℤ)
+    → Tells (is_sampling_port (sampling_port configuration partition name) size way refresh) (IsSamplingPort configuration partition name size way refresh)
+sampling_port_tells configuration partition name size way refresh = by (sampling_port configuration partition name) refl
+  where
+    tests : (port : SamplingPort) → Tells (is_sampling_port (Some port) size way refresh)
+        ((size ≡ pos port.size) × ((way ≡ pos (direction_number port.direction)) × (port.direction ≡ direction.Destination → refresh ≡ pos port.refresh)))
+    tests port =
+        tells_both (is_number size port.size) (is_number way (direction_number port.direction) && suits_refresh port refresh)
+        (size ≡ pos port.size) ((way ≡ pos (direction_number port.direction)) × (port.direction ≡ direction.Destination → refresh ≡ pos port.refresh))
+        (number_tells size port.size)
+        (tells_both (is_number way (direction_number port.direction)) (suits_refresh port refresh)
+        (way ≡ pos (direction_number port.direction)) (port.direction ≡ direction.Destination → refresh ≡ pos port.refresh)
+        (number_tells way (direction_number port.direction)) (refresh_tells port refresh))
+
+    by : (found : Option SamplingPort) → sampling_port configuration partition name ≡ found
+        → Tells (is_sampling_port found size way refresh) (IsSamplingPort configuration partition name size way refresh)
+    by None none = (λ holds. absurd (true≢false (sym holds)), λ fact. absurd (absent fact.port (sym none ∙ fact.configured)))
+    by (Some port) of = (
+      λ holds. let found = (tests port).0 holds in record { port = port; configured = of; has_size = found.0; has_direction = found.1.0; has_refresh = found.1.1 },
+      λ fact. let same : fact.port ≡ port = (let one : ◌≡◌ {A = Option SamplingPort} (Some port) (Some fact.port) = sym of ∙ fact.configured in cc) in
+          subst (λ one. is_sampling_port (Some one) size way refresh ≡ true) same ((tests fact.port).1 (fact.has_size, (fact.has_direction, fact.has_refresh))),
+    )
+
+pub queuing_port_tells : (configuration : Configuration) (partition : ℕ) (name : List ℕ) (size capacity both : ℤ)
+    → Tells (is_queuing_port (queuing_port configuration partition name) size capacity both) (IsQueuingPort configuration partition name size capacity both)
+queuing_port_tells configuration partition name size capacity both = by (queuing_port configuration partition name) refl
+  where
+    tests : (port : QueuingPort) → Tells (is_queuing_port (Some port) size capacity both)
+        ((size ≡ pos port.size) × ((capacity ≡ pos port.capacity) × (both ≡ pos (both_number port))))
+    tests port =
+        tells_both (is_number size port.size) (is_number capacity port.capacity && is_number both (both_number port))
+        (size ≡ pos port.size) ((capacity ≡ pos port.capacity) × (both ≡ pos (both_number port)))
+        (number_tells size port.size)
+        (tells_both (is_number capacity port.capacity) (is_number both (both_number port)) (capacity ≡ pos port.capacity) (both ≡ pos (both_number port))
+        (number_tells capacity port.capacity) (number_tells both (both_number port)))
+
+    by : (found : Option QueuingPort) → queuing_port configuration partition name ≡ found
+        → Tells (is_queuing_port found size capacity both) (IsQueuingPort configuration partition name size capacity both)
+    by None none = (λ holds. absurd (true≢false (sym holds)), λ fact. absurd (absent fact.port (sym none ∙ fact.configured)))
+    by (Some port) of = (
+      λ holds. let found = (tests port).0 holds in record { port = port; configured = of; has_size = found.0; has_capacity = found.1.0; has_both = found.1.1 },
+      λ fact. let same : fact.port ≡ port = (let one : ◌≡◌ {A = Option QueuingPort} (Some port) (Some fact.port) = sym of ∙ fact.configured in cc) in
+          subst (λ one. is_queuing_port (Some one) size capacity both ≡ true) same ((tests fact.port).1 (fact.has_size, (fact.has_capacity, fact.has_both))),
+    )

@@ -1,0 +1,312 @@
+-- The error conditions of the services, in sentences: one case for each condition of each service, with what holds in the caller's
+-- partition and the code. A condition that several services share stands once.
+use Rattle.std.specs.Prelude.{◌≡◌, ◌⊎◌, ℕ, ◌*◌, ◌<◌, ◌≤◌, ℤ, pos, negsuc, ◌<ℤ◌, ◌≤ℤ◌, List, length, Option, Some, IsTrue, IsFalse, Contains}
+use Rattle.apex_types.specs.declared.code.Code.{Code}
+use Rattle.apex_types.specs.declared.code.Code.TheVariants as code
+use Rattle.apex_types.specs.declared.record.Who.{Who}
+use Rattle.apex_types.specs.declared.request.Request.{Request}
+use Rattle.apex_types.specs.declared.request.Request.TheVariants as request
+use Rattle.apex_machine.specs.declared.state.Direction.TheVariants as direction
+use Rattle.apex_machine.specs.declared.state.Mode.TheVariants as mode
+use Rattle.apex_machine.specs.declared.state.Process.{Process}
+use Rattle.apex_machine.specs.declared.state.Wait.TheVariants as wait
+use Rattle.apex_machine.specs.Arguments.{direction_number}
+use Rattle.apex_machine.specs.Channels.{QueuingPort, SamplingPort, queuing_port, sampling_port}
+use Rattle.apex_machine.specs.Conditions.{both_number, created_count}
+use Rattle.apex_machine.specs.Configuration.{Configuration, PartitionLimits, limits_of, object_limit, period_of, process_limit}
+use Rattle.apex_machine.specs.State.{Blackboard, Buffer, Event, Mutex, Partition, Port, Semaphore, object_at, process_at}
+
+-- the numbers that a caller gives
+
+-- a number is one of these, the first and the last among them
+abbrev pub IsFrom : ℤ → ℤ → ℤ → Type 0
+IsFrom least greatest given = (least ≤ℤ given) × (given ≤ℤ greatest)
+
+-- a priority is 1 to 239
+abbrev pub IsPriority : ℤ → Type 0
+IsPriority given = IsFrom (pos 1) (pos 239) given
+
+-- a message size is 1 to 8,192 bytes
+abbrev pub IsSize : ℤ → Type 0
+IsSize given = IsFrom (pos 1) (pos 8192) given
+
+-- a discipline is 0 or 1
+abbrev pub IsDiscipline : ℤ → Type 0
+IsDiscipline given = IsFrom (pos 0) (pos 1) given
+
+-- a number is a multiple of a period
+abbrev pub IsMultipleOf : ℕ → ℤ → Type 0
+IsMultipleOf period given = (count : ℕ) × (given ≡ pos (count * period))
+
+-- processes and objects
+
+-- the created process that a number names; number 0 names none, since nobody created the initialising process
+pub record IsProcess (partition : Partition) (given : ℤ) (process : Process) : Type 0 where
+  pub number : ℕ
+  pub is : given ≡ pos number
+  pub created : 0 < number
+  pub stands : process_at partition.table number ≡ Some process
+
+-- the created object that a number names
+pub record IsObject {Object : Type 0} (objects : List (ℕ × Object)) (given : ℤ) (object : Object) : Type 0 where
+  pub number : ℕ
+  pub is : given ≡ pos number
+  pub stands : object_at objects number ≡ Some object
+
+-- a number names no created object of a kind
+abbrev pub NamesNone : {Object : Type 0} → List (ℕ × Object) → ℤ → Type 0
+NamesNone {Object} objects given = (object : Object) → ¬ IsObject objects given object
+
+-- a number names no created process
+abbrev pub NamesNoProcess : Partition → ℤ → Type 0
+NamesNoProcess partition given = (process : Process) → ¬ IsProcess partition given process
+
+-- a process is periodic that has a period
+abbrev pub IsPeriodic : Process → Type 0
+IsPeriodic process = (period : ℕ) × (process.period ≡ Some period)
+
+-- a process is suspended that another suspended, or that suspended itself
+abbrev pub IsSuspended : Process → Type 0
+IsSuspended process = IsTrue process.suspended ⊎ ((due : Option ℕ) × (process.wait ≡ wait.Suspended due))
+
+-- a process owns the mutex of a number
+pub record Owns (partition : Partition) (process held : ℕ) : Type 0 where
+  pub mutex : Mutex
+  pub stands : Contains partition.mutexes (held, mutex)
+  pub owner : mutex.owner ≡ Some process
+
+-- the caller may not wait: it is the initialising process, or it owns a mutex
+abbrev pub MayNotWait : Who → Partition → Type 0
+MayNotWait who partition = (who.proc ≡ 0) ⊎ ((held : ℕ) × Owns partition who.proc held)
+
+-- the caller is a process of its partition
+abbrev pub IsCalledBy : Who → Partition → Process → Type 0
+IsCalledBy who partition process = process_at partition.table who.proc ≡ Some process
+
+-- the caller is a periodic process
+abbrev pub IsCalledByPeriodic : Who → Partition → Type 0
+IsCalledByPeriodic who partition = (process : Process) × IsCalledBy who partition process × IsPeriodic process
+
+-- one of a kind has this name
+abbrev pub OneIsNamed : {Object : Type 0} → List ℕ → (Object → List ℕ) → List (ℕ × Object) → Type 0
+OneIsNamed {Object} name name_of objects = (entry : ℕ × Object) × Contains objects entry × (name_of entry.1 ≡ name)
+
+-- what the configuration says
+
+-- a core of a partition
+pub record IsCoreOf (configuration : Configuration) (partition : ℕ) (given : ℤ) : Type 0 where
+  pub core : ℕ
+  pub is : given ≡ pos core
+  pub limits : PartitionLimits
+  pub of : limits_of configuration partition ≡ Some limits
+  pub listed : Contains limits.cores core
+
+-- a sampling port of this name is configured for the partition with this size and direction, and as a destination with this refresh
+-- period
+pub record IsSamplingPort (configuration : Configuration) (partition : ℕ) (name : List ℕ) (size way refresh : ℤ) : Type 0 where
+  pub port : SamplingPort
+  pub configured : sampling_port configuration partition name ≡ Some port
+  pub has_size : size ≡ pos port.size
+  pub has_direction : way ≡ pos (direction_number port.direction)
+  pub has_refresh : port.direction ≡ direction.Destination → refresh ≡ pos port.refresh
+
+-- a queuing port of this name is configured for the partition with this size, number of messages, direction and discipline
+pub record IsQueuingPort (configuration : Configuration) (partition : ℕ) (name : List ℕ) (size capacity both : ℤ) : Type 0 where
+  pub port : QueuingPort
+  pub configured : queuing_port configuration partition name ≡ Some port
+  pub has_size : size ≡ pos port.size
+  pub has_capacity : capacity ≡ pos port.capacity
+  pub has_both : both ≡ pos (both_number port)
+
+-- the shared conditions, by service
+
+-- the process or the object that a service names is not created
+abbrev pub NamesNothing : Partition → Request → Type 0
+NamesNothing partition (request.InitializeProcessCoreAffinity process core) = NamesNoProcess partition process
+NamesNothing partition (request.Start process) = NamesNoProcess partition process
+NamesNothing partition (request.Stop process) = NamesNoProcess partition process
+NamesNothing partition (request.Suspend process) = NamesNoProcess partition process
+NamesNothing partition (request.Resume process) = NamesNoProcess partition process
+NamesNothing partition (request.SetPriority process priority) = NamesNoProcess partition process
+NamesNothing partition (request.SendBuffer buffer length time_out message) = NamesNone partition.buffers buffer
+NamesNothing partition (request.ReceiveBuffer buffer time_out) = NamesNone partition.buffers buffer
+NamesNothing partition (request.DisplayBlackboard blackboard length message) = NamesNone partition.blackboards blackboard
+NamesNothing partition (request.ReadBlackboard blackboard time_out) = NamesNone partition.blackboards blackboard
+NamesNothing partition (request.ClearBlackboard blackboard) = NamesNone partition.blackboards blackboard
+NamesNothing partition (request.WaitSemaphore semaphore time_out) = NamesNone partition.semaphores semaphore
+NamesNothing partition (request.SignalSemaphore semaphore) = NamesNone partition.semaphores semaphore
+NamesNothing partition (request.SetEvent event) = NamesNone partition.events event
+NamesNothing partition (request.ResetEvent event) = NamesNone partition.events event
+NamesNothing partition (request.WaitEvent event time_out) = NamesNone partition.events event
+NamesNothing partition (request.AcquireMutex mutex time_out) = NamesNone partition.mutexes mutex
+NamesNothing partition (request.ReleaseMutex mutex) = NamesNone partition.mutexes mutex
+NamesNothing partition (request.WriteSamplingMessage port length message) = NamesNone partition.sampling_ports port
+NamesNothing partition (request.ReadSamplingMessage port) = NamesNone partition.sampling_ports port
+NamesNothing partition (request.SendQueuingMessage port length time_out message) = NamesNone partition.queuing_ports port
+NamesNothing partition (request.ReceiveQueuingMessage port time_out) = NamesNone partition.queuing_ports port
+NamesNothing partition _ = ⊥
+
+-- a service that may wait at an object or a port, with this time-out
+abbrev pub WaitsFor : Request → ℤ → Type 0
+WaitsFor (request.SendBuffer buffer length given message) time_out = time_out ≡ given
+WaitsFor (request.ReceiveBuffer buffer given) time_out = time_out ≡ given
+WaitsFor (request.ReadBlackboard blackboard given) time_out = time_out ≡ given
+WaitsFor (request.WaitSemaphore semaphore given) time_out = time_out ≡ given
+WaitsFor (request.WaitEvent event given) time_out = time_out ≡ given
+WaitsFor (request.SendQueuingMessage port length given message) time_out = time_out ≡ given
+WaitsFor (request.ReceiveQueuingMessage port given) time_out = time_out ≡ given
+WaitsFor _ time_out = ⊥
+
+-- a service that is given a time-out: SUSPEND_SELF, ACQUIRE_MUTEX, and those that may wait at an object or a port
+abbrev pub HasTimeOut : Request → ℤ → Type 0
+HasTimeOut (request.SuspendSelf given) time_out = time_out ≡ given
+HasTimeOut (request.AcquireMutex mutex given) time_out = time_out ≡ given
+HasTimeOut asked time_out = WaitsFor asked time_out
+
+-- a service that sets a partition up: a creation, or INITIALIZE_PROCESS_CORE_AFFINITY
+abbrev pub IsSetUp : Request → Type 0
+IsSetUp (request.CreateProcess name priority period) = Unit {0}
+IsSetUp (request.InitializeProcessCoreAffinity process core) = Unit {0}
+IsSetUp (request.CreateBuffer name size capacity discipline) = Unit {0}
+IsSetUp (request.CreateBlackboard name size) = Unit {0}
+IsSetUp (request.CreateSemaphore name value maximum discipline) = Unit {0}
+IsSetUp (request.CreateEvent name) = Unit {0}
+IsSetUp (request.CreateMutex name priority discipline) = Unit {0}
+IsSetUp (request.CreateSamplingPort name size direction refresh) = Unit {0}
+IsSetUp (request.CreateQueuingPort name size capacity both) = Unit {0}
+IsSetUp _ = ⊥
+
+-- one of the kind that a service creates has the name already
+abbrev pub NameIsTaken : Partition → Request → Type 0
+NameIsTaken partition (request.CreateProcess name priority period) = OneIsNamed name (λ (process : Process). process.name) partition.table
+NameIsTaken partition (request.CreateBuffer name size capacity discipline) = OneIsNamed name (λ (buffer : Buffer). buffer.name) partition.buffers
+NameIsTaken partition (request.CreateBlackboard name size) = OneIsNamed name (λ (blackboard : Blackboard). blackboard.name) partition.blackboards
+NameIsTaken partition (request.CreateSemaphore name value maximum discipline) = OneIsNamed name (λ (semaphore : Semaphore). semaphore.name) partition.semaphores
+NameIsTaken partition (request.CreateEvent name) = OneIsNamed name (λ (event : Event). event.name) partition.events
+NameIsTaken partition (request.CreateMutex name priority discipline) = OneIsNamed name (λ (mutex : Mutex). mutex.name) partition.mutexes
+NameIsTaken partition (request.CreateSamplingPort name size direction refresh) = OneIsNamed name (λ (port : Port). port.name) partition.sampling_ports
+NameIsTaken partition (request.CreateQueuingPort name size capacity both) = OneIsNamed name (λ (port : Port). port.name) partition.queuing_ports
+NameIsTaken partition _ = ⊥
+
+-- as many are created of the kind that a service creates as the partition, of this number, may create; ports are configured one by one
+abbrev pub AllAreCreated : Configuration → ℕ → Partition → Request → Type 0
+AllAreCreated configuration number partition (request.CreateProcess name priority period) = process_limit configuration number ≤ created_count partition.table
+AllAreCreated configuration number partition (request.CreateBuffer name size capacity discipline) =
+    object_limit configuration (λ limits. limits.buffers) number ≤ length partition.buffers
+AllAreCreated configuration number partition (request.CreateBlackboard name size) =
+    object_limit configuration (λ limits. limits.blackboards) number ≤ length partition.blackboards
+AllAreCreated configuration number partition (request.CreateSemaphore name value maximum discipline) =
+    object_limit configuration (λ limits. limits.semaphores) number ≤ length partition.semaphores
+AllAreCreated configuration number partition (request.CreateEvent name) = object_limit configuration (λ limits. limits.events) number ≤ length partition.events
+AllAreCreated configuration number partition (request.CreateMutex name priority discipline) =
+    object_limit configuration (λ limits. limits.mutexes) number ≤ length partition.mutexes
+AllAreCreated configuration number partition _ = ⊥
+
+-- an error condition of a service holds for a call of this process in this state of its partition, and has this code. STOP_SELF and
+-- GET_TIME have none; CREATE_EVENT, CLEAR_BLACKBOARD, SIGNAL_SEMAPHORE, SET_EVENT, RESET_EVENT and the waits for a message, a
+-- semaphore or an event have only shared ones
+module _ (configuration : Configuration) (who : Who) (partition : Partition) where
+  pub data HasCondition : Request → Code → Type 0 where
+    -- shared conditions
+    names_nothing : {asked : Request} → NamesNothing partition asked → HasCondition asked code.InvalidParam
+    time_out_below : {asked : Request} (time_out : ℤ) → HasTimeOut asked time_out → time_out <ℤ negsuc 0 → HasCondition asked code.InvalidParam
+    may_not_wait : {asked : Request} (time_out : ℤ) → WaitsFor asked time_out → ¬ (time_out ≡ pos 0) → MayNotWait who partition → HasCondition asked code.InvalidMode
+    in_normal : {asked : Request} → IsSetUp asked → partition.mode ≡ mode.Normal → HasCondition asked code.InvalidMode
+    name_taken : {asked : Request} → NameIsTaken partition asked → HasCondition asked code.NoAction
+    all_created : {asked : Request} → AllAreCreated configuration who.part partition asked → HasCondition asked code.InvalidConfig
+    -- CREATE_PROCESS: no priority; a period that is neither -1 nor above 0; one above 0 that is no multiple of the partition's
+    create_process_priority : {name : List ℕ} {priority period : ℤ} → ¬ IsPriority priority → HasCondition (request.CreateProcess name priority period) code.InvalidParam
+    create_process_period : {name : List ℕ} {priority period : ℤ} → ¬ (period ≡ negsuc 0) → period ≤ℤ pos 0
+        → HasCondition (request.CreateProcess name priority period) code.InvalidParam
+    create_process_multiple : {name : List ℕ} {priority period : ℤ} → pos 0 <ℤ period → ¬ IsMultipleOf (period_of configuration who.part) period
+        → HasCondition (request.CreateProcess name priority period) code.InvalidConfig
+    -- INITIALIZE_PROCESS_CORE_AFFINITY: not a core of the partition
+    affinity_core : {process core : ℤ} → ¬ IsCoreOf configuration who.part core → HasCondition (request.InitializeProcessCoreAffinity process core) code.InvalidConfig
+    -- START: not dormant
+    start_alive : {process : ℤ} (found : Process) → IsProcess partition process found → IsTrue found.alive → HasCondition (request.Start process) code.NoAction
+    -- STOP: the caller's own number; a dormant process
+    stop_itself : {process : ℤ} → process ≡ pos who.proc → HasCondition (request.Stop process) code.InvalidParam
+    stop_dormant : {process : ℤ} (found : Process) → IsProcess partition process found → IsFalse found.alive → HasCondition (request.Stop process) code.NoAction
+    -- SUSPEND: the caller's own number; a dormant process; a periodic one; one that is suspended
+    suspend_itself : {process : ℤ} → process ≡ pos who.proc → HasCondition (request.Suspend process) code.InvalidParam
+    suspend_dormant : {process : ℤ} (found : Process) → IsProcess partition process found → IsFalse found.alive → HasCondition (request.Suspend process) code.InvalidMode
+    suspend_periodic : {process : ℤ} (found : Process) → IsProcess partition process found → IsPeriodic found → HasCondition (request.Suspend process) code.InvalidMode
+    suspend_suspended : {process : ℤ} (found : Process) → IsProcess partition process found → IsSuspended found → HasCondition (request.Suspend process) code.NoAction
+    -- SUSPEND_SELF: a periodic process; one that may not wait
+    suspend_self_periodic : {time_out : ℤ} → IsCalledByPeriodic who partition → HasCondition (request.SuspendSelf time_out) code.InvalidMode
+    suspend_self_waits : {time_out : ℤ} → MayNotWait who partition → HasCondition (request.SuspendSelf time_out) code.InvalidMode
+    -- RESUME: the caller's own number; a dormant process; a periodic one; one that is alive and not suspended
+    resume_itself : {process : ℤ} → process ≡ pos who.proc → HasCondition (request.Resume process) code.InvalidParam
+    resume_dormant : {process : ℤ} (found : Process) → IsProcess partition process found → IsFalse found.alive → HasCondition (request.Resume process) code.InvalidMode
+    resume_periodic : {process : ℤ} (found : Process) → IsProcess partition process found → IsPeriodic found → HasCondition (request.Resume process) code.InvalidMode
+    resume_running : {process : ℤ} (found : Process) → IsProcess partition process found → IsTrue found.alive → ¬ IsSuspended found
+        → HasCondition (request.Resume process) code.NoAction
+    -- SET_PRIORITY: no priority; a dormant process
+    set_priority_priority : {process priority : ℤ} → ¬ IsPriority priority → HasCondition (request.SetPriority process priority) code.InvalidParam
+    set_priority_dormant : {process priority : ℤ} (found : Process) → IsProcess partition process found → IsFalse found.alive
+        → HasCondition (request.SetPriority process priority) code.InvalidMode
+    -- GET_MY_ID: the initialising process
+    get_my_id_initialising : who.proc ≡ 0 → HasCondition request.GetMyId code.InvalidMode
+    -- TIMED_WAIT: a delay below 0; a process that may not wait
+    timed_wait_delay : {ticks : ℤ} → ticks <ℤ pos 0 → HasCondition (request.TimedWait ticks) code.InvalidParam
+    timed_wait_waits : {ticks : ℤ} → MayNotWait who partition → HasCondition (request.TimedWait ticks) code.InvalidMode
+    -- PERIODIC_WAIT: not a periodic process; one that may not wait
+    periodic_wait_aperiodic : ¬ IsCalledByPeriodic who partition → HasCondition request.PeriodicWait code.InvalidMode
+    periodic_wait_waits : MayNotWait who partition → HasCondition request.PeriodicWait code.InvalidMode
+    -- SET_PARTITION_MODE: a mode that is not 0 to 3; NORMAL, which is 3, in NORMAL
+    set_mode_none : {next : ℤ} → ¬ IsFrom (pos 0) (pos 3) next → HasCondition (request.SetPartitionMode next) code.InvalidParam
+    set_mode_normal : {next : ℤ} → next ≡ pos 3 → partition.mode ≡ mode.Normal → HasCondition (request.SetPartitionMode next) code.NoAction
+    -- CREATE_BUFFER: no message size; a number of messages that is not 1 to 1,024; no discipline
+    create_buffer_size : {name : List ℕ} {size capacity given : ℤ} → ¬ IsSize size → HasCondition (request.CreateBuffer name size capacity given) code.InvalidParam
+    create_buffer_capacity : {name : List ℕ} {size capacity given : ℤ} → ¬ IsFrom (pos 1) (pos 1024) capacity
+        → HasCondition (request.CreateBuffer name size capacity given) code.InvalidParam
+    create_buffer_discipline : {name : List ℕ} {size capacity given : ℤ} → ¬ IsDiscipline given → HasCondition (request.CreateBuffer name size capacity given) code.InvalidParam
+    -- SEND_BUFFER: a message without a byte; one that is longer than the buffer's size
+    send_buffer_empty : {buffer length time_out : ℤ} {message : List ℕ} → length <ℤ pos 1 → HasCondition (request.SendBuffer buffer length time_out message) code.InvalidParam
+    send_buffer_long : {buffer length time_out : ℤ} {message : List ℕ} (found : Buffer) → IsObject partition.buffers buffer found → pos found.size <ℤ length
+        → HasCondition (request.SendBuffer buffer length time_out message) code.InvalidParam
+    -- CREATE_BLACKBOARD: no message size
+    create_blackboard_size : {name : List ℕ} {size : ℤ} → ¬ IsSize size → HasCondition (request.CreateBlackboard name size) code.InvalidParam
+    -- DISPLAY_BLACKBOARD: a message without a byte; one that is longer than the blackboard's size
+    display_empty : {blackboard length : ℤ} {message : List ℕ} → length <ℤ pos 1 → HasCondition (request.DisplayBlackboard blackboard length message) code.InvalidParam
+    display_long : {blackboard length : ℤ} {message : List ℕ} (found : Blackboard) → IsObject partition.blackboards blackboard found → pos found.size <ℤ length
+        → HasCondition (request.DisplayBlackboard blackboard length message) code.InvalidParam
+    -- CREATE_SEMAPHORE: a maximum that is not 1 to 32,767; a value that is not 0 to the maximum; no discipline
+    create_semaphore_maximum : {name : List ℕ} {value maximum given : ℤ} → ¬ IsFrom (pos 1) (pos 32767) maximum
+        → HasCondition (request.CreateSemaphore name value maximum given) code.InvalidParam
+    create_semaphore_value : {name : List ℕ} {value maximum given : ℤ} → ¬ IsFrom (pos 0) maximum value
+        → HasCondition (request.CreateSemaphore name value maximum given) code.InvalidParam
+    create_semaphore_discipline : {name : List ℕ} {value maximum given : ℤ} → ¬ IsDiscipline given → HasCondition (request.CreateSemaphore name value maximum given) code.InvalidParam
+    -- CREATE_MUTEX: no priority; no discipline
+    create_mutex_priority : {name : List ℕ} {priority given : ℤ} → ¬ IsPriority priority → HasCondition (request.CreateMutex name priority given) code.InvalidParam
+    create_mutex_discipline : {name : List ℕ} {priority given : ℤ} → ¬ IsDiscipline given → HasCondition (request.CreateMutex name priority given) code.InvalidParam
+    -- ACQUIRE_MUTEX: the initialising process; the owner of another mutex; a process whose current priority is above the mutex's
+    acquire_initialising : {mutex time_out : ℤ} → who.proc ≡ 0 → HasCondition (request.AcquireMutex mutex time_out) code.InvalidMode
+    acquire_second : {mutex time_out : ℤ} (held : ℕ) → Owns partition who.proc held → ¬ (mutex ≡ pos held) → HasCondition (request.AcquireMutex mutex time_out) code.InvalidMode
+    acquire_above : {mutex time_out : ℤ} (found : Mutex) (process : Process) → IsObject partition.mutexes mutex found → IsCalledBy who partition process
+        → found.priority < process.current_priority → HasCondition (request.AcquireMutex mutex time_out) code.InvalidMode
+    -- RELEASE_MUTEX: not by the owner
+    release_not_owner : {mutex : ℤ} (found : Mutex) → IsObject partition.mutexes mutex found → ¬ (found.owner ≡ Some who.proc) → HasCondition (request.ReleaseMutex mutex) code.InvalidMode
+    -- CREATE_SAMPLING_PORT, CREATE_QUEUING_PORT: no such port is configured
+    create_sampling_port : {name : List ℕ} {size way refresh : ℤ} → ¬ IsSamplingPort configuration who.part name size way refresh
+        → HasCondition (request.CreateSamplingPort name size way refresh) code.InvalidConfig
+    create_queuing_port : {name : List ℕ} {size capacity both : ℤ} → ¬ IsQueuingPort configuration who.part name size capacity both
+        → HasCondition (request.CreateQueuingPort name size capacity both) code.InvalidConfig
+    -- WRITE_SAMPLING_MESSAGE: a message without a byte; one that is longer than the port's size; a port that is no source
+    write_empty : {port length : ℤ} {message : List ℕ} → length <ℤ pos 1 → HasCondition (request.WriteSamplingMessage port length message) code.InvalidParam
+    write_long : {port length : ℤ} {message : List ℕ} (found : Port) → IsObject partition.sampling_ports port found → pos found.size <ℤ length
+        → HasCondition (request.WriteSamplingMessage port length message) code.InvalidConfig
+    write_no_source : {port length : ℤ} {message : List ℕ} (found : Port) → IsObject partition.sampling_ports port found → ¬ (found.direction ≡ direction.Source)
+        → HasCondition (request.WriteSamplingMessage port length message) code.InvalidMode
+    -- READ_SAMPLING_MESSAGE: a port that is no destination
+    read_no_destination : {port : ℤ} (found : Port) → IsObject partition.sampling_ports port found → ¬ (found.direction ≡ direction.Destination)
+        → HasCondition (request.ReadSamplingMessage port) code.InvalidMode
+    -- SEND_QUEUING_MESSAGE: a message without a byte; one that is longer than the port's size; a port that is no source
+    send_empty : {port length time_out : ℤ} {message : List ℕ} → length <ℤ pos 1 → HasCondition (request.SendQueuingMessage port length time_out message) code.InvalidParam
+    send_long : {port length time_out : ℤ} {message : List ℕ} (found : Port) → IsObject partition.queuing_ports port found → pos found.size <ℤ length
+        → HasCondition (request.SendQueuingMessage port length time_out message) code.InvalidConfig
+    send_no_source : {port length time_out : ℤ} {message : List ℕ} (found : Port) → IsObject partition.queuing_ports port found → ¬ (found.direction ≡ direction.Source)
+        → HasCondition (request.SendQueuingMessage port length time_out message) code.InvalidMode
+    -- RECEIVE_QUEUING_MESSAGE: a port that is no destination
+    receive_no_destination : {port time_out : ℤ} (found : Port) → IsObject partition.queuing_ports port found → ¬ (found.direction ≡ direction.Destination)
+        → HasCondition (request.ReceiveQueuingMessage port time_out) code.InvalidMode
