@@ -46,3 +46,4 @@ pub mod Joins
 pub mod ConditionTests
 pub mod ConditionCodes
 pub mod ConditionsMet
+pub mod ViewedRuns

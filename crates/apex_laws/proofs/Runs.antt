@@ -40,13 +40,13 @@ pieces_follow judged configuration state ordered next ends tied step piece is to
 -- a record in the run of a piece, by whether it touches the piece
 
 -- a record that touches the piece is its step
-goes_by_step : (touched : Bool) (judged : Service → Bool) (configuration : Configuration) (old : Part) (ordered : Ordered) (new : Part)
+pub goes_by_step : (touched : Bool) (judged : Service → Bool) (configuration : Configuration) (old : Part) (ordered : Ordered) (new : Part)
     → IsTrue touched → GoesJudging touched judged configuration old ordered new → LocalStepJudging judged configuration old ordered new
 goes_by_step true judged configuration old ordered new is goes = goes
 goes_by_step false judged configuration old ordered new is goes = cc
 
 -- another leaves its part
-goes_nowhere : (touched : Bool) (judged : Service → Bool) (configuration : Configuration) (old : Part) (ordered : Ordered) (new : Part)
+pub goes_nowhere : (touched : Bool) (judged : Service → Bool) (configuration : Configuration) (old : Part) (ordered : Ordered) (new : Part)
     → IsFalse touched → GoesJudging touched judged configuration old ordered new → new ≡ old
 goes_nowhere true judged configuration old ordered new off goes = cc
 goes_nowhere false judged configuration old ordered new off goes = goes

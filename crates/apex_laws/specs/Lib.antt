@@ -12,3 +12,4 @@ pub mod RecordSentences
 pub mod RecordLaws
 pub mod ConditionSentences
 pub mod ConditionLaws
+pub mod ViewLaws

@@ -11,6 +11,7 @@ ghost use Rattle.apex_laws.specs.ObjectLaws.{BlackboardIsTheSentence, ChannelIsT
 ghost use Rattle.apex_laws.specs.RecordLaws.{CallIsTheSentence, DispatchIsTheSentence, RefusalIsTheSentence, ReturnIsTheSentence, SetIsTheSentence, TickIsTheSentence};
 ghost use Rattle.apex_laws.specs.ConditionFacts.{ConditionFacts};
 ghost use Rattle.apex_laws.specs.ConditionLaws.{CodesAreTheSentences};
+ghost use Rattle.apex_laws.specs.ViewLaws.{ViewsAreOfTheRun};
 ghost use Rattle.apex_laws.specs.WorkedFacts.{LawfulFacts, WorkedFacts};
 ghost use Rattle.apex_laws.specs.ProcessLaws.{AnswerIsTheSentence, CallerIsTheSentence, CreationIsTheSentence, DueIsTheSentence, ReleaseIsTheSentence, SettingIsTheSentence, StoppingIsTheSentence, WakingIsTheSentence};
 
@@ -92,6 +93,11 @@ pub fn one_first_refusal()
 /// The piece that judges a record gives the view that the record has in the machine's run, and no other piece gives one.
 pub fn view_is_of_the_run()
     ensures { ViewIsOfTheRun }
+{}
+
+/// Over a whole recording, the views that the pieces give from their parts are the views of the machine's run, record by record.
+pub fn views_are_of_the_run()
+    ensures { ViewsAreOfTheRun }
 {}
 
 /// The choice is the ready process before which no other goes, and none where none is ready.
