@@ -8,6 +8,8 @@ use Rattle.std.proofs.lemmas.List.Elements.{All-cons, All-contains, All-contains
 use Rattle.std.proofs.lemmas.Slice.Eq.{bytes_eq-Decides}
 use Rattle.std.proofs.Math.Nat.{mul-mod_left}
 use Rattle.std.proofs.lemmas.Nat.{div-add-mod'}
+use Rattle.apex_types.specs.declared.discipline.Discipline.{Discipline}
+use Rattle.apex_types.specs.declared.discipline.Discipline.TheVariants as discipline
 use Rattle.apex_types.specs.declared.record.Who.{Who}
 use Rattle.apex_machine.specs.declared.state.Direction.{Direction}
 use Rattle.apex_machine.specs.declared.state.Direction.TheVariants as direction
@@ -16,13 +18,13 @@ use Rattle.apex_machine.specs.declared.state.Mode.TheVariants as mode
 use Rattle.apex_machine.specs.declared.state.Process.{Process}
 use Rattle.apex_machine.specs.declared.state.Wait.{Wait}
 use Rattle.apex_machine.specs.declared.state.Wait.TheVariants as wait
-use Rattle.apex_machine.specs.Arguments.{direction_number, is_between, is_longer, is_length, is_mode, is_negative, is_normal_mode, is_number, is_over, is_period, is_priority, is_time_out, suits_maximum, suits_period}
+use Rattle.apex_machine.specs.Arguments.{direction_number, discipline_number, is_between, is_longer, is_length, is_mode, is_negative, is_normal_mode, is_number, is_over, is_period, is_priority, is_time_out, suits_maximum, suits_period}
 use Rattle.apex_machine.specs.Channels.{QueuingPort, SamplingPort, queuing_port, sampling_port}
 use Rattle.apex_machine.specs.Conditions.{both_number, created, has_name, is_core, is_normal, is_periodic, is_queuing_port, is_sampling_port, is_source, is_suspended, is_suspension, is_taken, may_not_wait, of_caller, owns_another, owns_mutex, suits_refresh}
 use Rattle.apex_machine.specs.Configuration.{Configuration, PartitionLimits, has_core, limits_of}
 use Rattle.apex_machine.specs.Objects.{is_owner}
 use Rattle.apex_machine.specs.State.{Mutex, Partition, Table, given_object, process_at}
-use Rattle.apex_laws.specs.ConditionSentences.{IsCalledByPeriodic, IsCoreOf, IsFrom, IsMultipleOf, IsObject, IsPeriodic, IsPriority, IsProcess, IsQueuingPort, IsSamplingPort, IsSuspended, MayNotWait, NamesNoProcess, NamesNone, OneIsNamed, Owns}
+use Rattle.apex_laws.specs.ConditionSentences.{IsCalledByPeriodic, IsCoreOf, IsDirection, IsDirectionAndDiscipline, IsFrom, IsMultipleOf, IsObject, IsPeriodic, IsPriority, IsProcess, IsQueuingPort, IsSamplingPort, IsSuspended, MayNotWait, NamesNoProcess, NamesNone, OneIsNamed, Owns}
 use Rattle.apex_laws.proofs.Booleans.{is_itself}
 
 -- a test tells a fact: it holds exactly where the fact does
@@ -390,19 +392,32 @@ refresh_tells port refresh = by port.direction
     by direction.Source = (λ holds same. absurd (true≢false (ap is_source same)), λ fact. refl)
     by direction.Destination = (λ holds same. (number_tells refresh port.refresh).0 holds, λ fact. (number_tells refresh port.refresh).1 (fact refl))
 
+direction_tells : (way : Direction) (given : ℤ) → Tells (is_number given (direction_number way)) (IsDirection way given)
+direction_tells direction.Source given = number_tells given 0
+direction_tells direction.Destination given = number_tells given 1
+
+both_tells : (port : QueuingPort) (given : ℤ) → Tells (is_number given (both_number port)) (IsDirectionAndDiscipline port.direction port.discipline given)
+both_tells port given = by port.direction port.discipline
+  where
+    by : (way : Direction) (rule : Discipline) → Tells (is_number given (direction_number way + 2 * discipline_number rule)) (IsDirectionAndDiscipline way rule given)
+    by direction.Source discipline.Fifo = number_tells given 0
+    by direction.Destination discipline.Fifo = number_tells given 1
+    by direction.Source discipline.Priority = number_tells given 2
+    by direction.Destination discipline.Priority = number_tells given 3
+
 pub sampling_port_tells : (configuration : Configuration) (partition : ℕ) (name : List ℕ) (size way refresh : ℤ)
     → Tells (is_sampling_port (sampling_port configuration partition name) size way refresh) (IsSamplingPort configuration partition name size way refresh)
 sampling_port_tells configuration partition name size way refresh = by (sampling_port configuration partition name) refl
   where
     tests : (port : SamplingPort) → Tells (is_sampling_port (Some port) size way refresh)
-        ((size ≡ pos port.size) × ((way ≡ pos (direction_number port.direction)) × (port.direction ≡ direction.Destination → refresh ≡ pos port.refresh)))
+        ((size ≡ pos port.size) × ((IsDirection port.direction way) × (port.direction ≡ direction.Destination → refresh ≡ pos port.refresh)))
     tests port =
         tells_both (is_number size port.size) (is_number way (direction_number port.direction) && suits_refresh port refresh)
-        (size ≡ pos port.size) ((way ≡ pos (direction_number port.direction)) × (port.direction ≡ direction.Destination → refresh ≡ pos port.refresh))
+        (size ≡ pos port.size) ((IsDirection port.direction way) × (port.direction ≡ direction.Destination → refresh ≡ pos port.refresh))
         (number_tells size port.size)
         (tells_both (is_number way (direction_number port.direction)) (suits_refresh port refresh)
-        (way ≡ pos (direction_number port.direction)) (port.direction ≡ direction.Destination → refresh ≡ pos port.refresh)
-        (number_tells way (direction_number port.direction)) (refresh_tells port refresh))
+        (IsDirection port.direction way) (port.direction ≡ direction.Destination → refresh ≡ pos port.refresh)
+        (direction_tells port.direction way) (refresh_tells port refresh))
 
     by : (found : Option SamplingPort) → sampling_port configuration partition name ≡ found
         → Tells (is_sampling_port found size way refresh) (IsSamplingPort configuration partition name size way refresh)
@@ -418,13 +433,13 @@ pub queuing_port_tells : (configuration : Configuration) (partition : ℕ) (name
 queuing_port_tells configuration partition name size capacity both = by (queuing_port configuration partition name) refl
   where
     tests : (port : QueuingPort) → Tells (is_queuing_port (Some port) size capacity both)
-        ((size ≡ pos port.size) × ((capacity ≡ pos port.capacity) × (both ≡ pos (both_number port))))
+        ((size ≡ pos port.size) × ((capacity ≡ pos port.capacity) × (IsDirectionAndDiscipline port.direction port.discipline both)))
     tests port =
         tells_both (is_number size port.size) (is_number capacity port.capacity && is_number both (both_number port))
-        (size ≡ pos port.size) ((capacity ≡ pos port.capacity) × (both ≡ pos (both_number port)))
+        (size ≡ pos port.size) ((capacity ≡ pos port.capacity) × (IsDirectionAndDiscipline port.direction port.discipline both))
         (number_tells size port.size)
-        (tells_both (is_number capacity port.capacity) (is_number both (both_number port)) (capacity ≡ pos port.capacity) (both ≡ pos (both_number port))
-        (number_tells capacity port.capacity) (number_tells both (both_number port)))
+        (tells_both (is_number capacity port.capacity) (is_number both (both_number port)) (capacity ≡ pos port.capacity) (IsDirectionAndDiscipline port.direction port.discipline both)
+        (number_tells capacity port.capacity) (both_tells port both))
 
     by : (found : Option QueuingPort) → queuing_port configuration partition name ≡ found
         → Tells (is_queuing_port found size capacity both) (IsQueuingPort configuration partition name size capacity both)

@@ -1,18 +1,19 @@
 -- The error conditions of the services, in sentences: one case for each condition of each service, with what holds in the caller's
 -- partition and the code. A condition that several services share stands once.
-use Rattle.std.specs.Prelude.{◌≡◌, ◌⊎◌, ℕ, ◌*◌, ◌<◌, ◌≤◌, ℤ, pos, negsuc, ◌<ℤ◌, ◌≤ℤ◌, List, length, Option, Some, IsTrue, IsFalse, Contains}
+use Rattle.std.specs.Prelude.{◌≡◌, ◌⊎◌, ℕ, ◌*◌, ◌-◌, ◌<◌, ◌≤◌, ℤ, pos, negsuc, ◌<ℤ◌, ◌≤ℤ◌, List, length, Option, Some, IsTrue, IsFalse, Contains}
 use Rattle.apex_types.specs.declared.code.Code.{Code}
 use Rattle.apex_types.specs.declared.code.Code.TheVariants as code
+use Rattle.apex_types.specs.declared.discipline.Discipline.{Discipline}
+use Rattle.apex_types.specs.declared.discipline.Discipline.TheVariants as discipline
 use Rattle.apex_types.specs.declared.record.Who.{Who}
 use Rattle.apex_types.specs.declared.request.Request.{Request}
 use Rattle.apex_types.specs.declared.request.Request.TheVariants as request
+use Rattle.apex_machine.specs.declared.state.Direction.{Direction}
 use Rattle.apex_machine.specs.declared.state.Direction.TheVariants as direction
 use Rattle.apex_machine.specs.declared.state.Mode.TheVariants as mode
 use Rattle.apex_machine.specs.declared.state.Process.{Process}
 use Rattle.apex_machine.specs.declared.state.Wait.TheVariants as wait
-use Rattle.apex_machine.specs.Arguments.{direction_number}
 use Rattle.apex_machine.specs.Channels.{QueuingPort, SamplingPort, queuing_port, sampling_port}
-use Rattle.apex_machine.specs.Conditions.{both_number, created_count}
 use Rattle.apex_machine.specs.Configuration.{Configuration, PartitionLimits, limits_of, object_limit, period_of, process_limit}
 use Rattle.apex_machine.specs.State.{Blackboard, Buffer, Event, Mutex, Partition, Port, Semaphore, object_at, process_at}
 
@@ -93,6 +94,18 @@ OneIsNamed {Object} name name_of objects = (entry : ℕ × Object) × Contains o
 
 -- what the configuration says
 
+-- a number tells a direction: 0 a source, 1 a destination
+abbrev pub IsDirection : Direction → ℤ → Type 0
+IsDirection direction.Source given = given ≡ pos 0
+IsDirection direction.Destination given = given ≡ pos 1
+
+-- a number tells the direction and the discipline of a queuing port: 0 and 1 by FIFO, 2 and 3 by priority
+abbrev pub IsDirectionAndDiscipline : Direction → Discipline → ℤ → Type 0
+IsDirectionAndDiscipline direction.Source discipline.Fifo given = given ≡ pos 0
+IsDirectionAndDiscipline direction.Destination discipline.Fifo given = given ≡ pos 1
+IsDirectionAndDiscipline direction.Source discipline.Priority given = given ≡ pos 2
+IsDirectionAndDiscipline direction.Destination discipline.Priority given = given ≡ pos 3
+
 -- a core of a partition
 pub record IsCoreOf (configuration : Configuration) (partition : ℕ) (given : ℤ) : Type 0 where
   pub core : ℕ
@@ -107,7 +120,7 @@ pub record IsSamplingPort (configuration : Configuration) (partition : ℕ) (nam
   pub port : SamplingPort
   pub configured : sampling_port configuration partition name ≡ Some port
   pub has_size : size ≡ pos port.size
-  pub has_direction : way ≡ pos (direction_number port.direction)
+  pub has_direction : IsDirection port.direction way
   pub has_refresh : port.direction ≡ direction.Destination → refresh ≡ pos port.refresh
 
 -- a queuing port of this name is configured for the partition with this size, number of messages, direction and discipline
@@ -116,7 +129,7 @@ pub record IsQueuingPort (configuration : Configuration) (partition : ℕ) (name
   pub configured : queuing_port configuration partition name ≡ Some port
   pub has_size : size ≡ pos port.size
   pub has_capacity : capacity ≡ pos port.capacity
-  pub has_both : both ≡ pos (both_number port)
+  pub has_both : IsDirectionAndDiscipline port.direction port.discipline both
 
 -- the shared conditions, by service
 
@@ -188,9 +201,10 @@ NameIsTaken partition (request.CreateSamplingPort name size direction refresh) =
 NameIsTaken partition (request.CreateQueuingPort name size capacity both) = OneIsNamed name (λ (port : Port). port.name) partition.queuing_ports
 NameIsTaken partition _ = ⊥
 
--- as many are created of the kind that a service creates as the partition, of this number, may create; ports are configured one by one
+-- as many are created of the kind that a service creates as the partition of this number may create, the initialising process not counted; ports are
+-- configured one by one
 abbrev pub AllAreCreated : Configuration → ℕ → Partition → Request → Type 0
-AllAreCreated configuration number partition (request.CreateProcess name priority period) = process_limit configuration number ≤ created_count partition.table
+AllAreCreated configuration number partition (request.CreateProcess name priority period) = process_limit configuration number ≤ length partition.table - 1
 AllAreCreated configuration number partition (request.CreateBuffer name size capacity discipline) =
     object_limit configuration (λ limits. limits.buffers) number ≤ length partition.buffers
 AllAreCreated configuration number partition (request.CreateBlackboard name size) =
