@@ -79,10 +79,14 @@ creation_is_the_sentence core name priority period = record {
   name = refl;
   base_priority = refl;
   current_priority = refl;
+  retained_priority = refl;
   affinity = refl;
   period = refl;
   alive = refl;
   suspended = refl;
   wait = refl;
   due = refl;
+  last_release = refl;
+  ready_position = refl;
+  called_at = refl;
 }

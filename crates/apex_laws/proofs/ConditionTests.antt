@@ -25,7 +25,7 @@ use Rattle.apex_machine.specs.Configuration.{Configuration, PartitionLimits, has
 use Rattle.apex_machine.specs.Objects.{is_owner}
 use Rattle.apex_machine.specs.State.{Mutex, Partition, Table, given_object, process_at}
 use Rattle.apex_laws.specs.ConditionSentences.{IsCalledByPeriodic, IsCoreOf, IsDirection, IsDirectionAndDiscipline, IsFrom, IsMultipleOf, IsObject, IsPeriodic, IsPriority, IsProcess, IsQueuingPort, IsSamplingPort, IsSuspended, MayNotWait, NamesNoProcess, NamesNone, OneIsNamed, Owns}
-use Rattle.apex_laws.proofs.Booleans.{is_itself}
+use Rattle.apex_laws.proofs.Booleans.{cannot_hold, is_itself}
 
 -- a test tells a fact: it holds exactly where the fact does
 abbrev pub Tells : Bool → Type 0 → Type 0
@@ -89,6 +89,11 @@ not_negative n = (at_most 0 n).0 ((at_most_tells 0 n).1 (omega arith))
 
 above_none : (n : ℕ) → pos 0 <ℤ pos (suc n)
 above_none n = (below 0 (suc n)).0 ((below_tells 0 (suc n)).1 (omega arith))
+
+-- a number that is not 0 is above it
+pub positive_tells : (n : ℕ) → (nat_eq n 0 ≡ false → pos 0 <ℤ pos n) × (pos 0 <ℤ pos n → nat_eq n 0 ≡ false)
+positive_tells zero = (λ differs. absurd (true≢false (sym (is_itself 0) ∙ differs)), λ above. absurd (let none : 0 < 0 = (below_tells 0 0).0 ((below 0 0).1 above) in omega arith))
+positive_tells (suc n) = (λ differs. above_none n, λ above. cannot_hold (nat_eq (suc n) 0) (λ same. let none : suc n ≡ 0 = eqb-true (suc n) 0 same in omega arith))
 
 not_above : (one other : ℕ) → other ≤ one → ¬ (pos one <ℤ pos other)
 not_above one other most fact = let less : one < other = (below_tells one other).0 ((below one other).1 fact) in omega arith
@@ -196,14 +201,14 @@ value_tells (negsuc greatest) (negsuc n) = (λ holds. absurd (true≢false (sym 
 -- lists
 
 -- an element is the head of a list or stands behind it
-stands_cases : {X : Type 0} → (x y : X) (xs : List X) → Contains (x ∷ xs) y → (y ≡ x) ⊎ Contains xs y
+pub stands_cases : {X : Type 0} → (x y : X) (xs : List X) → Contains (x ∷ xs) y → (y ≡ x) ⊎ Contains xs y
 stands_cases x y xs stands =
     All-contains (λ one. (one ≡ x) ⊎ Contains xs one) (x ∷ xs) y
     (All-cons (λ one. (one ≡ x) ⊎ Contains xs one) x xs (inl refl)
     (All-weaker (Contains xs) (λ one. (one ≡ x) ⊎ Contains xs one) (λ one there. inr there) xs (All-contains_itself xs))) stands
 
 -- nothing stands in an empty list
-stands_nowhere : {X : Type 0} → (x : X) → Contains [] x → ⊥
+pub stands_nowhere : {X : Type 0} → (x : X) → Contains [] x → ⊥
 stands_nowhere x stands = let none : stands.0 < 0 = stands.1 in omega arith
 
 -- a walk over a list that tests its elements tells whether one of them has what the test tells
@@ -250,7 +255,7 @@ pub created_by : (partition : Partition) (given : ℤ) (found : Process) → IsP
 created_by partition given found is = ap (created partition.table) is.is ∙ at_positive partition.table is.number is.created ∙ is.stands
 
 -- nobody, by what is found
-nobody : {X : Type 0} → (found : Option X) → ((x : X) → found ≡ Some x → ⊥) → found ≡ None
+pub nobody : {X : Type 0} → (found : Option X) → ((x : X) → found ≡ Some x → ⊥) → found ≡ None
 nobody None none = refl
 nobody (Some x) none = absurd (none x refl)
 
@@ -293,7 +298,7 @@ owner_tells None number = (λ holds. absurd (true≢false (sym holds)), λ fact.
 owner_tells (Some owner) number =
     (λ holds. ap Some (eqb-true owner number holds), λ fact. let same : owner ≡ number = (let one : ◌≡◌ {A = Option ℕ} (Some owner) (Some number) = fact in cc) in eq-eqb owner number same)
 
-owns_tells : (partition : Partition) (number : ℕ) → Tells (owns_mutex partition.mutexes number) ((held : ℕ) × Owns partition number held)
+pub owns_tells : (partition : Partition) (number : ℕ) → Tells (owns_mutex partition.mutexes number) ((held : ℕ) × Owns partition number held)
 owns_tells partition number =
     let any = any_tells {X = ℕ × Mutex} (λ entry. is_owner entry.1.owner number) (λ entry. entry.1.owner ≡ Some number) (λ entry. owner_tells entry.1.owner number)
     (λ mutexes. owns_mutex mutexes number) refl (λ entry entries. refl) partition.mutexes in (

@@ -47,3 +47,6 @@ pub mod ConditionTests
 pub mod ConditionCodes
 pub mod ConditionsMet
 pub mod ViewedRuns
+pub mod Profile
+pub mod Numbers
+pub mod Waits

@@ -13,3 +13,6 @@ pub mod RecordLaws
 pub mod ConditionSentences
 pub mod ConditionLaws
 pub mod ViewLaws
+pub mod ProfileLaws
+pub mod NumberLaws
+pub mod WaitLaws

@@ -180,17 +180,21 @@ pub data IsCaller (place now : ℕ) (call : CallRecord) (old new : Process) : Ty
 -- creation
 
 -- CREATE_PROCESS: a dormant process of this name, priority and period, on the partition's first core; it waits for nothing, is not
--- suspended, and nothing is due to it
+-- suspended, nothing is due to it, and no release, no ready position and no call is noted
 pub record IsCreated (core : ℕ) (called : List ℕ) (priority : ℕ) (given_period : Option ℕ) (new : Process) : Type 0 where
   pub name : new.name ≡ called
   pub base_priority : new.base_priority ≡ priority
   pub current_priority : new.current_priority ≡ priority
+  pub retained_priority : new.retained_priority ≡ priority
   pub affinity : new.affinity ≡ core
   pub period : new.period ≡ given_period
   pub alive : IsFalse new.alive
   pub suspended : IsFalse new.suspended
   pub wait : new.wait ≡ wait.Nothing
   pub due : new.due ≡ None
+  pub last_release : new.last_release ≡ 0
+  pub ready_position : new.ready_position ≡ 0
+  pub called_at : new.called_at ≡ 0
 
 -- what the services of process management and time give
 

@@ -11,6 +11,9 @@ ghost use Rattle.apex_laws.specs.ObjectLaws.{BlackboardIsTheSentence, ChannelIsT
 ghost use Rattle.apex_laws.specs.RecordLaws.{CallIsTheSentence, DispatchIsTheSentence, RefusalIsTheSentence, ReturnIsTheSentence, SetIsTheSentence, TickIsTheSentence};
 ghost use Rattle.apex_laws.specs.ConditionFacts.{ConditionFacts};
 ghost use Rattle.apex_laws.specs.ConditionLaws.{CodesAreTheSentences};
+ghost use Rattle.apex_laws.specs.NumberLaws.{NewNumberIsTheSentence, ObjectsAreFound, ProcessesAreFound};
+ghost use Rattle.apex_laws.specs.ProfileLaws.{ProfileIsTheSentence};
+ghost use Rattle.apex_laws.specs.WaitLaws.{EnteringIsTheSentence, TimeOutIsTheSentence};
 ghost use Rattle.apex_laws.specs.ViewLaws.{ViewsAreOfTheRun};
 ghost use Rattle.apex_laws.specs.WorkedFacts.{LawfulFacts, WorkedFacts};
 ghost use Rattle.apex_laws.specs.ProcessLaws.{AnswerIsTheSentence, CallerIsTheSentence, CreationIsTheSentence, DueIsTheSentence, ReleaseIsTheSentence, SettingIsTheSentence, StoppingIsTheSentence, WakingIsTheSentence};
@@ -245,4 +248,34 @@ pub fn condition_facts()
 /// A code is among those of a call exactly where an error condition of its service with that code holds.
 pub fn codes_are_the_sentences()
     ensures { CodesAreTheSentences }
+{}
+
+/// A call stands outside the profile exactly where a sentence puts it there.
+pub fn profile_is_the_sentence()
+    ensures { ProfileIsTheSentence }
+{}
+
+/// Under a number of a table of distinct numbers stands the process that has it.
+pub fn processes_are_found()
+    ensures { ProcessesAreFound }
+{}
+
+/// What is found under a number of objects has this number, and none is found where no object has it.
+pub fn objects_are_found()
+    ensures { ObjectsAreFound }
+{}
+
+/// A new number is 1 to 2,147,483,647, and nothing of its kind has it.
+pub fn new_number_is_the_sentence()
+    ensures { NewNumberIsTheSentence }
+{}
+
+/// A call enters a waiting set exactly where it waits, and the set is its service's.
+pub fn entering_is_the_sentence()
+    ensures { EnteringIsTheSentence }
+{}
+
+/// A wait in a set falls due from the end of its time-out on, and then returns TIMED_OUT; with a time-out of -1 it never does.
+pub fn time_out_is_the_sentence()
+    ensures { TimeOutIsTheSentence }
 {}

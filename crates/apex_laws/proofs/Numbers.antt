@@ -1,0 +1,116 @@
+-- Processes and objects by their numbers: what is found under a number, and which numbers are new.
+use Rattle.std.proofs.Common.{◌≡◌, ℕ, ◌<◌, ◌≤◌, ℤ, pos, negsuc, List, [], ◌∷◌, Option, Some, None, Bool, ◌&&◌, nat_eq, nat_le, nat_lt, is_none, cond, refl, sym, ap, subst, ◌∙◌, inl, inr, true≢false}
+use Rattle.std.specs.Prelude.{Contains}
+use Rattle.std.proofs.lemmas.Bool.{cases_Bool, eqb-true}
+use Rattle.std.proofs.lemmas.List.Elements.{All-contains, Contains-append_left, Contains-append_right, Contains-push}
+use Rattle.apex_machine.specs.Answer.{is_new}
+use Rattle.apex_machine.specs.State.{Blackboard, Buffer, Event, Mutex, Port, Semaphore, Table, is_free_object, is_free_process, object_at, process_at}
+use Rattle.apex_laws.specs.NumberLaws.{AreFound, AreNew, IsNewNumber, NewNumberIsTheSentence, ObjectsAreFound, ProcessesAreFound}
+use Rattle.apex_laws.proofs.Booleans.{is_itself}
+use Rattle.apex_laws.proofs.ConditionTests.{Tells, absent, at_most_tells, below_tells, nobody, stands_cases, stands_nowhere, tells_both}
+use Rattle.apex_laws.proofs.Entries.{at_its_number}
+
+-- what is found stands under its number
+found_object : {Object : Type 0} → (objects : List (ℕ × Object)) (number : ℕ) (object : Object) → object_at objects number ≡ Some object → Contains objects (number, object)
+found_object [] number object at = absurd (absent object at)
+found_object {Object} (entry ∷ entries) number object at =
+    elim (cases_Bool (nat_eq number entry.0)) [
+      | inl here ↦
+          let is : ◌≡◌ {A = Option Object} (Some entry.1) (Some object) = (let one : object_at (entry ∷ entries) number ≡ Some entry.1 = rw here refl in sym one ∙ at) in
+          let same : entry.1 ≡ object = cc in
+          let one : ◌≡◌ {A = ℕ × Object} entry (number, object) = (let key : entry.0 ≡ number = sym (eqb-true number entry.0 here) in λ i. (key i, same i)) in
+          subst (Contains (entry ∷ entries)) one (Contains-append_left (entry ∷ []) entries entry (Contains-push [] entry))
+      | inr other ↦
+          let later : object_at entries number ≡ Some object = (let one : object_at (entry ∷ entries) number ≡ object_at entries number = rw other refl in sym one ∙ at) in
+          Contains-append_right (entry ∷ []) entries (number, object) (found_object entries number object later)
+    ]
+
+-- where nothing is found nothing stands
+nothing_stands : {Object : Type 0} → (objects : List (ℕ × Object)) (number : ℕ) → object_at objects number ≡ None → (object : Object) → ¬ Contains objects (number, object)
+nothing_stands [] number none object stands = stands_nowhere (number, object) stands
+nothing_stands {Object} (entry ∷ entries) number none object stands =
+    elim (cases_Bool (nat_eq number entry.0)) [
+      | inl here ↦ absent entry.1 (let one : object_at (entry ∷ entries) number ≡ Some entry.1 = rw here refl in sym none ∙ one)
+      | inr other ↦
+          let later : object_at entries number ≡ None = (let one : object_at (entry ∷ entries) number ≡ object_at entries number = rw other refl in sym one ∙ none) in
+          elim (stands_cases entry (number, object) entries stands) [
+            | inl same ↦ true≢false (sym (ap (λ one. nat_eq number one.0) (sym same) ∙ is_itself number) ∙ other)
+            | inr there ↦ nothing_stands entries number later object there
+          ]
+    ]
+
+none_stands : {Object : Type 0} → (objects : List (ℕ × Object)) (number : ℕ) → ((object : Object) → ¬ Contains objects (number, object)) → object_at objects number ≡ None
+none_stands {Object} objects number none = nobody (object_at objects number) (λ object at. none object (found_object objects number object at))
+
+are_found : (Object : Type 0) → AreFound Object
+are_found Object objects number = (found_object objects number, (nothing_stands objects number, none_stands objects number))
+
+pub objects_are_found : ObjectsAreFound
+objects_are_found = record {
+  buffers = are_found Buffer;
+  blackboards = are_found Blackboard;
+  semaphores = are_found Semaphore;
+  events = are_found Event;
+  mutexes = are_found Mutex;
+  ports = are_found Port;
+}
+
+-- a process is found as an object of its table is
+as_object : (table : Table) (number : ℕ) → process_at table number ≡ object_at table number
+as_object [] number = refl
+as_object (entry ∷ entries) number = ap (λ rest. cond (nat_eq number entry.0) (Some entry.1) rest) (as_object entries number)
+
+pub processes_are_found : ProcessesAreFound
+processes_are_found table number = (
+  λ distinct process. (
+    λ at. found_object table number process (sym (as_object table number) ∙ at),
+    λ stands. All-contains (λ entry. process_at table entry.0 ≡ Some entry.1) table (number, process) (at_its_number table distinct) stands,
+  ),
+  (
+    λ none. nothing_stands table number (sym (as_object table number) ∙ none),
+    λ none. as_object table number ∙ none_stands table number none,
+  ),
+)
+
+-- a new number, where a test tells which numbers are free
+new_tells : {Object : Type 0} → (objects : List (ℕ × Object)) (is_free : ℕ → Bool) → ((number : ℕ) → Tells (is_free number) ((object : Object) → ¬ Contains objects (number, object)))
+    → (claimed : Option ℤ) → Tells (is_new is_free claimed) (IsNewNumber objects claimed)
+new_tells objects is_free tells None = (λ holds. absurd (true≢false (sym holds)), λ fact. absurd (absent (pos fact.number) fact.is))
+new_tells objects is_free tells (Some (negsuc n)) =
+    (λ holds. absurd (true≢false (sym holds)), λ fact. let one : ◌≡◌ {A = Option ℤ} (Some (negsuc n)) (Some (pos fact.number)) = fact.is in cc)
+new_tells {Object} objects is_free tells (Some (pos n)) =
+    let all = tells_both (nat_lt 0 n) (nat_le n 2147483647 && is_free n) (0 < n) ((n ≤ 2147483647) × ((object : Object) → ¬ Contains objects (n, object)))
+    (below_tells 0 n)
+    (tells_both (nat_le n 2147483647) (is_free n) (n ≤ 2147483647) ((object : Object) → ¬ Contains objects (n, object)) (at_most_tells n 2147483647) (tells n)) in (
+      λ holds. let facts = all.0 holds in record { number = n; is = refl; least = facts.0; greatest = facts.1.0; free = facts.1.1 },
+      λ fact. let same : fact.number ≡ n = (let one : ◌≡◌ {A = Option ℤ} (Some (pos n)) (Some (pos fact.number)) = fact.is in cc) in
+          all.1 (subst (λ one. 0 < one) same fact.least, (subst (λ one. one ≤ 2147483647) same fact.greatest, subst (λ one. (object : Object) → ¬ Contains objects (one, object)) same fact.free)),
+    )
+
+-- nothing is found
+none_tells : {X : Type 0} → (found : Option X) → Tells (is_none found) (found ≡ None)
+none_tells None = (λ holds. refl, λ fact. refl)
+none_tells (Some x) = (λ holds. absurd (true≢false (sym holds)), λ fact. absurd (absent x (sym fact)))
+
+are_new : (Object : Type 0) → AreNew Object
+are_new Object objects claimed =
+    new_tells objects (is_free_object objects)
+    (λ number. (
+      λ holds. nothing_stands objects number ((none_tells (object_at objects number)).0 holds),
+      λ fact. (none_tells (object_at objects number)).1 (none_stands objects number fact),
+    )) claimed
+
+pub new_number_is_the_sentence : NewNumberIsTheSentence
+new_number_is_the_sentence = record {
+  processes = λ table claimed. new_tells table (is_free_process table)
+      (λ number. (
+        λ holds. ((processes_are_found table number).1).0 ((none_tells (process_at table number)).0 holds),
+        λ fact. (none_tells (process_at table number)).1 (((processes_are_found table number).1).1 fact),
+      )) claimed;
+  buffers = are_new Buffer;
+  blackboards = are_new Blackboard;
+  semaphores = are_new Semaphore;
+  events = are_new Event;
+  mutexes = are_new Mutex;
+  ports = are_new Port;
+}

@@ -1,0 +1,51 @@
+-- Which calls stand outside the profile, in sentences.
+use Rattle.std.specs.Prelude.{◌≡◌, ◌↔◌, ℕ, ℤ, pos, List, Option, Some, Bool, false, IsFalse, ◌<ℤ◌}
+use Rattle.apex_types.specs.declared.record.Who.{Who}
+use Rattle.apex_types.specs.declared.request.Request.{Request}
+use Rattle.apex_types.specs.declared.request.Request.TheVariants as request
+use Rattle.apex_types.specs.declared.service.Service.{Service}
+use Rattle.apex_types.specs.declared.service.Service.TheVariants as service
+use Rattle.apex_machine.specs.declared.state.Process.{Process}
+use Rattle.apex_machine.specs.declared.state.Wait.TheVariants as wait
+use Rattle.apex_machine.specs.declared.state.WaitingSet.TheVariants as set
+use Rattle.apex_machine.specs.Arguments.{natural_of}
+use Rattle.apex_machine.specs.Services.{in_profile}
+use Rattle.apex_machine.specs.State.{Partition, process_at}
+use Rattle.apex_laws.specs.ConditionSentences.{Owns}
+
+-- a process owns a mutex
+abbrev pub IsOwner : Partition → ℕ → Type 0
+IsOwner partition process = (held : ℕ) × Owns partition process held
+
+-- a process waits for a mutex
+pub record AwaitsMutex (partition : Partition) (number : ℕ) : Type 0 where
+  pub process : Process
+  pub stands : process_at partition.table number ≡ Some process
+  pub mutex : ℕ
+  pub due : Option ℕ
+  pub waits : process.wait ≡ wait.At (set.MutexWaiters mutex) due
+
+-- a call stands outside the profile, where no error condition holds for it
+module _ (judged : Service → Bool) (who : Who) (partition : Partition) where
+  pub data IsOutsideProfile : Request → Type 0 where
+    -- the creation of a periodic process, where PERIODIC_WAIT is not judged
+    periodic_process : {name : List ℕ} {priority period : ℤ} → pos 0 <ℤ period → IsFalse (judged service.PeriodicWait) → IsOutsideProfile (request.CreateProcess name priority period)
+    -- the stop of the owner of a mutex
+    owner_is_stopped : {process : ℤ} → IsOwner partition (natural_of process) → IsOutsideProfile (request.Stop process)
+    -- the initialising process, or the owner of a mutex, stops itself
+    initialising_stops : who.proc ≡ 0 → IsOutsideProfile request.StopSelf
+    owner_stops : IsOwner partition who.proc → IsOutsideProfile request.StopSelf
+    -- the owner of a mutex, or a process that waits for one, is suspended
+    owner_is_suspended : {process : ℤ} → IsOwner partition (natural_of process) → IsOutsideProfile (request.Suspend process)
+    waiter_is_suspended : {process : ℤ} → AwaitsMutex partition (natural_of process) → IsOutsideProfile (request.Suspend process)
+    -- the owner of a mutex, or a process that waits for one, gets another priority
+    owner_is_changed : {process priority : ℤ} → IsOwner partition (natural_of process) → IsOutsideProfile (request.SetPriority process priority)
+    waiter_is_changed : {process priority : ℤ} → AwaitsMutex partition (natural_of process) → IsOutsideProfile (request.SetPriority process priority)
+    -- a mode other than NORMAL, which is 3
+    other_mode : {next : ℤ} → ¬ (next ≡ pos 3) → IsOutsideProfile (request.SetPartitionMode next)
+
+-- a call is not in the profile exactly where a sentence puts it outside
+abbrev pub ProfileIsTheSentence : Type 0
+ProfileIsTheSentence =
+    (judged : Service → Bool) (who : Who) (partition : Partition) (asked : Request)
+    → (in_profile judged who partition asked ≡ false) ↔ IsOutsideProfile judged who partition asked

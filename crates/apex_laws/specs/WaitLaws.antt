@@ -1,0 +1,43 @@
+-- Waits: at which waiting set a call waits, and how a wait with a time-out ends.
+use Rattle.std.specs.Prelude.{◌≡◌, ◌↔◌, ℕ, ◌+◌, ◌≤◌, ℤ, pos, negsuc, List, [], Option, Some, None, true, false}
+use Rattle.apex_types.specs.declared.code.Code.TheVariants as code
+use Rattle.apex_types.specs.declared.record.Call.{Call as CallRecord}
+use Rattle.apex_types.specs.declared.record.Out.TheVariants as out
+use Rattle.apex_types.specs.declared.request.Request.{Request}
+use Rattle.apex_types.specs.declared.request.Request.TheVariants as request
+use Rattle.apex_types.specs.Requested.{service_of}
+use Rattle.apex_machine.specs.declared.state.Process.{Process}
+use Rattle.apex_machine.specs.declared.state.WaitingSet.{WaitingSet}
+use Rattle.apex_machine.specs.declared.state.WaitingSet.TheVariants as set
+use Rattle.apex_machine.specs.Arguments.{natural_of}
+use Rattle.apex_machine.specs.Processes.{caller_after, released}
+use Rattle.apex_machine.specs.Step.{falls_due}
+use Rattle.apex_machine.specs.Waiting.{enters}
+use Rattle.apex_laws.specs.ConditionSentences.{HasTimeOut}
+
+-- the waiting set of a service: that of the object which it names, or that of its end of the channel which its call claims
+pub data WaitsIn : Request → Option ℕ → WaitingSet → Type 0 where
+  sends_to_buffer : {buffer length time_out : ℤ} {message : List ℕ} {chan : Option ℕ} → WaitsIn (request.SendBuffer buffer length time_out message) chan (set.BufferSenders (natural_of buffer))
+  receives_from_buffer : {buffer time_out : ℤ} {chan : Option ℕ} → WaitsIn (request.ReceiveBuffer buffer time_out) chan (set.BufferReceivers (natural_of buffer))
+  reads_blackboard : {blackboard time_out : ℤ} {chan : Option ℕ} → WaitsIn (request.ReadBlackboard blackboard time_out) chan (set.BlackboardReaders (natural_of blackboard))
+  waits_for_semaphore : {semaphore time_out : ℤ} {chan : Option ℕ} → WaitsIn (request.WaitSemaphore semaphore time_out) chan (set.SemaphoreWaiters (natural_of semaphore))
+  waits_for_event : {event time_out : ℤ} {chan : Option ℕ} → WaitsIn (request.WaitEvent event time_out) chan (set.EventWaiters (natural_of event))
+  acquires_mutex : {mutex time_out : ℤ} {chan : Option ℕ} → WaitsIn (request.AcquireMutex mutex time_out) chan (set.MutexWaiters (natural_of mutex))
+  sends_through : {port length time_out : ℤ} {message : List ℕ} {channel : ℕ} → WaitsIn (request.SendQueuingMessage port length time_out message) (Some channel) (set.ChannelSenders channel)
+  receives_through : {port time_out : ℤ} {channel : ℕ} → WaitsIn (request.ReceiveQueuingMessage port time_out) (Some channel) (set.ChannelReceivers channel)
+
+-- a call enters a waiting set exactly where it waits, and the set is its service's
+abbrev pub EnteringIsTheSentence : Type 0
+EnteringIsTheSentence =
+    (call : CallRecord) (wanted : WaitingSet)
+    → (enters call wanted ≡ true) ↔ ((call.claim.out ≡ out.Waits) × WaitsIn call.request call.claim.chan wanted)
+
+-- a call that waits in a set with a time-out of some ticks: the caller falls due on its core exactly from the end of the time-out on,
+-- and then its service returns TIMED_OUT; with a time-out of -1 it never falls due
+abbrev pub TimeOutIsTheSentence : Type 0
+TimeOutIsTheSentence =
+    (place now : ℕ) (call : CallRecord) (wanted : WaitingSet) (old : Process) → call.claim.out ≡ out.Waits → WaitsIn call.request call.claim.chan wanted
+    → ((ticks core time : ℕ) → HasTimeOut call.request (pos ticks)
+    → (falls_due core time (Some (caller_after place now call old)) ≡ true) ↔ ((old.affinity ≡ core) × (now + ticks ≤ time)))
+    × (HasTimeOut call.request (negsuc 0) → (core time : ℕ) → falls_due core time (Some (caller_after place now call old)) ≡ false)
+    × ((later : ℕ) → (released later (caller_after place now call old)).due ≡ Some (record { service = service_of call.request; code = code.TimedOut; val = None; bytes = [] }))
