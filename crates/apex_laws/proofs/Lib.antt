@@ -50,3 +50,4 @@ pub mod ViewedRuns
 pub mod Profile
 pub mod Numbers
 pub mod Waits
+pub mod WorkedRun

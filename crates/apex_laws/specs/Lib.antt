@@ -16,3 +16,4 @@ pub mod ViewLaws
 pub mod ProfileLaws
 pub mod NumberLaws
 pub mod WaitLaws
+pub mod WorkedRun

@@ -15,6 +15,7 @@ ghost use Rattle.apex_laws.specs.NumberLaws.{NewNumberIsTheSentence, ObjectsAreF
 ghost use Rattle.apex_laws.specs.ProfileLaws.{ProfileIsTheSentence};
 ghost use Rattle.apex_laws.specs.WaitLaws.{EnteringIsTheSentence, TimeOutIsTheSentence};
 ghost use Rattle.apex_laws.specs.ViewLaws.{ViewsAreOfTheRun};
+ghost use Rattle.apex_laws.specs.WorkedRun.{WorkedRun};
 ghost use Rattle.apex_laws.specs.WorkedFacts.{LawfulFacts, WorkedFacts};
 ghost use Rattle.apex_laws.specs.ProcessLaws.{AnswerIsTheSentence, CallerIsTheSentence, CreationIsTheSentence, DueIsTheSentence, ReleaseIsTheSentence, SettingIsTheSentence, StoppingIsTheSentence, WakingIsTheSentence};
 
@@ -278,4 +279,10 @@ pub fn entering_is_the_sentence()
 /// A wait in a set falls due from the end of its time-out on, and then returns TIMED_OUT; with a time-out of -1 it never does.
 pub fn time_out_is_the_sentence()
     ensures { TimeOutIsTheSentence }
+{}
+
+/// A message through a queuing channel: its 23 records are a run from the cold state, and with another message at the return they
+/// are none.
+pub fn worked_run()
+    ensures { WorkedRun }
 {}
