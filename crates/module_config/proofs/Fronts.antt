@@ -1,6 +1,7 @@
--- A reading of the items that are left, with what has been read before them.
-use Rattle.std.proofs.Common.{◌≡◌, ◌<◌, ◌+◌, ◌++◌, ◌∷◌, [], ℕ, List, Ok, Err, refl, sym, ap, append_assoc, get_or, drop, length}
+-- A reading of the items that are left, beside that of all.
+use Rattle.std.proofs.Common.{◌≡◌, ◌<◌, ◌+◌, ◌++◌, ◌∷◌, [], ℕ, List, Some, Ok, Err, refl, sym, ap, append_assoc, get_or, drop, length}
 use Rattle.std.specs.Prelude.{Result}
+use Rattle.std.specs.Result.{result_err}
 use Rattle.toml.specs.Data.{Data}
 use Rattle.toml.specs.View.{view, items_view}
 use Rattle.toml.specs.declared.value.Value.{Value}
@@ -23,23 +24,27 @@ pub behind-more : {A : Type 0} (front : List A) (first : A) (reading : Result (L
 behind-more front first (Ok rest) = ap (λ all. Ok all) (sym (append_assoc front (first ∷ []) rest))
 behind-more front first (Err fault) = refl
 
+-- what a loop that judges the items of a list keeps after `i` of them
+pub record KeepsJudging {A : Type 0} (reading : Data → Result A ConfigFault) (values : List Value) (i : ℕ) : Type 0 where
+  pub judged : result_err (each_item reading (items_view (drop i values))) ≡ result_err (each_item reading (items_view values))
+
+-- a value before them refuses nothing
+value-before : {A : Type 0} (first : A) (reading : Result (List A) ConfigFault) → result_err (reading >>= (λ rest. Ok (first ∷ rest))) ≡ result_err reading
+value-before first (Ok rest) = refl
+value-before first (Err fault) = refl
+
 -- an item is read, and the loop goes on
-pub each_item-more : {A : Type 0} (reading : Data → Result A ConfigFault) (front : List A) (values : List Value) (i : ℕ) (value : Value) (first : A)
+pub judging-more : {A : Type 0} (reading : Data → Result A ConfigFault) (values : List Value) (i : ℕ) (value : Value) (first : A)
     → i < length values → value ≡ get_or values i value → reading (view value) ≡ Ok first
-    → behind front (each_item reading (items_view (drop i values))) ≡ behind (front ++ first ∷ []) (each_item reading (items_view (drop (i + 1) values)))
-each_item-more reading front values i value first below is read =
+    → result_err (each_item reading (items_view (drop i values))) ≡ result_err (each_item reading (items_view (drop (i + 1) values)))
+judging-more reading values i value first below is read =
     let cut = items_view-drop values i value below in
-    rw (cut, ← is, read) (behind-more front first (each_item reading (items_view (drop (i + 1) values))))
+    rw (cut, ← is, read) (value-before first (each_item reading (items_view (drop (i + 1) values))))
 
 -- an item is refused, and with it the list
-pub each_item-refused : {A : Type 0} (reading : Data → Result A ConfigFault) (front : List A) (values : List Value) (i : ℕ) (value : Value) (fault : ConfigFault)
+pub judging-refused : {A : Type 0} (reading : Data → Result A ConfigFault) (values : List Value) (i : ℕ) (value : Value) (fault : ConfigFault)
     → i < length values → value ≡ get_or values i value → reading (view value) ≡ Err fault
-    → behind front (each_item reading (items_view (drop i values))) ≡ Err fault
-each_item-refused reading front values i value fault below is read =
+    → result_err (each_item reading (items_view (drop i values))) ≡ Some fault
+judging-refused reading values i value fault below is read =
     let cut = items_view-drop values i value below in
     rw (cut, ← is, read) refl
-
--- what a loop over the items of a list keeps after `i` of them
-pub record KeepsItems {A : Type 0} (reading : Data → Result A ConfigFault) (values : List Value) (i : ℕ) (front : List A) : Type 0 where
-  pub reads : behind front (each_item reading (items_view (drop i values))) ≡ each_item reading (items_view values)
-  pub as_many : length front ≡ i

@@ -4,4 +4,7 @@ pub mod Rising
 pub mod Found
 pub mod Texts
 pub mod Placing
+pub mod Numbered
+pub mod Windows
+pub mod InWindow
 pub mod Judged

@@ -10,6 +10,11 @@ abbrev pub ◌>>=◌ : {A B : Type 0} → Result A ConfigFault → (A → Result
 (Ok value) >>= next = next value
 (Err fault) >>= next = Err fault
 
+-- what a call gave is the reading: its value as the definitions see it, or its refusal
+abbrev pub Reads : {A B : Type 0} → (A → B) → Result A ConfigFault → Result B ConfigFault → Type 0
+Reads view (Ok value) reading = reading ≡ Ok (view value)
+Reads view (Err fault) reading = reading ≡ Err fault
+
 -- what a call gave is the reading, unless memory ran out
 abbrev pub Gives : {A B : Type 0} → (A → B) → Result A ConfigFault → Result B ConfigFault → Type 0
 Gives view (Ok value) reading = reading ≡ Ok (view value)

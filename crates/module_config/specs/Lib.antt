@@ -1,6 +1,8 @@
 pub mod Keys
+pub mod Order
 pub mod Walk
 pub mod Whole
+pub mod WindowLaw
 pub mod Reading
 pub mod Limits
 pub mod Laid

@@ -1,7 +1,6 @@
 -- What each configuration keeps.
-use Rattle.std.specs.Prelude.{◌≡◌, ℕ, ◌≤◌, ◌<◌, List, [], ◌∷◌, length, map, All, IsTrue, true, false, ⊤}
-use Rattle.std.specs.List.{AllByRecursion}
-use Rattle.apex_machine.specs.Configuration.{Configuration, PartitionLimits, has_core, limits_of}
+use Rattle.std.specs.Prelude.{◌≡◌, ℕ, ◌+◌, ◌≤◌, ◌<◌, List, [], length, map, All, AllPairs, IsTrue, true, false}
+use Rattle.apex_machine.specs.Configuration.{Configuration, PartitionLimits, Window, has_core, limits_of}
 use Rattle.module_config.specs.Whole.{is_too_large, are_of_partitions, has_overlap}
 
 -- a partition's number, period and processes are within their limits
@@ -11,15 +10,27 @@ pub record AreLimits (number period processes : ℕ) : Type 0 where
   pub period_most : period ≤ 4294967295
   pub processes_most : processes ≤ 128
 
--- each partition's number is at least the number before it
+-- no partition's number is above a later one's
 abbrev pub IsOrdered : List PartitionLimits → Type 0
-IsOrdered [] = ⊤
-IsOrdered (limits ∷ others) = AllByRecursion (λ other. limits.number ≤ other.number) others × IsOrdered others
+IsOrdered partitions = AllPairs (λ limits other. limits.number ≤ other.number) partitions
 
--- each partition's number is above the number before it
+-- each partition's number is below those of the later ones
 abbrev pub IsRising : List PartitionLimits → Type 0
-IsRising [] = ⊤
-IsRising (limits ∷ others) = AllByRecursion (λ other. limits.number < other.number) others × IsRising others
+IsRising partitions = AllPairs (λ limits other. limits.number < other.number) partitions
+
+-- a window is of an earlier core than another, or begins no later on the same core
+pub record BeginsNoLater (window other : Window) : Type 0 where
+  pub core : window.core ≤ other.core
+  pub begins : window.core ≡ other.core → window.start ≤ other.start
+
+-- a window is of an earlier core than another, or ends before the other begins
+pub record EndsBefore (window other : Window) : Type 0 where
+  pub core : window.core ≤ other.core
+  pub ends : window.core ≡ other.core → window.start + window.span ≤ other.start
+
+-- a window holds a tick at least
+abbrev pub HasTick : Window → Type 0
+HasTick window = 1 ≤ window.span
 
 -- a partition's cores are of a module that has this many
 abbrev pub AreCoresOf : ℕ → PartitionLimits → Type 0
@@ -45,12 +56,14 @@ pub record HasNoChannel (configuration : Configuration) : Type 0 where
   pub sampling : configuration.sampling ≡ []
   pub queuing : configuration.queuing ≡ []
 
--- the parts of a configuration go together: no number twice, each window on a core of its partition, no overlap
+-- the parts of a configuration go together: no number twice, each window on a core of its
+-- partition, no overlap; the windows stand by core and start, each before those that begin after its end
 pub record IsConsistent (configuration : Configuration) : Type 0 where
   pub not_too_large : is_too_large configuration ≡ false
   pub rising : IsRising configuration.partitions
   pub of_partitions : are_of_partitions configuration.partitions configuration.windows ≡ true
   pub apart : has_overlap configuration.windows ≡ false
+  pub timetable : AllPairs EndsBefore configuration.windows
 
 -- the numbers of the partitions, in the order of the configuration
 abbrev pub partition_numbers : Configuration → List ℕ

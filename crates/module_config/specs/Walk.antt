@@ -5,6 +5,7 @@ use Rattle.apex_machine.specs.Configuration.{Configuration, PartitionLimits, Win
 use Rattle.module_config.specs.declared.fault.ConfigFault.{ConfigFault}
 use Rattle.module_config.specs.declared.fault.ConfigFault.TheVariants.{WrongType, OutOfRange}
 use Rattle.module_config.specs.Keys.{◌>>=◌, integer_at, natural_at, ticks_at, required, is_integer, is_table, list_of, at_least_one, each_item}
+use Rattle.module_config.specs.Order.{in_order, stands_before, begins_before}
 
 -- the next core of a partition's list: above those before it, and one that the module has
 abbrev pub core_in : ℕ → ℕ → Data → Result ℕ ConfigFault
@@ -55,19 +56,9 @@ abbrev pub partition_in : ℕ → Data → Result PartitionLimits ConfigFault
 partition_in count (table keys) = partition_under count keys
 partition_in count _ = Err WrongType
 
--- a partition among others that stand in order: behind those of lower numbers and of its own
-abbrev pub put_among : PartitionLimits → List PartitionLimits → List PartitionLimits
-put_among limits [] = limits ∷ []
-put_among limits (first ∷ others) = if nat_lt limits.number first.number then limits ∷ first ∷ others else first ∷ put_among limits others
-
--- partitions put, one after another, among those that stand in order
-abbrev pub in_order : List PartitionLimits → List PartitionLimits → List PartitionLimits
-in_order placed [] = placed
-in_order placed (limits ∷ others) = in_order (put_among limits placed) others
-
 -- the partitions that the items of a list describe, in the order of their numbers
 abbrev pub ordered_partitions : ℕ → Items → Result (List PartitionLimits) ConfigFault
-ordered_partitions count items = each_item (partition_in count) items >>= (λ partitions. Ok (in_order [] partitions))
+ordered_partitions count items = each_item (partition_in count) items >>= (λ partitions. Ok (in_order stands_before [] partitions))
 
 -- the partitions: a list of tables, of which there is one at least
 abbrev pub partitions_at : ℕ → Option Data → Result (List PartitionLimits) ConfigFault
@@ -87,10 +78,14 @@ abbrev pub window_in : ℕ → ℕ → Data → Result Window ConfigFault
 window_in count frame (table keys) = window_under count frame keys
 window_in count frame _ = Err WrongType
 
+-- the windows that the items of a list describe, in the order of their cores and starts
+abbrev pub ordered_windows : ℕ → ℕ → Items → Result (List Window) ConfigFault
+ordered_windows count frame items = each_item (window_in count frame) items >>= (λ windows. Ok (in_order begins_before [] windows))
+
 -- the windows: a list of tables; without the key there is none
 abbrev pub windows_at : ℕ → ℕ → Option Data → Result (List Window) ConfigFault
 windows_at count frame None = Ok []
-windows_at count frame (Some value) = list_of is_table value >>= each_item (window_in count frame)
+windows_at count frame (Some value) = list_of is_table value >>= ordered_windows count frame
 
 -- what a table configures, each key judged by itself; keys of other names say nothing, and no channel is configured yet
 abbrev pub walk : Members → Result Configuration ConfigFault

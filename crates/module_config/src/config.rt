@@ -1,22 +1,29 @@
 // The configuration of a module, and the readers of its fields.
 
-ghost use Rattle.std.specs.Prelude.{◌≡◌, ◌≤◌, ◌<◌, IfOk, IfSome, Bool, true, length, slice_index};
+ghost use Rattle.std.specs.Prelude.{◌≡◌, ◌≤◌, ◌<◌, ◌↔◌, All, AllPairs, IfOk, IfErr, IfSome, Bool, true, length, slice_index};
+ghost use Rattle.toml.specs.Errors.{IsMemory};
 ghost use Rattle.toml.specs.View.{table_view};
-ghost use Rattle.apex_machine.specs.Configuration.{window_at, window_among, has_partition, WindowsAreConfigured, first_core, process_limit, period_of, is_core};
+ghost use Rattle.apex_machine.specs.Configuration.{window_at, has_partition, WindowsAreConfigured, first_core, process_limit, period_of, is_core};
 ghost use Rattle.apex_machine.specs.Channels.{has_channel};
+ghost use Rattle.module_config.specs.declared.fault.ConfigFault.TheVariants.{Memory, NotToml, TooMany};
 ghost use Rattle.module_config.specs.Keys.{Gives};
-ghost use Rattle.module_config.specs.Reading.{configuration_of, configuration_under};
-ghost use Rattle.module_config.specs.Limits.{partition_numbers, CoresAreOfModule, HasNoChannel, IsWithinLimits, IsConsistent};
+ghost use Rattle.module_config.specs.Reading.{configuration_of, configuration_under, unless_refused};
+ghost use Rattle.module_config.specs.Walk.{walk};
+ghost use Rattle.module_config.specs.Limits.{partition_numbers, BeginsNoLater, CoresAreOfModule, HasNoChannel, HasTick, IsConsistent, IsOrdered, IsWithinLimits};
+ghost use Rattle.module_config.specs.Laid.{laid_out};
+ghost use Rattle.module_config.specs.Whole.{whole_fault};
 
 use crate::fault::ConfigFault;
 use crate::layout::{Layout, read_layout};
 use crate::partition::Partition;
+use crate::timetable::window_among;
 use crate::whole::{find_partition, whole_fault};
 use crate::window::TimeWindow;
 use apex_types::{ChanId, CoreId, PartId};
 use std::alloc::Global;
 use std::marker::Model;
 use toml::Table;
+use toml::de::Error;
 
 /// The most bytes that a configuration's text may have.
 const LONGEST_TEXT: usize = 1_048_576;
@@ -51,6 +58,7 @@ impl Config {
     /// `NotToml`, then the keys in their order, then what is judged over the whole. Keys of other names are ignored.
     pub fn read(alloc: Global, text: &[u8]) -> Result<Config, ConfigFault>
         ensures value { Gives (λ config. config) result (configuration_of text.now) }
+        ensures too_long { 1048576 < length text.now → result ≡ Err TooMany }
         ensures windows { IfOk result WindowsAreConfigured }
     {
         if text.len() > LONGEST_TEXT {
@@ -58,21 +66,29 @@ impl Config {
         }
         match toml::table_from_slice(alloc, text) {
             Ok(keys) => Config::from_table(alloc, &keys),
-            Err(fault) => {
-                if fault.is_memory() {
-                    return Err(ConfigFault::Memory);
-                }
-                Err(ConfigFault::NotToml)
-            }
+            Err(fault) => Err(text_fault(&fault)),
         }
     }
 
     // The configuration that a table is.
     fn from_table(alloc: Global, keys: &Table) -> Result<Config, ConfigFault>
         ensures value { Gives (λ config. config) result (configuration_under (table_view keys.now)) }
+        ensures refused { IfErr (walk (table_view keys.now)) (λ fault. result ≡ Err fault) }
         ensures windows { IfOk result WindowsAreConfigured }
     {
         let layout = read_layout(alloc, keys)?;
+        Config::from_layout(keys, layout)
+    }
+
+    // The configuration that a table lays out so, where its parts go together.
+    fn from_layout(keys: &Table, layout: Layout) -> Result<Config, ConfigFault>
+        requires limits { IsWithinLimits (laid_out layout) }
+        requires ordered { IsOrdered layout.partitions.items }
+        requires by_start { AllPairs BeginsNoLater layout.windows.items }
+        requires some_tick { All HasTick layout.windows.items }
+        ensures value { result ≡ unless_refused (whole_fault (table_view keys.now) (laid_out layout)) (laid_out layout) }
+        ensures windows { IfOk result WindowsAreConfigured }
+    {
         if let Some(fault) = whole_fault(keys, &layout) {
             return Err(fault);
         }
@@ -222,14 +238,14 @@ impl Config {
     }
 }
 
-// The partition of the first of the windows that is this core's and holds this time of the major frame.
-fn window_among(windows: &[TimeWindow], core: CoreId, offset: u64) -> Option<PartId>
-    ensures { result ≡ window_among core offset windows.now }
+// Why a text was not read as a table.
+fn text_fault(fault: &Error) -> ConfigFault
+    ensures memory { (result ≡ Memory) ↔ IsMemory fault.now }
+    ensures not_toml { (result ≡ NotToml) ↔ (¬ IsMemory fault.now) }
 {
-    for window in windows {
-        if window.holds(core, offset) {
-            return Some(window.partition());
-        }
+    if fault.is_memory() {
+        ConfigFault::Memory
+    } else {
+        ConfigFault::NotToml
     }
-    None
 }

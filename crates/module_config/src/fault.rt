@@ -1,5 +1,8 @@
 // Why a text is no configuration.
 
+ghost use Rattle.std.specs.Prelude.{◌≡◌, ◌↔◌, IsTrue};
+ghost use Rattle.module_config.specs.declared.fault.ConfigFault.TheVariants.{Memory};
+
 use std::alloc::AllocFailed;
 use thiserror::Error;
 
@@ -39,6 +42,15 @@ pub enum ConfigFault {
     /// There is no memory left.
     #[error("out of memory")]
     Memory,
+}
+
+impl ConfigFault {
+    /// Whether memory ran out, which says nothing of the text.
+    pub fn is_memory(&self) -> bool
+        ensures { IsTrue result ↔ (self.now ≡ Memory) }
+    {
+        *self == ConfigFault::Memory
+    }
 }
 
 impl<T: Drop> From<AllocFailed<T>> for ConfigFault {

@@ -4,7 +4,7 @@ ghost use Rattle.std.specs.Prelude.{◌≡◌, ◌≤◌, IfOk, option_map};
 ghost use Rattle.std.specs.List.{list_all};
 ghost use Rattle.toml.specs.Data.{get_member};
 ghost use Rattle.toml.specs.View.{view, table_view, items_view};
-ghost use Rattle.module_config.specs.Keys.{Gives, natural_at, integer_at, ticks_at, is_integer, is_table, all_items, list_of};
+ghost use Rattle.module_config.specs.Keys.{Reads, natural_at, integer_at, ticks_at, is_integer, is_table, all_items, list_of};
 
 use crate::fault::ConfigFault;
 use toml::{Table, Value};
@@ -70,7 +70,7 @@ pub(crate) fn is_table(value: &Value) -> bool
 
 /// The items of a list of integers.
 pub(crate) fn integers<'a>(value: &'a Value) -> Result<&'a [Value], ConfigFault>
-    ensures { Gives (λ items. items_view items.now) result (list_of is_integer (view value.now)) }
+    ensures { Reads (λ items. items_view items.now) result (list_of is_integer (view value.now)) }
 {
     let Some(array) = value.as_array() else {
         return Err(ConfigFault::WrongType);
@@ -96,7 +96,7 @@ fn each_is_integer(items: &[Value]) -> bool
 
 /// The items of a list of tables.
 pub(crate) fn tables<'a>(value: &'a Value) -> Result<&'a [Value], ConfigFault>
-    ensures { Gives (λ items. items_view items.now) result (list_of is_table (view value.now)) }
+    ensures { Reads (λ items. items_view items.now) result (list_of is_table (view value.now)) }
 {
     let Some(array) = value.as_array() else {
         return Err(ConfigFault::WrongType);

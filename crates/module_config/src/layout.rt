@@ -1,17 +1,20 @@
 // What a table configures, each key judged by itself.
 
-ghost use Rattle.std.specs.Prelude.{◌≡◌, ◌<◌, ◌≤◌, IfOk, All, codes, length, nat_lt};
+ghost use Rattle.std.specs.Prelude.{◌≡◌, ◌≤◌, IfOk, IfErr, IsOk, All, AllPairs, codes, length};
 ghost use Rattle.std.specs.List.{position_or_len};
+ghost use Rattle.std.specs.Result.{result_err};
 ghost use Rattle.toml.specs.Data.{get_member};
-ghost use Rattle.toml.specs.View.{view, table_view, items_view};
+ghost use Rattle.toml.specs.View.{table_view, items_view};
 ghost use Rattle.module_config.specs.Keys.{Gives, each_item};
-ghost use Rattle.module_config.specs.Walk.{ordered_partitions, partitions_at, window_in, windows_at, walk};
-ghost use Rattle.module_config.specs.Limits.{AreCoresOf, IsWithinLimits, IsOrdered};
+ghost use Rattle.module_config.specs.Order.{is_numbered_above};
+ghost use Rattle.module_config.specs.Walk.{partition_in, ordered_partitions, partitions_at, walk};
+ghost use Rattle.module_config.specs.Limits.{AreCoresOf, BeginsNoLater, HasTick, IsWithinLimits, IsOrdered};
 ghost use Rattle.module_config.specs.Laid.{laid_out};
 
 use crate::fault::ConfigFault;
 use crate::keys::{integer, member, tables, ticks};
 use crate::partition::Partition;
+use crate::timetable::{ordered_windows, window_items};
 use crate::window::TimeWindow;
 use apex_types::PartId;
 use std::alloc::Global;
@@ -27,17 +30,22 @@ pub(crate) struct Layout {
     pub(crate) windows: Vec<TimeWindow>,
 }
 
-/// Reads what a table configures, key by key.
+/// Reads what a table configures: each key is judged, in turn, before memory is asked for.
 pub(crate) fn read_layout(alloc: Global, keys: &Table) -> Result<Layout, ConfigFault>
     ensures value { Gives laid_out result (walk (table_view keys.now)) }
+    ensures refused { IfErr (walk (table_view keys.now)) (λ fault. result ≡ Err fault) }
     ensures limits { IfOk result (λ layout. IsWithinLimits (laid_out layout)) }
     ensures ordered { IfOk result (λ layout. IsOrdered layout.partitions.items) }
+    ensures by_start { IfOk result (λ layout. AllPairs BeginsNoLater layout.windows.items) }
+    ensures some_tick { IfOk result (λ layout. All HasTick layout.windows.items) }
 {
     let cores = integer(keys, "cores", 1, 16)? as u8;
     let frame = ticks(keys, "frame")?;
     let skew = ticks(keys, "skew")?;
-    let partitions = partitions(alloc, keys, cores)?;
-    let windows = windows(alloc, keys, cores, frame)?;
+    let partition_items = partition_items(keys, cores)?;
+    let window_items = window_items(keys, cores, frame)?;
+    let partitions = ordered_partitions(alloc, partition_items, cores)?;
+    let windows = ordered_windows(alloc, window_items, cores, frame)?;
     Ok(Layout {
         cores,
         frame,
@@ -47,12 +55,13 @@ pub(crate) fn read_layout(alloc: Global, keys: &Table) -> Result<Layout, ConfigF
     })
 }
 
-// The partitions of a module of `count` cores, of which there is one at least.
-fn partitions(alloc: Global, keys: &Table, count: u8) -> Result<Vec<Partition>, ConfigFault>
-    ensures value { Gives (λ found. found.items) result (partitions_at count (get_member (codes "partition") (table_view keys.now))) }
-    ensures some { IfOk result (λ found. 1 ≤ length found.items) }
-    ensures own_cores { IfOk result (λ found. All (AreCoresOf count) found.items) }
-    ensures ordered { IfOk result (λ found. IsOrdered found.items) }
+// The items of the list of partitions, in a module of `count` cores. There is one at least, and each describes a partition.
+fn partition_items<'a>(keys: &'a Table, count: u8) -> Result<&'a [Value], ConfigFault>
+    requires { count ≤ 16 }
+    ensures listed { IfOk result (λ items. partitions_at count (get_member (codes "partition") (table_view keys.now)) ≡ ordered_partitions count (items_view items.now)) }
+    ensures some { IfOk result (λ items. 1 ≤ length items.now) }
+    ensures judged { IfOk result (λ items. IsOk (ordered_partitions count (items_view items.now))) }
+    ensures refused { IfErr result (λ fault. partitions_at count (get_member (codes "partition") (table_view keys.now)) ≡ Err fault) }
 {
     let Some(value) = member(keys, "partition") else {
         return Err(ConfigFault::Missing);
@@ -61,7 +70,19 @@ fn partitions(alloc: Global, keys: &Table, count: u8) -> Result<Vec<Partition>, 
     if items.is_empty() {
         return Err(ConfigFault::OutOfRange);
     }
-    ordered_partitions(alloc, items, count)
+    judge_partitions(items, count)?;
+    Ok(items)
+}
+
+// Refuses the first item that describes no partition.
+fn judge_partitions(items: &[Value], count: u8) -> Result<(), ConfigFault>
+    requires { count ≤ 16 }
+    ensures { result_err result ≡ result_err (each_item (partition_in count) (items_view items.now)) }
+{
+    for item in items {
+        Partition::read(item, count)?;
+    }
+    Ok(())
 }
 
 // The partitions that the items of a list describe, put in the order of their numbers.
@@ -70,6 +91,7 @@ fn ordered_partitions(
     items: &[Value],
     count: u8,
 ) -> Result<Vec<Partition>, ConfigFault>
+    requires { count ≤ 16 }
     ensures value { Gives (λ found. found.items) result (ordered_partitions count (items_view items.now)) }
     ensures as_many { IfOk result (λ found. length found.items ≡ length items.now) }
     ensures own_cores { IfOk result (λ found. All (AreCoresOf count) found.items) }
@@ -77,7 +99,7 @@ fn ordered_partitions(
 {
     let mut found = Vec::new(alloc);
     for item in items {
-        let partition = Partition::read(alloc, item, count)?;
+        let partition = Partition::read(item, count)?;
         let place = place_among(&found, partition.number);
         found.insert(place, partition)?;
     }
@@ -86,7 +108,7 @@ fn ordered_partitions(
 
 // The index of the first partition of a number above this one, or of the end.
 fn place_among(partitions: &[Partition], number: PartId) -> usize
-    ensures value { result ≡ position_or_len (λ limits. nat_lt number limits.number) partitions.now }
+    ensures value { result ≡ position_or_len (is_numbered_above number) partitions.now }
     ensures within { result ≤ length partitions.now }
 {
     for (index, partition) in partitions.iter().enumerate() {
@@ -95,38 +117,4 @@ fn place_among(partitions: &[Partition], number: PartId) -> usize
         }
     }
     partitions.len()
-}
-
-// The windows of a module of `count` cores whose major frame is `frame` ticks.
-fn windows(
-    alloc: Global,
-    keys: &Table,
-    count: u8,
-    frame: u64,
-) -> Result<Vec<TimeWindow>, ConfigFault>
-    requires { 0 < count }
-    ensures { Gives (λ found. found.items) result (windows_at count frame (get_member (codes "window") (table_view keys.now))) }
-{
-    let Some(value) = member(keys, "window") else {
-        return Ok(Vec::new(alloc));
-    };
-    each_window(alloc, tables(value)?, count, frame)
-}
-
-// The windows that the items of a list describe.
-fn each_window(
-    alloc: Global,
-    items: &[Value],
-    count: u8,
-    frame: u64,
-) -> Result<Vec<TimeWindow>, ConfigFault>
-    requires { 0 < count }
-    ensures { Gives (λ found. found.items) result (each_item (window_in count frame) (items_view items.now)) }
-{
-    let mut found = Vec::new(alloc);
-    for item in items {
-        let window = TimeWindow::read(item, count, frame)?;
-        found.push(window)?;
-    }
-    Ok(found)
 }

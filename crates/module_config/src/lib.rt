@@ -1,17 +1,21 @@
 //! The configuration of a module, read from a TOML text.
 //!
 //! Promises: a configuration is exactly what its text says, or the first refusal of the text, with memory aside; every
-//! number in it is within its limits; the readers of its fields take no memory.
+//! number in it is within its limits; the readers of its fields take no memory. Each key is judged before memory is asked
+//! for, so that a refusal of the walk over the keys is answered whatever memory there is.
 #![tactic(auto)]
 
 mod config;
 mod cores;
 mod fault;
 mod keys;
+mod laws;
 mod layout;
 mod partition;
+mod timetable;
 mod whole;
 mod window;
 
 pub use config::Config;
 pub use fault::ConfigFault;
+pub use laws::window_at_is_the_sentence;

@@ -1,9 +1,8 @@
 // What is configured of a partition.
 
-ghost use Rattle.std.specs.Prelude.{◌≡◌, IfOk};
+ghost use Rattle.std.specs.Prelude.{◌≡◌, ◌≤◌, IfOk};
 ghost use Rattle.toml.specs.Data.{get_member};
 ghost use Rattle.toml.specs.View.{view, table_view};
-ghost use Rattle.module_config.specs.Keys.{Gives};
 ghost use Rattle.module_config.specs.Limits.{AreCoresOf};
 ghost use Rattle.module_config.specs.Walk.{objects_at, partition_in, partition_under};
 
@@ -11,7 +10,6 @@ use crate::cores::CoreList;
 use crate::fault::ConfigFault;
 use crate::keys::{integer, ticks};
 use apex_types::PartId;
-use std::alloc::Global;
 use std::marker::Model;
 use toml::{Table, Value};
 
@@ -53,24 +51,26 @@ impl Model for Partition {
 
 impl Partition {
     /// Reads a partition of a module of `count` cores.
-    pub(crate) fn read(alloc: Global, value: &Value, count: u8) -> Result<Partition, ConfigFault>
-        ensures value { Gives (λ own. own) result (partition_in count (view value.now)) }
+    pub(crate) fn read(value: &Value, count: u8) -> Result<Partition, ConfigFault>
+        requires { count ≤ 16 }
+        ensures value { result ≡ partition_in count (view value.now) }
         ensures own_cores { IfOk result (λ own. AreCoresOf count own) }
     {
         let Some(keys) = value.as_table() else {
             return Err(ConfigFault::WrongType);
         };
-        Partition::from_table(alloc, keys, count)
+        Partition::from_table(keys, count)
     }
 
     // The partition that a table describes.
-    fn from_table(alloc: Global, keys: &Table, count: u8) -> Result<Partition, ConfigFault>
-        ensures value { Gives (λ own. own) result (partition_under count (table_view keys.now)) }
+    fn from_table(keys: &Table, count: u8) -> Result<Partition, ConfigFault>
+        requires { count ≤ 16 }
+        ensures value { result ≡ partition_under count (table_view keys.now) }
         ensures own_cores { IfOk result (λ own. AreCoresOf count own) }
     {
         let number = integer(keys, "number", 0, 31)?;
         let period = ticks(keys, "period")?;
-        let cores = CoreList::read(alloc, keys, count)?;
+        let cores = CoreList::read(keys, count)?;
         let processes = integer(keys, "processes", 1, 128)?;
         let buffers = objects(keys, "buffers")?;
         let blackboards = objects(keys, "blackboards")?;

@@ -1,22 +1,25 @@
 // What is refused over the whole of a configuration, once each key has been read.
 
-ghost use Rattle.std.specs.Prelude.{◌≡◌, option_map};
-ghost use Rattle.std.specs.List.{list_any};
+ghost use Rattle.std.specs.Prelude.{◌≡◌, All, AllPairs, option_map};
 ghost use Rattle.toml.specs.View.{table_view};
 ghost use Rattle.apex_machine.specs.Configuration.{limits_among};
 ghost use Rattle.module_config.specs.Laid.{laid_out};
-ghost use Rattle.module_config.specs.Whole.{is_not_served, is_too_large, has_duplicate, is_of_partition, are_of_partitions, shares_tick, has_overlap, consistency_fault, whole_fault};
+ghost use Rattle.module_config.specs.Limits.{BeginsNoLater, HasTick};
+ghost use Rattle.module_config.specs.Whole.{is_not_served, is_too_large, has_duplicate, is_of_partition, are_of_partitions, consistency_fault, whole_fault};
 
 use crate::fault::ConfigFault;
 use crate::keys::member;
 use crate::layout::Layout;
 use crate::partition::Partition;
+use crate::timetable::has_overlap;
 use crate::window::TimeWindow;
 use apex_types::PartId;
 use toml::Table;
 
 /// The first refusal over the whole of a table that lays out a module so, if there is one.
 pub(crate) fn whole_fault(keys: &Table, layout: &Layout) -> Option<ConfigFault>
+    requires by_start { AllPairs BeginsNoLater layout.now.windows.items }
+    requires some_tick { All HasTick layout.now.windows.items }
     ensures { result ≡ whole_fault (table_view keys.now) (laid_out layout.now) }
 {
     if is_not_served(keys, layout) {
@@ -25,8 +28,10 @@ pub(crate) fn whole_fault(keys: &Table, layout: &Layout) -> Option<ConfigFault>
     consistency_fault(layout)
 }
 
-/// The first refusal of a layout whose parts do not go together, if there is one.
-pub(crate) fn consistency_fault(layout: &Layout) -> Option<ConfigFault>
+// The first refusal of a layout whose parts do not go together, if there is one.
+fn consistency_fault(layout: &Layout) -> Option<ConfigFault>
+    requires by_start { AllPairs BeginsNoLater layout.now.windows.items }
+    requires some_tick { All HasTick layout.now.windows.items }
     ensures { result ≡ consistency_fault (laid_out layout.now) }
 {
     if is_too_large(layout) {
@@ -104,23 +109,4 @@ fn is_of_partition(partitions: &[Partition], window: &TimeWindow) -> bool
         Some(partition) => partition.cores.contains(u64::from(window.core().number())),
         None => false,
     }
-}
-
-// Whether two windows of a core have a tick in common.
-fn has_overlap(windows: &[TimeWindow]) -> bool
-    ensures { result ≡ has_overlap windows.now }
-{
-    for (index, window) in windows.iter().enumerate() {
-        if overlaps_one_of(window, &windows[index + 1..]) {
-            return true;
-        }
-    }
-    false
-}
-
-// Whether a window has a tick in common with one of others of its core.
-fn overlaps_one_of(window: &TimeWindow, others: &[TimeWindow]) -> bool
-    ensures { result ≡ list_any (shares_tick window.now) others.now }
-{
-    others.iter().any(|other| window.shares_tick(other))
 }

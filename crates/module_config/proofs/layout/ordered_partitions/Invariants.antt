@@ -1,5 +1,10 @@
-use Rattle.module_config.proofs.Placing.{KeepsPartitions}
+use Rattle.std.proofs.Common.{◌≤◌}
+use Rattle.module_config.specs.Limits.{AreCoresOf}
+use Rattle.module_config.specs.Order.{stands_before}
+use Rattle.module_config.specs.Walk.{partition_in}
+use Rattle.module_config.proofs.Placing.{KeepsPlaced}
 use Rattle.module_config.proofs.layout.ordered_partitions.Given as goal
 
 abbrev pub invariant-loop-item : goal.invariant-loop-item
-invariant-loop-item l = KeepsPartitions l.count l.items l.item-index l.found.items
+invariant-loop-item l =
+    KeepsPlaced stands_before (AreCoresOf l.count) (λ limits other. limits.number ≤ other.number) (partition_in l.count) l.items l.item-index l.found.items

@@ -1,4 +1,5 @@
-use Rattle.std.proofs.Common.{rules, arith}
+use Rattle.std.proofs.Common.{arith}
+use Rattle.toml.specs.Errors.{IsMemory}
 use Rattle.toml.specs.View.{table_view}
 use Rattle.module_config.proofs.Texts.{table_text, no_table}
 use Rattle.module_config.proofs.config.Config.read.Goals as goal
@@ -6,5 +7,7 @@ use Rattle.module_config.proofs.config.Config.read.Goals as goal
 pub returns-in-Ok-clause-value : goal.returns-in-Ok-clause-value
 returns-in-Ok-clause-value c = rw (table_text c.args.text.now (table_view c.in-Ok.keys) (omega arith) c.in-Ok.ensures.ok.0 c.in-Ok.ensures.ok.1) c.from_table.ensures.value
 
-pub returns-else-is_memory-clause-value : goal.returns-else-is_memory-clause-value
-returns-else-is_memory-clause-value c = λ other. no_table c.args.text.now (omega arith) (c.in-Err.ensures.refused (search rules))
+pub returns-in-Err-clause-value : goal.returns-in-Err-clause-value
+returns-in-Err-clause-value c = λ other.
+    let not_memory = λ (is : IsMemory c.in-Err.fault). other (c.text_fault.ensures.memory.1 is) in
+    rw (c.text_fault.ensures.not_toml.1 not_memory) (no_table c.args.text.now (omega arith) (c.in-Err.ensures.refused not_memory))
