@@ -1,7 +1,7 @@
 // The rows of a text, as raw fields.
 
-ghost use Rattle.std.specs.Prelude.{◌≡◌, false, true, not, is_err, IfOk, IfSome, Ok, Err, Some, [], option_map, if◌then◌else◌};
-ghost use Rattle.csv.specs.Reading.{reader_source};
+ghost use Rattle.std.specs.Prelude.{◌≡◌, ◌||◌, false, true, not, is_err, IfOk, IfSome, Ok, Err, Some, [], option_map, if◌then◌else◌};
+ghost use Rattle.csv.specs.Reading.{has_failed, reader_source};
 ghost use Rattle.csv.specs.Records.{fields_of};
 ghost use Rattle.csv_rows.specs.Stream.{IsSet, Takes, left_of, rows_of};
 
@@ -26,24 +26,23 @@ pub enum StreamFault {
 pub struct CsvRows<R: Read> {
     reader: Reader<Watched<R>>,
     ended: bool,
-    stopped: bool,
 }
 
 impl<R: Read> Model for CsvRows<R> {
-    ghost use Rattle.std.specs.Prelude.{◌≡◌, if◌then◌else◌, Some, [], false};
-    ghost use Rattle.csv.specs.Reading.{reader_source};
+    ghost use Rattle.std.specs.Prelude.{◌≡◌, ◌||◌, if◌then◌else◌, Some, [], false};
+    ghost use Rattle.csv.specs.Reading.{has_failed, reader_source};
     ghost use Rattle.csv_rows.specs.Stream.{Stream, IsSet, left_of};
 
     ghost Value = { Stream };
 
     ghost view = { λ rows. record {
-      stopped = rows.stopped;
+      stopped = (reader_source rows.reader).failed || has_failed rows.reader;
       ended = rows.ended;
       failed = (reader_source rows.reader).failed;
       left = if rows.ended then Some [] else left_of (λ watched. R.remaining watched.inner) rows.reader;
     } };
 
-    ghost invariant = { λ rows. rows.stopped ≡ false → rows.ended ≡ false → IsSet rows.reader };
+    ghost invariant = { λ rows. (reader_source rows.reader).failed || has_failed rows.reader ≡ false → rows.ended ≡ false → IsSet rows.reader };
 }
 
 impl<R: Read> CsvRows<R> {
@@ -60,27 +59,27 @@ impl<R: Read> CsvRows<R> {
                 .flexible(true)
                 .from_reader(alloc, Watched::new(reader)),
             ended: false,
-            stopped: false,
         }
     }
 
     /// Puts the next row into `fields`, and answers whether there was one. Once the end was told, it is told again.
     ///
-    /// Read where the reader failed, Memory where a growth was refused; either stops these rows for good.
+    /// Read where the reader failed in this call, and else Memory where `csv` gave up, for which only a refused growth is
+    /// left as a reason; either stops these rows for good.
     pub fn read(&mut self, fields: &mut ByteRecord) -> Result<bool, StreamFault>
         requires going { self.old.stopped ≡ false }
         ensures stops { self.new.stopped ≡ is_err result }
         ensures ends { IfOk result (λ found. self.new.ended ≡ not found) }
         ensures stays { self.old.ended ≡ true → result ≡ Ok false }
+        ensures sound { self.old.failed ≡ false }
         ensures failed { result ≡ Err StreamFault.Read → self.new.failed ≡ true }
+        ensures told { self.new.failed ≡ true → result ≡ Err StreamFault.Read }
         ensures gives { IfOk result (λ found. IfSome self.old.left (λ rows. Takes found rows (fields_of fields.new) self.new.left)) }
     {
         if self.ended {
             return Ok(false);
         }
-        self.stopped = true;
         let found = take_row(&mut self.reader, fields)?;
-        self.stopped = false;
         self.ended = !found;
         Ok(found)
     }
@@ -94,14 +93,16 @@ fn take_row<R: Read>(
     requires { IsSet reader.old }
     ensures takes { IfOk result (λ found. IfSome (left_of (λ watched. R.remaining watched.inner) reader.old) (λ rows. Takes found rows (fields_of fields.new) (if found then left_of (λ watched. R.remaining watched.inner) reader.new else Some []))) }
     ensures set { IfOk result (λ _. IsSet reader.new) }
+    ensures stops { (reader_source reader.new).failed || has_failed reader.new ≡ is_err result }
     ensures failed { result ≡ Err StreamFault.Read → (reader_source reader.new).failed ≡ true }
+    ensures told { (reader_source reader.new).failed ≡ true → result ≡ Err StreamFault.Read }
 {
-    match reader.read_byte_record(fields) {
-        Ok(found) => return Ok(found),
-        Err(error) => drop(error),
-    }
+    let found = reader.read_byte_record(fields).ok();
     if reader.get_ref().has_failed() {
         return Err(StreamFault::Read);
     }
-    Err(StreamFault::Memory)
+    match found {
+        Some(found) => Ok(found),
+        None => Err(StreamFault::Memory),
+    }
 }

@@ -1,6 +1,8 @@
 // A reader that remembers whether a read of it failed.
 
-ghost use Rattle.std.specs.Prelude.{◌≡◌, false};
+ghost use Rattle.std.specs.Prelude.{◌≡◌, false, true, OnOk, OnErr};
+ghost use Rattle.std.specs.Io.{ReadsAtMost};
+ghost use Rattle.std.specs.Io.KnownBytes.{ReadConsumes};
 
 use std::io;
 use std::io::Read;
@@ -35,7 +37,13 @@ impl<R: Read> Watched<R> {
 impl<R: Read> Read for Watched<R> {
     ghost remaining = { λ watched. R.remaining watched.inner };
 
-    fn read(&mut self, buf: &mut [u8]) -> io::Result<usize> {
+    /// Reads from the reader underneath, and remembers an error.
+    fn read(&mut self, buf: &mut [u8]) -> io::Result<usize>
+        ensures bound { ReadsAtMost result buf.new }
+        ensures bytes { ReadConsumes (R.remaining self.old.inner) (R.remaining self.new.inner) result buf.new }
+        ensures failed { OnErr result (self.new.failed ≡ true) }
+        ensures kept { OnOk result (self.new.failed ≡ self.old.failed) }
+    {
         let outcome = self.inner.read(buf);
         if outcome.is_err() {
             self.failed = true;
