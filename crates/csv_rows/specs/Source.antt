@@ -3,11 +3,12 @@ use Rattle.std.specs.Prelude.{◌≡◌, ◌⊎◌, ℕ, suc, List, [], ◌∷�
 use Rattle.csv_rows.specs.Stream.{Fields, rows_of}
 
 -- what callers see of a source: whether a fault has stopped it, whether its end was told, whether the reader of the
--- text has failed, and the items that are left where the bytes are known
+-- text has failed, whether `csv` gave up with no failed read, and the items that are left where the bytes are known
 pub record Source (Item : Type 0) : Type 0 where
   pub stopped : Bool
   pub ended : Bool
   pub failed : Bool
+  pub starved : Bool
   pub left : Option (List Item)
 
 -- the items of rows one after another, the first of this number

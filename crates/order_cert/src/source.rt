@@ -1,6 +1,6 @@
 // The pairs of a certificate, one after another.
 
-ghost use Rattle.std.specs.Prelude.{◌≡◌, ◌≢◌, false, true, is_err, IfOk, IfErr, IfSome, Ok, Err, Some, None, is_none, option_map};
+ghost use Rattle.std.specs.Prelude.{◌≡◌, ◌≢◌, ◌↔◌, false, true, is_err, IfOk, IfErr, IfSome, Ok, Err, Some, None, is_none, option_map};
 ghost use Rattle.csv_rows.specs.Source.{Gives};
 ghost use Rattle.order_cert.specs.Row.{IsOutside, pairs_of};
 
@@ -23,7 +23,7 @@ pub struct CertSource<R: Read> {
 }
 
 impl<R: Read> Model for CertSource<R> {
-    ghost use Rattle.std.specs.Prelude.{◌≡◌, option_map, false};
+    ghost use Rattle.std.specs.Prelude.{◌≡◌, ◌&&◌, not, option_map, false};
     ghost use Rattle.csv_rows.specs.Source.{Source, items_from};
     ghost use Rattle.order_cert.specs.Row.{Item, item_of};
 
@@ -33,6 +33,7 @@ impl<R: Read> Model for CertSource<R> {
       stopped = source.stopped;
       ended = source.rows.ended;
       failed = source.rows.failed;
+      starved = source.rows.stopped && not source.rows.failed;
       left = option_map (items_from item_of source.count) source.rows.left;
     } };
 
@@ -45,6 +46,7 @@ impl<R: Read> CertSource<R> {
         ensures stopped { result.stopped ≡ false }
         ensures ended { result.ended ≡ false }
         ensures failed { result.failed ≡ false }
+        ensures starved { result.starved ≡ false }
         ensures left { result.left ≡ option_map pairs_of (R.remaining reader) }
     {
         CertSource {
@@ -57,7 +59,7 @@ impl<R: Read> CertSource<R> {
 
     /// The next pair, or None behind the last, then and from then on. After a fault every call answers Ended.
     ///
-    /// Read where the reader failed, Memory where a growth was refused; else the row's own fault.
+    /// Read where the reader failed, Memory where `csv` gave up with no failed read; else the row's own fault.
     pub fn next(&mut self) -> Result<Option<Pair>, CertFault>
         ensures ended { self.old.stopped ≡ true → result ≡ Err CertFault.Ended }
         ensures fresh { self.old.stopped ≡ false → result ≢ Err CertFault.Ended }
@@ -65,6 +67,8 @@ impl<R: Read> CertSource<R> {
         ensures ends { IfOk result (λ pair. self.new.ended ≡ is_none pair) }
         ensures stays { self.old.stopped ≡ false → self.old.ended ≡ true → result ≡ Ok None }
         ensures failed { self.old.stopped ≡ false → result ≡ Err CertFault.Read → self.new.failed ≡ true }
+        ensures told { self.old.stopped ≡ false → self.new.failed ≡ true → result ≡ Err CertFault.Read }
+        ensures starved { self.old.stopped ≡ false → (result ≡ Err CertFault.Memory) ↔ (self.new.starved ≡ true) }
         ensures gives { self.old.stopped ≡ false → IfSome self.old.left (λ items. Gives IsOutside items result self.new.left) }
     {
         if self.stopped {

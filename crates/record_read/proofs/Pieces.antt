@@ -1,10 +1,14 @@
 -- The pieces of a text, one after another, and the processes that they name.
-use Rattle.std.proofs.Common.{◌≡◌, ◌∙◌, ℕ, List, [], ◌∷◌, ◌++◌, ◌-◌, Bool, true, false, Option, Some, None, length, refl, sym, ap, nat_eq, append_assoc, arith, if◌then◌else◌}
-use Rattle.std.specs.Prelude.{option_map}
+use Rattle.std.proofs.Common.{◌≡◌, ◌∙◌, ℕ, List, [], ◌∷◌, ◌++◌, ◌-◌, Bool, true, false, Option, Some, None, Result, Ok, Err, ◌≤◌, length, refl, sym, ap, nat_eq, append_assoc, arith, if◌then◌else◌}
+use Rattle.std.specs.Prelude.{◌≢◌, is_some, option_and_then, option_map}
 use Rattle.std.specs.List.{slice_get}
+use Rattle.std.specs.Option.{ok_or}
+use Rattle.std.specs.Result.{result_unwrap_or}
 use Rattle.std.proofs.lemmas.List.{append-nil, length-append}
 use Rattle.apex_types.specs.declared.record.Who.{Who}
-use Rattle.record_read.specs.Woken.{front_of, rest_of, onto, pieces_of, next_process, processes_behind}
+use Rattle.record_read.specs.declared.fault.RowFault.{RowFault}
+use Rattle.record_read.specs.declared.fault.RowFault.TheVariants.{BadWoken}
+use Rattle.record_read.specs.Woken.{IsList, front_of, rest_of, onto, pieces_of, next_process, processes_behind, processes_in, woken_of}
 
 -- the pieces of what is left, if anything is
 abbrev pub pieces_left : ℕ → Option (List ℕ) → List (List ℕ)
@@ -21,6 +25,36 @@ pieces_split separator (b ∷ bs) = by (nat_eq b separator) (pieces_split separa
     by true more = refl
     by false more = ap (onto b) more
 
+-- a piece that names the next process, and one that names none
+pub behind_more : (last : Option Who) (left : List ℕ) (who : Who) → next_process last (front_of 59 left) ≡ Some who
+    → processes_behind last (pieces_of 59 left) ≡ option_map (λ more. who ∷ more) (processes_behind (Some who) (pieces_left 59 (rest_of 59 left)))
+unfolding processes_behind
+behind_more last left who e = ap (processes_behind last) (pieces_split 59 left) ∙ rw e refl
+
+pub behind_none : (last : Option Who) (left : List ℕ) → next_process last (front_of 59 left) ≡ None → processes_behind last (pieces_of 59 left) ≡ None
+unfolding processes_behind
+behind_none last left e = ap (processes_behind last) (pieces_split 59 left) ∙ rw e refl
+
+-- the pieces of a text name processes where those that are left name some behind the last
+abbrev pub Judged : List ℕ → Option Who → Option (List ℕ) → Type 0
+Judged text last left = is_some (processes_behind None (pieces_of 59 text)) ≡ is_some (processes_behind last (pieces_left 59 left))
+
+pub judged_more : (text : List ℕ) (last : Option Who) (left : List ℕ) (who : Who) (rest : Option (List ℕ)) → next_process last (front_of 59 left) ≡ Some who
+    → rest ≡ rest_of 59 left → Judged text last (Some left) → Judged text (Some who) rest
+judged_more text last left who rest e r h = rw r (h ∙ ap is_some (behind_more last left who e) ∙ by (processes_behind (Some who) (pieces_left 59 (rest_of 59 left))))
+  where
+    by : (o : Option (List Who)) → is_some (option_map (λ more. who ∷ more) o) ≡ is_some o
+    by None = refl
+    by (Some ws) = refl
+
+pub judged_none : (text : List ℕ) (last : Option Who) (left : List ℕ) → next_process last (front_of 59 left) ≡ None → Judged text last (Some left)
+    → is_some (processes_behind None (pieces_of 59 text)) ≡ false
+judged_none text last left e h = h ∙ ap is_some (behind_none last left e)
+
+pub judged_end : (text : List ℕ) (last : Option Who) → Judged text last None → is_some (processes_behind None (pieces_of 59 text)) ≡ true
+unfolding processes_behind
+judged_end text last h = h
+
 -- the last of a list
 abbrev pub last_of : List Who → Option Who
 last_of named = slice_get named (length named - 1)
@@ -34,17 +68,9 @@ last_push named who =
     let n : length (named ++ who ∷ []) - 1 ≡ length named = omega (arith, length-append named (who ∷ [])) in
     ap (slice_get (named ++ who ∷ [])) n ∙ get_push named who
 
--- what the pieces left name, behind the processes named so far
+-- the pieces of a text name these processes, and then what is left names
 abbrev pub Named : List ℕ → List Who → Option (List ℕ) → Type 0
-Named text named left =
-    processes_behind None (pieces_of 59 text) ≡ option_map (λ more. named ++ more) (processes_behind (last_of named) (pieces_left 59 left))
-
-map_id : (o : Option (List Who)) → o ≡ option_map (λ more. [] ++ more) o
-map_id None = refl
-map_id (Some ws) = refl
-
-pub named_begin : (text : List ℕ) → Named text [] (Some text)
-named_begin text = map_id (processes_behind None (pieces_of 59 text))
+Named text named left = processes_behind None (pieces_of 59 text) ≡ option_map (λ more. named ++ more) (processes_behind (last_of named) (pieces_left 59 left))
 
 pub named_end : (text : List ℕ) (named : List Who) → Named text named None → processes_behind None (pieces_of 59 text) ≡ Some named
 unfolding processes_behind
@@ -52,23 +78,41 @@ named_end text named h = h ∙ ap (λ ws. Some ws) (append-nil named)
 
 pub named_more : (text : List ℕ) (named : List Who) (left : List ℕ) (who : Who) (rest : Option (List ℕ)) → next_process (last_of named) (front_of 59 left) ≡ Some who
     → rest ≡ rest_of 59 left → Named text named (Some left) → Named text (named ++ who ∷ []) rest
-unfolding processes_behind
 named_more text named left who rest e r h =
-    let first : Option (List Who) = processes_behind (Some who) (pieces_left 59 (rest_of 59 left)) in
-    let now : processes_behind None (pieces_of 59 text) ≡ option_map (λ more. named ++ more) (processes_behind (last_of named) (front_of 59 left ∷ pieces_left 59 (rest_of 59 left)))
-    = h ∙ ap (λ ps. option_map (λ more. named ++ more) (processes_behind (last_of named) ps)) (pieces_split 59 left) in
-    let both : processes_behind None (pieces_of 59 text) ≡ option_map (λ more. named ++ more) (option_map (λ more. who ∷ more) first) = rw e at now in
-    rw (last_push named who, r) (both ∙ by first)
+    rw (last_push named who, r) (h ∙ ap (option_map (λ more. named ++ more)) (behind_more (last_of named) left who e) ∙ by (processes_behind (Some who) (pieces_left 59 (rest_of 59 left))))
   where
     by : (o : Option (List Who)) → option_map (λ more. named ++ more) (option_map (λ more. who ∷ more) o) ≡ option_map (λ more. (named ++ who ∷ []) ++ more) o
     by None = refl
     by (Some ws) = ap (λ l. Some l) (sym (append_assoc named (who ∷ []) ws))
 
-pub named_none : (text : List ℕ) (named : List Who) (left : List ℕ) → next_process (last_of named) (front_of 59 left) ≡ None
-    → Named text named (Some left) → processes_behind None (pieces_of 59 text) ≡ None
+pub named_none : (text : List ℕ) (named : List Who) (left : List ℕ) → next_process (last_of named) (front_of 59 left) ≡ None → Named text named (Some left)
+    → processes_behind None (pieces_of 59 text) ≡ None
+named_none text named left e h = h ∙ ap (option_map (λ more. named ++ more)) (behind_none (last_of named) left e)
+
+-- a text that names processes has more than none of them
+pub some_named : (text : List ℕ) (named : List Who) → processes_behind None (pieces_of 59 text) ≡ Some named → named ≢ []
 unfolding processes_behind
-named_none text named left e h =
-    h ∙ ap (λ ps. option_map (λ more. named ++ more) (processes_behind (last_of named) ps)) (pieces_split 59 left) ∙ rw e refl
+some_named text named h none =
+    by (next_process None (front_of 59 text)) (ap (processes_behind None) (sym (pieces_split 59 text)) ∙ h)
+  where
+    from : (who : Who) (o : Option (List Who)) → option_map (λ more. who ∷ more) o ≡ Some named → ⊥
+    from who None e = cc
+    from who (Some ws) e = let f : ◌≡◌ {A = Option (List Who)} (Some (who ∷ ws)) (Some named) = e in let g : who ∷ ws ≡ named = cc in cc
+
+    by : (o : Option Who) → option_and_then (λ who. option_map (λ more. who ∷ more) (processes_behind (Some who) (pieces_left 59 (rest_of 59 text)))) o ≡ Some named → ⊥
+    by None e = cc
+    by (Some who) e = from who (processes_behind (Some who) (pieces_left 59 (rest_of 59 text))) e
+
+-- a list in a field that is filled names processes
+pub list_filled : (text : List ℕ) → 1 ≤ length text → IsList text → processes_in text ≢ []
+unfolding woken_of
+list_filled [] long list none = absurd (omega arith)
+list_filled (b ∷ bs) long list none = by (processes_behind None (pieces_of 59 (b ∷ bs))) refl list none
+  where
+    by : (o : Option (List Who)) → processes_behind None (pieces_of 59 (b ∷ bs)) ≡ o → ok_or o BadWoken ≡ Ok (result_unwrap_or (ok_or o BadWoken) [])
+        → result_unwrap_or (ok_or o BadWoken) [] ≡ [] → ⊥
+    by None e l n = let f : ◌≡◌ {A = Result (List Who) RowFault} (Err BadWoken) (Ok []) = l in cc
+    by (Some ws) e l n = some_named (b ∷ bs) ws e n
 
 -- the next process, from what the code read of it
 pub next_is : (last result : Option Who) (lent named : List Who) (front left : List ℕ) → result ≡ next_process last front

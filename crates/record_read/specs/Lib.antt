@@ -5,3 +5,4 @@ pub mod Payload
 pub mod Woken
 pub mod Arguments
 pub mod Row
+pub mod Memory

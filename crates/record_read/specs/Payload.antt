@@ -1,6 +1,7 @@
 -- Names, and messages in hexadecimal.
-use Rattle.std.specs.Prelude.{ℕ, ℤ, pos, negsuc, zero, suc, List, [], ◌∷◌, Bool, true, false, Result, Ok, Err, length, nat_le, nat_eq, ◌&&◌, if◌then◌else◌}
+use Rattle.std.specs.Prelude.{◌≡◌, ℕ, ℤ, pos, negsuc, zero, suc, List, [], ◌∷◌, Bool, true, false, Result, Ok, Err, length, nat_le, nat_eq, ◌&&◌, if◌then◌else◌}
 use Rattle.std.specs.List.{list_all}
+use Rattle.std.specs.Result.{result_unwrap_or}
 use Rattle.hex.specs.Hex.{decode_of}
 use Rattle.hex.specs.declared.error.FromHexError.{FromHexError}
 use Rattle.record_read.specs.declared.fault.RowFault.{RowFault}
@@ -26,6 +27,14 @@ name_in false text = empty text >>= (λ u. Ok [])
 abbrev pub from_hex : Result (List ℕ) FromHexError → Result (List ℕ) RowFault
 from_hex (Ok bytes) = Ok bytes
 from_hex (Err e) = Err BadHex
+
+-- the bytes of a text in hexadecimal
+abbrev pub hex_bytes : List ℕ → List ℕ
+hex_bytes text = result_unwrap_or (decode_of text) []
+
+-- a text in hexadecimal
+abbrev pub IsHex : List ℕ → Type 0
+IsHex text = decode_of text ≡ Ok (hex_bytes text)
 
 -- a message that may be left out: at most 8,192 bytes
 unfoldable pub maybe_message : List ℕ → Result (List ℕ) RowFault

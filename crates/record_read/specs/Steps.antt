@@ -1,5 +1,5 @@
 -- Steps of reading a row, the first fault of which decides.
-use Rattle.std.specs.Prelude.{◌≡◌, ◌⊎◌, Result, Ok, Err}
+use Rattle.std.specs.Prelude.{◌≡◌, ◌⊎◌, Result, Ok, Err, IsOkAnd}
 use Rattle.record_read.specs.declared.fault.RowFault.{RowFault}
 use Rattle.record_read.specs.declared.fault.RowFault.TheVariants.{Read, Memory, Ended}
 
@@ -13,12 +13,13 @@ abbrev pub ◌>>=◌ : {A B : Type 0} → Result A RowFault → (A → Result B 
 abbrev pub IsOutside : RowFault → Type 0
 IsOutside fault = (fault ≡ Read) ⊎ (fault ≡ Memory)
 
--- a refusal: memory was refused, or the text has this fault
-abbrev pub Refuses : {A : Type 0} → RowFault → Result A RowFault → Type 0
-Refuses fault read = (fault ≡ Memory) ⊎ (read ≡ Err fault)
-
--- a fault that judging a row's fields can give
+-- a fault that the text of a row can have
 abbrev pub IsOfRow : RowFault → Type 0
 IsOfRow Read = ⊥
+IsOfRow Memory = ⊥
 IsOfRow Ended = ⊥
 IsOfRow _ = Unit {0}
+
+-- a refusal: the text has this fault; or it has none, and memory was refused for a value that needs some
+abbrev pub Refuses : {A : Type 0} → (A → Type 0) → RowFault → Result A RowFault → Type 0
+Refuses needs fault read = (IsOfRow fault × (read ≡ Err fault)) ⊎ ((fault ≡ Memory) × IsOkAnd read needs)

@@ -1,6 +1,7 @@
 -- Lists of processes, `part:proc` joined by `;`.
-use Rattle.std.specs.Prelude.{ℕ, List, [], ◌∷◌, Bool, true, Option, Some, None, Result, Ok, nat_lt, nat_eq, ◌&&◌, ◌||◌, if◌then◌else◌, option_map, option_and_then}
+use Rattle.std.specs.Prelude.{◌≡◌, ℕ, List, [], ◌∷◌, Bool, true, Option, Some, None, Result, Ok, nat_lt, nat_eq, ◌&&◌, ◌||◌, if◌then◌else◌, option_map, option_and_then}
 use Rattle.std.specs.Option.{ok_or}
+use Rattle.std.specs.Result.{result_unwrap_or}
 use Rattle.csv_rows.specs.Decimal.{decimal}
 use Rattle.apex_types.specs.declared.record.Who.{Who}
 use Rattle.record_read.specs.declared.fault.RowFault.{RowFault}
@@ -55,3 +56,11 @@ processes_behind last (piece ∷ pieces) =
 unfoldable pub woken_of : List ℕ → Result (List Who) RowFault
 woken_of [] = Ok []
 woken_of (b ∷ bs) = ok_or (processes_behind None (pieces_of 59 (b ∷ bs))) BadWoken
+
+-- the processes that a list names
+abbrev pub processes_in : List ℕ → List Who
+processes_in text = result_unwrap_or (woken_of text) []
+
+-- a text that is such a list
+abbrev pub IsList : List ℕ → Type 0
+IsList text = woken_of text ≡ Ok (processes_in text)

@@ -1,31 +1,48 @@
 // The rows of calls.
 
-ghost use Rattle.std.specs.Prelude.{◌≡◌, IfOk, IfErr, Ok, Err};
+ghost use Rattle.std.specs.Prelude.{◌≡◌, ◌≢◌, ◌⊎◌, [], IfOk, IfErr, OnOk, OnErr, Ok, Err};
 ghost use Rattle.csv.specs.Records.{fields_of};
-ghost use Rattle.record_read.specs.Field.{maybe_number};
+ghost use Rattle.record_read.specs.Field.{maybe_number, text_at};
+ghost use Rattle.record_read.specs.Memory.{CallNeeds};
+ghost use Rattle.record_read.specs.Payload.{IsHex, hex_bytes};
 ghost use Rattle.record_read.specs.Row.{call_in, claim_in, who_in};
 ghost use Rattle.record_read.specs.Steps.{IsOfRow, Refuses};
+ghost use Rattle.record_read.specs.Woken.{IsList, processes_in};
 
 use crate::fault::RowFault;
 use crate::field::{optional_number, optional_signed, required_number, text};
 use crate::named::read_out;
-use crate::payload::optional_message;
-use crate::request::read_request;
-use crate::woken::read_woken;
-use apex_types::{Call, ChanId, Claim, PartId, ProcId, Who};
+use crate::payload::{copy_message, judge_data};
+use crate::request::{judge_request, make_request};
+use crate::woken::{copy_woken, judge_woken};
+use apex_types::{Call, ChanId, Claim, Out, PartId, ProcId, Who};
 use csv::ByteRecord;
-use std::alloc::Global;
+use std::alloc::{AllocError, Global};
 
-/// The call that these fields are.
+// What a call claims beside its message and its list of processes.
+#[derive(Clone, Copy)]
+struct PlainClaim {
+    prio: u8,
+    out: Out,
+    val: Option<i64>,
+    chan: Option<ChanId>,
+}
+
+/// The call that these fields are. The whole row is judged before memory is taken.
 #[tactic(auto, unfolding(crate::specs::Row::call_in))]
 pub fn read_call(alloc: Global, fields: &ByteRecord) -> Result<Call, RowFault>
     ensures value { IfOk result (λ call. call_in (fields_of fields.now) ≡ Ok call) }
-    ensures refused { IfErr result (λ fault. Refuses fault (call_in (fields_of fields.now))) }
-    ensures own { IfErr result (λ fault. IsOfRow fault) }
+    ensures refused { IfErr result (λ fault. Refuses CallNeeds fault (call_in (fields_of fields.now))) }
 {
     let who = read_who(fields)?;
-    let request = read_request(alloc, fields)?;
-    let claim = read_claim(alloc, fields)?;
+    let request = judge_request(fields)?;
+    let claim = judge_claim(fields)?;
+    let Ok(request) = make_request(alloc, request) else {
+        return Err(RowFault::Memory);
+    };
+    let Ok(claim) = make_claim(alloc, claim, fields) else {
+        return Err(RowFault::Memory);
+    };
     Ok(Call {
         who,
         request,
@@ -47,25 +64,44 @@ pub fn read_who(fields: &ByteRecord) -> Result<Who, RowFault>
     })
 }
 
-// What a call claims.
+// Judges what a call claims.
 #[tactic(auto, unfolding(crate::specs::Row::claim_in))]
-fn read_claim(alloc: Global, fields: &ByteRecord) -> Result<Claim, RowFault>
-    ensures value { IfOk result (λ claim. claim_in (fields_of fields.now) ≡ Ok claim) }
-    ensures refused { IfErr result (λ fault. Refuses fault (claim_in (fields_of fields.now))) }
+fn judge_claim(fields: &ByteRecord) -> Result<PlainClaim, RowFault>
+    ensures value { IfOk result (λ plain. claim_in (fields_of fields.now) ≡ Ok (record { prio = plain.prio; out = plain.out; val = plain.val; bytes = hex_bytes (text_at (fields_of fields.now) 13); chan = plain.chan; woken = processes_in (text_at (fields_of fields.now) 15) })) }
+    ensures hex { OnOk result (IsHex (text_at (fields_of fields.now) 13)) }
+    ensures list { OnOk result (IsList (text_at (fields_of fields.now) 15)) }
+    ensures refused { IfErr result (λ fault. claim_in (fields_of fields.now) ≡ Err fault) }
     ensures own { IfErr result (λ fault. IsOfRow fault) }
 {
     let prio = required_number(text(fields, 10), 239)?;
     let out = read_out(text(fields, 11))?;
     let val = optional_signed(text(fields, 12))?;
-    let bytes = optional_message(alloc, text(fields, 13))?;
+    judge_data(text(fields, 13))?;
     let chan = read_channel(text(fields, 14))?;
-    let woken = read_woken(alloc, text(fields, 15))?;
-    Ok(Claim {
+    judge_woken(text(fields, 15))?;
+    Ok(PlainClaim {
         prio: prio as u8,
         out,
         val,
-        bytes,
         chan,
+    })
+}
+
+// The claim of a row that was judged. Memory is refused only where it has a message or a list of processes.
+fn make_claim(alloc: Global, plain: PlainClaim, fields: &ByteRecord) -> Result<Claim, AllocError>
+    requires digits { IsHex (text_at (fields_of fields.now) 13) }
+    requires list { IsList (text_at (fields_of fields.now) 15) }
+    ensures value { IfOk result (λ claim. claim ≡ record { prio = plain.prio; out = plain.out; val = plain.val; bytes = hex_bytes (text_at (fields_of fields.now) 13); chan = plain.chan; woken = processes_in (text_at (fields_of fields.now) 15) }) }
+    ensures memory { OnErr result ((hex_bytes (text_at (fields_of fields.now) 13) ≢ []) ⊎ (processes_in (text_at (fields_of fields.now) 15) ≢ [])) }
+{
+    let bytes = copy_message(alloc, text(fields, 13))?;
+    let woken = copy_woken(alloc, text(fields, 15))?;
+    Ok(Claim {
+        prio: plain.prio,
+        out: plain.out,
+        val: plain.val,
+        bytes,
+        chan: plain.chan,
         woken,
     })
 }

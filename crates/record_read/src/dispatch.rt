@@ -2,12 +2,13 @@
 
 ghost use Rattle.std.specs.Prelude.{◌≡◌, IfOk, IfErr, Ok, Err};
 ghost use Rattle.csv.specs.Records.{fields_of};
+ghost use Rattle.record_read.specs.Memory.{TickNeeds};
 ghost use Rattle.record_read.specs.Row.{dispatch_in, proc_of, tick_in};
 ghost use Rattle.record_read.specs.Steps.{IsOfRow, Refuses};
 
 use crate::fault::RowFault;
 use crate::field::{expect_all_empty, expect_empty, optional_number, required_number, text};
-use crate::woken::read_woken;
+use crate::woken::{copy_woken, judge_woken};
 use apex_types::{PartId, ProcId, Who, Woken};
 use csv::ByteRecord;
 use std::alloc::Global;
@@ -44,13 +45,17 @@ fn read_proc(part: Option<u8>, text: &[u8]) -> Result<Option<Who>, RowFault>
     }))
 }
 
-/// The processes whose wait ends at a tick.
+/// The processes whose wait ends at a tick. The whole row is judged before memory is taken.
 #[tactic(auto, unfolding(crate::specs::Row::tick_in))]
 pub fn read_tick(alloc: Global, fields: &ByteRecord) -> Result<Woken, RowFault>
     ensures value { IfOk result (λ woken. tick_in (fields_of fields.now) ≡ Ok woken) }
-    ensures refused { IfErr result (λ fault. Refuses fault (tick_in (fields_of fields.now))) }
-    ensures own { IfErr result (λ fault. IsOfRow fault) }
+    ensures refused { IfErr result (λ fault. Refuses TickNeeds fault (tick_in (fields_of fields.now))) }
 {
     expect_all_empty(fields, 2, 13)?;
-    read_woken(alloc, text(fields, 15))
+    let list = text(fields, 15);
+    judge_woken(list)?;
+    match copy_woken(alloc, list) {
+        Ok(woken) => Ok(woken),
+        Err(_) => Err(RowFault::Memory),
+    }
 }

@@ -1,16 +1,16 @@
 // Names, and messages in hexadecimal.
 
-ghost use Rattle.std.specs.Prelude.{◌≡◌, ◌⊎◌, IfOk, IfErr, Ok, Err, length};
+ghost use Rattle.std.specs.Prelude.{◌≡◌, ◌≢◌, [], true, IfOk, IfErr, OnOk, OnErr, Ok, Err, is_ok, length};
 ghost use Rattle.std.specs.List.{list_all};
-ghost use Rattle.hex.specs.Hex.{decode_of};
-ghost use Rattle.record_read.specs.Payload.{from_hex, goes_with as goes_with_of, is_printable, maybe_message, message_in, name_in, name_of};
-ghost use Rattle.record_read.specs.Steps.{IsOfRow, Refuses};
+ghost use Rattle.hex.specs.Hex.{decode_of, is_hex_digit};
+ghost use Rattle.record_read.specs.Payload.{IsHex, from_hex, goes_with as goes_with_of, hex_bytes, is_printable, maybe_message, message_in, name_in, name_of};
+ghost use Rattle.record_read.specs.Steps.{IsOfRow};
 
 use crate::fault::RowFault;
 use crate::field::expect_empty;
 use apex_types::{Message, Name};
 use hex::FromHexError;
-use std::alloc::Global;
+use std::alloc::{AllocError, Global};
 
 // The most bytes of a name.
 const MOST_NAME: usize = 32;
@@ -18,36 +18,45 @@ const MOST_NAME: usize = 32;
 // The most bytes of a message.
 const MOST_MESSAGE: usize = 8192;
 
-/// The name in a field: filled where the service takes one, and else empty.
+/// Judges the name in a field, filled where the service takes one, and else empty. Gives its bytes.
 #[tactic(auto, unfolding(crate::specs::Payload::name_in))]
-pub fn read_name(alloc: Global, taken: bool, text: &[u8]) -> Result<Name, RowFault>
-    ensures value { IfOk result (λ name. name_in taken text.now ≡ Ok name) }
-    ensures refused { IfErr result (λ fault. Refuses fault (name_in taken text.now)) }
+pub fn judge_name(taken: bool, text: &[u8]) -> Result<&[u8], RowFault>
+    ensures value { IfOk result (λ name. name_in taken text.now ≡ Ok name.now) }
+    ensures taken { IfOk result (λ name. name.now ≢ [] → taken ≡ true) }
+    ensures refused { IfErr result (λ fault. name_in taken text.now ≡ Err fault) }
     ensures own { IfErr result (λ fault. IsOfRow fault) }
 {
     if !taken {
         expect_empty(text)?;
-        return Ok(Name::empty(alloc));
+        return Ok(b"");
     }
     match text {
         [] => Err(RowFault::FieldNotForKind),
-        _ => copy_name(alloc, text),
+        _ => judge_bytes(text),
     }
 }
 
-// The name of these bytes.
+// Judges the bytes of a name.
 #[tactic(auto, unfolding(crate::specs::Payload::name_of))]
-fn copy_name(alloc: Global, text: &[u8]) -> Result<Name, RowFault>
-    ensures value { IfOk result (λ name. name_of text.now ≡ Ok name) }
-    ensures refused { IfErr result (λ fault. Refuses fault (name_of text.now)) }
+fn judge_bytes(text: &[u8]) -> Result<&[u8], RowFault>
+    ensures value { IfOk result (λ name. name_of text.now ≡ Ok name.now) }
+    ensures refused { IfErr result (λ fault. name_of text.now ≡ Err fault) }
     ensures own { IfErr result (λ fault. IsOfRow fault) }
 {
     if text.len() > MOST_NAME || !all_printable(text) {
         return Err(RowFault::BadName);
     }
-    match text.to_vec(alloc) {
-        Ok(bytes) => Ok(Name::new(bytes)),
-        Err(_) => Err(RowFault::Memory),
+    Ok(text)
+}
+
+/// The name of these bytes. Memory is refused only where there are any.
+pub fn copy_name(alloc: Global, text: &[u8]) -> Result<Name, AllocError>
+    ensures value { IfOk result (λ name. name ≡ text.now) }
+    ensures memory { OnErr result (text.now ≢ []) }
+{
+    match text {
+        [] => Ok(Name::empty(alloc)),
+        _ => Ok(Name::new(text.to_vec(alloc)?)),
     }
 }
 
@@ -63,36 +72,64 @@ fn all_printable(text: &[u8]) -> bool
     true
 }
 
-/// The message in a field, empty where the field is.
+/// Judges the message in a field, which may be left out.
 #[tactic(auto, unfolding(crate::specs::Payload::maybe_message))]
-pub fn optional_message(alloc: Global, text: &[u8]) -> Result<Message, RowFault>
-    ensures value { IfOk result (λ message. maybe_message text.now ≡ Ok message) }
-    ensures refused { IfErr result (λ fault. Refuses fault (maybe_message text.now)) }
+pub fn judge_data(text: &[u8]) -> Result<(), RowFault>
+    ensures value { OnOk result (maybe_message text.now ≡ Ok (hex_bytes text.now)) }
+    ensures hex { OnOk result (IsHex text.now) }
+    ensures refused { IfErr result (λ fault. maybe_message text.now ≡ Err fault) }
     ensures own { IfErr result (λ fault. IsOfRow fault) }
 {
-    let bytes = decode(alloc, text)?;
-    if bytes.len() > MOST_MESSAGE {
+    if count_bytes(text)? > MOST_MESSAGE {
         return Err(RowFault::BadLength);
     }
-    Ok(Message::new(bytes))
+    Ok(())
 }
 
-/// The message in a field: as long as its length argument says where the service takes one, and else empty.
-#[tactic(auto, unfolding(crate::specs::Payload::message_in, crate::specs::Payload::message_of))]
-pub fn read_message(alloc: Global, taken: bool, len: i64, text: &[u8]) -> Result<Message, RowFault>
-    ensures value { IfOk result (λ message. message_in taken len text.now ≡ Ok message) }
-    ensures refused { IfErr result (λ fault. Refuses fault (message_in taken len text.now)) }
+/// Judges the message in a field, as long as its length argument says where the service takes one, and else empty.
+/// Gives its digits.
+#[tactic(auto, unfolding(crate::specs::Payload::message_in, crate::specs::Payload::message_of, hex::specs::Hex::decode_pairs))]
+pub fn judge_message(taken: bool, len: i64, text: &[u8]) -> Result<&[u8], RowFault>
+    ensures value { IfOk result (λ digits. message_in taken len text.now ≡ Ok (hex_bytes digits.now)) }
+    ensures hex { IfOk result (λ digits. IsHex digits.now) }
+    ensures taken { IfOk result (λ digits. hex_bytes digits.now ≢ [] → taken ≡ true) }
+    ensures refused { IfErr result (λ fault. message_in taken len text.now ≡ Err fault) }
     ensures own { IfErr result (λ fault. IsOfRow fault) }
 {
     if !taken {
         expect_empty(text)?;
-        return Ok(Message::empty(alloc));
+        return Ok(b"");
     }
-    let bytes = decode(alloc, text)?;
-    if !goes_with(len, bytes.len()) {
+    let count = count_bytes(text)?;
+    if !goes_with(len, count) {
         return Err(RowFault::BadLength);
     }
-    Ok(Message::new(bytes))
+    Ok(text)
+}
+
+/// The message of these hexadecimal digits. Memory is refused only where there are any.
+#[tactic(auto, using(crate::proofs::Hexadecimal::hex_filled), unfolding(hex::specs::Hex::decode_pairs))]
+pub fn copy_message(alloc: Global, digits: &[u8]) -> Result<Message, AllocError>
+    requires { IsHex digits.now }
+    ensures value { IfOk result (λ message. message ≡ hex_bytes digits.now) }
+    ensures memory { OnErr result (hex_bytes digits.now ≢ []) }
+{
+    match digits {
+        [] => Ok(Message::empty(alloc)),
+        _ => Ok(Message::new(decode(alloc, digits)?)),
+    }
+}
+
+// The bytes of a text in hexadecimal.
+fn decode(alloc: Global, digits: &[u8]) -> Result<Vec<u8>, AllocError>
+    requires { IsHex digits.now }
+    ensures { IfOk result (λ bytes. bytes.items ≡ hex_bytes digits.now) }
+{
+    match hex::decode(alloc, digits) {
+        Ok(bytes) => Ok(bytes),
+        Err(FromHexError::OutOfMemory) => Err(AllocError),
+        Err(_) => unreachable!(),
+    }
 }
 
 // Whether so many bytes go with this length argument.
@@ -106,18 +143,40 @@ fn goes_with(len: i64, count: usize) -> bool
     }
 }
 
-// The bytes of a text in hexadecimal. An empty text takes no memory.
-fn decode(alloc: Global, text: &[u8]) -> Result<Vec<u8>, RowFault>
-    ensures value { IfOk result (λ bytes. from_hex (decode_of text.now) ≡ Ok bytes.items) }
-    ensures refused { IfErr result (λ fault. Refuses fault (from_hex (decode_of text.now))) }
+// How many bytes a text in hexadecimal holds.
+#[tactic(auto, using(crate::proofs::Hexadecimal::hex_text, crate::proofs::Hexadecimal::hex_value, crate::proofs::Hexadecimal::hex_none, crate::proofs::Hexadecimal::hex_count))]
+fn count_bytes(text: &[u8]) -> Result<usize, RowFault>
+    ensures value { OnOk result (from_hex (decode_of text.now) ≡ Ok (hex_bytes text.now)) }
+    ensures hex { OnOk result (IsHex text.now) }
+    ensures count { IfOk result (λ count. length (hex_bytes text.now) ≡ count) }
+    ensures refused { IfErr result (λ fault. from_hex (decode_of text.now) ≡ Err fault) }
     ensures own { IfErr result (λ fault. IsOfRow fault) }
 {
-    match text {
-        [] => Ok(Vec::new(alloc)),
-        _ => match hex::decode(alloc, text) {
-            Ok(bytes) => Ok(bytes),
-            Err(FromHexError::OutOfMemory) => Err(RowFault::Memory),
-            Err(_) => Err(RowFault::BadHex),
-        },
+    if !is_hexadecimal(text) {
+        return Err(RowFault::BadHex);
     }
+    Ok(text.len() / 2)
+}
+
+// Whether a text is hexadecimal, two digits of either case a byte.
+#[tactic(auto, using(crate::proofs::Hexadecimal::odd_is_none, crate::proofs::Hexadecimal::even_is))]
+fn is_hexadecimal(text: &[u8]) -> bool
+    ensures { result ≡ is_ok (decode_of text.now) }
+{
+    if text.len() % 2 == 1 {
+        return false;
+    }
+    all_digits(text)
+}
+
+// Whether all bytes are hexadecimal digits, of either case.
+fn all_digits(text: &[u8]) -> bool
+    ensures { result ≡ list_all is_hex_digit text.now }
+{
+    for byte in text {
+        if !matches!(*byte, b'0'..=b'9' | b'A'..=b'F' | b'a'..=b'f') {
+            return false;
+        }
+    }
+    true
 }

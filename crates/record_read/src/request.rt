@@ -1,25 +1,40 @@
 // The requests of rows.
 
-ghost use Rattle.std.specs.Prelude.{◌≡◌, IfOk, IfErr, Ok, Err};
+ghost use Rattle.std.specs.Prelude.{◌≡◌, ◌≢◌, ◌⊎◌, [], true, IfOk, IfErr, OnErr, Ok, Err};
 ghost use Rattle.csv.specs.Records.{fields_of};
-ghost use Rattle.record_read.specs.Arguments.{request_of};
+ghost use Rattle.record_read.specs.Arguments.{arguments_of, request_of};
+ghost use Rattle.record_read.specs.Payload.{IsHex, hex_bytes};
 ghost use Rattle.record_read.specs.Row.{request_in};
-ghost use Rattle.record_read.specs.Steps.{IsOfRow, Refuses};
+ghost use Rattle.record_read.specs.Steps.{IsOfRow};
 
 use crate::arguments::taken_by;
 use crate::fault::RowFault;
 use crate::field::{read_argument, text};
 use crate::named::read_service;
-use crate::payload::{read_message, read_name};
+use crate::payload::{copy_message, copy_name, judge_message, judge_name};
 use apex_types::{Message, Name, Request, Service};
 use csv::ByteRecord;
-use std::alloc::Global;
+use std::alloc::{AllocError, Global};
 
-/// The request of a call: its service and the service's arguments.
+/// What a call requests, judged, with its name and its message as they stand in the row.
+#[derive(Clone, Copy)]
+pub struct RequestText<'a> {
+    pub service: Service,
+    pub n1: i64,
+    pub n2: i64,
+    pub n3: i64,
+    pub name: &'a [u8],
+    pub message: &'a [u8],
+}
+
+/// Judges the request of a call: its service and the service's arguments.
 #[tactic(auto, unfolding(crate::specs::Row::request_in))]
-pub fn read_request(alloc: Global, fields: &ByteRecord) -> Result<Request, RowFault>
-    ensures value { IfOk result (λ request. request_in (fields_of fields.now) ≡ Ok request) }
-    ensures refused { IfErr result (λ fault. Refuses fault (request_in (fields_of fields.now))) }
+pub fn judge_request(fields: &ByteRecord) -> Result<RequestText<'_>, RowFault>
+    ensures value { IfOk result (λ given. request_in (fields_of fields.now) ≡ Ok (request_of given.service given.n1 given.n2 given.n3 given.name.now (hex_bytes given.message.now))) }
+    ensures hex { IfOk result (λ given. IsHex given.message.now) }
+    ensures name { IfOk result (λ given. given.name.now ≢ [] → (arguments_of given.service).name ≡ true) }
+    ensures message { IfOk result (λ given. hex_bytes given.message.now ≢ [] → (arguments_of given.service).message ≡ true) }
+    ensures refused { IfErr result (λ fault. request_in (fields_of fields.now) ≡ Err fault) }
     ensures own { IfErr result (λ fault. IsOfRow fault) }
 {
     let service = read_service(text(fields, 4))?;
@@ -27,14 +42,32 @@ pub fn read_request(alloc: Global, fields: &ByteRecord) -> Result<Request, RowFa
     let n1 = read_argument(takes.numbers >= 1, text(fields, 5))?;
     let n2 = read_argument(takes.numbers >= 2, text(fields, 6))?;
     let n3 = read_argument(takes.numbers >= 3, text(fields, 7))?;
-    let name = read_name(alloc, takes.name, text(fields, 8))?;
-    let message = read_message(alloc, takes.message, n2, text(fields, 9))?;
-    Ok(make_request(service, n1, n2, n3, name, message))
+    let name = judge_name(takes.name, text(fields, 8))?;
+    let message = judge_message(takes.message, n2, text(fields, 9))?;
+    Ok(RequestText {
+        service,
+        n1,
+        n2,
+        n3,
+        name,
+        message,
+    })
+}
+
+/// The request. Memory is refused only where it has a name or a message.
+pub fn make_request(alloc: Global, given: RequestText<'_>) -> Result<Request, AllocError>
+    requires { IsHex given.message.now }
+    ensures value { IfOk result (λ request. request ≡ request_of given.entry.service given.entry.n1 given.entry.n2 given.entry.n3 given.entry.name.now (hex_bytes given.entry.message.now)) }
+    ensures memory { OnErr result ((given.entry.name.now ≢ []) ⊎ (hex_bytes given.entry.message.now ≢ [])) }
+{
+    let name = copy_name(alloc, given.name)?;
+    let message = copy_message(alloc, given.message)?;
+    Ok(fill_request(given.service, given.n1, given.n2, given.n3, name, message))
 }
 
 // The request of a service, from its numbers, its name and its message.
 #[tactic(auto, unfolding(crate::specs::Arguments::request_of))]
-fn make_request(
+fn fill_request(
     service: Service,
     n1: i64,
     n2: i64,

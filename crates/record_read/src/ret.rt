@@ -2,37 +2,41 @@
 
 ghost use Rattle.std.specs.Prelude.{◌≡◌, IfOk, IfErr, Ok, Err};
 ghost use Rattle.csv.specs.Records.{fields_of};
+ghost use Rattle.record_read.specs.Memory.{ReturnNeeds};
 ghost use Rattle.record_read.specs.Row.{return_in};
-ghost use Rattle.record_read.specs.Steps.{IsOfRow, Refuses};
+ghost use Rattle.record_read.specs.Steps.{Refuses};
 
 use crate::call::read_who;
 use crate::fault::RowFault;
 use crate::field::{expect_all_empty, optional_signed, text};
 use crate::named::{read_code, read_service};
-use crate::payload::optional_message;
+use crate::payload::{copy_message, judge_data};
 use apex_types::Return;
 use csv::ByteRecord;
 use std::alloc::Global;
 
-/// The return that these fields are.
+/// The return that these fields are. The whole row is judged before memory is taken.
 #[tactic(auto, unfolding(crate::specs::Row::return_in))]
 pub fn read_return(alloc: Global, fields: &ByteRecord) -> Result<Return, RowFault>
     ensures value { IfOk result (λ ret. return_in (fields_of fields.now) ≡ Ok ret) }
-    ensures refused { IfErr result (λ fault. Refuses fault (return_in (fields_of fields.now))) }
-    ensures own { IfErr result (λ fault. IsOfRow fault) }
+    ensures refused { IfErr result (λ fault. Refuses ReturnNeeds fault (return_in (fields_of fields.now))) }
 {
     let who = read_who(fields)?;
     let service = read_service(text(fields, 4))?;
     expect_all_empty(fields, 5, 6)?;
     let code = read_code(text(fields, 11))?;
     let val = optional_signed(text(fields, 12))?;
-    let bytes = optional_message(alloc, text(fields, 13))?;
+    let data = text(fields, 13);
+    judge_data(data)?;
     expect_all_empty(fields, 14, 2)?;
-    Ok(Return {
-        who,
-        service,
-        code,
-        val,
-        bytes,
-    })
+    match copy_message(alloc, data) {
+        Ok(bytes) => Ok(Return {
+            who,
+            service,
+            code,
+            val,
+            bytes,
+        }),
+        Err(_) => Err(RowFault::Memory),
+    }
 }

@@ -3,6 +3,7 @@
 ghost use Rattle.std.specs.Prelude.{◌≡◌, ◌<◌, ◌≤◌, OnOk, IfOk, IfErr, Ok, Err};
 ghost use Rattle.csv.specs.Records.{fields_of};
 ghost use Rattle.record_read.specs.Field.{number, text_at};
+ghost use Rattle.record_read.specs.Memory.{BodyNeeds, NeedsMemory};
 ghost use Rattle.record_read.specs.Row.{body_in, fields_read, record_of, seq_in};
 ghost use Rattle.record_read.specs.Steps.{IsOfRow, Refuses};
 
@@ -23,8 +24,7 @@ const FIELDS: usize = 16;
 #[tactic(auto, unfolding(crate::specs::Row::record_of))]
 pub fn read_record(alloc: Global, next: u32, fields: &ByteRecord) -> Result<Record, RowFault>
     ensures value { IfOk result (λ made. record_of next (fields_of fields.now) ≡ Ok made) }
-    ensures refused { IfErr result (λ fault. Refuses fault (record_of next (fields_of fields.now))) }
-    ensures own { IfErr result (λ fault. IsOfRow fault) }
+    ensures refused { IfErr result (λ fault. Refuses NeedsMemory fault (record_of next (fields_of fields.now))) }
     ensures bound { OnOk result (next < 4294967295) }
 {
     if next == u32::MAX {
@@ -40,8 +40,7 @@ pub fn read_record(alloc: Global, next: u32, fields: &ByteRecord) -> Result<Reco
 #[tactic(auto, unfolding(crate::specs::Row::fields_read))]
 fn read_fields(alloc: Global, next: u32, fields: &ByteRecord) -> Result<Record, RowFault>
     ensures value { IfOk result (λ made. fields_read next (fields_of fields.now) ≡ Ok made) }
-    ensures refused { IfErr result (λ fault. Refuses fault (fields_read next (fields_of fields.now))) }
-    ensures own { IfErr result (λ fault. IsOfRow fault) }
+    ensures refused { IfErr result (λ fault. Refuses NeedsMemory fault (fields_read next (fields_of fields.now))) }
 {
     let given = required_number(text(fields, 0), 4_294_967_294)?;
     let seq = expect_next(next, given)?;
@@ -66,8 +65,7 @@ fn expect_next(next: u32, seq: u64) -> Result<u32, RowFault>
 #[tactic(auto, unfolding(crate::specs::Row::body_in))]
 fn read_body(alloc: Global, kind: Kind, fields: &ByteRecord) -> Result<Body, RowFault>
     ensures value { IfOk result (λ body. body_in kind (fields_of fields.now) ≡ Ok body) }
-    ensures refused { IfErr result (λ fault. Refuses fault (body_in kind (fields_of fields.now))) }
-    ensures own { IfErr result (λ fault. IsOfRow fault) }
+    ensures refused { IfErr result (λ fault. Refuses BodyNeeds fault (body_in kind (fields_of fields.now))) }
 {
     match kind {
         Kind::Call => Ok(Body::Call(read_call(alloc, fields)?)),

@@ -1,7 +1,8 @@
 // The records of a recording, one after another.
 
-ghost use Rattle.std.specs.Prelude.{◌≡◌, ◌≢◌, false, true, is_err, IfOk, IfErr, IfSome, Ok, Err, Some, None, is_none, option_map};
+ghost use Rattle.std.specs.Prelude.{◌≡◌, ◌≢◌, ◌⊎◌, false, true, is_err, IfOk, IfErr, IfSome, Ok, Err, Some, None, is_none, option_map};
 ghost use Rattle.csv_rows.specs.Source.{Gives};
+ghost use Rattle.record_read.specs.Memory.{NextNeedsMemory};
 ghost use Rattle.record_read.specs.Row.{records_of};
 ghost use Rattle.record_read.specs.Steps.{IsOutside};
 
@@ -25,7 +26,7 @@ pub struct RowSource<R: Read> {
 }
 
 impl<R: Read> Model for RowSource<R> {
-    ghost use Rattle.std.specs.Prelude.{◌≡◌, option_map, false};
+    ghost use Rattle.std.specs.Prelude.{◌≡◌, ◌&&◌, not, option_map, false};
     ghost use Rattle.csv_rows.specs.Source.{Source, items_from};
     ghost use Rattle.record_read.specs.Row.{Item, record_of};
 
@@ -35,6 +36,7 @@ impl<R: Read> Model for RowSource<R> {
       stopped = source.stopped;
       ended = source.rows.ended;
       failed = source.rows.failed;
+      starved = source.rows.stopped && not source.rows.failed;
       left = option_map (items_from record_of source.count) source.rows.left;
     } };
 
@@ -47,6 +49,7 @@ impl<R: Read> RowSource<R> {
         ensures stopped { result.stopped ≡ false }
         ensures ended { result.ended ≡ false }
         ensures failed { result.failed ≡ false }
+        ensures starved { result.starved ≡ false }
         ensures left { result.left ≡ option_map records_of (R.remaining reader) }
     {
         RowSource {
@@ -60,7 +63,8 @@ impl<R: Read> RowSource<R> {
 
     /// The next record, or None behind the last, then and from then on. After a fault every call answers Ended.
     ///
-    /// Read where the reader failed, Memory where a growth was refused; else the row's first fault.
+    /// Read where the reader failed, and else the row's first fault. Memory where `csv` gave up, and for a sound row with a
+    /// name, a message or a list of processes.
     pub fn next(&mut self) -> Result<Option<Record>, RowFault>
         ensures ended { self.old.stopped ≡ true → result ≡ Err RowFault.Ended }
         ensures fresh { self.old.stopped ≡ false → result ≢ Err RowFault.Ended }
@@ -68,6 +72,9 @@ impl<R: Read> RowSource<R> {
         ensures ends { IfOk result (λ made. self.new.ended ≡ is_none made) }
         ensures stays { self.old.stopped ≡ false → self.old.ended ≡ true → result ≡ Ok None }
         ensures failed { self.old.stopped ≡ false → result ≡ Err RowFault.Read → self.new.failed ≡ true }
+        ensures told { self.old.stopped ≡ false → self.new.failed ≡ true → result ≡ Err RowFault.Read }
+        ensures starved { self.old.stopped ≡ false → self.new.starved ≡ true → result ≡ Err RowFault.Memory }
+        ensures memory { self.old.stopped ≡ false → result ≡ Err RowFault.Memory → (self.new.starved ≡ true) ⊎ IfSome self.old.left NextNeedsMemory }
         ensures gives { self.old.stopped ≡ false → IfSome self.old.left (λ items. Gives IsOutside items result self.new.left) }
     {
         if self.stopped {

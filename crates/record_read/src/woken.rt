@@ -1,13 +1,13 @@
 // Lists of processes, `part:proc` joined by `;`.
 
-ghost use Rattle.std.specs.Prelude.{◌≡◌, ◌⊎◌, ◌<◌, ◌≤◌, IfOk, IfErr, IfSome, Ok, Err, None, length, option_copied, option_map};
-ghost use Rattle.record_read.specs.Steps.{IsOfRow, Refuses};
-ghost use Rattle.record_read.specs.Woken.{front_of, rest_of, next_process, pieces_of, processes_behind, stands_behind as behind, woken_of};
+ghost use Rattle.std.specs.Prelude.{◌≡◌, ◌≢◌, ◌<◌, [], IfOk, IfErr, IfSome, IsSome, OnOk, OnErr, Ok, Err, None, is_some, length, option_map};
+ghost use Rattle.record_read.specs.Steps.{IsOfRow};
+ghost use Rattle.record_read.specs.Woken.{IsList, front_of, rest_of, next_process, pieces_of, processes_behind, processes_in, stands_behind as behind, woken_of};
 
 use crate::fault::RowFault;
 use apex_types::{PartId, ProcId, Who, Woken};
 use csv_rows::read_decimal;
-use std::alloc::Global;
+use std::alloc::{AllocError, Global};
 
 // A text before its first separator, and behind it if there is one.
 #[derive(Clone, Copy)]
@@ -16,34 +16,67 @@ struct Split<'a> {
     rest: Option<&'a [u8]>,
 }
 
-/// The processes that a field names, in rising order of partition and number; none where it is empty.
+/// Judges a list of processes: empty, or each process behind the one before.
 #[tactic(auto, unfolding(crate::specs::Woken::woken_of))]
-pub fn read_woken(alloc: Global, text: &[u8]) -> Result<Woken, RowFault>
-    ensures value { IfOk result (λ woken. woken_of text.now ≡ Ok woken) }
-    ensures refused { IfErr result (λ fault. Refuses fault (woken_of text.now)) }
+pub fn judge_woken(text: &[u8]) -> Result<(), RowFault>
+    ensures list { OnOk result (IsList text.now) }
+    ensures refused { IfErr result (λ fault. woken_of text.now ≡ Err fault) }
     ensures own { IfErr result (λ fault. IsOfRow fault) }
 {
     match text {
-        [] => Ok(Woken::none(alloc)),
-        _ => Ok(Woken::new(read_processes(alloc, text)?)),
+        [] => Ok(()),
+        _ => {
+            if !are_processes(text) {
+                return Err(RowFault::BadWoken);
+            }
+            Ok(())
+        }
     }
 }
 
-// The processes that the pieces of a text name, each behind the one before.
-fn read_processes(alloc: Global, text: &[u8]) -> Result<Vec<Who>, RowFault>
+// Whether the pieces of a text name processes, each behind the one before.
+fn are_processes(text: &[u8]) -> bool
+    ensures { result ≡ is_some (processes_behind None (pieces_of 59 text.now)) }
+{
+    let mut last = None;
+    let mut left = Some(text);
+    'pieces: while let Some(pieces) = left {
+        let split = split_once(pieces, b';');
+        let Some(who) = read_next(last, split.front) else {
+            return false;
+        };
+        last = Some(who);
+        left = split.rest;
+    }
+    true
+}
+
+/// The processes of a list, in its order. Memory is refused only where there are any.
+#[tactic(auto, unfolding(crate::specs::Woken::woken_of))]
+pub fn copy_woken(alloc: Global, text: &[u8]) -> Result<Woken, AllocError>
+    requires { IsList text.now }
+    ensures value { IfOk result (λ woken. woken ≡ processes_in text.now) }
+    ensures memory { OnErr result (processes_in text.now ≢ []) }
+{
+    match text {
+        [] => Ok(Woken::none(alloc)),
+        _ => Ok(Woken::new(copy_processes(alloc, text)?)),
+    }
+}
+
+// The processes that the pieces of a text name.
+fn copy_processes(alloc: Global, text: &[u8]) -> Result<Vec<Who>, AllocError>
+    requires { IsSome (processes_behind None (pieces_of 59 text.now)) }
     ensures value { IfOk result (λ named. processes_behind None (pieces_of 59 text.now) ≡ Some named.items) }
-    ensures refused { IfErr result (λ fault. (fault ≡ RowFault.Memory) ⊎ ((fault ≡ RowFault.BadWoken) × (processes_behind None (pieces_of 59 text.now) ≡ None))) }
 {
     let mut named = Vec::new(alloc);
     let mut left = Some(text);
     'pieces: while let Some(pieces) = left {
         let split = split_once(pieces, b';');
-        let Some(who) = read_next(named.last(), split.front) else {
-            return Err(RowFault::BadWoken);
+        let Some(who) = read_next(named.last().copied(), split.front) else {
+            unreachable!()
         };
-        if named.push(who).is_err() {
-            return Err(RowFault::Memory);
-        }
+        named.push(who)?;
         left = split.rest;
     }
     Ok(named)
@@ -51,8 +84,8 @@ fn read_processes(alloc: Global, text: &[u8]) -> Result<Vec<Who>, RowFault>
 
 // The process that a text names, where it stands behind the last.
 #[tactic(auto, unfolding(crate::specs::Woken::next_process, crate::specs::Woken::process_of))]
-fn read_next(last: Option<&Who>, text: &[u8]) -> Option<Who>
-    ensures { result ≡ next_process (option_copied last.entry) text.now }
+fn read_next(last: Option<Who>, text: &[u8]) -> Option<Who>
+    ensures { result ≡ next_process last text.now }
 {
     let split = split_once(text, b':');
     let rest = split.rest?;
@@ -68,8 +101,8 @@ fn read_next(last: Option<&Who>, text: &[u8]) -> Option<Who>
 }
 
 // Whether the process of this partition and number stands behind the last.
-fn stands_behind(last: Option<&Who>, part: u8, proc: u32) -> bool
-    ensures { result ≡ behind (option_copied last.entry) (record { part = part; proc = proc }) }
+fn stands_behind(last: Option<Who>, part: u8, proc: u32) -> bool
+    ensures { result ≡ behind last (record { part = part; proc = proc }) }
 {
     match last {
         Some(last) => {

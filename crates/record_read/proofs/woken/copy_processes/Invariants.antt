@@ -1,7 +1,7 @@
 use Rattle.std.proofs.Common.{ℕ, List, Option, None, Some, suc, length}
 use Rattle.std.specs.Prelude.{option_map}
 use Rattle.record_read.proofs.Pieces.{Named}
-use Rattle.record_read.proofs.woken.read_processes.Given as goal
+use Rattle.record_read.proofs.woken.copy_processes.Given as goal
 
 abbrev pub invariant-pieces : goal.invariant-pieces
 invariant-pieces l = Named l.text l.named.items (option_map (λ left. left.now) l.left)
