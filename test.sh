@@ -1,7 +1,7 @@
 #!/usr/bin/env bash
 # All tests: the program on one example through real files; every proof, every wrong body that the prover must refuse,
-# every test and the program as two compilers build it; and each of the program's allocations refused in turn. The last
-# line is `N passed, 0 failed`.
+# every test and the program as two compilers build it; the program as its users run it; and each of its allocations
+# refused in turn. At the end stands what each crate cost. The last line is `N passed, 0 failed`.
 set -euo pipefail
 cd "$(dirname "$0")"
 report=$(bash examples/run timed_wait)
@@ -10,8 +10,11 @@ if [ "$report" != "$(cat examples/timed_wait/expected.txt)" ]; then
     echo "examples/timed_wait has another report than expected" >&2
     exit 1
 fi
-log=$(mktemp)
-trap 'rm -f "$log"' EXIT
-rt ci | tee "$log"
-bash .ci/refuse_allocations crates/apexcheck/out/apexcheck
-tail -n 1 "$log"
+room=$(mktemp -d)
+trap 'rm -rf "$room"' EXIT
+.ci/time_by_crate "$room/times" rt ci | tee "$room/log"
+program=crates/apexcheck/out/apexcheck
+bash .ci/run_examples "$program"
+bash .ci/refuse_allocations "$program"
+cat "$room/times"
+tail -n 1 "$room/log"

@@ -5,8 +5,12 @@ use crate::usage::FileNames;
 use report::{CheckFault, check};
 use std::alloc::{AllocFailed, Global};
 use std::fs::{File, Files};
-use std::io::ErrorKind;
-use std::{fs, io};
+use std::io;
+use std::io::{ErrorKind, Read};
+
+// The most bytes that a configuration has. `check` refuses a longer one as `TooMany` by the rule of `Config::read`, and
+// the byte behind them is enough to see that it is longer.
+const LONGEST_CONFIG: u64 = 1_048_576;
 
 /// Opens the files of a run and checks what they hold. The configuration is read first, then the order is opened, then
 /// the recordings, core 0 first.
@@ -45,7 +49,7 @@ impl Opened {
         alloc: Global,
         names: &FileNames,
     ) -> Result<Opened, OpenFault> {
-        let config = told(rt, &names.config, fs::read(rt, &names.config))?;
+        let config = told(rt, &names.config, read_config(rt, alloc, &names.config))?;
         let order = told(rt, &names.order, File::open(rt, &names.order))?;
         let mut cores = Vec::new(alloc);
         for name in &names.cores {
@@ -57,6 +61,14 @@ impl Opened {
             cores,
         })
     }
+}
+
+// The configuration in the file of this name, or as much of it as shows that it is too long.
+fn read_config<R: Files<File = File>>(rt: &R, alloc: Global, name: &str) -> io::Result<Vec<u8>> {
+    let mut config = Vec::new(alloc);
+    let file = File::open(rt, name)?;
+    file.take(LONGEST_CONFIG + 1).read_to_end(&mut config)?;
+    Ok(config)
 }
 
 // Why the files of a run are not all there.

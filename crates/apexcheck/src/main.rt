@@ -9,7 +9,7 @@ mod files;
 mod stored;
 mod usage;
 
-use ending::{Ending, UNWRITTEN, status_of, write_ending};
+use ending::{Ending, conclude};
 use report::CheckFault;
 use sink::WriterSink;
 use std::alloc::Global;
@@ -22,16 +22,14 @@ use usage::{Asked, UsageFault};
 fn main(rt: HostRuntime) -> ExitCode {
     let ending = run(&rt, rt.alloc());
     let mut output = WriterSink::new(io::writer(&rt));
-    match write_ending(&mut output, &ending) {
-        Ok(()) => ExitCode::from(status_of(&ending)),
-        Err(_) => ExitCode::from(UNWRITTEN),
-    }
+    ExitCode::from(conclude(&mut output, &ending))
 }
 
 // Does what the command line asks for. The words are judged first, then the files are opened, then comes the check.
 fn run<R: Env + Files<File = File> + Eprint + AllocGlobal>(rt: &R, alloc: Global) -> Ending {
     match usage::from_words(rt, alloc) {
         Ok(Asked::StoredRun) => Ending::Checked(stored::check_stored(alloc)),
+        Ok(Asked::Version) => Ending::Version,
         Ok(Asked::Files(names)) => files::check_files(rt, alloc, &names),
         Err(UsageFault::Usage) => {
             // Standard error only helps a person, so that a failure there changes nothing.

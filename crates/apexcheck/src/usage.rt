@@ -9,16 +9,20 @@ use std::{env, io};
 /// What a person is told whose command line is refused.
 pub const USAGE: &str = "usage: apexcheck --config FILE --order FILE CORE...
        apexcheck
+       apexcheck --version
 
 Checks the recordings, one file CORE for each core with core 0 first, against the
 configuration and the order that are given. With no words it checks a run that
-stands in the program.";
+stands in the program. With --version alone it prints its version, and the kit that
+it is proved with.";
 
 /// What the command line asks for.
 #[derive(Debug, Drop)]
 pub enum Asked {
     /// There are no words: the run that stands in the program.
     StoredRun,
+    /// The one word is `--version`.
+    Version,
     /// The run whose texts stand in files.
     Files(FileNames),
 }
@@ -50,10 +54,11 @@ pub fn from_words(rt: &(impl Env + AllocGlobal), alloc: Global) -> Result<Asked,
         Err(e) if e.kind() == io::ErrorKind::OutOfMemory => return Err(UsageFault::Memory),
         Err(_) => return Err(UsageFault::Usage),
     };
-    if words.len() <= 1 {
-        return Ok(Asked::StoredRun);
+    match words.as_slice() {
+        [] | [_] => Ok(Asked::StoredRun),
+        [_, word] if word.as_str() == "--version" => Ok(Asked::Version),
+        words => Ok(Asked::Files(file_names(alloc, words)?)),
     }
-    Ok(Asked::Files(file_names(alloc, words.as_slice())?))
 }
 
 // The files that the words name. The first word is the program's own name.

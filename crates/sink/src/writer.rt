@@ -1,38 +1,75 @@
 // A program's writer, as standard output, in the place of a sink.
 
-ghost use Rattle.std.specs.Prelude.{◌≡◌, None};
+ghost use Rattle.std.specs.Prelude.{◌≡◌, ◌<◌, OnErr, OnOk};
+ghost use Rattle.std.specs.Io.{WritesAtMost};
+ghost use Rattle.std.specs.Io.KnownBytes.{WriteAppends};
+ghost use Rattle.sink.specs.Writer.{StillTells, WriterView, told_since};
 
 use crate::count::FailureCount;
 use crate::output::{Sink, SinkFault};
-use std::io::Write;
+use crate::written::WriteFault;
+use std::io;
+use std::io::{ErrorKind, Write};
+use std::marker::Model;
+use std::snapshot::Snapshot;
 
-/// A sink that hands its bytes to a writer, as standard output is one. It does not tell which bytes it took: no
-/// contract says what a file or a terminal takes.
+/// A sink that hands its bytes to a writer, as standard output is one.
+///
+/// Its bytes are those that the writer tells, as one in memory does. No contract says what a file or a terminal takes.
 #[derive(Drop)]
-pub struct WriterSink<W> {
+pub struct WriterSink<W: Write> {
     writer: W,
+    // The writer as it was given, which contracts alone see.
+    first: Snapshot<W>,
     failures: FailureCount,
+}
+
+impl<W: Write> Model for WriterSink<W> {
+    ghost Value = { WriterView };
+
+    ghost view = { λ s. record { bytes = told_since (W.contents s.first.value) (W.contents s.writer); failures = s.failures.count } };
+
+    ghost invariant = { λ s. StillTells (W.contents s.first.value) (W.contents s.writer) };
 }
 
 impl<W: Write + Drop> WriterSink<W> {
     /// A sink that hands its bytes to `writer`, and has not failed.
     pub fn new(writer: W) -> WriterSink<W>
-        ensures unfailed { ⟦<WriterSink<W> as Sink>⟧.failures result ≡ 0 }
+        ensures bytes { result.bytes ≡ W.contents writer }
+        ensures unfailed { result.failures ≡ 0 }
     {
         WriterSink {
+            first: Snapshot::of(&writer),
             writer,
             failures: FailureCount::new(),
         }
     }
+
+    /// Has the writer hand on all that it took.
+    ///
+    /// # Errors
+    ///
+    /// `WriteFault` where the writer failed.
+    pub fn flush(&mut self) -> Result<(), WriteFault>
+        ensures bytes { self.new.bytes ≡ self.old.bytes }
+        ensures same { OnOk result (self.new.failures ≡ self.old.failures) }
+        ensures failed { OnErr result (self.old.failures < self.new.failures) }
+    {
+        if self.writer.flush().is_err() {
+            self.failures = self.failures.raised();
+            return Err(WriteFault);
+        }
+        Ok(())
+    }
 }
 
 impl<W: Write + Drop> Sink for WriterSink<W> {
-    ghost bytes = { λ _. None };
+    ghost bytes = { λ s. s.bytes };
 
-    ghost failures = { λ s. s.failures.count };
+    ghost failures = { λ s. s.failures };
 
     fn put(&mut self, piece: &[u8]) -> Result<usize, SinkFault> {
-        match self.writer.write(piece) {
+        match write_retrying(&mut self.writer, piece) {
             Ok(0) if !piece.is_empty() => {
                 self.failures = self.failures.raised();
                 Ok(0)
@@ -44,4 +81,18 @@ impl<W: Write + Drop> Sink for WriterSink<W> {
             }
         }
     }
+}
+
+// One write, which is tried again where a signal interrupts it.
+fn write_retrying<W: Write>(writer: &mut W, piece: &[u8]) -> io::Result<usize>
+    ensures bound { WritesAtMost result piece.now }
+    ensures bytes { WriteAppends (W.contents writer.old) (W.contents writer.new) result piece.now }
+{
+    for _ in 0..u64::MAX {
+        match writer.write(piece) {
+            Err(e) if e.kind() == ErrorKind::Interrupted => {}
+            answer => return answer,
+        }
+    }
+    Err(io::Error::from(ErrorKind::Interrupted))
 }

@@ -1,0 +1,18 @@
+-- What a sink over a writer tells of the bytes that went out.
+use Rattle.std.specs.Prelude.{ℕ, List, Option, Some, None, ⊤}
+
+-- what contracts see of a sink over a writer: the bytes that the writer holds, where they are known, and how often it failed
+pub record WriterView : Type 0 where
+  pub bytes : Option (List ℕ)
+  pub failures : ℕ
+
+-- the bytes that a writer holds now, where it told them from the first on
+abbrev pub told_since : Option (List ℕ) → Option (List ℕ) → Option (List ℕ)
+told_since None now = None
+told_since (Some first) now = now
+
+-- a writer that told its bytes at first tells them still
+abbrev pub StillTells : Option (List ℕ) → Option (List ℕ) → Type 0
+StillTells None now = ⊤
+StillTells (Some first) None = ⊥
+StillTells (Some first) (Some now) = ⊤
