@@ -1,5 +1,10 @@
 // The check of files.
 
+ghost use Rattle.std.specs.Prelude.{◌≡◌, ◌≢◌, ◌+◌, IfErr, IfOk, IfSome, take, vec_len};
+ghost use Rattle.std.specs.IoError.{error_kind};
+ghost use Rattle.module_config.specs.Reading.{configuration_of};
+ghost use Rattle.apexcheck.specs.Files.{IsOfFiles, ending_of};
+
 use crate::ending::Ending;
 use crate::usage::FileNames;
 use report::{CheckFault, check};
@@ -20,7 +25,9 @@ pub fn check_files<R: Files<File = File> + Eprint + AllocGlobal>(
     rt: &R,
     alloc: Global,
     names: &FileNames,
-) -> Ending {
+) -> Ending
+    ensures { IsOfFiles result }
+{
     match Opened::open(rt, alloc, names) {
         Ok(
             Opened {
@@ -29,8 +36,17 @@ pub fn check_files<R: Files<File = File> + Eprint + AllocGlobal>(
                 cores,
             },
         ) => Ending::Checked(check(alloc, &config, cores, order)),
-        Err(OpenFault::Unopened) => Ending::Unopened,
-        Err(OpenFault::Memory) => Ending::Checked(Err(CheckFault::Memory)),
+        Err(fault) => end_by(fault),
+    }
+}
+
+// The end of a run whose files are not all there.
+fn end_by(fault: OpenFault) -> Ending
+    ensures { result ≡ ending_of fault }
+{
+    match fault {
+        OpenFault::Unopened => Ending::Unopened,
+        OpenFault::Memory => Ending::Checked(Err(CheckFault::Memory)),
     }
 }
 
@@ -48,8 +64,10 @@ impl Opened {
         rt: &R,
         alloc: Global,
         names: &FileNames,
-    ) -> Result<Opened, OpenFault> {
-        let config = told(rt, &names.config, read_config(rt, alloc, &names.config))?;
+    ) -> Result<Opened, OpenFault>
+        ensures { IfOk result (λ opened. vec_len opened.cores ≡ vec_len names.now.cores) }
+    {
+        let config = told(rt, &names.config, open_config(rt, alloc, &names.config))?;
         let order = told(rt, &names.order, File::open(rt, &names.order))?;
         let mut cores = Vec::new(alloc);
         for name in &names.cores {
@@ -63,11 +81,19 @@ impl Opened {
     }
 }
 
-// The configuration in the file of this name, or as much of it as shows that it is too long.
-fn read_config<R: Files<File = File>>(rt: &R, alloc: Global, name: &str) -> io::Result<Vec<u8>> {
+// The configuration in the file of this name, as `read_config` reads it.
+fn open_config<R: Files<File = File>>(rt: &R, alloc: Global, name: &str) -> io::Result<Vec<u8>> {
+    read_config(alloc, File::open(rt, name)?)
+}
+
+// The text that a reader gives, or its first bytes where it is longer than a configuration: these configure what the whole
+// text does.
+fn read_config<R: Read + Drop>(alloc: Global, reader: R) -> io::Result<Vec<u8>>
+    ensures first { IfOk result (λ config. IfSome (R.remaining reader) (λ text. config.items ≡ take (LONGEST_CONFIG + 1) text)) }
+    ensures same { IfOk result (λ config. IfSome (R.remaining reader) (λ text. configuration_of config.items ≡ configuration_of text)) }
+{
     let mut config = Vec::new(alloc);
-    let file = File::open(rt, name)?;
-    file.take(LONGEST_CONFIG + 1).read_to_end(&mut config)?;
+    reader.take(LONGEST_CONFIG + 1).read_to_end(&mut config)?;
     Ok(config)
 }
 
@@ -81,7 +107,11 @@ enum OpenFault {
 }
 
 // The answer of the system for the file of this name. A refusal other than want of memory is told to a person.
-fn told<T: Drop>(rt: &impl Eprint, name: &str, answer: io::Result<T>) -> Result<T, OpenFault> {
+fn told<T: Drop>(rt: &impl Eprint, name: &str, answer: io::Result<T>) -> Result<T, OpenFault>
+    ensures value { IfOk answer (λ value. result ≡ Ok value) }
+    ensures memory { IfErr answer (λ e. error_kind e ≡ ErrorKind.OutOfMemory → result ≡ Err OpenFault.Memory) }
+    ensures unopened { IfErr answer (λ e. error_kind e ≢ ErrorKind.OutOfMemory → result ≡ Err OpenFault.Unopened) }
+{
     match answer {
         Ok(value) => Ok(value),
         Err(e) if e.kind() == ErrorKind::OutOfMemory => Err(OpenFault::Memory),

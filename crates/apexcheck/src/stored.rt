@@ -1,5 +1,9 @@
 // The run that stands in the program, which is checked where the command line has no words.
 
+ghost use Rattle.std.specs.Prelude.{[], ◌∷◌};
+ghost use Rattle.report.specs.Outcome.{IsOutcome};
+ghost use Rattle.report.specs.Yes.{YesMeansRun};
+
 use report::{CheckFault, Verdict, check};
 use std::alloc::Global;
 
@@ -58,8 +62,11 @@ const ORDER: &[u8] = b"0,0
 0,12
 ";
 
-/// Checks the run that stands in the program.
-pub fn check_stored(alloc: Global) -> Result<Verdict, CheckFault> {
+/// Checks the run that stands in the program. Memory comes where memory was refused.
+pub fn check_stored(alloc: Global) -> Result<Verdict, CheckFault>
+    ensures outcome { IsOutcome CONFIG.now (RECORDING.now ∷ []) ORDER.now result }
+    ensures yes { YesMeansRun CONFIG.now (RECORDING.now ∷ []) ORDER.now result }
+{
     let Ok(readers) = vec![in alloc; RECORDING] else {
         return Err(CheckFault::Memory);
     };

@@ -1,5 +1,8 @@
 // The words of the command line.
 
+ghost use Rattle.std.specs.Prelude.{◌≡◌, ◌<◌, ◌≤◌, IfOk, Ok, false, length, map, string_bytes, true};
+ghost use Rattle.apexcheck.specs.Words.{NamesFiles, asks_version};
+
 use clap::error::ErrorKind;
 use clap::{Arg, ArgAction, Command, Error};
 use std::alloc::{AllocError, Global};
@@ -54,7 +57,16 @@ pub fn from_words(rt: &(impl Env + AllocGlobal), alloc: Global) -> Result<Asked,
         Err(e) if e.kind() == io::ErrorKind::OutOfMemory => return Err(UsageFault::Memory),
         Err(_) => return Err(UsageFault::Usage),
     };
-    match words.as_slice() {
+    read_words(alloc, words.as_slice())
+}
+
+// Reads what these words ask for, of which the first is the program's own name.
+fn read_words(alloc: Global, words: &[String]) -> Result<Asked, UsageFault>
+    ensures stored { length words.now ≤ 1 → result ≡ Ok Asked.StoredRun }
+    ensures version { asks_version (map string_bytes words.now) ≡ true → result ≡ Ok Asked.Version }
+    ensures files { 1 < length words.now → asks_version (map string_bytes words.now) ≡ false → IfOk result NamesFiles }
+{
+    match words {
         [] | [_] => Ok(Asked::StoredRun),
         [_, word] if word.as_str() == "--version" => Ok(Asked::Version),
         words => Ok(Asked::Files(file_names(alloc, words)?)),

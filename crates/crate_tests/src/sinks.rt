@@ -66,6 +66,31 @@ impl Write for Narrow {
     }
 }
 
+// A writer in memory that takes a byte at a time, and that a signal interrupts before each.
+#[derive(Drop)]
+struct Interrupted {
+    taken: Vec<u8>,
+    is_next: bool,
+}
+
+impl Write for Interrupted {
+    ghost contents = { λ w. Some w.taken.items };
+
+    fn write(&mut self, buf: &[u8]) -> io::Result<usize> {
+        self.is_next = !self.is_next;
+        if self.is_next {
+            return Err(io::Error::from(ErrorKind::Interrupted));
+        }
+        let count = buf.len().min(1);
+        self.taken.extend_from_slice(&buf[..count])?;
+        Ok(count)
+    }
+
+    fn flush(&mut self) -> io::Result<()> {
+        Ok(())
+    }
+}
+
 #[test]
 fn a_text_goes_out_whole(rt: HostRuntime) -> Result<(), Fail> {
     let mut sink = Memory::new(&rt, 100);
@@ -103,6 +128,20 @@ fn a_writer_takes_a_text(rt: HostRuntime) {
     assert_eq!(rt; put_all(&mut sink, b"MEMORY\n"), Ok(()));
     assert_eq!(rt; put_all(&mut sink, b""), Ok(()));
     assert_eq!(rt; put_all(&mut sink, b"\n"), Err(WriteFault));
+}
+
+#[test]
+fn an_interrupted_write_is_tried_again(rt: HostRuntime) -> Result<(), Fail> {
+    let mut writer = Interrupted {
+        taken: Vec::new(rt.alloc()),
+        is_next: false,
+    };
+    let mut sink = WriterSink::new(&mut writer);
+    assert_eq!(rt; put_all(&mut sink, b"YES records=13\n"), Ok(()));
+    assert_eq!(rt; sink.flush(), Ok(()));
+    drop(sink);
+    assert_eq!(rt; writer.taken.as_slice(), b"YES records=13\n".as_slice());
+    Ok(())
 }
 
 #[test]
