@@ -1,24 +1,15 @@
-//! Tests of the crates' public calls, each once on its happy path, and of what no clause says.
+//! What no clause says: what comes of readers and writers that fail in mid-stream, and of a call that no recording reaches
+//! today.
 //!
 //! Promises: nothing; the crate is tests alone. They stand here, and not in the crates that they test, so that those
-//! are proved once.
+//! are proved once. Whole recordings are the data of `case_runner`.
 #![tactic(auto)]
 
 #[cfg(test)]
-mod certificates;
+mod readers;
 #[cfg(test)]
-mod clocks;
+mod rousing;
 #[cfg(test)]
-mod configurations;
+mod texts;
 #[cfg(test)]
-mod findings;
-#[cfg(test)]
-mod pieces;
-#[cfg(test)]
-mod processes;
-#[cfg(test)]
-mod recordings;
-#[cfg(test)]
-mod rows;
-#[cfg(test)]
-mod sinks;
+mod writers;

@@ -1,0 +1,9 @@
+-- What a text in two parts is to a loop that goes on with the second.
+use Rattle.std.proofs.Common.{◌≢◌, ◌<◌, ℕ, List, [], length, arith, inl, inr}
+use Rattle.std.proofs.lemmas.Grind.{common_steps}
+use Rattle.case_runner.specs.Texts.{IsSplit}
+
+-- what stands behind is shorter than a text that is not empty
+pub behind_is_shorter : (end : ℕ) (text before behind : List ℕ) → IsSplit end text before behind → text ≢ [] → length behind < length text
+behind_is_shorter end text before behind split filled =
+    elim split.parts [ inl e ↦ grind (arith, common_steps, e) | inr w ↦ grind (arith, common_steps, w, filled) ]

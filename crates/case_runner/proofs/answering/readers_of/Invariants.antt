@@ -1,0 +1,6 @@
+use Rattle.std.proofs.Common.{◌≡◌, Some, map, take}
+use Rattle.case_runner.proofs.answering.readers_of.Given as goal
+
+abbrev pub invariant-loop-recording : goal.invariant-loop-recording
+invariant-loop-recording l =
+    map (λ reader. Some reader.now) l.readers.items ≡ map Some (map (λ recording. recording.items) (take l.recording-index l.recordings))

@@ -1,0 +1,93 @@
+// What a check answers for texts in memory.
+
+ghost use Rattle.std.specs.Prelude.{◌≡◌, [], IfOk, Some, map};
+ghost use Rattle.case_runner.specs.Answers.{IsAnswer, exit_status_of};
+
+use report::{CheckFault, Verdict, check, write_report};
+use sink::{FailureCount, Sink, SinkFault};
+use std::alloc::{AllocError, Global};
+
+/// What came of a check.
+#[derive(Debug, Drop)]
+pub struct Answer {
+    /// The line of the report, with its line feed.
+    pub line: Vec<u8>,
+    /// The exit status that belongs to it.
+    pub status: u64,
+}
+
+/// The answer of the check for these texts: the configuration, one recording for each core, the certificate.
+pub fn answer_to(
+    alloc: Global,
+    config: &[u8],
+    recordings: &[Vec<u8>],
+    order: &[u8],
+) -> Result<Answer, AllocError>
+    ensures { IfOk result (λ answer. IsAnswer config.now (map (λ recording. recording.items) recordings.now) order.now answer.line.items answer.status) }
+{
+    let readers = readers_of(alloc, recordings)?;
+    let outcome = check(alloc, config, readers, order);
+    let mut kept = Kept::new(alloc);
+    match write_report(&mut kept, &outcome) {
+        Ok(()) => Ok(Answer {
+            line: kept.taken,
+            status: status_of(&outcome),
+        }),
+        Err(_) => Err(AllocError),
+    }
+}
+
+// A reader for each recording, which gives its bytes.
+fn readers_of(alloc: Global, recordings: &[Vec<u8>]) -> Result<Vec<&[u8]>, AllocError>
+    ensures { IfOk result (λ readers. map (λ reader. Some reader.now) readers.items ≡ map Some (map (λ recording. recording.items) recordings.now)) }
+{
+    let mut readers = Vec::new(alloc);
+    for recording in recordings {
+        readers.push(recording.as_slice())?;
+    }
+    Ok(readers)
+}
+
+// The exit status of an outcome: 0 yes, 1 no, 2 refused, 3 out of memory.
+fn status_of(outcome: &Result<Verdict, CheckFault>) -> u64
+    ensures { result ≡ exit_status_of outcome.now }
+{
+    match outcome {
+        Ok(Verdict::Yes { .. }) => 0,
+        Ok(Verdict::No { .. }) => 1,
+        Err(CheckFault::Memory) => 3,
+        Err(_) => 2,
+    }
+}
+
+// A sink that keeps what it takes.
+#[derive(Drop)]
+struct Kept {
+    taken: Vec<u8>,
+    failures: FailureCount,
+}
+
+impl Kept {
+    fn new(alloc: Global) -> Kept
+        ensures { result.taken.items ≡ [] }
+    {
+        Kept {
+            taken: Vec::new(alloc),
+            failures: FailureCount::new(),
+        }
+    }
+}
+
+impl Sink for Kept {
+    ghost bytes = { λ s. Some s.taken.items };
+
+    ghost failures = { λ s. s.failures.count };
+
+    fn put(&mut self, piece: &[u8]) -> Result<usize, SinkFault> {
+        if self.taken.extend_from_slice(piece).is_err() {
+            self.failures = self.failures.raised();
+            return Err(SinkFault);
+        }
+        Ok(piece.len())
+    }
+}

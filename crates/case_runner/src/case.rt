@@ -1,0 +1,196 @@
+// A case: the texts of a check, and what has to come of them.
+
+use crate::archive::Section;
+use crate::editing::{EditFault, apply};
+use crate::fields::{line_count, split_line, split_word};
+use crate::heading::{Change, Heading, TextName};
+use csv_rows::read_decimal;
+use std::alloc::{AllocError, AllocFailed, Global};
+
+/// The line that has to come, without its line feed, and the exit status that belongs to it.
+#[derive(Clone, Copy, Debug)]
+pub struct Expected<'a> {
+    pub line: &'a [u8],
+    pub status: u64,
+}
+
+/// What has to come where a recording ends after so many bytes, up to the next cut.
+#[derive(Clone, Copy, Debug)]
+pub struct Cut<'a> {
+    pub bytes: usize,
+    pub expected: Expected<'a>,
+}
+
+/// Why a case cannot be run.
+#[derive(Clone, Copy, Debug, PartialEq, Eq)]
+pub enum CaseFault {
+    /// A heading is none of those that an archive may have.
+    UnknownHeading,
+    /// A change is at a line that the text does not have.
+    NoSuchLine,
+    /// A recording is given before that of the core below it.
+    CoreBelowMissing,
+    /// There is no one line that has to come.
+    NoReport,
+    /// There is no number of a status.
+    NoStatus,
+    /// The cuts are not a rising list from 0 to the end of the recording at most.
+    NoCuts,
+    /// Memory was refused.
+    Memory,
+}
+
+/// The texts of a check, and what has to come of them, as the sections so far tell it.
+#[derive(Drop)]
+pub struct Case<'a> {
+    alloc: Global,
+    config: Vec<u8>,
+    recordings: Vec<Vec<u8>>,
+    order: Option<Vec<u8>>,
+    report: Option<&'a [u8]>,
+    status: Option<&'a [u8]>,
+    cuts: Option<&'a [u8]>,
+}
+
+impl<'a> Case<'a> {
+    /// A case that no section has told anything of: an empty configuration and no recording.
+    pub fn new(alloc: Global) -> Case<'a> {
+        Case {
+            alloc,
+            config: Vec::new(alloc),
+            recordings: Vec::new(alloc),
+            order: None,
+            report: None,
+            status: None,
+            cuts: None,
+        }
+    }
+
+    /// Takes what a section says.
+    pub fn take(&mut self, section: Section<'a>) -> Result<(), CaseFault> {
+        match Heading::of(section.heading).ok_or(CaseFault::UnknownHeading)? {
+            Heading::Case(_) => return Err(CaseFault::UnknownHeading),
+            Heading::Text(name, how) => self.take_text(name, how, section.body)?,
+            Heading::Report => self.report = Some(section.body),
+            Heading::Status => self.status = Some(section.body),
+            Heading::Cuts => self.cuts = Some(section.body),
+        }
+        Ok(())
+    }
+
+    fn take_text(&mut self, name: TextName, how: Change, lines: &[u8]) -> Result<(), CaseFault> {
+        match name {
+            TextName::Config => apply(&mut self.config, how, lines)?,
+            TextName::Core(core) => {
+                if core == self.recordings.len() {
+                    self.recordings.push(Vec::new(self.alloc))?;
+                }
+                let recording = self
+                    .recordings
+                    .get_mut(core)
+                    .ok_or(CaseFault::CoreBelowMissing)?;
+                apply(recording, how, lines)?;
+            }
+            TextName::Order => {
+                let mut order = self.order_text()?;
+                apply(&mut order, how, lines)?;
+                self.order = Some(order);
+            }
+        }
+        Ok(())
+    }
+
+    /// The configuration.
+    pub fn config(&self) -> &[u8] {
+        &self.config
+    }
+
+    /// The recordings, core 0 first.
+    pub fn recordings(&self) -> &[Vec<u8>] {
+        &self.recordings
+    }
+
+    /// The certificate. Where none is given, it names the records of core 0 in their own order.
+    pub fn order_text(&self) -> Result<Vec<u8>, CaseFault> {
+        let mut order = Vec::new(self.alloc);
+        match &self.order {
+            Some(given) => order.extend_from_slice(given)?,
+            None => {
+                let rows = self
+                    .recordings
+                    .first()
+                    .map_or(0, |recording| line_count(recording));
+                apply(&mut order, Change::Times(rows), b"0,@\n")?;
+            }
+        }
+        Ok(order)
+    }
+
+    /// What has to come of the whole texts. None where only cuts are told.
+    pub fn expected(&self) -> Result<Option<Expected<'a>>, CaseFault> {
+        match (self.report, self.cuts) {
+            (Some(report), _) => {
+                let (line, further) = split_line(report);
+                if line.is_empty() || !further.is_empty() {
+                    return Err(CaseFault::NoReport);
+                }
+                let (status, _) = split_line(self.status.ok_or(CaseFault::NoStatus)?);
+                let status = status_of(status)?;
+                Ok(Some(Expected { line, status }))
+            }
+            (None, Some(_)) => Ok(None),
+            (None, None) => Err(CaseFault::NoReport),
+        }
+    }
+
+    /// What has to come where the recording of core 0 is cut.
+    #[tactic(auto, using(crate::proofs::Texts::behind_is_shorter))]
+    pub fn cuts(&self) -> Result<Vec<Cut<'a>>, CaseFault> {
+        let mut cuts = Vec::new(self.alloc);
+        let mut left = self.cuts.unwrap_or(&[]);
+        while !left.is_empty() {
+            let (line, behind) = split_line(left);
+            cuts.push(cut_of(line)?)?;
+            left = behind;
+        }
+        Ok(cuts)
+    }
+}
+
+// The cut of a line `BYTES STATUS LINE`.
+fn cut_of(line: &[u8]) -> Result<Cut<'_>, CaseFault> {
+    let (bytes, rest) = split_word(line);
+    let (status, line) = split_word(rest);
+    let bytes = read_decimal(bytes, 1_000_000).ok_or(CaseFault::NoCuts)? as usize;
+    let status = status_of(status)?;
+    Ok(Cut {
+        bytes,
+        expected: Expected { line, status },
+    })
+}
+
+// The exit status that a number is.
+fn status_of(text: &[u8]) -> Result<u64, CaseFault> {
+    read_decimal(text, 255).ok_or(CaseFault::NoStatus)
+}
+
+impl From<AllocError> for CaseFault {
+    fn from(_: AllocError) -> CaseFault {
+        CaseFault::Memory
+    }
+}
+
+impl<T: Drop> From<AllocFailed<T>> for CaseFault {
+    fn from(_: AllocFailed<T>) -> CaseFault {
+        CaseFault::Memory
+    }
+}
+
+impl From<EditFault> for CaseFault {
+    fn from(fault: EditFault) -> CaseFault {
+        match fault {
+            EditFault::NoSuchLine => CaseFault::NoSuchLine,
+            EditFault::Memory => CaseFault::Memory,
+        }
+    }
+}

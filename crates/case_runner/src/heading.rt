@@ -1,0 +1,100 @@
+// What a heading says.
+
+use crate::fields::split_word;
+use csv_rows::read_decimal;
+
+/// The greatest number of a core.
+const LAST_CORE: u64 = 15;
+
+/// The greatest number of a line, and of repetitions.
+const LAST_LINE: u64 = 1_000_000;
+
+/// What the lines of a section are.
+#[derive(Clone, Copy, Debug)]
+pub enum Heading<'a> {
+    /// `case NAME`: a comment; the sections behind it, up to the next case, are the case's own.
+    Case(&'a [u8]),
+    /// `config.toml`, `core0.csv` and on, `order.csv`: a text of the check, or a change in one.
+    Text(TextName, Change),
+    /// `report`: the line that has to come.
+    Report,
+    /// `status`: the exit status that belongs to it.
+    Status,
+    /// `cuts of core0.csv`: the lines that have to come where the recording of that core is cut.
+    Cuts,
+}
+
+/// A text of the check, by the name of its file.
+#[derive(Clone, Copy, Debug, PartialEq, Eq)]
+pub enum TextName {
+    /// `config.toml`
+    Config,
+    /// `core0.csv` and on, by the core.
+    Core(usize),
+    /// `order.csv`
+    Order,
+}
+
+/// What a section does to its text. Lines are counted from 0, as the records of a recording are.
+#[derive(Clone, Copy, Debug, PartialEq, Eq)]
+pub enum Change {
+    /// Its lines are the text.
+    Whole,
+    /// `line N`: they stand in the place of that line.
+    Line(usize),
+    /// `from line N`: they stand in the place of that line and all behind it.
+    FromLine(usize),
+    /// `N times`: they stand so many times behind the text, and each `@` in them is the number of its line.
+    Times(usize),
+}
+
+impl<'a> Heading<'a> {
+    /// What a heading says. None where it is none of these.
+    pub fn of(heading: &'a [u8]) -> Option<Heading<'a>> {
+        if heading == b"report".as_slice() {
+            return Some(Heading::Report);
+        }
+        if heading == b"status".as_slice() {
+            return Some(Heading::Status);
+        }
+        if heading == b"cuts of core0.csv".as_slice() {
+            return Some(Heading::Cuts);
+        }
+        let (first, rest) = split_word(heading);
+        if first == b"case".as_slice() {
+            return Some(Heading::Case(rest));
+        }
+        Some(Heading::Text(TextName::of(first)?, Change::of(rest)?))
+    }
+}
+
+impl TextName {
+    // The text of a file's name.
+    fn of(name: &[u8]) -> Option<TextName> {
+        if name == b"config.toml".as_slice() {
+            return Some(TextName::Config);
+        }
+        if name == b"order.csv".as_slice() {
+            return Some(TextName::Order);
+        }
+        let core = name.strip_prefix(b"core")?.strip_suffix(b".csv")?;
+        Some(TextName::Core(read_decimal(core, LAST_CORE)? as usize))
+    }
+}
+
+impl Change {
+    // The change of the words behind a file's name.
+    fn of(words: &[u8]) -> Option<Change> {
+        if words.is_empty() {
+            return Some(Change::Whole);
+        }
+        if let Some(number) = words.strip_prefix(b"line ") {
+            return Some(Change::Line(read_decimal(number, LAST_LINE)? as usize));
+        }
+        if let Some(number) = words.strip_prefix(b"from line ") {
+            return Some(Change::FromLine(read_decimal(number, LAST_LINE)? as usize));
+        }
+        let count = words.strip_suffix(b" times")?;
+        Some(Change::Times(read_decimal(count, LAST_LINE)? as usize))
+    }
+}

@@ -1,0 +1,249 @@
+// The run of the cases of some files.
+
+ghost use Rattle.std.specs.Prelude.{◌≡◌, ◌++◌};
+
+use crate::answering::{Answer, answer_to};
+use crate::archive::{Section, sections};
+use crate::case::{Case, CaseFault, Cut, Expected};
+use crate::heading::Heading;
+use crate::tally::Tally;
+use itoa::Buffer;
+use sink::{Sink, WriteFault, put_all, put_parts};
+use std::alloc::{AllocError, Global};
+use std::fs;
+use std::rt::Files;
+
+/// Why a run ends before its last case.
+#[derive(Clone, Copy, Debug, PartialEq, Eq)]
+pub enum RunFault {
+    /// What was to be told could not be written.
+    Unwritten,
+    /// Memory was refused.
+    Memory,
+}
+
+/// Runs the cases of these files. Tells each case that fails and why, and at last how many there were.
+///
+/// Whether there was a case, and all were answered as expected.
+pub fn run_files<R: Files + AllocGlobal, W: Sink>(
+    rt: &R,
+    output: &mut W,
+    names: &[String],
+) -> Result<bool, RunFault> {
+    let mut tally = Tally::new();
+    for name in names {
+        match fs::read(rt, name) {
+            Ok(archive) => run_archive(rt.alloc(), output, name.as_bytes(), &archive, &mut tally)?,
+            Err(_) => {
+                tally.count(false);
+                put_parts(output, &[name.as_bytes(), b": cannot be read\n"])?;
+            }
+        }
+    }
+    let (mut cases, mut failed) = (Buffer::new(), Buffer::new());
+    put_parts(
+        output,
+        &[
+            cases.format(tally.cases).as_bytes(),
+            b" cases, ",
+            failed.format(tally.failed).as_bytes(),
+            b" failed\n",
+        ],
+    )?;
+    Ok(tally.is_good())
+}
+
+// Runs the cases of one archive.
+fn run_archive<W: Sink>(
+    alloc: Global,
+    output: &mut W,
+    file: &[u8],
+    archive: &[u8],
+    tally: &mut Tally,
+) -> Result<(), RunFault> {
+    let sections = sections(alloc, archive)?;
+    let (base, mut left) = up_to_case(&sections);
+    if left.is_empty() {
+        tally.count(false);
+        put_parts(output, &[file, b": has no case\n"])?;
+    }
+    while let Some((first, behind)) = left.split_first() {
+        let (own, rest) = up_to_case(behind);
+        let outcome = run_case(alloc, base, own);
+        tally.count(matches!(outcome, Ok(None)));
+        tell(output, &[file, b": ", first.heading, b": "], outcome)?;
+        left = rest;
+    }
+    Ok(())
+}
+
+// The sections before the first case, and those from there on.
+fn up_to_case<'a, 'b>(sections: &'b [Section<'a>]) -> (&'b [Section<'a>], &'b [Section<'a>])
+    ensures { sections.now ≡ result.0.now ++ result.1.now }
+{
+    match sections.iter().position(|section| is_case(section)) {
+        Some(at) => sections.split_at(at),
+        None => sections.split_at(sections.len()),
+    }
+}
+
+// Whether a section begins a case.
+fn is_case(section: &Section<'_>) -> bool {
+    matches!(Heading::of(section.heading), Some(Heading::Case(_)))
+}
+
+// An answer that is not the expected one.
+#[derive(Drop)]
+struct Difference<'a> {
+    // After how many bytes the recording was cut.
+    cut: Option<usize>,
+    expected: Expected<'a>,
+    found: Answer,
+}
+
+// Runs a case: the sections that all cases of its file begin with, and its own.
+fn run_case<'a>(
+    alloc: Global,
+    base: &[Section<'a>],
+    own: &[Section<'a>],
+) -> Result<Option<Difference<'a>>, CaseFault> {
+    let mut case = Case::new(alloc);
+    for section in base {
+        case.take(*section)?;
+    }
+    for section in own {
+        case.take(*section)?;
+    }
+    let order = case.order_text()?;
+    if let Some(expected) = case.expected()? {
+        let found = answer_to(alloc, case.config(), case.recordings(), &order)?;
+        if !is_as_expected(&found, expected) {
+            return Ok(Some(Difference {
+                cut: None,
+                expected,
+                found,
+            }));
+        }
+    }
+    let cuts = case.cuts()?;
+    run_cuts(alloc, case.config(), case.recordings(), &order, &cuts)
+}
+
+// Runs a case for each first part of the recording of core 0.
+fn run_cuts<'a>(
+    alloc: Global,
+    config: &[u8],
+    recordings: &[Vec<u8>],
+    order: &[u8],
+    cuts: &[Cut<'a>],
+) -> Result<Option<Difference<'a>>, CaseFault> {
+    let (Some(whole), Some(last)) = (recordings.first(), cuts.last()) else {
+        return Ok(None);
+    };
+    if last.bytes > whole.len() {
+        return Err(CaseFault::NoCuts);
+    }
+    for bytes in 0..whole.len() + 1 {
+        let expected = cuts
+            .iter()
+            .filter(|cut| cut.bytes <= bytes)
+            .last()
+            .ok_or(CaseFault::NoCuts)?
+            .expected;
+        let cut = vec![in alloc; Vec::from_slice(alloc, &whole[..bytes])?]?;
+        let found = answer_to(alloc, config, &cut, order)?;
+        if !is_as_expected(&found, expected) {
+            return Ok(Some(Difference {
+                cut: Some(bytes),
+                expected,
+                found,
+            }));
+        }
+    }
+    Ok(None)
+}
+
+// Whether an answer is the line that has to come, ended by a line feed, with its status.
+fn is_as_expected(found: &Answer, expected: Expected<'_>) -> bool {
+    match found.line.as_slice().strip_suffix(b"\n") {
+        Some(line) => line == expected.line && found.status == expected.status,
+        None => false,
+    }
+}
+
+// Tells what is wrong with a case, if something is.
+fn tell<W: Sink>(
+    output: &mut W,
+    place: &[&[u8]],
+    outcome: Result<Option<Difference<'_>>, CaseFault>,
+) -> Result<(), RunFault> {
+    match outcome {
+        Ok(None) => Ok(()),
+        Ok(Some(difference)) => {
+            put_parts(output, place)?;
+            tell_difference(output, &difference)
+        }
+        Err(CaseFault::Memory) => Err(RunFault::Memory),
+        Err(fault) => {
+            put_parts(output, place)?;
+            put_parts(output, &[text_of(fault), b"\n"])?;
+            Ok(())
+        }
+    }
+}
+
+fn tell_difference<W: Sink>(output: &mut W, difference: &Difference<'_>) -> Result<(), RunFault> {
+    if let Some(bytes) = difference.cut {
+        put_parts(
+            output,
+            &[
+                b"cut after ",
+                Buffer::new().format(bytes).as_bytes(),
+                b" bytes: ",
+            ],
+        )?;
+    }
+    put_all(output, b"expected ")?;
+    put_answer(output, difference.expected.status, difference.expected.line)?;
+    put_all(output, b", found ")?;
+    put_answer(output, difference.found.status, &difference.found.line)?;
+    Ok(())
+}
+
+// Puts out a status and a line.
+fn put_answer<W: Sink>(output: &mut W, status: u64, line: &[u8]) -> Result<(), WriteFault> {
+    put_parts(
+        output,
+        &[
+            b"status ",
+            Buffer::new().format(status).as_bytes(),
+            b" and ",
+        ],
+    )?;
+    put_all(output, line)
+}
+
+// What a fault is called.
+fn text_of(fault: CaseFault) -> &'static [u8] {
+    match fault {
+        CaseFault::UnknownHeading => b"a heading is unknown",
+        CaseFault::NoSuchLine => b"a change is at a line that there is not",
+        CaseFault::CoreBelowMissing => b"a recording is given before that of the core below",
+        CaseFault::NoReport => b"there is not one line of a report",
+        CaseFault::NoStatus => b"there is no status",
+        CaseFault::NoCuts => b"the cuts do not rise from 0 to the end of the recording",
+        CaseFault::Memory => b"memory was refused",
+    }
+}
+
+impl From<WriteFault> for RunFault {
+    fn from(_: WriteFault) -> RunFault {
+        RunFault::Unwritten
+    }
+}
+
+impl From<AllocError> for RunFault {
+    fn from(_: AllocError) -> RunFault {
+        RunFault::Memory
+    }
+}

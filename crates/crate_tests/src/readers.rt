@@ -1,0 +1,99 @@
+// A recording and a certificate whose readers fail in mid-stream.
+
+use crate::texts::{CONFIG, ORDER, RECORDING};
+use order_cert::CertFault;
+use record_read::RowFault;
+use report::{CheckFault, Verdict, check};
+use std::alloc::{AllocError, Global};
+use std::io;
+use std::io::{ErrorKind, Read};
+use std::test::Fail;
+
+// Gives its text at most `step` bytes at a time, and fails in place of each read past the first `given` bytes.
+#[derive(Clone, Copy)]
+struct Failing<'a> {
+    text: &'a [u8],
+    step: usize,
+    given: usize,
+}
+
+impl<'a> Read for Failing<'a> {
+    fn read(&mut self, buf: &mut [u8]) -> io::Result<usize> {
+        if self.given == 0 {
+            return Err(io::Error::from(ErrorKind::BrokenPipe));
+        }
+        let most = self.step.min(self.given);
+        let count = self.text.len().min(most).min(buf.len());
+        let (given, left) = self.text.split_at(count);
+        buf[..count].copy_from_slice(given);
+        self.text = left;
+        self.given -= count;
+        Ok(count)
+    }
+}
+
+// A reader of a text that fails past so many bytes.
+fn reader_of(text: &str, step: usize, given: usize) -> Failing<'_> {
+    Failing {
+        text: text.as_bytes(),
+        step,
+        given,
+    }
+}
+
+// The outcome for these readers.
+fn outcome(
+    alloc: Global,
+    recording: Failing<'_>,
+    order: Failing<'_>,
+) -> Result<Result<Verdict, CheckFault>, AllocError> {
+    let readers = vec![in alloc; recording]?;
+    Ok(check(alloc, CONFIG.as_bytes(), readers, order))
+}
+
+// How many rows are whole in the first bytes of a text.
+fn whole_rows(text: &str, bytes: usize) -> u64 {
+    let mut rows = 0u64;
+    for byte in text.bytes().take(bytes) {
+        if byte == b'\n' {
+            rows = rows.saturating_add(1);
+        }
+    }
+    rows
+}
+
+#[test]
+fn readers_fail(rt: HostRuntime) -> Result<(), Fail> {
+    let alloc = rt.alloc();
+    let whole = usize::MAX;
+    for step in [1, 7, 1000] {
+        let (recording, order) = (
+            reader_of(RECORDING, step, whole),
+            reader_of(ORDER, step, whole),
+        );
+        assert_eq!(rt;
+            outcome(alloc, recording, order)?,
+            Ok(Verdict::Yes { records: 13 }),
+            "by {step}"
+        );
+        for given in 0..RECORDING.len().saturating_add(1) {
+            let cut = reader_of(RECORDING, step, given);
+            let (core, seq, fault) = (0, whole_rows(RECORDING, given), RowFault::Read);
+            assert_eq!(rt;
+                outcome(alloc, cut, order)?,
+                Err(CheckFault::Row { core, seq, fault }),
+                "a recording of {given} bytes by {step}"
+            );
+        }
+        for given in 0..ORDER.len().saturating_add(1) {
+            let cut = reader_of(ORDER, step, given);
+            let (place, fault) = (whole_rows(ORDER, given), CertFault::Read);
+            assert_eq!(rt;
+                outcome(alloc, recording, cut)?,
+                Err(CheckFault::Cert { place, fault }),
+                "a certificate of {given} bytes by {step}"
+            );
+        }
+    }
+    Ok(())
+}

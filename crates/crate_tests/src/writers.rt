@@ -1,0 +1,61 @@
+// Writers that fail in mid-line, in the place of standard output.
+
+use crate::texts::{CONFIG, ORDER, RECORDING};
+use report::{check, write_report};
+use sink::{WriteFault, WriterSink};
+use std::io;
+use std::io::{ErrorKind, Write};
+use std::test::Fail;
+
+// Takes two bytes at a time, while it has room.
+#[derive(Drop)]
+struct Narrow<'a> {
+    taken: &'a mut Vec<u8>,
+    room: usize,
+}
+
+impl<'a> Write for Narrow<'a> {
+    fn write(&mut self, buf: &[u8]) -> io::Result<usize> {
+        let count = buf.len().min(self.room).min(2);
+        if count == 0 && !buf.is_empty() {
+            return Err(io::Error::from(ErrorKind::StorageFull));
+        }
+        self.taken.extend_from_slice(&buf[..count])?;
+        self.room -= count;
+        Ok(count)
+    }
+
+    fn flush(&mut self) -> io::Result<()> {
+        Ok(())
+    }
+}
+
+#[test]
+fn writers_fail(rt: HostRuntime) -> Result<(), Fail> {
+    let alloc = rt.alloc();
+    for (order, line) in [
+        (ORDER, "YES records=13\n"),
+        ("0,x", "REFUSED cert place=0 fault=BadNumber\n"),
+        ("9,0", "REFUSED order place=0 core=9 fault=NoSuchCore\n"),
+    ] {
+        let readers = vec![in alloc; RECORDING.as_bytes()]?;
+        let outcome = check(alloc, CONFIG.as_bytes(), readers, order.as_bytes());
+        for room in 0..line.len().saturating_add(1) {
+            let mut taken = Vec::new(alloc);
+            let mut sink = WriterSink::new(Narrow {
+                taken: &mut taken,
+                room,
+            });
+            let written = write_report(&mut sink, &outcome);
+            let expected = if room < line.len() {
+                Err(WriteFault)
+            } else {
+                Ok(())
+            };
+            assert_eq!(rt; written, expected, "{line}");
+            assert_eq!(rt; taken.len(), room, "{line}");
+            assert!(rt; line.as_bytes().starts_with(&taken), "{line}");
+        }
+    }
+    Ok(())
+}
