@@ -1,5 +1,5 @@
 -- What answers a case: a line and an exit status.
-use Rattle.std.specs.Prelude.{◌≡◌, ℕ, List, Result, Ok, Err}
+use Rattle.std.specs.Prelude.{◌≡◌, ◌++◌, ◌∷◌, [], ℕ, List, Result, Ok, Err}
 use Rattle.verdict_merge.specs.declared.verdict.Verdict.{Verdict}
 use Rattle.verdict_merge.specs.declared.verdict.Verdict.TheVariants.{Yes, No}
 use Rattle.report.specs.declared.fault.CheckFault.{CheckFault}
@@ -18,7 +18,7 @@ exit_status_of (Err (fault.Cert place which)) = 2
 exit_status_of (Err (fault.Order place core which)) = 2
 exit_status_of (Err (fault.Row core seq which)) = 2
 
--- the line is the report of an outcome that these texts have, and the status is that outcome's
+-- the line, ended by a line feed, is the report of an outcome that these texts have, and the status is that outcome's
 abbrev pub IsAnswer : List ℕ → List (List ℕ) → List ℕ → List ℕ → ℕ → Type 0
 IsAnswer config recordings order line status =
-    (outcome : Result Verdict CheckFault) × IsOutcome config recordings order outcome × (line ≡ report_of outcome) × (status ≡ exit_status_of outcome)
+    (outcome : Result Verdict CheckFault) × IsOutcome config recordings order outcome × (line ++ 10 ∷ [] ≡ report_of outcome) × (status ≡ exit_status_of outcome)

@@ -1,8 +1,9 @@
 // What a check answers for texts in memory.
 
-ghost use Rattle.std.specs.Prelude.{◌≡◌, [], IfOk, Some, map};
+ghost use Rattle.std.specs.Prelude.{◌≡◌, ◌↔◌, ◌++◌, ◌∷◌, [], IfOk, IsTrue, Some, map};
 ghost use Rattle.case_runner.specs.Answers.{IsAnswer, exit_status_of};
 
+use crate::fields::LINE_FEED;
 use report::{CheckFault, Verdict, check, write_report};
 use sink::{FailureCount, Sink, SinkFault};
 use std::alloc::{AllocError, Global};
@@ -10,10 +11,26 @@ use std::alloc::{AllocError, Global};
 /// What came of a check.
 #[derive(Debug, Drop)]
 pub struct Answer {
-    /// The line of the report, with its line feed.
+    /// The line of the report, without its line feed.
     pub line: Vec<u8>,
     /// The exit status that belongs to it.
     pub status: u64,
+}
+
+/// The line that has to come, without its line feed, and the exit status that belongs to it.
+#[derive(Clone, Copy, Debug)]
+pub struct Expected<'a> {
+    pub line: &'a [u8],
+    pub status: u64,
+}
+
+impl Answer {
+    /// Whether the answer is the expected one.
+    pub fn is(&self, expected: Expected<'_>) -> bool
+        ensures { IsTrue result ↔ (self.now.line.items ≡ expected.entry.line.now) × (self.now.status ≡ expected.entry.status) }
+    {
+        self.line.as_slice() == expected.line && self.status == expected.status
+    }
 }
 
 /// The answer of the check for these texts: the configuration, one recording for each core, the certificate.
@@ -29,10 +46,17 @@ pub fn answer_to(
     let outcome = check(alloc, config, readers, order);
     let mut kept = Kept::new(alloc);
     match write_report(&mut kept, &outcome) {
-        Ok(()) => Ok(Answer {
-            line: kept.taken,
-            status: status_of(&outcome),
-        }),
+        Ok(()) => {
+            let mut line = kept.taken;
+            match line.pop() {
+                Some(LINE_FEED) => Ok(Answer {
+                    line,
+                    status: status_of(&outcome),
+                }),
+                // No report lacks its line feed.
+                _ => Err(AllocError),
+            }
+        }
         Err(_) => Err(AllocError),
     }
 }

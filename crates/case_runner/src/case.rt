@@ -1,18 +1,12 @@
 // A case: the texts of a check, and what has to come of them.
 
+use crate::answering::Expected;
 use crate::archive::Section;
 use crate::editing::{EditFault, apply};
 use crate::fields::{line_count, split_line, split_word};
 use crate::heading::{Change, Heading, TextName};
 use csv_rows::read_decimal;
 use std::alloc::{AllocError, AllocFailed, Global};
-
-/// The line that has to come, without its line feed, and the exit status that belongs to it.
-#[derive(Clone, Copy, Debug)]
-pub struct Expected<'a> {
-    pub line: &'a [u8],
-    pub status: u64,
-}
 
 /// What has to come where a recording ends after so many bytes, up to the next cut.
 #[derive(Clone, Copy, Debug)]
@@ -134,23 +128,32 @@ impl<'a> Case<'a> {
                 if line.is_empty() || !further.is_empty() {
                     return Err(CaseFault::NoReport);
                 }
-                let (status, _) = split_line(self.status.ok_or(CaseFault::NoStatus)?);
+                let (status, further) = split_line(self.status.ok_or(CaseFault::NoStatus)?);
+                if !further.is_empty() {
+                    return Err(CaseFault::NoStatus);
+                }
                 let status = status_of(status)?;
                 Ok(Some(Expected { line, status }))
             }
-            (None, Some(_)) => Ok(None),
-            (None, None) => Err(CaseFault::NoReport),
+            (None, Some(cuts)) if !cuts.is_empty() => Ok(None),
+            (None, _) => Err(CaseFault::NoReport),
         }
     }
 
     /// What has to come where the recording of core 0 is cut.
     #[tactic(auto, using(crate::proofs::Texts::behind_is_shorter))]
     pub fn cuts(&self) -> Result<Vec<Cut<'a>>, CaseFault> {
-        let mut cuts = Vec::new(self.alloc);
+        let mut cuts: Vec<Cut<'a>> = Vec::new(self.alloc);
         let mut left = self.cuts.unwrap_or(&[]);
         while !left.is_empty() {
             let (line, behind) = split_line(left);
-            cuts.push(cut_of(line)?)?;
+            let cut = cut_of(line)?;
+            if let Some(Cut { bytes, .. }) = cuts.last() {
+                if *bytes >= cut.bytes {
+                    return Err(CaseFault::NoCuts);
+                }
+            }
+            cuts.push(cut)?;
             left = behind;
         }
         Ok(cuts)

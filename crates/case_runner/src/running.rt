@@ -2,9 +2,9 @@
 
 ghost use Rattle.std.specs.Prelude.{◌≡◌, ◌++◌};
 
-use crate::answering::{Answer, answer_to};
+use crate::answering::{Answer, Expected, answer_to};
 use crate::archive::{Section, sections};
-use crate::case::{Case, CaseFault, Cut, Expected};
+use crate::case::{Case, CaseFault, Cut};
 use crate::heading::Heading;
 use crate::tally::Tally;
 use itoa::Buffer;
@@ -117,7 +117,7 @@ fn run_case<'a>(
     let order = case.order_text()?;
     if let Some(expected) = case.expected()? {
         let found = answer_to(alloc, case.config(), case.recordings(), &order)?;
-        if !is_as_expected(&found, expected) {
+        if !found.is(expected) {
             return Ok(Some(Difference {
                 cut: None,
                 expected,
@@ -137,9 +137,10 @@ fn run_cuts<'a>(
     order: &[u8],
     cuts: &[Cut<'a>],
 ) -> Result<Option<Difference<'a>>, CaseFault> {
-    let (Some(whole), Some(last)) = (recordings.first(), cuts.last()) else {
+    let Some(last) = cuts.last() else {
         return Ok(None);
     };
+    let whole = recordings.first().ok_or(CaseFault::NoCuts)?;
     if last.bytes > whole.len() {
         return Err(CaseFault::NoCuts);
     }
@@ -152,7 +153,7 @@ fn run_cuts<'a>(
             .expected;
         let cut = vec![in alloc; Vec::from_slice(alloc, &whole[..bytes])?]?;
         let found = answer_to(alloc, config, &cut, order)?;
-        if !is_as_expected(&found, expected) {
+        if !found.is(expected) {
             return Ok(Some(Difference {
                 cut: Some(bytes),
                 expected,
@@ -161,14 +162,6 @@ fn run_cuts<'a>(
         }
     }
     Ok(None)
-}
-
-// Whether an answer is the line that has to come, ended by a line feed, with its status.
-fn is_as_expected(found: &Answer, expected: Expected<'_>) -> bool {
-    match found.line.as_slice().strip_suffix(b"\n") {
-        Some(line) => line == expected.line && found.status == expected.status,
-        None => false,
-    }
 }
 
 // Tells what is wrong with a case, if something is.
@@ -207,6 +200,7 @@ fn tell_difference<W: Sink>(output: &mut W, difference: &Difference<'_>) -> Resu
     put_answer(output, difference.expected.status, difference.expected.line)?;
     put_all(output, b", found ")?;
     put_answer(output, difference.found.status, &difference.found.line)?;
+    put_all(output, b"\n")?;
     Ok(())
 }
 

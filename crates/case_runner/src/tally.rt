@@ -1,5 +1,7 @@
 // How many cases were run, and how many of them failed.
 
+ghost use Rattle.std.specs.Prelude.{◌≡◌, ◌↔◌, ◌<◌, ◌≤◌, IsTrue, false};
+
 /// A count of cases.
 #[derive(Clone, Copy, Debug, PartialEq, Eq)]
 pub struct Tally {
@@ -9,7 +11,9 @@ pub struct Tally {
 
 impl Tally {
     /// No case so far.
-    pub fn new() -> Tally {
+    pub fn new() -> Tally
+        ensures { (result.cases ≡ 0) × (result.failed ≡ 0) }
+    {
         Tally {
             cases: 0,
             failed: 0,
@@ -17,7 +21,11 @@ impl Tally {
     }
 
     /// Counts a case.
-    pub fn count(&mut self, passed: bool) {
+    pub fn count(&mut self, passed: bool)
+        ensures more { self.old.cases ≤ self.new.cases }
+        ensures kept { self.old.failed ≤ self.new.failed }
+        ensures failed { passed ≡ false → 0 < self.new.failed }
+    {
         self.cases = self.cases.saturating_add(1);
         if !passed {
             self.failed = self.failed.saturating_add(1);
@@ -25,7 +33,9 @@ impl Tally {
     }
 
     /// Whether there was a case, and none failed.
-    pub fn is_good(&self) -> bool {
+    pub fn is_good(&self) -> bool
+        ensures { IsTrue result ↔ (0 < self.now.cases) × (self.now.failed ≡ 0) }
+    {
         self.cases > 0 && self.failed == 0
     }
 }
