@@ -9,16 +9,19 @@ use Rattle.apex_types.specs.declared.request.Request.TheVariants as request
 use Rattle.apex_machine.specs.declared.state.Direction.TheVariants as direction
 use Rattle.apex_machine.specs.declared.state.Mode.TheVariants as mode
 use Rattle.apex_machine.specs.declared.state.Process.{Process}
-use Rattle.apex_machine.specs.Arguments.{is_capacity, is_discipline, is_longer, is_length, is_maximum, is_mode, is_negative, is_normal_mode, is_number, is_over, is_period, is_priority, is_size, is_time_out, suits_maximum, suits_period}
+use Rattle.apex_machine.specs.Arguments.{is_capacity, is_discipline, is_length, is_longer, is_maximum, is_mode, is_negative, is_normal_mode, is_number, is_over, is_period, is_priority, is_size, is_time_out, suits_maximum, suits_period}
 use Rattle.apex_machine.specs.Channels.{queuing_port, sampling_port}
-use Rattle.apex_machine.specs.Conditions.{codes_for, created, created_count, creation_codes, destination_codes, has_name, is_core, is_normal, is_periodic, is_queuing_port, is_sampling_port, is_source, is_suspended, is_taken, may_not_wait, message_codes, of_caller, owns_another, source_codes, start_codes, time_out_codes, waiting_codes, when}
-use Rattle.apex_machine.specs.Configuration.{Configuration, object_limit, period_of, process_limit}
+use Rattle.apex_machine.specs.Conditions.{codes_for, creation_codes, is_normal, is_taken, may_not_wait, of_caller, time_out_codes, waiting_codes, when}
+use Rattle.apex_machine.specs.Configuration.{Configuration, is_core, object_limit, period_of, process_limit}
+use Rattle.apex_machine.specs.ObjectConditions.{message_codes, object_codes, owns_another}
 use Rattle.apex_machine.specs.Objects.{is_owner}
-use Rattle.apex_machine.specs.ServiceConditions.{condition_codes, object_codes}
-use Rattle.apex_machine.specs.State.{Blackboard, Buffer, Event, Mutex, Partition, Port, Semaphore, given_object, process_at}
+use Rattle.apex_machine.specs.PortConditions.{destination_codes, is_queuing_port, is_sampling_port, is_source, source_codes}
+use Rattle.apex_machine.specs.ProcessConditions.{created_count, is_periodic, is_suspended, start_codes}
+use Rattle.apex_machine.specs.ServiceConditions.{condition_codes}
+use Rattle.apex_machine.specs.State.{Blackboard, Buffer, Event, Mutex, Partition, Port, Semaphore, created, given_object, item_at}
 use Rattle.apex_machine.specs.Step.{IsAmong}
 use Rattle.apex_laws.specs.ConditionSentences.{AllAreCreated, HasCondition, HasTimeOut, IsCalledBy, IsCalledByPeriodic, IsCoreOf, IsDiscipline, IsFrom, IsObject, IsPriority, IsQueuingPort, IsSamplingPort, IsSetUp, IsSize, MayNotWait, NameIsTaken, NamesNoProcess, NamesNone, NamesNothing, WaitsFor}
-use Rattle.apex_laws.proofs.ConditionTests.{Tells, at_most_tells, below_tells, between_tells, caller_tells, core_tells, created_is, destination_tells, equal_tells, longer_tells, may_not_wait_tells, mode_tells, named_tells, negative_tells, no_length_tells, no_multiple_tells, no_object_is, no_period_tells, no_process_is, no_time_out_tells, normal_mode_tells, normal_tells, number_tells, object_is, over_tells, owner_tells, periodic_caller_tells, periodic_tells, priority_tells, process_named_tells, queuing_port_tells, sampling_port_tells, second_tells, source_tells, suspended_tells, tells_both, tells_not, value_tells}
+use Rattle.apex_laws.proofs.ConditionTests.{Tells, at_most_tells, below_tells, between_tells, caller_tells, core_tells, created_is, destination_tells, equal_tells, longer_tells, may_not_wait_tells, mode_tells, named_tells, negative_tells, no_length_tells, no_multiple_tells, no_object_is, no_period_tells, no_process_is, no_time_out_tells, normal_mode_tells, normal_tells, number_tells, object_is, over_tells, owner_tells, periodic_caller_tells, periodic_tells, priority_tells, queuing_port_tells, sampling_port_tells, second_tells, source_tells, suspended_tells, tells_both, tells_not, value_tells}
 
 -- a fact about each of some codes
 pub record Each (codes : List Code) (Goal : Code → Type 0) : Type 0 where
@@ -178,11 +181,11 @@ module _ (configuration : Configuration) (who : Who) (partition : Partition) whe
   waits_says asked condition = each_when (may_not_wait who partition) code.InvalidMode (Holds asked) (λ holds. condition ((may_not_wait_tells who partition).0 holds))
 
   -- a caller of a current priority above a mutex's
-  above_tells : (priority : ℕ) → Tells (of_caller (λ process. nat_lt priority process.current_priority) (process_at partition.table who.proc))
+  above_tells : (priority : ℕ) → Tells (of_caller (λ process. nat_lt priority process.current_priority) (item_at partition.table who.proc))
       ((process : Process) × IsCalledBy who partition process × (priority < process.current_priority))
   above_tells priority =
       caller_tells (λ process. nat_lt priority process.current_priority) (λ process. priority < process.current_priority) (λ process. below_tells priority process.current_priority)
-      (process_at partition.table who.proc)
+      (item_at partition.table who.proc)
 
   -- each code of a call is that of a condition which holds
   pub says : (asked : Request) → Each (condition_codes configuration who partition asked) (Holds asked)
@@ -191,11 +194,9 @@ module _ (configuration : Configuration) (who : Who) (partition : Partition) whe
       each_of_both _ _ (Holds asked)
       (each_of_both _ _ (Holds asked)
       (each_of_both _ _ (Holds asked)
-      (each_of_both _ _ (Holds asked)
-      (each_of_both _ _ (Holds asked) (normal_says asked tt)
-      (each_when (has_name name partition.table) code.NoAction (Holds asked) (λ holds. HasCondition.name_taken ((process_named_tells name partition.table).0 holds))))
-      (each_when (nat_le (process_limit configuration who.part) (created_count partition.table)) code.InvalidConfig (Holds asked)
-      (λ holds. HasCondition.all_created ((at_most_tells (process_limit configuration who.part) (created_count partition.table)).0 holds))))
+      (creation_says asked (is_taken (λ (process : Process). process.name) name partition.table) _ tt
+      (λ holds. (named_tells (λ (process : Process). process.name) name partition.table).0 holds)
+      (λ holds. (at_most_tells (process_limit configuration who.part) (created_count partition.table)).0 holds))
       (number_fails asked (is_priority priority) (IsPriority priority) code.InvalidParam (priority_tells priority) HasCondition.create_process_priority))
       (each_when (not (is_period period)) code.InvalidParam (Holds asked) (λ fails. let facts = (no_period_tells period).0 fails in HasCondition.create_process_period facts.0 facts.1)))
       (each_when (not (suits_period (period_of configuration who.part) period)) code.InvalidConfig (Holds asked)
@@ -231,7 +232,7 @@ module _ (configuration : Configuration) (who : Who) (partition : Partition) whe
       let asked : Request = request.SuspendSelf time_out in
       each_of_both _ _ (Holds asked)
       (each_of_both _ _ (Holds asked) (time_out_says asked time_out refl)
-      (each_when (of_caller is_periodic (process_at partition.table who.proc)) code.InvalidMode (Holds asked)
+      (each_when (of_caller is_periodic (item_at partition.table who.proc)) code.InvalidMode (Holds asked)
       (λ holds. HasCondition.suspend_self_periodic ((periodic_caller_tells who partition).0 holds))))
       (waits_says asked HasCondition.suspend_self_waits)
   says (request.Resume process) =
@@ -262,7 +263,7 @@ module _ (configuration : Configuration) (who : Who) (partition : Partition) whe
       (waits_says asked HasCondition.timed_wait_waits)
   says request.PeriodicWait =
       each_of_both _ _ (Holds request.PeriodicWait)
-      (number_fails request.PeriodicWait (of_caller is_periodic (process_at partition.table who.proc)) (IsCalledByPeriodic who partition) code.InvalidMode
+      (number_fails request.PeriodicWait (of_caller is_periodic (item_at partition.table who.proc)) (IsCalledByPeriodic who partition) code.InvalidMode
       (periodic_caller_tells who partition) HasCondition.periodic_wait_aperiodic)
       (waits_says request.PeriodicWait HasCondition.periodic_wait_waits)
   says request.GetTime = none (Holds request.GetTime)
@@ -335,9 +336,9 @@ module _ (configuration : Configuration) (who : Who) (partition : Partition) whe
       (each_of_both _ _ (Holds asked)
       (each_of_both _ _ (Holds asked)
       (each_created (given_object partition.mutexes mutex)
-      (λ found. when (of_caller (λ process. nat_lt found.priority process.current_priority) (process_at partition.table who.proc)) code.InvalidMode) (Holds asked)
+      (λ found. when (of_caller (λ process. nat_lt found.priority process.current_priority) (item_at partition.table who.proc)) code.InvalidMode) (Holds asked)
       (λ nobody. HasCondition.names_nothing (no_object_is partition.mutexes mutex nobody))
-      (λ found at. each_when (of_caller (λ process. nat_lt found.priority process.current_priority) (process_at partition.table who.proc)) code.InvalidMode (Holds asked)
+      (λ found at. each_when (of_caller (λ process. nat_lt found.priority process.current_priority) (item_at partition.table who.proc)) code.InvalidMode (Holds asked)
       (λ holds. let facts = (above_tells found.priority).0 holds in HasCondition.acquire_above found facts.0 (object_is partition.mutexes mutex found at) facts.1 facts.2)))
       (time_out_says asked time_out refl))
       (each_when (nat_eq who.proc 0) code.InvalidMode (Holds asked) (λ holds. HasCondition.acquire_initialising ((equal_tells who.proc 0).0 holds))))

@@ -18,12 +18,16 @@ use Rattle.apex_machine.specs.declared.state.Mode.TheVariants as mode
 use Rattle.apex_machine.specs.declared.state.Process.{Process}
 use Rattle.apex_machine.specs.declared.state.Wait.{Wait}
 use Rattle.apex_machine.specs.declared.state.Wait.TheVariants as wait
-use Rattle.apex_machine.specs.Arguments.{direction_number, discipline_number, is_between, is_longer, is_length, is_mode, is_negative, is_normal_mode, is_number, is_over, is_period, is_priority, is_time_out, suits_maximum, suits_period}
+use Rattle.apex_machine.specs.Arguments.{direction_number, discipline_number, is_between, is_length, is_longer, is_mode, is_negative, is_normal_mode, is_number, is_over, is_period, is_priority, is_time_out, suits_maximum, suits_period}
 use Rattle.apex_machine.specs.Channels.{QueuingPort, SamplingPort, queuing_port, sampling_port}
-use Rattle.apex_machine.specs.Conditions.{both_number, created, has_name, is_core, is_normal, is_periodic, is_queuing_port, is_sampling_port, is_source, is_suspended, is_suspension, is_taken, may_not_wait, of_caller, owns_another, owns_mutex, suits_refresh}
-use Rattle.apex_machine.specs.Configuration.{Configuration, PartitionLimits, has_core, limits_of}
+use Rattle.apex_machine.specs.Conditions.{is_normal, is_taken, may_not_wait, of_caller, owns_mutex}
+use Rattle.apex_machine.specs.Configuration.{Configuration, PartitionLimits, has_core, is_core, limits_of}
+use Rattle.apex_machine.specs.DueTimes.{is_suspension}
+use Rattle.apex_machine.specs.ObjectConditions.{owns_another}
 use Rattle.apex_machine.specs.Objects.{is_owner}
-use Rattle.apex_machine.specs.State.{Mutex, Partition, Table, given_object, process_at}
+use Rattle.apex_machine.specs.PortConditions.{both_number, is_queuing_port, is_sampling_port, is_source, suits_refresh}
+use Rattle.apex_machine.specs.ProcessConditions.{is_periodic, is_suspended}
+use Rattle.apex_machine.specs.State.{Mutex, Partition, Table, created, given_object, item_at}
 use Rattle.apex_laws.specs.ConditionSentences.{IsCalledByPeriodic, IsCoreOf, IsDirection, IsDirectionAndDiscipline, IsFrom, IsMultipleOf, IsObject, IsPeriodic, IsPriority, IsProcess, IsQueuingPort, IsSamplingPort, IsSuspended, MayNotWait, NamesNoProcess, NamesNone, OneIsNamed, Owns}
 use Rattle.apex_laws.proofs.Booleans.{cannot_hold, is_itself}
 
@@ -247,7 +251,7 @@ created_is partition (pos zero) found at = absurd (absent found at)
 created_is partition (pos (suc n)) found at = record { number = suc n; is = refl; created = omega arith; stands = at }
 created_is partition (negsuc n) found at = absurd (absent found at)
 
-at_positive : (table : Table) (number : ℕ) → 0 < number → created table (pos number) ≡ process_at table number
+at_positive : (table : Table) (number : ℕ) → 0 < number → created table (pos number) ≡ item_at table number
 at_positive table zero above = absurd (let none : 0 < 0 = above in omega arith)
 at_positive table (suc n) above = refl
 
@@ -284,12 +288,6 @@ named_tells {Object} name_of name objects =
     any_tells (λ entry. bytes_eq name (name_of entry.1)) (λ entry. name_of entry.1 ≡ name)
     (λ entry. (λ holds. sym ((bytes_eq-Decides name (name_of entry.1)).0 holds), λ fact. (bytes_eq-Decides name (name_of entry.1)).1 (sym fact)))
     (is_taken name_of name) refl (λ entry entries. refl) objects
-
-pub process_named_tells : (name : List ℕ) (table : Table) → Tells (has_name name table) (OneIsNamed name (λ (process : Process). process.name) table)
-process_named_tells name table =
-    any_tells {X = ℕ × Process} (λ entry. bytes_eq name entry.1.name) (λ entry. entry.1.name ≡ name)
-    (λ entry. (λ holds. sym ((bytes_eq-Decides name entry.1.name).0 holds), λ fact. (bytes_eq-Decides name entry.1.name).1 (sym fact)))
-    (has_name name) refl (λ entry entries. refl) table
 
 -- owners
 
@@ -356,8 +354,8 @@ caller_tells test Fact tells (Some process) = (
   λ fact. let same : fact.0 ≡ process = (let one : ◌≡◌ {A = Option Process} (Some process) (Some fact.0) = fact.1 in cc) in (tells process).1 (subst Fact same fact.2),
 )
 
-pub periodic_caller_tells : (who : Who) (partition : Partition) → Tells (of_caller is_periodic (process_at partition.table who.proc)) (IsCalledByPeriodic who partition)
-periodic_caller_tells who partition = caller_tells is_periodic IsPeriodic periodic_tells (process_at partition.table who.proc)
+pub periodic_caller_tells : (who : Who) (partition : Partition) → Tells (of_caller is_periodic (item_at partition.table who.proc)) (IsCalledByPeriodic who partition)
+periodic_caller_tells who partition = caller_tells is_periodic IsPeriodic periodic_tells (item_at partition.table who.proc)
 
 -- what the configuration says
 

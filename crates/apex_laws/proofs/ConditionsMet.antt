@@ -10,13 +10,16 @@ use Rattle.apex_types.specs.declared.request.Request.TheVariants as request
 use Rattle.apex_machine.specs.declared.state.Direction.TheVariants as direction
 use Rattle.apex_machine.specs.declared.state.Mode.TheVariants as mode
 use Rattle.apex_machine.specs.declared.state.Process.{Process}
-use Rattle.apex_machine.specs.Arguments.{is_capacity, is_discipline, is_longer, is_length, is_maximum, is_mode, is_negative, is_normal_mode, is_number, is_over, is_period, is_priority, is_size, is_time_out, suits_maximum, suits_period}
+use Rattle.apex_machine.specs.Arguments.{is_capacity, is_discipline, is_length, is_longer, is_maximum, is_mode, is_negative, is_normal_mode, is_number, is_over, is_period, is_priority, is_size, is_time_out, suits_maximum, suits_period}
 use Rattle.apex_machine.specs.Channels.{queuing_port, sampling_port}
+use Rattle.apex_machine.specs.Conditions.{codes_for, creation_codes, is_normal, is_taken, may_not_wait, of_caller, time_out_codes, waiting_codes, when}
+use Rattle.apex_machine.specs.Configuration.{Configuration, is_core, period_of}
+use Rattle.apex_machine.specs.ObjectConditions.{message_codes, owns_another}
 use Rattle.apex_machine.specs.Objects.{is_owner}
-use Rattle.apex_machine.specs.Conditions.{codes_for, created, creation_codes, destination_codes, is_core, is_normal, is_periodic, is_queuing_port, is_sampling_port, is_source, is_suspended, is_taken, may_not_wait, message_codes, of_caller, owns_another, source_codes, time_out_codes, waiting_codes, when}
-use Rattle.apex_machine.specs.Configuration.{Configuration, period_of}
+use Rattle.apex_machine.specs.PortConditions.{destination_codes, is_queuing_port, is_sampling_port, is_source, source_codes}
+use Rattle.apex_machine.specs.ProcessConditions.{is_periodic, is_suspended}
 use Rattle.apex_machine.specs.ServiceConditions.{condition_codes}
-use Rattle.apex_machine.specs.State.{Blackboard, Buffer, Event, Mutex, Partition, Port, Semaphore, given_object, process_at}
+use Rattle.apex_machine.specs.State.{Blackboard, Buffer, Event, Mutex, Partition, Port, Semaphore, created, given_object, item_at}
 use Rattle.apex_machine.specs.Step.{IsAmong}
 use Rattle.apex_laws.specs.ConditionSentences.{AllAreCreated, HasCondition, HasTimeOut, IsCalledByPeriodic, IsCoreOf, IsDiscipline, IsFrom, IsObject, IsPeriodic, IsPriority, IsProcess, IsQueuingPort, IsSamplingPort, IsSize, IsSuspended, IsSetUp, MayNotWait, NameIsTaken, NamesNoProcess, NamesNone, NamesNothing, WaitsFor}
 use Rattle.apex_laws.proofs.Booleans.{first_holds, later_holds}
@@ -166,7 +169,7 @@ module _ (configuration : Configuration) (who : Who) (partition : Partition) whe
 
   taken_met : (asked : Request) → NameIsTaken partition asked → Has asked code.NoAction
   taken_met (request.CreateProcess name priority period) named =
-      in_first _ _ code.NoAction (in_first _ _ code.NoAction (in_first _ _ code.NoAction (is_taken_met _ _ ((tests.process_named_tells name partition.table).1 named))))
+      in_first _ _ code.NoAction (in_first _ _ code.NoAction (in_first _ _ code.NoAction (is_taken_met _ _ ((tests.named_tells (λ (process : Process). process.name) name partition.table).1 named))))
   taken_met (request.CreateBuffer name size capacity discipline) named =
       in_first _ _ code.NoAction (in_first _ _ code.NoAction (in_first _ _ code.NoAction
       (is_taken_met _ _ ((tests.named_tells (λ (buffer : Buffer). buffer.name) name partition.buffers).1 named))))
@@ -290,7 +293,7 @@ module _ (configuration : Configuration) (who : Who) (partition : Partition) whe
       (in_later _ _ code.NoAction (in_when (is_suspended found) code.NoAction ((tests.suspended_tells found).1 suspended))))
   met (HasCondition.suspend_self_periodic {time_out = time_out} periodic) =
       in_first _ _ code.InvalidMode (in_later _ _ code.InvalidMode
-      (in_when (of_caller is_periodic (process_at partition.table who.proc)) code.InvalidMode ((tests.periodic_caller_tells who partition).1 periodic)))
+      (in_when (of_caller is_periodic (item_at partition.table who.proc)) code.InvalidMode ((tests.periodic_caller_tells who partition).1 periodic)))
   met (HasCondition.suspend_self_waits {time_out = time_out} may_not) = in_later _ _ code.InvalidMode (may_not_met may_not)
   met (HasCondition.resume_itself {process = process} same) = in_later _ _ code.InvalidParam (own_met process same)
   met (HasCondition.resume_dormant {process = process} found is dormant) =
@@ -309,7 +312,7 @@ module _ (configuration : Configuration) (who : Who) (partition : Partition) whe
   met (HasCondition.timed_wait_delay {ticks = ticks} under) = in_first _ _ code.InvalidParam (in_when (is_negative ticks) code.InvalidParam ((tests.negative_tells ticks).1 under))
   met (HasCondition.timed_wait_waits may_not) = in_later _ _ code.InvalidMode (may_not_met may_not)
   met (HasCondition.periodic_wait_aperiodic other) =
-      in_first _ _ code.InvalidMode (fails_met (of_caller is_periodic (process_at partition.table who.proc)) (IsCalledByPeriodic who partition) code.InvalidMode (tests.periodic_caller_tells who partition) other)
+      in_first _ _ code.InvalidMode (fails_met (of_caller is_periodic (item_at partition.table who.proc)) (IsCalledByPeriodic who partition) code.InvalidMode (tests.periodic_caller_tells who partition) other)
   met (HasCondition.periodic_wait_waits may_not) = in_later _ _ code.InvalidMode (may_not_met may_not)
   met (HasCondition.set_mode_none {next = next} other) =
       in_first _ _ code.InvalidParam (fails_met (is_mode next) (IsFrom (pos 0) (pos 3) next) code.InvalidParam (tests.mode_tells next) other)
@@ -346,11 +349,11 @@ module _ (configuration : Configuration) (who : Who) (partition : Partition) whe
       in_later _ _ code.InvalidMode (in_when (owns_another partition.mutexes mutex who.proc) code.InvalidMode ((tests.second_tells partition mutex who.proc).1 (held, owns, other)))
   met (HasCondition.acquire_above {mutex = mutex} found process is calls above) =
       in_first _ _ code.InvalidMode (in_first _ _ code.InvalidMode (in_first _ _ code.InvalidMode
-      (in_some (given_object partition.mutexes mutex) (λ found. when (of_caller (λ process. nat_lt found.priority process.current_priority) (process_at partition.table who.proc)) code.InvalidMode)
+      (in_some (given_object partition.mutexes mutex) (λ found. when (of_caller (λ process. nat_lt found.priority process.current_priority) (item_at partition.table who.proc)) code.InvalidMode)
       found code.InvalidMode (tests.object_by partition.mutexes mutex found is)
-      (in_when (of_caller (λ process. nat_lt found.priority process.current_priority) (process_at partition.table who.proc)) code.InvalidMode
+      (in_when (of_caller (λ process. nat_lt found.priority process.current_priority) (item_at partition.table who.proc)) code.InvalidMode
       ((tests.caller_tells (λ process. nat_lt found.priority process.current_priority) (λ process. found.priority < process.current_priority)
-      (λ process. tests.below_tells found.priority process.current_priority) (process_at partition.table who.proc)).1 (process, calls, above))))))
+      (λ process. tests.below_tells found.priority process.current_priority) (item_at partition.table who.proc)).1 (process, calls, above))))))
   met (HasCondition.release_not_owner {mutex = mutex} found is other) =
       in_some (given_object partition.mutexes mutex) (λ found. when (not (is_owner found.owner who.proc)) code.InvalidMode) found code.InvalidMode (tests.object_by partition.mutexes mutex found is)
       (fails_met (is_owner found.owner who.proc) (found.owner ≡ Some who.proc) code.InvalidMode (tests.owner_tells found.owner who.proc) other)

@@ -4,43 +4,43 @@ use Rattle.std.specs.Prelude.{Contains}
 use Rattle.std.proofs.lemmas.Bool.{cases_Bool, eqb-true}
 use Rattle.std.proofs.lemmas.List.Elements.{All-contains, Contains-append_left, Contains-append_right, Contains-push}
 use Rattle.apex_machine.specs.Answer.{is_new}
-use Rattle.apex_machine.specs.State.{Blackboard, Buffer, Event, Mutex, Port, Semaphore, Table, is_free_object, is_free_process, object_at, process_at}
+use Rattle.apex_machine.specs.State.{Blackboard, Buffer, Event, Mutex, Port, Semaphore, Table, is_free, item_at}
 use Rattle.apex_laws.specs.NumberLaws.{AreFound, AreNew, IsNewNumber, NewNumberIsTheSentence, ObjectsAreFound, ProcessesAreFound}
 use Rattle.apex_laws.proofs.Booleans.{is_itself}
 use Rattle.apex_laws.proofs.ConditionTests.{Tells, absent, at_most_tells, below_tells, nobody, stands_cases, stands_nowhere, tells_both}
 use Rattle.apex_laws.proofs.Entries.{at_its_number}
 
 -- what is found stands under its number
-found_object : {Object : Type 0} → (objects : List (ℕ × Object)) (number : ℕ) (object : Object) → object_at objects number ≡ Some object → Contains objects (number, object)
+found_object : {Object : Type 0} → (objects : List (ℕ × Object)) (number : ℕ) (object : Object) → item_at objects number ≡ Some object → Contains objects (number, object)
 found_object [] number object at = absurd (absent object at)
 found_object {Object} (entry ∷ entries) number object at =
     elim (cases_Bool (nat_eq number entry.0)) [
       | inl here ↦
-          let is : ◌≡◌ {A = Option Object} (Some entry.1) (Some object) = (let one : object_at (entry ∷ entries) number ≡ Some entry.1 = rw here refl in sym one ∙ at) in
+          let is : ◌≡◌ {A = Option Object} (Some entry.1) (Some object) = (let one : item_at (entry ∷ entries) number ≡ Some entry.1 = rw here refl in sym one ∙ at) in
           let same : entry.1 ≡ object = cc in
           let one : ◌≡◌ {A = ℕ × Object} entry (number, object) = (let key : entry.0 ≡ number = sym (eqb-true number entry.0 here) in λ i. (key i, same i)) in
           subst (Contains (entry ∷ entries)) one (Contains-append_left (entry ∷ []) entries entry (Contains-push [] entry))
       | inr other ↦
-          let later : object_at entries number ≡ Some object = (let one : object_at (entry ∷ entries) number ≡ object_at entries number = rw other refl in sym one ∙ at) in
+          let later : item_at entries number ≡ Some object = (let one : item_at (entry ∷ entries) number ≡ item_at entries number = rw other refl in sym one ∙ at) in
           Contains-append_right (entry ∷ []) entries (number, object) (found_object entries number object later)
     ]
 
 -- where nothing is found nothing stands
-nothing_stands : {Object : Type 0} → (objects : List (ℕ × Object)) (number : ℕ) → object_at objects number ≡ None → (object : Object) → ¬ Contains objects (number, object)
+nothing_stands : {Object : Type 0} → (objects : List (ℕ × Object)) (number : ℕ) → item_at objects number ≡ None → (object : Object) → ¬ Contains objects (number, object)
 nothing_stands [] number none object stands = stands_nowhere (number, object) stands
 nothing_stands {Object} (entry ∷ entries) number none object stands =
     elim (cases_Bool (nat_eq number entry.0)) [
-      | inl here ↦ absent entry.1 (let one : object_at (entry ∷ entries) number ≡ Some entry.1 = rw here refl in sym none ∙ one)
+      | inl here ↦ absent entry.1 (let one : item_at (entry ∷ entries) number ≡ Some entry.1 = rw here refl in sym none ∙ one)
       | inr other ↦
-          let later : object_at entries number ≡ None = (let one : object_at (entry ∷ entries) number ≡ object_at entries number = rw other refl in sym one ∙ none) in
+          let later : item_at entries number ≡ None = (let one : item_at (entry ∷ entries) number ≡ item_at entries number = rw other refl in sym one ∙ none) in
           elim (stands_cases entry (number, object) entries stands) [
             | inl same ↦ true≢false (sym (ap (λ one. nat_eq number one.0) (sym same) ∙ is_itself number) ∙ other)
             | inr there ↦ nothing_stands entries number later object there
           ]
     ]
 
-none_stands : {Object : Type 0} → (objects : List (ℕ × Object)) (number : ℕ) → ((object : Object) → ¬ Contains objects (number, object)) → object_at objects number ≡ None
-none_stands {Object} objects number none = nobody (object_at objects number) (λ object at. none object (found_object objects number object at))
+none_stands : {Object : Type 0} → (objects : List (ℕ × Object)) (number : ℕ) → ((object : Object) → ¬ Contains objects (number, object)) → item_at objects number ≡ None
+none_stands {Object} objects number none = nobody (item_at objects number) (λ object at. none object (found_object objects number object at))
 
 are_found : (Object : Type 0) → AreFound Object
 are_found Object objects number = (found_object objects number, (nothing_stands objects number, none_stands objects number))
@@ -56,7 +56,7 @@ objects_are_found = record {
 }
 
 -- a process is found as an object of its table is
-as_object : (table : Table) (number : ℕ) → process_at table number ≡ object_at table number
+as_object : (table : Table) (number : ℕ) → item_at table number ≡ item_at table number
 as_object [] number = refl
 as_object (entry ∷ entries) number = ap (λ rest. cond (nat_eq number entry.0) (Some entry.1) rest) (as_object entries number)
 
@@ -64,7 +64,7 @@ pub processes_are_found : ProcessesAreFound
 processes_are_found table number = (
   λ distinct process. (
     λ at. found_object table number process (sym (as_object table number) ∙ at),
-    λ stands. All-contains (λ entry. process_at table entry.0 ≡ Some entry.1) table (number, process) (at_its_number table distinct) stands,
+    λ stands. All-contains (λ entry. item_at table entry.0 ≡ Some entry.1) table (number, process) (at_its_number table distinct) stands,
   ),
   (
     λ none. nothing_stands table number (sym (as_object table number) ∙ none),
@@ -94,18 +94,18 @@ none_tells (Some x) = (λ holds. absurd (true≢false (sym holds)), λ fact. abs
 
 are_new : (Object : Type 0) → AreNew Object
 are_new Object objects claimed =
-    new_tells objects (is_free_object objects)
+    new_tells objects (is_free objects)
     (λ number. (
-      λ holds. nothing_stands objects number ((none_tells (object_at objects number)).0 holds),
-      λ fact. (none_tells (object_at objects number)).1 (none_stands objects number fact),
+      λ holds. nothing_stands objects number ((none_tells (item_at objects number)).0 holds),
+      λ fact. (none_tells (item_at objects number)).1 (none_stands objects number fact),
     )) claimed
 
 pub new_number_is_the_sentence : NewNumberIsTheSentence
 new_number_is_the_sentence = record {
-  processes = λ table claimed. new_tells table (is_free_process table)
+  processes = λ table claimed. new_tells table (is_free table)
       (λ number. (
-        λ holds. ((processes_are_found table number).1).0 ((none_tells (process_at table number)).0 holds),
-        λ fact. (none_tells (process_at table number)).1 (((processes_are_found table number).1).1 fact),
+        λ holds. ((processes_are_found table number).1).0 ((none_tells (item_at table number)).0 holds),
+        λ fact. (none_tells (item_at table number)).1 (((processes_are_found table number).1).1 fact),
       )) claimed;
   buffers = are_new Buffer;
   blackboards = are_new Blackboard;

@@ -10,9 +10,10 @@ use Rattle.apex_machine.specs.declared.state.Wait.{Wait}
 use Rattle.apex_machine.specs.declared.state.Wait.TheVariants as wait
 use Rattle.apex_machine.specs.declared.state.WaitingSet.TheVariants as set
 use Rattle.apex_machine.specs.Arguments.{is_aperiodic, is_normal_mode, natural_of}
-use Rattle.apex_machine.specs.Conditions.{is_for_mutex, owns_mutex}
+use Rattle.apex_machine.specs.Conditions.{owns_mutex}
+use Rattle.apex_machine.specs.DueTimes.{is_for_mutex}
 use Rattle.apex_machine.specs.Services.{in_profile, waits_for_mutex}
-use Rattle.apex_machine.specs.State.{Partition, process_at}
+use Rattle.apex_machine.specs.State.{Partition, item_at}
 use Rattle.apex_laws.specs.ProfileLaws.{AwaitsMutex, IsOutsideProfile, ProfileIsTheSentence}
 use Rattle.apex_laws.proofs.Booleans.{cannot_hold}
 use Rattle.apex_laws.proofs.ConditionTests.{Tells, caller_tells, equal_tells, normal_mode_tells, owns_tells, positive_tells}
@@ -67,7 +68,7 @@ for_mutex_tells one = (λ holds. absurd (true≢false (sym holds)), λ fact. ap 
 awaits_tells : (partition : Partition) (number : ℕ) → Tells (waits_for_mutex partition.table number) (AwaitsMutex partition number)
 awaits_tells partition number =
     let found = caller_tells (λ process. is_for_mutex process.wait) (λ process. (mutex : ℕ) × (due : Option ℕ) × (process.wait ≡ wait.At (set.MutexWaiters mutex) due))
-    (λ process. for_mutex_tells process.wait) (process_at partition.table number) in (
+    (λ process. for_mutex_tells process.wait) (item_at partition.table number) in (
       λ holds. let is = found.0 holds in record { process = is.0; stands = is.1; mutex = is.2.0; due = is.2.1; waits = is.2.2 },
       λ fact. found.1 (fact.process, fact.stands, (fact.mutex, fact.due, fact.waits)),
     )

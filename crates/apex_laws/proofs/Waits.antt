@@ -13,9 +13,8 @@ use Rattle.apex_machine.specs.declared.state.Wait.{Wait}
 use Rattle.apex_machine.specs.declared.state.Wait.TheVariants as wait
 use Rattle.apex_machine.specs.declared.state.WaitingSet.{WaitingSet}
 use Rattle.apex_machine.specs.declared.state.WaitingSet.TheVariants as set
-use Rattle.apex_machine.specs.Arguments.{due_time}
-use Rattle.apex_machine.specs.Processes.{caller_after, caller_with, code_when_due, due_of_call, owed, service_of_wait, time_out_of, wait_of}
-use Rattle.apex_machine.specs.Step.{due_by, falls_due}
+use Rattle.apex_machine.specs.DueTimes.{due_by, due_of_call, due_time, falls_due, time_out_of, wait_of}
+use Rattle.apex_machine.specs.Processes.{caller_after, caller_with, code_when_due, owed, service_of_wait}
 use Rattle.apex_machine.specs.Waiting.{is_the_set, is_waiting, service_at, set_of}
 use Rattle.apex_laws.specs.ConditionSentences.{HasTimeOut}
 use Rattle.apex_laws.specs.WaitLaws.{EnteringIsTheSentence, TimeOutIsTheSentence, WaitsIn}

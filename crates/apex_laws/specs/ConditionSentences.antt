@@ -15,7 +15,7 @@ use Rattle.apex_machine.specs.declared.state.Process.{Process}
 use Rattle.apex_machine.specs.declared.state.Wait.TheVariants as wait
 use Rattle.apex_machine.specs.Channels.{QueuingPort, SamplingPort, queuing_port, sampling_port}
 use Rattle.apex_machine.specs.Configuration.{Configuration, PartitionLimits, limits_of, object_limit, period_of, process_limit}
-use Rattle.apex_machine.specs.State.{Blackboard, Buffer, Event, Mutex, Partition, Port, Semaphore, object_at, process_at}
+use Rattle.apex_machine.specs.State.{Blackboard, Buffer, Event, Mutex, Partition, Port, Semaphore, item_at}
 
 -- the numbers that a caller gives
 
@@ -46,13 +46,13 @@ pub record IsProcess (partition : Partition) (given : ℤ) (process : Process) :
   pub number : ℕ
   pub is : given ≡ pos number
   pub created : 0 < number
-  pub stands : process_at partition.table number ≡ Some process
+  pub stands : item_at partition.table number ≡ Some process
 
 -- the created object that a number names
 pub record IsObject {Object : Type 0} (objects : List (ℕ × Object)) (given : ℤ) (object : Object) : Type 0 where
   pub number : ℕ
   pub is : given ≡ pos number
-  pub stands : object_at objects number ≡ Some object
+  pub stands : item_at objects number ≡ Some object
 
 -- a number names no created object of a kind
 abbrev pub NamesNone : {Object : Type 0} → List (ℕ × Object) → ℤ → Type 0
@@ -82,7 +82,7 @@ MayNotWait who partition = (who.proc ≡ 0) ⊎ ((held : ℕ) × Owns partition 
 
 -- the caller is a process of its partition
 abbrev pub IsCalledBy : Who → Partition → Process → Type 0
-IsCalledBy who partition process = process_at partition.table who.proc ≡ Some process
+IsCalledBy who partition process = item_at partition.table who.proc ≡ Some process
 
 -- the caller is a periodic process
 abbrev pub IsCalledByPeriodic : Who → Partition → Type 0

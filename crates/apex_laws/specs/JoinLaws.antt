@@ -4,7 +4,7 @@ use Rattle.apex_types.specs.declared.record.Ordered.{Ordered}
 use Rattle.apex_types.specs.declared.service.Service.{Service}
 use Rattle.apex_machine.specs.Configuration.{Configuration}
 use Rattle.apex_machine.specs.Pieces.{Part, Piece}
-use Rattle.apex_machine.specs.Runs.{FindsJudging, PieceRunJudging, RefusesJudging, Refusal}
+use Rattle.apex_machine.specs.Runs.{FindsJudging, PieceRunJudging, Refusal, RefusesJudging}
 
 -- a run over one list behind another is a run over the first, and from where it ends a run over the second
 abbrev pub RunsJoin : Type 0

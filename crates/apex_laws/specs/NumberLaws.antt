@@ -2,22 +2,22 @@
 use Rattle.std.specs.Prelude.{◌≡◌, ◌↔◌, ℕ, ◌<◌, ◌≤◌, ℤ, pos, List, Option, Some, None, IsTrue, Contains}
 use Rattle.apex_machine.specs.declared.state.Process.{Process}
 use Rattle.apex_machine.specs.Answer.{HasValue, NewNumber}
-use Rattle.apex_machine.specs.State.{Blackboard, Buffer, Event, Mutex, Port, Semaphore, Table, is_free_object, is_free_process, object_at, process_at}
+use Rattle.apex_machine.specs.State.{Blackboard, Buffer, Event, Mutex, Port, Semaphore, Table, is_free, item_at}
 use Rattle.apex_laws.specs.Laws.{are_distinct}
 
 -- under a number of a table of distinct numbers stands the process that has it, and none where no process has it
 abbrev pub ProcessesAreFound : Type 0
 ProcessesAreFound =
     (table : Table) (number : ℕ)
-    → (IsTrue (are_distinct table) → (process : Process) → (process_at table number ≡ Some process) ↔ Contains table (number, process))
-    × ((process_at table number ≡ None) ↔ ((process : Process) → ¬ Contains table (number, process)))
+    → (IsTrue (are_distinct table) → (process : Process) → (item_at table number ≡ Some process) ↔ Contains table (number, process))
+    × ((item_at table number ≡ None) ↔ ((process : Process) → ¬ Contains table (number, process)))
 
 -- what is found under a number of some objects has this number, and none is found where no object has it
 abbrev pub AreFound : (Object : Type 0) → Type 0
 AreFound Object =
     (objects : List (ℕ × Object)) (number : ℕ)
-    → ((object : Object) → object_at objects number ≡ Some object → Contains objects (number, object))
-    × ((object_at objects number ≡ None) ↔ ((object : Object) → ¬ Contains objects (number, object)))
+    → ((object : Object) → item_at objects number ≡ Some object → Contains objects (number, object))
+    × ((item_at objects number ≡ None) ↔ ((object : Object) → ¬ Contains objects (number, object)))
 
 -- so it is of the objects and ports of each kind
 pub record ObjectsAreFound : Type 0 where
@@ -38,11 +38,11 @@ pub record IsNewNumber {Object : Type 0} (objects : List (ℕ × Object)) (claim
 
 -- the value of a creation of an object is a new number of the kind
 abbrev pub AreNew : (Object : Type 0) → Type 0
-AreNew Object = (objects : List (ℕ × Object)) (claimed : Option ℤ) → HasValue (NewNumber (is_free_object objects)) claimed ↔ IsNewNumber objects claimed
+AreNew Object = (objects : List (ℕ × Object)) (claimed : Option ℤ) → HasValue (NewNumber (is_free objects)) claimed ↔ IsNewNumber objects claimed
 
 -- so it is of processes, and of the objects and ports of each kind
 pub record NewNumberIsTheSentence : Type 0 where
-  pub processes : (table : Table) (claimed : Option ℤ) → HasValue (NewNumber (is_free_process table)) claimed ↔ IsNewNumber table claimed
+  pub processes : (table : Table) (claimed : Option ℤ) → HasValue (NewNumber (is_free table)) claimed ↔ IsNewNumber table claimed
   pub buffers : AreNew Buffer
   pub blackboards : AreNew Blackboard
   pub semaphores : AreNew Semaphore

@@ -10,7 +10,7 @@ use Rattle.apex_machine.specs.declared.state.Wait.TheVariants as wait
 use Rattle.apex_machine.specs.declared.state.WaitingSet.TheVariants as set
 use Rattle.apex_machine.specs.Arguments.{natural_of}
 use Rattle.apex_machine.specs.Services.{in_profile}
-use Rattle.apex_machine.specs.State.{Partition, process_at}
+use Rattle.apex_machine.specs.State.{Partition, item_at}
 use Rattle.apex_laws.specs.ConditionSentences.{Owns}
 
 -- a process owns a mutex
@@ -20,7 +20,7 @@ IsOwner partition process = (held : ℕ) × Owns partition process held
 -- a process waits for a mutex
 pub record AwaitsMutex (partition : Partition) (number : ℕ) : Type 0 where
   pub process : Process
-  pub stands : process_at partition.table number ≡ Some process
+  pub stands : item_at partition.table number ≡ Some process
   pub mutex : ℕ
   pub due : Option ℕ
   pub waits : process.wait ≡ wait.At (set.MutexWaiters mutex) due

@@ -10,8 +10,8 @@ use Rattle.apex_machine.specs.declared.state.Process.{Process}
 use Rattle.apex_machine.specs.declared.state.WaitingSet.{WaitingSet}
 use Rattle.apex_machine.specs.declared.state.WaitingSet.TheVariants as set
 use Rattle.apex_machine.specs.Arguments.{natural_of}
+use Rattle.apex_machine.specs.DueTimes.{falls_due}
 use Rattle.apex_machine.specs.Processes.{caller_after, released}
-use Rattle.apex_machine.specs.Step.{falls_due}
 use Rattle.apex_machine.specs.Waiting.{enters}
 use Rattle.apex_laws.specs.ConditionSentences.{HasTimeOut}
 
