@@ -1,10 +1,10 @@
 // What a check answers for texts in memory.
 
-ghost use Rattle.std.specs.Prelude.{◌≡◌, ◌↔◌, ◌++◌, ◌∷◌, [], IfOk, IsTrue, Some, map};
+ghost use Rattle.std.specs.Prelude.{◌≡◌, ◌≤◌, ◌↔◌, ◌++◌, ◌∷◌, [], IfOk, IsTrue, Some, map};
 ghost use Rattle.case_runner.specs.Answers.{IsAnswer, exit_status_of};
 
 use crate::fields::LINE_FEED;
-use report::{CheckFault, Verdict, check, write_report};
+use report::{CheckFault, Verdict, check_in_rounds, write_report};
 use sink::{FailureCount, Sink, SinkFault};
 use std::alloc::{AllocError, Global};
 
@@ -33,17 +33,42 @@ impl Answer {
     }
 }
 
-/// The answer of the check for these texts: the configuration, one recording for each core, the certificate.
+/// How many records each round of a check holds.
+#[derive(Clone, Copy, Debug)]
+pub enum Rounds {
+    OfOne,
+    OfSeven,
+    /// As many as a round can hold.
+    OfMost,
+}
+
+impl Rounds {
+    /// The most records of such a round.
+    pub fn size(self) -> usize
+        ensures least { 1 ≤ result }
+        ensures most { result ≤ 4096 }
+    {
+        match self {
+            Rounds::OfOne => 1,
+            Rounds::OfSeven => 7,
+            Rounds::OfMost => 4096,
+        }
+    }
+}
+
+/// The answer of the check for these texts: the configuration, one recording for each core, the certificate. The records are
+/// judged in such rounds.
 pub fn answer_to(
     alloc: Global,
     config: &[u8],
     recordings: &[Vec<u8>],
     order: &[u8],
+    rounds: Rounds,
 ) -> Result<Answer, AllocError>
     ensures { IfOk result (λ answer. IsAnswer config.now (map (λ recording. recording.items) recordings.now) order.now answer.line.items answer.status) }
 {
     let readers = readers_of(alloc, recordings)?;
-    let outcome = check(alloc, config, readers, order);
+    let outcome = check_in_rounds(alloc, config, readers, order, rounds.size());
     let mut kept = Kept::new(alloc);
     match write_report(&mut kept, &outcome) {
         Ok(()) => {

@@ -2,7 +2,7 @@
 
 ghost use Rattle.std.specs.Prelude.{◌≡◌, ◌++◌};
 
-use crate::answering::{Answer, Expected, answer_to};
+use crate::answering::{Answer, Expected, Rounds, answer_to};
 use crate::archive::{Section, sections};
 use crate::case::{Case, CaseFault, Cut};
 use crate::heading::Heading;
@@ -97,6 +97,8 @@ fn is_case(section: &Section<'_>) -> bool {
 struct Difference<'a> {
     // After how many bytes the recording was cut.
     cut: Option<usize>,
+    // How many records each round held.
+    size: usize,
     expected: Expected<'a>,
     found: Answer,
 }
@@ -116,13 +118,14 @@ fn run_case<'a>(
     }
     let order = case.order_text()?;
     if let Some(expected) = case.expected()? {
-        let found = answer_to(alloc, case.config(), case.recordings(), &order)?;
-        if !found.is(expected) {
-            return Ok(Some(Difference {
-                cut: None,
-                expected,
-                found,
-            }));
+        let texts = Texts {
+            config: case.config(),
+            recordings: case.recordings(),
+            order: &order,
+            cut: None,
+        };
+        if let Some(difference) = texts.difference(alloc, expected)? {
+            return Ok(Some(difference));
         }
     }
     let cuts = case.cuts()?;
@@ -152,16 +155,48 @@ fn run_cuts<'a>(
             .ok_or(CaseFault::NoCuts)?
             .expected;
         let cut = vec![in alloc; Vec::from_slice(alloc, &whole[..bytes])?]?;
-        let found = answer_to(alloc, config, &cut, order)?;
-        if !found.is(expected) {
-            return Ok(Some(Difference {
-                cut: Some(bytes),
-                expected,
-                found,
-            }));
+        let texts = Texts {
+            config,
+            recordings: &cut,
+            order,
+            cut: Some(bytes),
+        };
+        if let Some(difference) = texts.difference(alloc, expected)? {
+            return Ok(Some(difference));
         }
     }
     Ok(None)
+}
+
+// The texts of a check, of which the recording may be cut after so many bytes.
+#[derive(Clone, Copy)]
+struct Texts<'b> {
+    config: &'b [u8],
+    recordings: &'b [Vec<u8>],
+    order: &'b [u8],
+    cut: Option<usize>,
+}
+
+impl<'b> Texts<'b> {
+    // The first answer that is not the expected one, in rounds of each size.
+    fn difference<'a>(
+        &self,
+        alloc: Global,
+        expected: Expected<'a>,
+    ) -> Result<Option<Difference<'a>>, AllocError> {
+        for rounds in [Rounds::OfOne, Rounds::OfSeven, Rounds::OfMost] {
+            let found = answer_to(alloc, self.config, self.recordings, self.order, rounds)?;
+            if !found.is(expected) {
+                return Ok(Some(Difference {
+                    cut: self.cut,
+                    size: rounds.size(),
+                    expected,
+                    found,
+                }));
+            }
+        }
+        Ok(None)
+    }
 }
 
 // Tells what is wrong with a case, if something is.
@@ -196,7 +231,14 @@ fn tell_difference<W: Sink>(output: &mut W, difference: &Difference<'_>) -> Resu
             ],
         )?;
     }
-    put_all(output, b"expected ")?;
+    put_parts(
+        output,
+        &[
+            b"in rounds of ",
+            Buffer::new().format(difference.size).as_bytes(),
+            b": expected ",
+        ],
+    )?;
     put_answer(output, difference.expected.status, difference.expected.line)?;
     put_all(output, b", found ")?;
     put_answer(output, difference.found.status, &difference.found.line)?;
