@@ -4,3 +4,4 @@ pub mod Going
 pub mod Splits
 pub mod Rounds
 pub mod Silence
+pub mod Verdicts

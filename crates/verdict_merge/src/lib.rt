@@ -8,10 +8,12 @@
 
 mod finding;
 mod judge;
+mod laws;
 mod plain;
 mod verdict;
 
 pub use finding::{Finding, merge};
 pub use judge::{Judge, Memory};
+pub use laws::{one_verdict, verdict_is_of_the_findings};
 pub use plain::check_plain;
 pub use verdict::Verdict;

@@ -1,0 +1,370 @@
+-- An order of records has one verdict, and it is that of what all pieces find.
+use Rattle.std.proofs.Common.{◌≡◌, ◌⊎◌, ◌<◌, ◌+◌, ◌∙◌, ℕ, zero, suc, List, [], ◌∷◌, ◌++◌, Option, Some, None, length, refl, sym, ap, subst, inl, inr, arith, append_assoc}
+use Rattle.std.specs.Prelude.{Contains, slice_index_or}
+use Rattle.apex_types.specs.declared.cause.Cause.{Cause}
+use Rattle.apex_types.specs.declared.record.Ordered.{Ordered}
+use Rattle.apex_machine.specs.Configuration.{Configuration}
+use Rattle.apex_machine.specs.Pieces.{ModulePart, Part, Piece, part, pieces}
+use Rattle.apex_machine.specs.Pieces.Piece.{Module}
+use Rattle.apex_machine.specs.Runs.{ArePlaced, Finds, PieceRun, Refusal, Refuses}
+use Rattle.apex_machine.specs.Services.{is_built}
+use Rattle.apex_machine.specs.State.{cold_state}
+use Rattle.apex_laws.proofs.Joins.{found_is_refused, nothing_found_is_a_run, refused_found, run_finds_nothing}
+use Rattle.apex_laws.proofs.Refusals.{one_first_refusal}
+use Rattle.piece_check.specs.Parts.{piece_at}
+use Rattle.verdict_merge.specs.declared.finding.Finding.{Finding}
+use Rattle.verdict_merge.specs.declared.verdict.Verdict.{Verdict}
+use Rattle.verdict_merge.specs.declared.verdict.Verdict.TheVariants.{Yes, No}
+use Rattle.verdict_merge.specs.Findings.{IsLeast, Precedes}
+use Rattle.verdict_merge.specs.Rounds.{AllRun, HasGone, IsNo, Runs, cold_parts}
+use Rattle.verdict_merge.specs.Verdicts.{AllFind, Follows, IsVerdict, OneVerdict, VerdictIsOfTheFindings, findings_of}
+use Rattle.verdict_merge.proofs.Least.{not_itself, through}
+use Rattle.verdict_merge.proofs.Rounds.{least_is_no, runs_front}
+use Rattle.verdict_merge.proofs.Splits.{begins_with, place_behind}
+
+-- two numbers in order
+order_of : (one other : ℕ) → (one < other) ⊎ ((one ≡ other) ⊎ (other < one))
+order_of zero zero = inr (inl refl)
+order_of zero (suc other) = inl (omega arith)
+order_of (suc one) zero = inr (inr (omega arith))
+order_of (suc one) (suc other) = elim (order_of one other) [
+  | inl less ↦ inl (omega (arith, less))
+  | inr (inl same) ↦ inr (inl (ap suc same))
+  | inr (inr more) ↦ inr (inr (omega (arith, more)))
+]
+
+-- one verdict
+
+none_some : (refusal : Refusal) → ◌≡◌ {A = Option Refusal} None (Some refusal) → ⊥
+none_some refusal e = cc
+
+one_refusal : (one other : Refusal) → ◌≡◌ {A = Option Refusal} (Some one) (Some other) → one ≡ other
+one_refusal one other e = cc
+
+-- a piece that runs through a record does not refuse it
+runs_and_refuses : (configuration : Configuration) (piece : Piece) (old : Part) (before : List Ordered) (ordered : Ordered) (cause : Cause) (final : Part)
+    → PieceRun configuration piece old (before ++ ordered ∷ []) final → Refuses configuration piece old before ordered cause → ⊥
+runs_and_refuses configuration piece old before ordered cause final run refuses =
+    let refusal : Refusal = record { pos = ordered.pos; cause = cause } in
+    none_some refusal (one_first_refusal is_built configuration piece old (before ++ ordered ∷ []) None (Some refusal)
+    (run_finds_nothing is_built configuration piece old (before ++ ordered ∷ []) final run)
+    (refused_found is_built configuration piece old before ordered [] refusal refl refuses))
+
+-- the record of a No stands where its place tells
+no_at : (configuration : Configuration) (parts : ℕ → Part) (first : ℕ) (records : List Ordered) (found : Finding) → ArePlaced first records
+    → (stands : IsNo configuration parts records found) → found.pos ≡ first + length stands.before
+no_at configuration parts first records found placed stands =
+    stands.place ∙ place_behind first stands.before stands.ordered stands.after (subst (ArePlaced first) stands.split placed)
+
+-- each piece runs up to the record of a No
+runs_up_to : (configuration : Configuration) (parts : ℕ → Part) (records : List Ordered) (found : Finding) (stands : IsNo configuration parts records found)
+    → (number : ℕ) → number < length (pieces configuration) → Runs configuration parts number stands.before
+runs_up_to configuration parts records found stands number within = elim (order_of number found.piece) [
+  | inl less ↦ runs_front configuration parts number stands.before (stands.ordered ∷ []) (stands.smaller number less)
+  | inr (inl same) ↦ subst (λ one. Runs configuration parts one stands.before) (sym same) (stands.refused.0, stands.refused.1)
+  | inr (inr more) ↦ stands.larger number more within
+]
+
+-- the piece of a No runs over no longer list of the same records
+runs_no_longer : (configuration : Configuration) (parts : ℕ → Part) (records : List Ordered) (found : Finding) (stands : IsNo configuration parts records found)
+    → (long rest : List Ordered) → records ≡ long ++ rest → length stands.before < length long → Runs configuration parts found.piece long → ⊥
+runs_no_longer configuration parts records found stands long rest split less runs =
+    let front = begins_with stands.before stands.ordered stands.after long rest (sym stands.split ∙ split) less in
+    let run = runs_front configuration parts found.piece (stands.before ++ stands.ordered ∷ []) front.0 (subst (Runs configuration parts found.piece) front.1 runs) in
+    runs_and_refuses configuration (piece_at configuration found.piece) (parts found.piece) stands.before stands.ordered found.cause run.0 run.1 stands.refused
+
+longer : (list : List Ordered) (ordered : Ordered) → length list < length (list ++ ordered ∷ [])
+longer [] ordered = omega arith
+longer (one ∷ list) ordered = omega (arith, longer list ordered)
+
+-- of two Nos of the same records none precedes the other
+no_sooner : (configuration : Configuration) (parts : ℕ → Part) (first : ℕ) (records : List Ordered) (one other : Finding) → ArePlaced first records
+    → IsNo configuration parts records one → IsNo configuration parts records other → Precedes one other → ⊥
+no_sooner configuration parts first records one other placed stands also (inl sooner) =
+    runs_no_longer configuration parts records one stands also.before (also.ordered ∷ also.after) also.split
+    (omega (arith, sooner, no_at configuration parts first records one placed stands, no_at configuration parts first records other placed also))
+    (runs_up_to configuration parts records other also one.piece stands.piece)
+no_sooner configuration parts first records one other placed stands also (inr (same, less)) =
+    runs_no_longer configuration parts records one stands (also.before ++ also.ordered ∷ []) also.after (also.split ∙ sym (append_assoc also.before (also.ordered ∷ []) also.after))
+    (omega (arith, same, longer also.before also.ordered, no_at configuration parts first records one placed stands, no_at configuration parts first records other placed also))
+    (also.smaller one.piece less)
+
+no_less : (a b : ℕ) → ¬ (a < b) → ¬ (b < a) → a ≡ b
+no_less a b not also = omega (arith, not, also)
+
+-- what the piece of a No finds in all the records
+no_finds : (configuration : Configuration) (parts : ℕ → Part) (records : List Ordered) (found : Finding) → IsNo configuration parts records found
+    → Finds configuration (piece_at configuration found.piece) (parts found.piece) records (Some (record { pos = found.pos; cause = found.cause }))
+no_finds configuration parts records found stands =
+    subst (λ list. Finds configuration (piece_at configuration found.piece) (parts found.piece) list (Some (record { pos = found.pos; cause = found.cause }))) (sym stands.split)
+    (refused_found is_built configuration (piece_at configuration found.piece) (parts found.piece) stands.before stands.ordered stands.after (record { pos = found.pos; cause = found.cause })
+    stands.place stands.refused)
+
+one_no : (configuration : Configuration) (parts : ℕ → Part) (first : ℕ) (records : List Ordered) (pos piece : ℕ) (cause : Cause) (pos' piece' : ℕ) (cause' : Cause) → ArePlaced first records
+    → IsNo configuration parts records (record { pos = pos; piece = piece; cause = cause }) → IsNo configuration parts records (record { pos = pos'; piece = piece'; cause = cause' })
+    → ◌≡◌ {A = Verdict} (No pos piece cause) (No pos' piece' cause')
+one_no configuration parts first records pos piece cause pos' piece' cause' placed stands also =
+    let one : Finding = record { pos = pos; piece = piece; cause = cause } in
+    let other : Finding = record { pos = pos'; piece = piece'; cause = cause' } in
+    let not = no_sooner configuration parts first records one other placed stands also in
+    let nor = no_sooner configuration parts first records other one placed also stands in
+    let same : pos ≡ pos' = no_less pos pos' (λ less. not (inl less)) (λ less. nor (inl less)) in
+    let alike : piece ≡ piece' = no_less piece piece' (λ less. not (inr (same, less))) (λ less. nor (inr (sym same, less))) in
+    let finds = subst (λ number. Finds configuration (piece_at configuration number) (parts number) records (Some (record { pos = pos'; cause = cause' }))) (sym alike)
+    (no_finds configuration parts records other also) in
+    let refusals = one_refusal (record { pos = pos; cause = cause }) (record { pos = pos'; cause = cause' })
+    (one_first_refusal is_built configuration (piece_at configuration piece) (parts piece) records (Some (record { pos = pos; cause = cause })) (Some (record { pos = pos'; cause = cause' }))
+    (no_finds configuration parts records one stands) finds) in
+    let caused : cause ≡ cause' = ap (λ refusal. refusal.cause) refusals in
+    cc
+
+-- where each piece runs over all the records there is no No
+no_yes : (configuration : Configuration) (records : List Ordered) (found : Finding) (final : ℕ → Part) → AllRun configuration (cold_parts configuration) records final
+    → IsNo configuration (cold_parts configuration) records found → ⊥
+no_yes configuration records found final all stands =
+    runs_no_longer configuration (cold_parts configuration) records found stands (stands.before ++ stands.ordered ∷ []) stands.after
+    (stands.split ∙ sym (append_assoc stands.before (stands.ordered ∷ []) stands.after)) (longer stands.before stands.ordered)
+    (runs_front configuration (cold_parts configuration) found.piece (stands.before ++ stands.ordered ∷ []) stands.after
+    (subst (Runs configuration (cold_parts configuration) found.piece) (stands.split ∙ sym (append_assoc stands.before (stands.ordered ∷ []) stands.after)) (final found.piece, all found.piece stands.piece)))
+
+pub one_verdict : OneVerdict
+one_verdict configuration records (Yes count) (Yes count') placed (is, (final, all)) (also, (final', all')) = ap Yes (is ∙ sym also)
+one_verdict configuration records (Yes count) (No pos piece cause) placed (is, (final, all)) stands =
+    absurd (no_yes configuration records (record { pos = pos; piece = piece; cause = cause }) final all stands)
+one_verdict configuration records (No pos piece cause) (Yes count) placed stands (is, (final, all)) =
+    absurd (no_yes configuration records (record { pos = pos; piece = piece; cause = cause }) final all stands)
+one_verdict configuration records (No pos piece cause) (No pos' piece' cause') placed stands also =
+    one_no configuration (cold_parts configuration) 0 records pos piece cause pos' piece' cause' placed stands also
+
+-- lists of findings
+
+contains_here : {A : Type 0} (one : A) (rest : List A) → Contains (one ∷ rest) one
+contains_here one rest = (0, omega arith, refl)
+
+contains_behind : {A : Type 0} (one other : A) (rest : List A) → Contains rest other → Contains (one ∷ rest) other
+contains_behind one other rest (k, within, is) = (suc k, omega (arith, within), is)
+
+contains_cases : {A : Type 0} (one other : A) (rest : List A) → Contains (one ∷ rest) other → (other ≡ one) ⊎ Contains rest other
+contains_cases one other rest (zero, within, is) = inl (sym is)
+contains_cases one other rest (suc k, within, is) = inr (k, omega (arith, within), is)
+
+contains_none : {A : Type 0} (one : A) → Contains [] one → ⊥
+contains_none one (k, within, is) = absurd (omega (arith, within))
+
+contains_later : (number : ℕ) (found : Option Refusal) (later : List Finding) (one : Finding) → Contains later one → Contains (findings_of number found ++ later) one
+contains_later number None later one there = there
+contains_later number (Some refusal) later one there = contains_behind (record { pos = refusal.pos; piece = number; cause = refusal.cause }) one later there
+
+-- the finding of a piece's refusal
+abbrev as_finding : ℕ → Refusal → Finding
+as_finding number refusal = record { pos = refusal.pos; piece = number; cause = refusal.cause }
+
+-- what a piece finds, and that it is among the findings
+abbrev FoundAt : Configuration → List Ordered → List Finding → ℕ → Piece → Type 0
+FoundAt configuration records findings number piece =
+    (found : Option Refusal) × Finds configuration piece (part piece (cold_state configuration)) records found
+    × ((refusal : Refusal) → found ≡ Some refusal → Contains findings (as_finding number refusal))
+
+found_at : (configuration : Configuration) (number : ℕ) (others : List Piece) (records : List Ordered) (findings : List Finding) → AllFind configuration number others records findings
+    → (index : ℕ) → index < length others → FoundAt configuration records findings (number + index) (slice_index_or others index Module)
+found_at configuration number [] records findings all index within = absurd (omega (arith, within))
+found_at configuration number (piece ∷ others) records findings (found, later, finds, rest, is) zero within = (
+  found,
+  finds,
+  λ refusal some. subst (λ n. Contains findings (as_finding n refusal)) (let e : number ≡ number + 0 = omega arith in e)
+      (subst (λ list. Contains list (as_finding number refusal)) (sym (is ∙ ap (λ one. findings_of number one ++ later) some)) (contains_here (as_finding number refusal) later)),
+)
+found_at configuration number (piece ∷ others) records findings (found, later, finds, rest, is) (suc index) within =
+    let behind = found_at configuration (suc number) others records later rest index (omega (arith, within)) in (
+      behind.0,
+      behind.1,
+      λ refusal some. subst (λ n. Contains findings (as_finding n refusal)) (let e : suc number + index ≡ number + suc index = omega arith in e)
+          (subst (λ list. Contains list (as_finding (suc number + index) refusal)) (sym is) (contains_later number found later (as_finding (suc number + index) refusal) (behind.2 refusal some))),
+    )
+
+-- who found one of the findings
+abbrev FoundBy : Configuration → ℕ → List Piece → List Ordered → Finding → Type 0
+FoundBy configuration number others records one =
+    (index : ℕ) × (index < length others) × (one.piece ≡ number + index)
+    × Finds configuration (slice_index_or others index Module) (part (slice_index_or others index Module) (cold_state configuration)) records (Some (record { pos = one.pos; cause = one.cause }))
+
+found_behind : (configuration : Configuration) (number : ℕ) (piece : Piece) (others : List Piece) (records : List Ordered) (one : Finding)
+    → FoundBy configuration (suc number) others records one → FoundBy configuration number (piece ∷ others) records one
+found_behind configuration number piece others records one (index, within, at, finds) = (suc index, omega (arith, within), omega (arith, at), finds)
+
+found_by : (configuration : Configuration) (number : ℕ) (others : List Piece) (records : List Ordered) (findings : List Finding) → AllFind configuration number others records findings
+    → (one : Finding) → Contains findings one → FoundBy configuration number others records one
+found_by configuration number [] records findings all one there = absurd (contains_none one (subst (λ list. Contains list one) all there))
+found_by configuration number (piece ∷ others) records findings (None, later, finds, rest, is) one there =
+    found_behind configuration number piece others records one (found_by configuration (suc number) others records later rest one (subst (λ list. Contains list one) is there))
+found_by configuration number (piece ∷ others) records findings (Some refusal, later, finds, rest, is) one there =
+    elim (contains_cases (as_finding number refusal) one later (subst (λ list. Contains list one) is there)) [
+      | inl same ↦ (
+        0,
+        omega arith,
+        (ap (λ found. found.piece) same ∙ omega arith),
+        subst (λ found. Finds configuration piece (part piece (cold_state configuration)) records (Some (record { pos = found.pos; cause = found.cause }))) (sym same) finds,
+      )
+      | inr more ↦ found_behind configuration number piece others records one (found_by configuration (suc number) others records later rest one more)
+    ]
+
+-- the least of a list
+
+decided : (one other : Finding) → Precedes one other ⊎ ¬ Precedes one other
+decided one other = elim (order_of one.pos other.pos) [
+  | inl sooner ↦ inl (inl sooner)
+  | inr (inl same) ↦ elim (order_of one.piece other.piece) [
+    | inl less ↦ inl (inr (same, less))
+    | inr (inl alike) ↦ inr (λ before. by_neither before same (omega (arith, alike)))
+    | inr (inr more) ↦ inr (λ before. by_neither before same (omega (arith, more)))
+  ]
+  | inr (inr later) ↦ inr (λ before. by_later before later)
+]
+  where
+    by_neither : Precedes one other → one.pos ≡ other.pos → ¬ (one.piece < other.piece) → ⊥
+    by_neither (inl sooner) same not = absurd (omega (arith, sooner, same))
+    by_neither (inr (also, less)) same not = not less
+
+    by_later : Precedes one other → other.pos < one.pos → ⊥
+    by_later (inl sooner) later = absurd (omega (arith, sooner, later))
+    by_later (inr (same, less)) later = absurd (omega (arith, same, later))
+
+-- what no other precedes is before what one of those precedes
+before_too : (one least next : Finding) → ¬ Precedes one least → Precedes one next → Precedes least next
+before_too one least next not (inl sooner) = elim (order_of least.pos next.pos) [
+  | inl less ↦ inl less
+  | inr (inl same) ↦ absurd (not (inl (omega (arith, sooner, same))))
+  | inr (inr more) ↦ absurd (not (inl (omega (arith, sooner, more))))
+]
+before_too one least next not (inr (same, less)) = elim (order_of least.pos next.pos) [
+  | inl sooner ↦ inl sooner
+  | inr (inl alike) ↦ elim (order_of least.piece next.piece) [
+    | inl lower ↦ inr (alike, lower)
+    | inr (inl equal) ↦ absurd (not (inr (same ∙ sym alike, omega (arith, less, equal))))
+    | inr (inr higher) ↦ absurd (not (inr (same ∙ sym alike, omega (arith, less, higher))))
+  ]
+  | inr (inr more) ↦ absurd (not (inl (omega (arith, same, more))))
+]
+
+least_of : (findings : List Finding) → (found : Option Finding) × IsLeast findings found
+least_of [] = (None, refl)
+least_of (next ∷ findings) = with_next (least_of findings)
+  where
+    with_next : (found : Option Finding) × IsLeast findings found → (found : Option Finding) × IsLeast (next ∷ findings) found
+    with_next (None, none) = (
+      Some next,
+      (
+        contains_here next findings,
+        λ other there before. elim (contains_cases next other findings there) [
+          | inl same ↦ not_itself next (subst (λ one. Precedes one next) same before)
+          | inr more ↦ contains_none other (subst (λ list. Contains list other) none more)
+        ],
+      ),
+    )
+    with_next (Some least, (there, no_other)) = elim (decided least next) [
+      | inl sooner ↦ (
+        Some least,
+        (
+          contains_behind next least findings there,
+          λ other within before. elim (contains_cases next other findings within) [
+            | inl same ↦ not_itself next (through next least next (subst (λ one. Precedes one least) same before) sooner)
+            | inr more ↦ no_other other more before
+          ],
+        ),
+      )
+      | inr not ↦ (
+        Some next,
+        (
+          contains_here next findings,
+          λ other within before. elim (contains_cases next other findings within) [
+            | inl same ↦ not_itself next (subst (λ one. Precedes one next) same before)
+            | inr more ↦ not (before_too other least next (no_other other more) before)
+          ],
+        ),
+      )
+    ]
+
+-- the verdict of the findings
+
+-- a part for each number, with a fact where a piece has it
+part_where : (count : ℕ) (Fact : ℕ → Part → Type 0) → ((number : ℕ) → number < count → (final : Part) × Fact number final)
+    → (number : ℕ) → (final : Part) × (number < count → Fact number final)
+part_where count Fact found number = elim (order_of number count) [
+  | inl within ↦ (let one = found number within in (one.0, λ inside. one.1))
+  | inr (inl same) ↦ (ModulePart [], λ inside. absurd (omega (arith, inside, same)))
+  | inr (inr more) ↦ (ModulePart [], λ inside. absurd (omega (arith, inside, more)))
+]
+
+-- what the piece of a number finds
+found_zero : (configuration : Configuration) (records : List Ordered) (findings : List Finding) → AllFind configuration 0 (pieces configuration) records findings
+    → (number : ℕ) → number < length (pieces configuration) → FoundAt configuration records findings number (piece_at configuration number)
+found_zero configuration records findings all number within =
+    subst (λ n. FoundAt configuration records findings n (piece_at configuration number)) (let e : 0 + number ≡ number = omega arith in e)
+    (found_at configuration 0 (pieces configuration) records findings all number within)
+
+no_findings : (configuration : Configuration) (records : List Ordered) (findings : List Finding) → AllFind configuration 0 (pieces configuration) records findings → findings ≡ []
+    → (number : ℕ) → number < length (pieces configuration) → Runs configuration (cold_parts configuration) number records
+no_findings configuration records findings all none number within = by (found_zero configuration records findings all number within)
+  where
+    by : FoundAt configuration records findings number (piece_at configuration number) → Runs configuration (cold_parts configuration) number records
+    by (None, finds, tells) = (nothing_found_is_a_run is_built configuration (piece_at configuration number) (cold_parts configuration number) records).0 finds
+    by (Some refusal, finds, tells) = absurd (contains_none (as_finding number refusal) (subst (λ list. Contains list (as_finding number refusal)) none (tells refusal refl)))
+
+-- what became of each piece beside the least of the findings
+been_so : (configuration : Configuration) (records : List Ordered) (findings : List Finding) (least : Finding) → AllFind configuration 0 (pieces configuration) records findings
+    → ((other : Finding) → Contains findings other → ¬ Precedes other least) → (number : ℕ) → number < length (pieces configuration)
+    → (final : Part) × (PieceRun configuration (piece_at configuration number) (cold_parts configuration number) records final
+    ⊎ ((other : Finding) × HasGone configuration number (cold_parts configuration number) records (Some other) final × ¬ Precedes other least))
+been_so configuration records findings least all no_other number within = by (found_zero configuration records findings all number within)
+  where
+    by : FoundAt configuration records findings number (piece_at configuration number)
+        → (final : Part) × (PieceRun configuration (piece_at configuration number) (cold_parts configuration number) records final
+        ⊎ ((other : Finding) × HasGone configuration number (cold_parts configuration number) records (Some other) final × ¬ Precedes other least))
+    by (None, finds, tells) =
+        let run = (nothing_found_is_a_run is_built configuration (piece_at configuration number) (cold_parts configuration number) records).0 finds in
+        (run.0, inl run.1)
+    by (Some refusal, finds, tells) = (
+      ModulePart [],
+      inr (
+        as_finding number refusal,
+        (refl, (found_is_refused is_built configuration (piece_at configuration number) (cold_parts configuration number) records refusal).0 finds),
+        no_other (as_finding number refusal) (tells refusal refl),
+      ),
+    )
+
+least_no : (configuration : Configuration) (records : List Ordered) (findings : List Finding) (least : Finding) → ArePlaced 0 records
+    → AllFind configuration 0 (pieces configuration) records findings → IsLeast findings (Some least) → IsNo configuration (cold_parts configuration) records least
+least_no configuration records findings least placed all (there, no_other) =
+    let by = found_by configuration 0 (pieces configuration) records findings all least there in
+    let at : least.piece ≡ by.0 = by.2 ∙ omega arith in
+    let finds = subst (λ number. Finds configuration (piece_at configuration number) (cold_parts configuration number) records (Some (record { pos = least.pos; cause = least.cause }))) (sym at) by.3 in
+    let been = part_where (length (pieces configuration))
+    (λ number final. PieceRun configuration (piece_at configuration number) (cold_parts configuration number) records final
+    ⊎ ((other : Finding) × HasGone configuration number (cold_parts configuration number) records (Some other) final × ¬ Precedes other least))
+    (been_so configuration records findings least all no_other) in
+    least_is_no configuration (cold_parts configuration) (λ number. (been number).0) records 0 least (cold_parts configuration least.piece) placed (omega (arith, at, by.1))
+    (refl, (found_is_refused is_built configuration (piece_at configuration least.piece) (cold_parts configuration least.piece) records (record { pos = least.pos; cause = least.cause })).0 finds)
+    (λ number within. (been number).1 within)
+
+follows_is : (configuration : Configuration) (records : List Ordered) (findings : List Finding) (verdict : Verdict) → ArePlaced 0 records
+    → AllFind configuration 0 (pieces configuration) records findings → Follows findings (length records) verdict → IsVerdict configuration records verdict
+follows_is configuration records findings (Yes count) placed all (none, counted) =
+    let runs = part_where (length (pieces configuration)) (λ number final. PieceRun configuration (piece_at configuration number) (cold_parts configuration number) records final)
+    (no_findings configuration records findings all none) in
+    (counted, ((λ number. (runs number).0), λ number within. (runs number).1 within))
+follows_is configuration records findings (No pos piece cause) placed all least =
+    least_no configuration records findings (record { pos = pos; piece = piece; cause = cause }) placed all least
+
+some_follows : (findings : List Finding) (count : ℕ) → (verdict : Verdict) × Follows findings count verdict
+some_follows findings count = by (least_of findings)
+  where
+    by : (found : Option Finding) × IsLeast findings found → (verdict : Verdict) × Follows findings count verdict
+    by (None, none) = (Yes count, (none, refl))
+    by (Some least, is) = (No least.pos least.piece least.cause, is)
+
+pub verdict_is_of_the_findings : VerdictIsOfTheFindings
+verdict_is_of_the_findings configuration records findings verdict placed all = (
+  λ is. let some = some_follows findings (length records) in
+      subst (Follows findings (length records)) (one_verdict configuration records some.0 verdict placed (follows_is configuration records findings some.0 placed all some.1) is) some.1,
+  follows_is configuration records findings verdict placed all,
+)

@@ -1,0 +1,5 @@
+use Rattle.verdict_merge.proofs.Verdicts.{one_verdict}
+use Rattle.verdict_merge.proofs.laws.one_verdict.Goals as goal
+
+pub returns : goal.returns
+returns c = one_verdict
