@@ -47,6 +47,7 @@ fn writers_fail(rt: HostRuntime) -> Result<(), Fail> {
                 room,
             });
             let written = write_report(&mut sink, &outcome);
+            drop(sink);
             let expected = if room < line.len() {
                 Err(WriteFault)
             } else {
