@@ -12,6 +12,7 @@ use Rattle.apex_types.specs.declared.record.Who.{Who}
 use Rattle.apex_types.specs.declared.request.Request.{Request}
 use Rattle.apex_types.specs.declared.request.Request.TheVariants as request
 use Rattle.apex_types.specs.declared.service.Service.{Service}
+use Rattle.apex_machine.specs.declared.state.Entry.{Entry}
 use Rattle.apex_machine.specs.declared.state.WaitingSet.{WaitingSet}
 use Rattle.apex_machine.specs.declared.state.WaitingSet.TheVariants as set
 use Rattle.apex_machine.specs.After.{is_channel}
@@ -22,7 +23,7 @@ use Rattle.apex_machine.specs.Pieces.{Module, OfChannel, OfPartition, Piece, is_
 use Rattle.apex_machine.specs.Ports.{channel_of, suits_use, use_of}
 use Rattle.apex_machine.specs.ServiceConditions.{condition_codes}
 use Rattle.apex_machine.specs.Services.{answer_of}
-use Rattle.apex_machine.specs.State.{Entry, Partition, State, is_named, names_one_of, occupant_of, item_at, time_of}
+use Rattle.apex_machine.specs.State.{Partition, State, is_named, names_one_of, occupant_of, item_at, time_of}
 use Rattle.apex_machine.specs.Step.{HasOutcome, IsLawful, IsLawfulBody, IsLawfulCall, IsLawfulReturn, IsThrough, channel_answer, due_of, outcome_returned}
 use Rattle.apex_machine.specs.Waiting.{waits_at}
 use Rattle.apex_laws.specs.Laws.{AllEntries, AreTied, IsTied}

@@ -1,9 +1,10 @@
 -- A partition's objects without those who wait: a change of its waiting sets leaves them.
 use Rattle.std.proofs.Common.{◌≡◌, ℕ, List, [], ◌∷◌, refl}
+use Rattle.apex_machine.specs.declared.state.Entry.{Entry}
 use Rattle.apex_machine.specs.declared.state.WaitingSet.{WaitingSet}
 use Rattle.apex_machine.specs.declared.state.WaitingSet.TheVariants as set
 use Rattle.apex_machine.specs.After.{each_set}
-use Rattle.apex_machine.specs.State.{Blackboard, Buffer, Entry, Event, Mutex, Partition, Semaphore, each_item}
+use Rattle.apex_machine.specs.State.{Blackboard, Buffer, Event, Mutex, Partition, Semaphore, each_item}
 use Rattle.apex_laws.specs.RecordSentences.{emptied}
 
 -- a change after another that hides it

@@ -11,6 +11,7 @@ use Rattle.apex_types.specs.declared.record.Who.{Who}
 use Rattle.apex_types.specs.declared.request.Request.{Request}
 use Rattle.apex_types.specs.declared.request.Request.TheVariants as request
 use Rattle.apex_types.specs.declared.service.Service.{Service}
+use Rattle.apex_machine.specs.declared.state.Entry.{Entry}
 use Rattle.apex_machine.specs.declared.state.Process.{Process}
 use Rattle.apex_machine.specs.declared.state.WaitingSet.{WaitingSet}
 use Rattle.apex_machine.specs.declared.state.WaitingSet.TheVariants as set
@@ -22,7 +23,7 @@ use Rattle.apex_machine.specs.Objects.{acquired, buffer_received, buffer_sent, s
 use Rattle.apex_machine.specs.Ports.{channel_of, suits_use, use_of}
 use Rattle.apex_machine.specs.ServiceConditions.{condition_codes}
 use Rattle.apex_machine.specs.Services.{answer_of}
-use Rattle.apex_machine.specs.State.{Buffer, Entry, Partition, State, change_at, cold_state, each_item, given_object, initialising_process, is_named, is_same, item_at, time_of}
+use Rattle.apex_machine.specs.State.{Buffer, Partition, State, change_at, cold_state, each_item, given_object, initialising_process, is_named, is_same, item_at, time_of}
 use Rattle.apex_machine.specs.Step.{IsLawfulBody, IsLawfulCall, RunJudging, StepJudging, channel_answer}
 use Rattle.apex_machine.specs.Waiting.{ends_wait, enters, entry_of, is_the_set, is_waiting, set_after, set_of, waits_at, without}
 use Rattle.apex_laws.specs.Laws.{AreTied, WaitersStand, WhoWaitsStands, entries_at, entries_in, entries_of}

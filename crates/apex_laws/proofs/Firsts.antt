@@ -4,7 +4,7 @@ use Rattle.std.specs.Prelude.{Contains}
 use Rattle.std.proofs.lemmas.List.Elements.{All-cons, All-contains, All-contains_itself, All-nil, All-weaker, Contains-append_left, Contains-append_right, Contains-push}
 use Rattle.apex_types.specs.declared.discipline.Discipline.{Discipline}
 use Rattle.apex_types.specs.declared.discipline.Discipline.TheVariants as discipline
-use Rattle.apex_machine.specs.State.{Entry}
+use Rattle.apex_machine.specs.declared.state.Entry.{Entry}
 use Rattle.apex_machine.specs.Waiting.{IsFirst, Precedes, first_waiter, precedes, sooner_entry}
 use Rattle.apex_laws.specs.Laws.{AllEntries}
 use Rattle.apex_laws.specs.ObjectLaws.{AreApart, FirstIsTheSentence}

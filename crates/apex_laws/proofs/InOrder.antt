@@ -7,6 +7,7 @@ use Rattle.apex_types.specs.declared.record.Call.{Call as CallRecord}
 use Rattle.apex_types.specs.declared.record.Ordered.{Ordered}
 use Rattle.apex_types.specs.declared.record.Who.{Who}
 use Rattle.apex_types.specs.declared.service.Service.{Service}
+use Rattle.apex_machine.specs.declared.state.Entry.{Entry}
 use Rattle.apex_machine.specs.declared.state.Process.{Process}
 use Rattle.apex_machine.specs.declared.state.WaitingSet.{WaitingSet}
 use Rattle.apex_machine.specs.declared.state.WaitingSet.TheVariants as set
@@ -14,7 +15,7 @@ use Rattle.apex_machine.specs.After.{each_set, is_done, objects_by, partition_by
 use Rattle.apex_machine.specs.Channels.{is_receiver, is_sender}
 use Rattle.apex_machine.specs.Configuration.{Configuration}
 use Rattle.apex_machine.specs.Demands.{stands_in}
-use Rattle.apex_machine.specs.State.{Entry, Partition, State, cold_state, each_item, is_named, is_same}
+use Rattle.apex_machine.specs.State.{Partition, State, cold_state, each_item, is_named, is_same}
 use Rattle.apex_machine.specs.Step.{IsLawfulBody, RunJudging, StepJudging}
 use Rattle.apex_machine.specs.Waiting.{ends_wait, enters, entry_of, set_after, without}
 use Rattle.apex_laws.specs.Laws.{AllEntries, AllPairs, SetsAreInOrder, AreTied, IsEarlier, IsInOrder, IsTied, StaysInOrder, entries_at}

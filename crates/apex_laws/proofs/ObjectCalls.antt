@@ -5,6 +5,7 @@ use Rattle.apex_types.specs.declared.code.Code.{Code}
 use Rattle.apex_types.specs.declared.code.Code.TheVariants as code
 use Rattle.apex_types.specs.declared.record.Who.{Who}
 use Rattle.apex_types.specs.declared.request.Request.TheVariants as request
+use Rattle.apex_machine.specs.declared.state.Entry.{Entry}
 use Rattle.apex_machine.specs.declared.state.WaitingSet.TheVariants as set
 use Rattle.apex_machine.specs.After.{new_blackboard, new_buffer, new_event, new_mutex, new_queuing_port, new_sampling_port, new_semaphore, numbered}
 use Rattle.apex_machine.specs.Answer.{Answer, Effect, NewNumber, done, done_with}
@@ -15,7 +16,7 @@ use Rattle.apex_machine.specs.PortConditions.{is_queuing_port, is_sampling_port}
 use Rattle.apex_machine.specs.Conditions.{codes_for, creation_codes, is_taken, of_caller, time_out_codes, waiting_codes, when}
 use Rattle.apex_machine.specs.Objects.{acquired, board_read, buffer_received, buffer_sent, cleared, displayed, event_reset, event_set, event_waited, is_owner, mutex_released, semaphore_waited, signalled}
 use Rattle.apex_machine.specs.Services.{answer_by}
-use Rattle.apex_machine.specs.State.{Blackboard, Buffer, Entry, Event, Mutex, Partition, Port, Semaphore, change_at, given_object, is_free, item_at}
+use Rattle.apex_machine.specs.State.{Blackboard, Buffer, Event, Mutex, Partition, Port, Semaphore, change_at, given_object, is_free, item_at}
 use Rattle.apex_machine.specs.Waiting.{first_waiter}
 use Rattle.apex_laws.specs.CallSentences.{Creates, OneBecomes, Operates}
 use Rattle.apex_laws.specs.ObjectSentences.{IsClearing, IsReleasing, IsResetting}

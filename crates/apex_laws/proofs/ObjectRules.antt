@@ -3,6 +3,7 @@ use Rattle.std.proofs.Common.{◌≡◌, ℕ, zero, suc, ◌-◌, ◌≤◌, ℤ
 use Rattle.std.proofs.lemmas.Bool.{cases_Bool, eqb-true, eq-eqb, eqb-false, ltb-true, leb-true}
 use Rattle.apex_types.specs.declared.code.Code.TheVariants as code
 use Rattle.apex_types.specs.declared.discipline.Discipline.{Discipline}
+use Rattle.apex_machine.specs.declared.state.Entry.{Entry}
 use Rattle.apex_machine.specs.Answer.{Effect, answering, unmet, waiting}
 use Rattle.apex_machine.specs.Arguments.{is_over}
 use Rattle.apex_machine.specs.Channels.{capacity_of, receiving_discipline, refresh_of, sending_discipline}
@@ -10,7 +11,7 @@ use Rattle.apex_machine.specs.Configuration.{Configuration}
 use Rattle.apex_machine.specs.Objects.{acquired, acquired_again, acquired_from, at_maximum, board_read, handed_on as hand_on, mutex_released, not_acquired, raised, released_once, semaphore_waited, signalled, event_waited}
 use Rattle.apex_machine.specs.Ports.{Receive, Read, Send, Use, Write, on_queuing, on_sampling, sampled, suits, used, written}
 use Rattle.apex_machine.specs.Queue.{Messages, appended, not_yet, received, sent}
-use Rattle.apex_machine.specs.State.{Channel, Content, Entry, Mutex, Queued, Sampled, Stamped}
+use Rattle.apex_machine.specs.State.{Channel, Content, Mutex, Queued, Sampled, Stamped}
 use Rattle.apex_machine.specs.Waiting.{IsFirst, first_waiter}
 use Rattle.apex_laws.specs.ObjectLaws.{AreApart, BlackboardIsTheSentence, ChannelIsTheSentence, EventIsTheSentence, MutexIsTheSentence, QueueIsTheSentence, SamplingIsTheSentence, SemaphoreIsTheSentence}
 use Rattle.apex_laws.specs.ObjectSentences.{IsAcquiring, IsEventWait, IsReading, IsReceiving, IsReleasing, IsSampling, IsSemaphoreWait, IsSending, IsSignal, IsUnmet, IsUse, no_error, reads}

@@ -7,6 +7,7 @@ use Rattle.apex_types.specs.declared.record.Out.{Out}
 use Rattle.apex_types.specs.declared.record.Return.{Return}
 use Rattle.apex_types.specs.declared.request.Request.{Request}
 use Rattle.apex_types.specs.declared.request.Request.TheVariants as request
+use Rattle.apex_machine.specs.declared.state.Entry.{Entry}
 use Rattle.apex_machine.specs.declared.state.Outcome.{Outcome}
 use Rattle.apex_machine.specs.Answer.{Answer, HasValue, NamesExactly, answering, unmet, waiting}
 use Rattle.apex_machine.specs.Arguments.{is_over}
@@ -15,7 +16,7 @@ use Rattle.apex_machine.specs.Configuration.{Configuration}
 use Rattle.apex_machine.specs.Demands.{AllHold, CanHave, IfDue, outcome_demands}
 use Rattle.apex_machine.specs.Ports.{Receive, Read, Send, Write, channel_effect, reading_of, suits_use, use_of, used}
 use Rattle.apex_machine.specs.Queue.{Messages, appended, not_yet, received, sent}
-use Rattle.apex_machine.specs.State.{Channel, Content, Entry, Queued, Sampled, Stamped, names_one_of}
+use Rattle.apex_machine.specs.State.{Channel, Content, Queued, Sampled, Stamped, names_one_of}
 use Rattle.apex_machine.specs.Step.{HasOutcome, IsThrough, outcome_returned}
 use Rattle.apex_machine.specs.Waiting.{first_waiter}
 

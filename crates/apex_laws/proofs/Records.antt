@@ -4,13 +4,14 @@ use Rattle.std.proofs.lemmas.Bool.{cases_Bool, eqb-true}
 use Rattle.apex_types.specs.declared.record.Body.TheVariants.{Ret, Disp, Tick}
 use Rattle.apex_types.specs.declared.record.Who.{Who}
 use Rattle.apex_machine.specs.declared.state.CoreState.{CoreState}
+use Rattle.apex_machine.specs.declared.state.Entry.{Entry}
 use Rattle.apex_machine.specs.declared.state.Process.{Process}
 use Rattle.apex_machine.specs.declared.state.WaitingSet.{WaitingSet}
 use Rattle.apex_machine.specs.declared.state.WaitingSet.TheVariants as set
 use Rattle.apex_machine.specs.After.{each_set, partition_by, returned, ticked}
 use Rattle.apex_machine.specs.Configuration.{Configuration, has_partition}
 use Rattle.apex_machine.specs.Processes.{released}
-use Rattle.apex_machine.specs.State.{Blackboard, Buffer, Entry, Event, Mutex, Partition, Semaphore, State, Table, each_item, is_named, is_same, item_at, occupant_of, time_of}
+use Rattle.apex_machine.specs.State.{Blackboard, Buffer, Event, Mutex, Partition, Semaphore, State, Table, each_item, is_named, is_same, item_at, occupant_of, time_of}
 use Rattle.apex_machine.specs.DueTimes.{falls_due}
 use Rattle.apex_machine.specs.Step.{AllConfigured, IsLawfulTick, outcome_returned}
 use Rattle.apex_machine.specs.Waiting.{set_after, without}

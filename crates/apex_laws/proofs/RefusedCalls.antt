@@ -13,6 +13,7 @@ use Rattle.apex_types.specs.declared.request.Request.{Request}
 use Rattle.apex_types.specs.declared.request.Request.TheVariants as request
 use Rattle.apex_types.specs.Requested.{service_of}
 use Rattle.apex_machine.specs.declared.state.CoreState.{CoreState}
+use Rattle.apex_machine.specs.declared.state.Entry.{Entry}
 use Rattle.apex_machine.specs.declared.state.Process.{Process}
 use Rattle.apex_machine.specs.declared.state.WaitingSet.{WaitingSet}
 use Rattle.apex_machine.specs.declared.state.WaitingSet.TheVariants as set
@@ -22,7 +23,7 @@ use Rattle.apex_machine.specs.Ports.{channel_effect, use_of}
 use Rattle.apex_machine.specs.Processes.{caller_after, caller_with, outcome_of, release_taken, renews}
 use Rattle.apex_machine.specs.ServiceConditions.{condition_codes}
 use Rattle.apex_machine.specs.Services.{Answer}
-use Rattle.apex_machine.specs.State.{Entry, Partition, State, Table, each_item, is_named, item_at, time_of}
+use Rattle.apex_machine.specs.State.{Partition, State, Table, each_item, is_named, item_at, time_of}
 use Rattle.apex_machine.specs.Step.{HasCode, HasOutcome, IsAmong, IsRefused}
 use Rattle.apex_machine.specs.Waiting.{ends_wait, is_no_error, is_waiting, set_after, stops, without}
 use Rattle.apex_laws.specs.RecordLaws.{RefusalIsTheSentence}

@@ -10,6 +10,7 @@ use Rattle.apex_types.specs.declared.record.Who.{Who}
 use Rattle.apex_types.specs.declared.request.Request.{Request}
 use Rattle.apex_types.specs.declared.request.Request.TheVariants as request
 use Rattle.apex_types.specs.declared.service.Service.{Service}
+use Rattle.apex_machine.specs.declared.state.Entry.{Entry}
 use Rattle.apex_machine.specs.declared.state.Process.{Process}
 use Rattle.apex_machine.specs.declared.state.WaitingSet.{WaitingSet}
 use Rattle.apex_machine.specs.declared.state.WaitingSet.TheVariants as set
@@ -20,7 +21,7 @@ use Rattle.apex_machine.specs.Configuration.{Configuration}
 use Rattle.apex_machine.specs.Ports.{channel_of, suits_use, use_of}
 use Rattle.apex_machine.specs.ServiceConditions.{condition_codes}
 use Rattle.apex_machine.specs.Services.{answer_of}
-use Rattle.apex_machine.specs.State.{Entry, Partition, State, Table, cold_state, each_item, is_named, time_of}
+use Rattle.apex_machine.specs.State.{Partition, State, Table, cold_state, each_item, is_named, time_of}
 use Rattle.apex_machine.specs.Step.{HasOutcome, IsLawfulBody, IsLawfulCall, RunJudging, StepJudging, channel_answer}
 use Rattle.apex_machine.specs.Waiting.{ends_wait, enters, entry_of, is_no_error, is_target, is_the_set, is_waiting, set_after, set_of, stop_of, stops, waits_at, without}
 use Rattle.apex_laws.specs.Laws.{AllEntries, AllPorts, AreTied, IsAtEnd, IsTied, StaysTied, entries_at}

@@ -10,6 +10,7 @@ use Rattle.apex_types.specs.declared.request.Request.{Request}
 use Rattle.apex_types.specs.declared.request.Request.TheVariants as request
 use Rattle.apex_types.specs.declared.service.Service.{Service}
 use Rattle.apex_machine.specs.declared.state.CoreState.{CoreState}
+use Rattle.apex_machine.specs.declared.state.Entry.{Entry}
 use Rattle.apex_machine.specs.declared.state.Process.{Process}
 use Rattle.apex_machine.specs.declared.state.WaitingSet.{WaitingSet}
 use Rattle.apex_machine.specs.declared.state.WaitingSet.TheVariants as set
@@ -19,7 +20,7 @@ use Rattle.apex_machine.specs.Configuration.{Configuration}
 use Rattle.apex_machine.specs.Pieces.{ChannelPart, Module, OfChannel, OfPartition, PartitionPart, Piece, part, stops_at_end, times_of, touched_by, touches}
 use Rattle.apex_machine.specs.ServiceConditions.{condition_codes}
 use Rattle.apex_machine.specs.Ports.{channel_of}
-use Rattle.apex_machine.specs.State.{Entry, Partition, State, Table, each_item, is_named, time_of}
+use Rattle.apex_machine.specs.State.{Partition, State, Table, each_item, is_named, time_of}
 use Rattle.apex_machine.specs.Step.{IsLawful, IsLawfulBody, IsLawfulCall}
 use Rattle.apex_machine.specs.Waiting.{ends_wait, enters, is_no_error, is_target, is_the_set, is_waiting, set_after, set_of, stop_of, stops}
 use Rattle.apex_laws.specs.Laws.{AllEntries, AreTied, IsTied}

@@ -3,9 +3,10 @@ use Rattle.std.proofs.Common.{◌≡◌, List, [], ◌∷◌, ◌++◌, Bool, tr
 use Rattle.std.proofs.lemmas.Bool.{cases_Bool}
 use Rattle.apex_types.specs.declared.discipline.Discipline.{Discipline}
 use Rattle.apex_types.specs.declared.record.Who.{Who}
+use Rattle.apex_machine.specs.declared.state.Entry.{Entry}
 use Rattle.apex_machine.specs.Answer.{whos}
 use Rattle.apex_machine.specs.Demands.{stands_in}
-use Rattle.apex_machine.specs.State.{Entry, is_named, is_same}
+use Rattle.apex_machine.specs.State.{is_named, is_same}
 use Rattle.apex_machine.specs.Waiting.{first_waiter, precedes, sooner_entry, without}
 use Rattle.apex_laws.specs.Laws.{AllEntries}
 use Rattle.apex_laws.proofs.Booleans.{other_holds}

@@ -4,6 +4,7 @@ use Rattle.apex_types.specs.declared.code.Code.TheVariants as code
 use Rattle.apex_types.specs.declared.record.Who.{Who}
 use Rattle.apex_types.specs.declared.request.Request.{Request}
 use Rattle.apex_types.specs.declared.request.Request.TheVariants as request
+use Rattle.apex_machine.specs.declared.state.Entry.{Entry}
 use Rattle.apex_machine.specs.declared.state.Process.{Process}
 use Rattle.apex_machine.specs.declared.state.WaitingSet.{WaitingSet}
 use Rattle.apex_machine.specs.declared.state.WaitingSet.TheVariants as set
@@ -16,7 +17,7 @@ use Rattle.apex_machine.specs.Objects.{acquired, acquired_again, acquired_from, 
 use Rattle.apex_machine.specs.Ports.{Receive, Read, Send, Use, Write, channel_effect, used, reading_of}
 use Rattle.apex_machine.specs.Queue.{Messages, appended, not_yet, received, sent}
 use Rattle.apex_machine.specs.Services.{answer_by, answer_of, fellow, resuming}
-use Rattle.apex_machine.specs.State.{Blackboard, Buffer, Channel, Content, Entry, Event, Mutex, Partition, Queued, Sampled, Semaphore, Stamped, created, given_object, is_named, item_at}
+use Rattle.apex_machine.specs.State.{Blackboard, Buffer, Channel, Content, Event, Mutex, Partition, Queued, Sampled, Semaphore, Stamped, created, given_object, is_named, item_at}
 use Rattle.apex_machine.specs.Waiting.{first_waiter}
 use Rattle.apex_laws.specs.Laws.{AllEntries, entries_at, entries_in}
 use Rattle.apex_laws.proofs.Waiters.{all_named, first_has, only_named}

@@ -13,6 +13,7 @@ use Rattle.apex_types.specs.declared.request.Request.{Request}
 use Rattle.apex_types.specs.declared.request.Request.TheVariants as request
 use Rattle.apex_types.specs.declared.service.Service.{Service}
 use Rattle.apex_machine.specs.declared.state.CoreState.{CoreState}
+use Rattle.apex_machine.specs.declared.state.Entry.{Entry}
 use Rattle.apex_machine.specs.declared.state.Process.{Process}
 use Rattle.apex_machine.specs.declared.state.Wait.{Wait}
 use Rattle.apex_machine.specs.declared.state.Wait.TheVariants as wait
@@ -30,7 +31,7 @@ use Rattle.apex_machine.specs.Ports.{Use, channel_effect, channel_of, suits, sui
 use Rattle.apex_machine.specs.Processes.{caller_after, gift_of, new_process, set_by, stopped, woken_by}
 use Rattle.apex_machine.specs.ServiceConditions.{condition_codes}
 use Rattle.apex_machine.specs.Services.{answer_by, answer_of, fellow, resuming}
-use Rattle.apex_machine.specs.State.{Channel, Content, Entry, Mutex, Partition, State, Table, created, each_item, given_object, is_named, item_at, time_of}
+use Rattle.apex_machine.specs.State.{Channel, Content, Mutex, Partition, State, Table, created, each_item, given_object, is_named, item_at, time_of}
 use Rattle.apex_machine.specs.Step.{HasCode, HasOutcome, IsLawfulCall, channel_answer}
 use Rattle.apex_machine.specs.Waiting.{first_waiter, is_in, is_waiting, set_after, stops, waits_at}
 use Rattle.apex_laws.specs.Laws.{AllEntries, SetsAreInOrder, AreTied, IsTied, entries_at}

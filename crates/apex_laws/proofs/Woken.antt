@@ -6,6 +6,7 @@ use Rattle.apex_types.specs.declared.code.Code.{Code}
 use Rattle.apex_types.specs.declared.record.Claim.{Claim}
 use Rattle.apex_types.specs.declared.record.Who.{Who}
 use Rattle.apex_types.specs.declared.request.Request.{Request}
+use Rattle.apex_machine.specs.declared.state.Entry.{Entry}
 use Rattle.apex_machine.specs.declared.state.Process.{Process}
 use Rattle.apex_machine.specs.declared.state.Wait.{Wait}
 use Rattle.apex_machine.specs.declared.state.Wait.TheVariants as wait
@@ -16,7 +17,7 @@ use Rattle.apex_machine.specs.DueTimes.{is_suspension}
 use Rattle.apex_machine.specs.Configuration.{Configuration}
 use Rattle.apex_machine.specs.Ports.{suits_use, use_of}
 use Rattle.apex_machine.specs.Services.{answer_of, fellow}
-use Rattle.apex_machine.specs.State.{Entry, Partition, State, Table, created, is_named, item_at}
+use Rattle.apex_machine.specs.State.{Partition, State, Table, created, is_named, item_at}
 use Rattle.apex_machine.specs.Step.{HasOutcome, channel_answer}
 use Rattle.apex_machine.specs.Waiting.{is_in, waits_at}
 use Rattle.apex_laws.specs.Laws.{AllEntries, AreTied, IsTied, entries_at}

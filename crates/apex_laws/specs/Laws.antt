@@ -6,6 +6,7 @@ use Rattle.apex_types.specs.declared.record.Who.{Who}
 use Rattle.apex_types.specs.declared.service.Service.{Service}
 use Rattle.apex_machine.specs.declared.state.Direction.{Direction}
 use Rattle.apex_machine.specs.declared.state.Direction.TheVariants as direction
+use Rattle.apex_machine.specs.declared.state.Entry.{Entry}
 use Rattle.apex_machine.specs.declared.state.Process.{Process}
 use Rattle.apex_machine.specs.declared.state.WaitingSet.{WaitingSet}
 use Rattle.apex_machine.specs.declared.state.WaitingSet.TheVariants as set
@@ -17,7 +18,7 @@ pub use Rattle.apex_machine.specs.Configuration.{WindowsAreConfigured}
 use Rattle.apex_machine.specs.Demands.{LocalStepJudging, stands_in}
 use Rattle.apex_machine.specs.Pieces.{Part, Piece, is_configured, part, touches}
 use Rattle.apex_machine.specs.Runs.{ArePlaced, FindsJudging, PieceRunJudging, Refusal}
-use Rattle.apex_machine.specs.State.{Blackboard, Buffer, Entry, Event, Mutex, Partition, Port, Semaphore, State, Table, cold_state, is_same, item_at}
+use Rattle.apex_machine.specs.State.{Blackboard, Buffer, Event, Mutex, Partition, Port, Semaphore, State, Table, cold_state, is_same, item_at}
 use Rattle.apex_machine.specs.Step.{RunJudging, StepJudging}
 use Rattle.apex_machine.specs.Views.{judge, view_in, view_of}
 use Rattle.apex_machine.specs.Waiting.{waits_at}

@@ -3,6 +3,7 @@ use Rattle.std.specs.Prelude.{◌≡◌, ◌↔◌, ℕ, ℤ, List, [], ◌∷�
 use Rattle.apex_types.specs.declared.discipline.Discipline.{Discipline}
 use Rattle.apex_types.specs.declared.record.Who.{Who}
 use Rattle.apex_types.specs.declared.request.Request.{Request}
+use Rattle.apex_machine.specs.declared.state.Entry.{Entry}
 use Rattle.apex_machine.specs.declared.state.WaitingSet.{WaitingSet}
 use Rattle.apex_machine.specs.After.{objects_by}
 use Rattle.apex_machine.specs.Answer.{Effect}
@@ -10,7 +11,7 @@ use Rattle.apex_machine.specs.Configuration.{Configuration}
 use Rattle.apex_machine.specs.Objects.{acquired, board_read, cleared, displayed, event_reset, event_set, event_waited, mutex_released, semaphore_waited, signalled}
 use Rattle.apex_machine.specs.Ports.{Use, sampled, suits, used, written}
 use Rattle.apex_machine.specs.Queue.{Messages, received, sent}
-use Rattle.apex_machine.specs.State.{Channel, Content, Entry, Mutex, Partition, Stamped}
+use Rattle.apex_machine.specs.State.{Channel, Content, Mutex, Partition, Stamped}
 use Rattle.apex_machine.specs.Waiting.{IsFirst, first_waiter}
 use Rattle.apex_machine.specs.ServiceConditions.{condition_codes}
 use Rattle.apex_machine.specs.Services.{answer_of}

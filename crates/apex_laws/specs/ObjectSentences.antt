@@ -5,12 +5,13 @@ use Rattle.apex_types.specs.declared.discipline.Discipline.{Discipline}
 use Rattle.apex_types.specs.declared.record.Out.{Out}
 use Rattle.apex_types.specs.declared.record.Out.TheVariants as out
 use Rattle.apex_types.specs.declared.record.Who.{Who}
+use Rattle.apex_machine.specs.declared.state.Entry.{Entry}
 use Rattle.apex_machine.specs.Answer.{Effect, Nothing, Number, whos}
 use Rattle.apex_machine.specs.Channels.{capacity_of, receiving_discipline, refresh_of, sending_discipline}
 use Rattle.apex_machine.specs.Configuration.{Configuration}
 use Rattle.apex_machine.specs.Ports.{Receive, Read, Send, Use, Write, on_queuing, on_sampling}
 use Rattle.apex_machine.specs.Queue.{Messages}
-use Rattle.apex_machine.specs.State.{Channel, Content, Entry, Mutex, Queued, Sampled, Stamped}
+use Rattle.apex_machine.specs.State.{Channel, Content, Mutex, Queued, Sampled, Stamped}
 use Rattle.apex_machine.specs.Waiting.{IsFirst}
 
 -- an outcome with its message and those whose waits end, and the object after it

@@ -7,10 +7,11 @@ use Rattle.apex_types.specs.declared.record.Return.{Return}
 use Rattle.apex_types.specs.declared.record.Who.{Who}
 use Rattle.apex_types.specs.declared.service.Service.{Service}
 use Rattle.apex_types.specs.Requested.{service_of}
+use Rattle.apex_machine.specs.declared.state.Entry.{Entry}
 use Rattle.apex_machine.specs.declared.state.WaitingSet.{WaitingSet}
 use Rattle.apex_machine.specs.Configuration.{Configuration, period_of}
 use Rattle.apex_machine.specs.ServiceConditions.{condition_codes}
-use Rattle.apex_machine.specs.State.{Entry, State, time_of}
+use Rattle.apex_machine.specs.State.{State, time_of}
 use Rattle.apex_machine.specs.Step.{StepJudging}
 use Rattle.apex_machine.specs.Waiting.{set_after}
 use Rattle.apex_laws.specs.Laws.{SetsAreInOrder, AreTied}

@@ -6,6 +6,7 @@ use Rattle.apex_types.specs.declared.record.Who.{Who}
 use Rattle.apex_types.specs.declared.request.Request.TheVariants as request
 use Rattle.apex_types.specs.declared.service.Service.{Service}
 use Rattle.apex_machine.specs.declared.state.CoreState.{CoreState}
+use Rattle.apex_machine.specs.declared.state.Entry.{Entry}
 use Rattle.apex_machine.specs.declared.state.Process.{Process}
 use Rattle.apex_machine.specs.declared.state.WaitingSet.{WaitingSet}
 use Rattle.apex_machine.specs.declared.state.WaitingSet.TheVariants as set
@@ -15,7 +16,7 @@ use Rattle.apex_machine.specs.Arguments.{natural_of, period_given}
 use Rattle.apex_machine.specs.Configuration.{Configuration, first_core, has_partition, period_of}
 use Rattle.apex_machine.specs.Ports.{Use, use_of}
 use Rattle.apex_machine.specs.Processes.{gift_of}
-use Rattle.apex_machine.specs.State.{Channel, Content, Entry, Partition, State, is_named, occupant_of, item_at, time_of}
+use Rattle.apex_machine.specs.State.{Channel, Content, Partition, State, is_named, occupant_of, item_at, time_of}
 use Rattle.apex_machine.specs.Step.{IsAmong}
 use Rattle.apex_machine.specs.Waiting.{ends_wait, enters, entry_of, stops}
 use Rattle.apex_laws.specs.Laws.{entries_at}

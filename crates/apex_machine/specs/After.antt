@@ -11,6 +11,7 @@ use Rattle.apex_types.specs.declared.record.Who.{Who}
 use Rattle.apex_types.specs.declared.request.Request.{Request}
 use Rattle.apex_types.specs.declared.request.Request.TheVariants as request
 use Rattle.apex_machine.specs.declared.state.CoreState.{CoreState}
+use Rattle.apex_machine.specs.declared.state.Entry.{Entry}
 use Rattle.apex_machine.specs.declared.state.Mode.{Mode}
 use Rattle.apex_machine.specs.declared.state.Mode.TheVariants as mode
 use Rattle.apex_machine.specs.declared.state.Process.{Process}
@@ -23,7 +24,7 @@ use Rattle.apex_machine.specs.Objects.{acquired, buffer_received, buffer_sent, c
 use Rattle.apex_machine.specs.Ports.{channel_effect, use_of}
 pub use Rattle.apex_machine.specs.Processes.{caller_after, caller_with, outcome_of, released}
 use Rattle.apex_machine.specs.Processes.{gift_of, new_process, set_by, stopped, woken_by}
-use Rattle.apex_machine.specs.State.{Blackboard, Buffer, Channel, Content, Entry, Event, Mutex, Partition, Port, Semaphore, State, Table, at_core, change_at, each_item, is_named, time_of}
+use Rattle.apex_machine.specs.State.{Blackboard, Buffer, Channel, Content, Event, Mutex, Partition, Port, Semaphore, State, Table, at_core, change_at, each_item, is_named, time_of}
 use Rattle.apex_machine.specs.Waiting.{first_waiter, set_after, stops}
 
 -- whether a call was carried out: it waits, it does not return, or it answered NO_ERROR

@@ -6,7 +6,8 @@ use Rattle.apex_types.specs.declared.record.Out.{Out}
 use Rattle.apex_types.specs.declared.record.Out.TheVariants as out
 use Rattle.apex_types.specs.declared.record.Who.{Who}
 use Rattle.apex_types.specs.Bounds.{greatest_number}
-use Rattle.apex_machine.specs.State.{Entry, is_named}
+use Rattle.apex_machine.specs.declared.state.Entry.{Entry}
+use Rattle.apex_machine.specs.State.{is_named}
 use Rattle.apex_machine.specs.Arguments.{is_over}
 
 -- which value goes with an outcome: none, this number, or any number for what is created that nothing of its kind has

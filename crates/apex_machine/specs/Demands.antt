@@ -1,5 +1,5 @@
 -- What each piece demands of a record that touches it, in the order in which it looks, and its local step.
-use Rattle.std.specs.Prelude.{◌≡◌, ◌⊎◌, ℕ, ◌+◌, List, [], ◌∷◌, Option, Some, None, Bool, true, false, nat_eq, ◌||◌, IsTrue, IsFalse, ℤ}
+use Rattle.std.specs.Prelude.{◌≡◌, ◌⊎◌, ℕ, ◌+◌, List, [], ◌∷◌, Option, Some, None, Bool, true, false, nat_eq, ◌||◌, IsTrue, IsFalse, ℤ, Result, MatchResult}
 use Rattle.apex_types.specs.declared.cause.Cause.{Cause}
 use Rattle.apex_types.specs.declared.cause.Cause.TheVariants as cause
 use Rattle.apex_types.specs.declared.code.Code.{Code}
@@ -16,6 +16,7 @@ use Rattle.apex_types.specs.declared.request.Request.{Request}
 use Rattle.apex_types.specs.declared.request.Request.TheVariants as request
 use Rattle.apex_types.specs.declared.service.Service.{Service}
 use Rattle.apex_machine.specs.declared.state.CoreState.{CoreState}
+use Rattle.apex_machine.specs.declared.state.Entry.{Entry}
 use Rattle.apex_machine.specs.declared.state.Outcome.{Outcome}
 use Rattle.apex_machine.specs.declared.state.WaitingSet.{WaitingSet}
 use Rattle.apex_machine.specs.declared.state.WaitingSet.TheVariants as set
@@ -28,7 +29,7 @@ use Rattle.apex_machine.specs.Ports.{channel_effect, channel_of, suits_use, use_
 use Rattle.apex_machine.specs.DueTimes.{NamesThoseDue, time_out_of}
 use Rattle.apex_machine.specs.ServiceConditions.{condition_codes}
 use Rattle.apex_machine.specs.Services.{Answer, HasValue, NamesExactly, answer_of, is_built}
-use Rattle.apex_machine.specs.State.{Channel, Entry, Partition, Table, is_same, names_one_of, occupant_of, item_at, time_of}
+use Rattle.apex_machine.specs.State.{Channel, Partition, Table, is_same, names_one_of, occupant_of, item_at, time_of}
 use Rattle.apex_machine.specs.Step.{AllConfigured, OneConfigured, ChannelConfigured, KeepsSkew, HasNoneDue, HasPriority, HasCode, IsWithinProfile, due_of}
 use Rattle.apex_machine.specs.Waiting.{waits_at}
 
@@ -46,6 +47,10 @@ AllHold (demand ∷ demands) = demand.holds × AllHold demands
 abbrev pub FirstFails : List {1} Demand → Cause → Type 0
 FirstFails [] cause = ⊥
 FirstFails (demand ∷ demands) cause = ((¬ demand.holds) × (cause ≡ demand.cause)) ⊎ (demand.holds × FirstFails demands cause)
+
+-- a judgement over demands: all of them hold, or it gives the cause of the first that fails
+abbrev pub Judges : List {1} Demand → Result (Unit {0}) Cause → Type 0
+Judges demands judgement = MatchResult judgement (λ _. AllHold demands) (λ cause. FirstFails demands cause)
 
 -- a demand that stands only in no window
 abbrev pub InNoWindow : Option ℕ → Type 0 → Type 0
@@ -102,15 +107,18 @@ CanHave asked (out.Answer code.NoAction) = Unit {0}
 CanHave asked (out.Answer code.NotAvailable) = Unit {0}
 CanHave asked _ = ⊥
 
--- the channel and the outcome of a call, by the codes of its error conditions and the channel that it goes to; what a channel
--- gives is the channel's to judge, but no process of the caller's own partition is woken through it
-abbrev pub outcome_demands : List Code → Option ℕ → ℕ → Request → Answer → Claim → List {1} Demand
-outcome_demands [] None number asked answer claim =
-    record { cause = cause.Chan; holds = claim.chan ≡ None }
-    ∷ record { cause = cause.Out; holds = claim.out ≡ answer.out }
+-- what a call claims is the answer: its outcome, the value and the message that go with it, and whose waits end
+abbrev pub answer_demands : Answer → Claim → List {1} Demand
+answer_demands answer claim =
+    record { cause = cause.Out; holds = claim.out ≡ answer.out }
     ∷ record { cause = cause.Val; holds = HasValue answer.val claim.val }
     ∷ record { cause = cause.Data; holds = claim.bytes ≡ answer.bytes }
     ∷ record { cause = cause.Woken; holds = NamesExactly answer.woken claim.woken } ∷ []
+
+-- the channel and the outcome of a call, by the codes of its error conditions and the channel that it goes to; what a channel
+-- gives is the channel's to judge, but no process of the caller's own partition is woken through it
+abbrev pub outcome_demands : List Code → Option ℕ → ℕ → Request → Answer → Claim → List {1} Demand
+outcome_demands [] None number asked answer claim = record { cause = cause.Chan; holds = claim.chan ≡ None } ∷ answer_demands answer claim
 outcome_demands [] (Some channel) number asked answer claim =
     record { cause = cause.Chan; holds = claim.chan ≡ Some channel }
     ∷ record { cause = cause.Out; holds = CanHave asked claim.out }
@@ -198,13 +206,9 @@ stands_in who (entry ∷ entries) = is_same who entry.who || stands_in who entri
 -- one that the channel gives
 abbrev pub through_demands : Configuration → ℕ → ℕ → Channel → CallRecord → List {1} Demand
 through_demands configuration now number channel call =
-    let answer : Answer = (channel_effect configuration now number (use_of call.request) channel).answer in
     record { cause = cause.Choice; holds = IsFalse (stands_in call.who channel.senders || stands_in call.who channel.receivers) }
     ∷ record { cause = cause.Chan; holds = IsTrue (suits_use (use_of call.request) channel) }
-    ∷ record { cause = cause.Out; holds = call.claim.out ≡ answer.out }
-    ∷ record { cause = cause.Val; holds = HasValue answer.val call.claim.val }
-    ∷ record { cause = cause.Data; holds = call.claim.bytes ≡ answer.bytes }
-    ∷ record { cause = cause.Woken; holds = NamesExactly answer.woken call.claim.woken } ∷ []
+    ∷ answer_demands (channel_effect configuration now number (use_of call.request) channel).answer call.claim
 
 -- a call that goes through the channel, or doesn't
 abbrev pub used_demands : Bool → Configuration → ℕ → ℕ → Channel → CallRecord → List {1} Demand

@@ -1,9 +1,10 @@
 -- Blackboards, semaphores, events and mutexes: what each operation gives its caller, and the object after it.
 use Rattle.std.specs.Prelude.{ℕ, zero, suc, ◌+◌, ◌-◌, List, [], ◌∷◌, Option, Some, None, Bool, true, false, ℤ, nat_eq, nat_lt, if◌then◌else◌}
 use Rattle.apex_types.specs.declared.code.Code.TheVariants as code
+use Rattle.apex_machine.specs.declared.state.Entry.{Entry}
 use Rattle.apex_machine.specs.Answer.{Effect, answering, done, giving, unmet, waking, whos}
 use Rattle.apex_machine.specs.Queue.{Messages, received, sent}
-use Rattle.apex_machine.specs.State.{Buffer, Entry, Mutex}
+use Rattle.apex_machine.specs.State.{Buffer, Mutex}
 use Rattle.apex_machine.specs.Waiting.{first_waiter}
 
 -- buffers

@@ -1,7 +1,7 @@
 -- Messages that wait for a receiver: the rule of buffers, and of queuing channels too.
 use Rattle.std.specs.Prelude.{ℕ, List, [], ◌∷◌, ◌++◌, length, Option, Some, None, ℤ, nat_lt, if◌then◌else◌}
+use Rattle.apex_machine.specs.declared.state.Entry.{Entry}
 use Rattle.apex_machine.specs.Answer.{Effect, done, giving, unmet, waking}
-use Rattle.apex_machine.specs.State.{Entry}
 
 -- the messages of a queue, the oldest first
 abbrev pub Messages : Type 0

@@ -4,6 +4,7 @@ use Rattle.apex_types.specs.declared.discipline.Discipline.{Discipline}
 use Rattle.apex_types.specs.declared.record.Who.{Who}
 use Rattle.apex_machine.specs.declared.state.CoreState.{CoreState}
 use Rattle.apex_machine.specs.declared.state.Direction.{Direction}
+use Rattle.apex_machine.specs.declared.state.Entry.{Entry}
 use Rattle.apex_machine.specs.declared.state.Mode.{Mode}
 use Rattle.apex_machine.specs.declared.state.Mode.TheVariants as mode
 use Rattle.apex_machine.specs.declared.state.Process.{Process}
@@ -14,13 +15,6 @@ use Rattle.apex_machine.specs.Channels.{queuing_of}
 -- the processes of a partition under their numbers, in the order of their creation; number 0 is the initialising process
 abbrev pub Table : Type 0
 Table = List (ℕ × Process)
-
--- an entry of a waiting set: who waits, with the priority and at the place of its call; a sender waits with its message
-pub record Entry : Type 0 where
-  pub who : Who
-  pub priority : ℕ
-  pub place : ℕ
-  pub message : List ℕ
 
 -- a buffer: the messages that it holds, the oldest first, and those that wait to send and to receive   (buffers, section 3)
 pub record Buffer : Type 0 where

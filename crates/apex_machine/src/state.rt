@@ -1,6 +1,6 @@
 // The plain data of a state.
 
-use apex_types::{ChanId, Code, CoreId, Message, Name, Service, Who};
+use apex_types::{ChanId, Code, CoreId, Message, Name, Place, Service, Who};
 
 /// The operating mode of a partition.
 #[derive(Clone, Copy, Debug, PartialEq, Eq)]
@@ -48,6 +48,16 @@ pub enum Wait {
     Suspended(Option<u64>),
     /// It stands in a waiting set, until it is woken or until this time.
     At(WaitingSet, Option<u64>),
+}
+
+/// An entry of a waiting set: who waits, with the priority and at the place of its call.
+#[derive(Debug, Drop)]
+pub struct Entry {
+    pub who: Who,
+    pub priority: u8,
+    pub place: Place,
+    /// What a sender waits with; empty where nothing is sent.
+    pub message: Message,
 }
 
 /// What a service owes its caller: the return that has to come before the caller's next call.

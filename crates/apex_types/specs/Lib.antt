@@ -2,3 +2,4 @@ pub mod Bounds
 pub mod ServiceName
 pub mod Requested
 pub mod CodeName
+pub mod Rising

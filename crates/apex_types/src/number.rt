@@ -130,12 +130,13 @@ pub struct Place(u64);
 
 impl Model for Place {
     ghost use Rattle.std.specs.Prelude.{ℕ, ◌<◌};
+    ghost use Rattle.apex_types.specs.Bounds.{place_count};
 
     ghost Value = { ℕ };
 
     ghost view = { λ place. place.0 };
 
-    ghost invariant = { λ place. place.0 < 68719476720 };
+    ghost invariant = { λ place. place.0 < place_count };
 
     ghost inverse = { λ number. record { 0 = number } };
 }

@@ -1,6 +1,7 @@
 // The records of a recording.
 
 ghost use Rattle.std.specs.Prelude.{◌≡◌, []};
+ghost use Rattle.apex_types.specs.Rising.{IsRising};
 
 use crate::code::Code;
 use crate::number::{ChanId, CoreId, PartId, Place, ProcId};
@@ -17,7 +18,7 @@ pub struct Who {
     pub proc: ProcId,
 }
 
-/// The processes whose wait ends by a record, in rising order of partition and process.
+/// The processes whose wait ends by a record, in rising order of partition and process, so that none stands twice.
 #[derive(Debug, Drop)]
 pub struct Woken {
     named: Vec<Who>,
@@ -26,15 +27,19 @@ pub struct Woken {
 impl Model for Woken {
     ghost use Rattle.std.specs.Prelude.{List};
     ghost use Rattle.apex_types.specs.declared.record.Who.{Who};
+    ghost use Rattle.apex_types.specs.Rising.{IsRising};
 
     ghost Value = { List Who };
 
     ghost view = { λ woken. woken.named.items };
+
+    ghost invariant = { λ woken. IsRising woken.named.items };
 }
 
 impl Woken {
-    /// The list of these processes. Takes no memory.
+    /// The list of these processes, each behind the one before. Takes no memory.
     pub fn new(named: Vec<Who>) -> Woken
+        requires { IsRising named.items }
         ensures { result ≡ named.items }
     {
         Woken { named }
@@ -51,7 +56,8 @@ impl Woken {
 
     /// The processes, in their order.
     pub fn as_slice(&self) -> &[Who]
-        ensures { result.now ≡ self.now }
+        ensures list { result.now ≡ self.now }
+        ensures rising { IsRising result.now }
     {
         &self.named
     }

@@ -1,6 +1,7 @@
 -- How the value under one key is read: it is missing, has the wrong type, is out of range, or is taken.
 use Rattle.std.specs.Prelude.{◌≡◌, ◌≢◌, ℕ, List, [], ◌∷◌, Option, Some, None, Result, Ok, Err, Bool, true, false, ◌&&◌, nat_le, pos, negsuc, if◌then◌else◌}
 use Rattle.toml.specs.Data.{Data, integer, array, table, Items, no_items, item}
+use Rattle.apex_types.specs.Bounds.{greatest_span}
 use Rattle.module_config.specs.declared.fault.ConfigFault.{ConfigFault}
 use Rattle.module_config.specs.declared.fault.ConfigFault.TheVariants.{Missing, WrongType, OutOfRange, Memory}
 
@@ -45,7 +46,7 @@ integer_at least most value = natural_at value >>= within least most
 
 -- a number of ticks
 abbrev pub ticks_at : Option Data → Result ℕ ConfigFault
-ticks_at value = integer_at 1 4294967295 value
+ticks_at value = integer_at 1 greatest_span value
 
 -- the value is an integer
 abbrev pub is_integer : Data → Bool

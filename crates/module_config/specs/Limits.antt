@@ -1,14 +1,15 @@
 -- What each configuration keeps.
 use Rattle.std.specs.Prelude.{◌≡◌, ℕ, ◌+◌, ◌≤◌, ◌<◌, List, [], length, map, All, AllPairs, IsTrue, true, false}
+use Rattle.apex_types.specs.Bounds.{greatest_partition, greatest_span, most_cores, most_processes}
 use Rattle.apex_machine.specs.Configuration.{Configuration, PartitionLimits, Window, has_core, limits_of}
 use Rattle.module_config.specs.Whole.{is_too_large, are_of_partitions, has_overlap}
 
 -- a partition's number, period and processes are within their limits
 pub record AreLimits (number period processes : ℕ) : Type 0 where
-  pub number_most : number < 32
+  pub number_most : number ≤ greatest_partition
   pub period_least : 1 ≤ period
-  pub period_most : period ≤ 4294967295
-  pub processes_most : processes ≤ 128
+  pub period_most : period ≤ greatest_span
+  pub processes_most : processes ≤ most_processes
 
 -- no partition's number is above a later one's
 abbrev pub IsOrdered : List PartitionLimits → Type 0
@@ -39,11 +40,11 @@ AreCoresOf count limits = All (λ core. core < count) limits.cores
 -- the numbers of a configuration are within their limits
 pub record IsWithinLimits (configuration : Configuration) : Type 0 where
   pub cores_least : 1 ≤ configuration.cores
-  pub cores_most : configuration.cores ≤ 16
+  pub cores_most : configuration.cores ≤ most_cores
   pub frame_least : 1 ≤ configuration.frame
-  pub frame_most : configuration.frame ≤ 4294967295
+  pub frame_most : configuration.frame ≤ greatest_span
   pub skew_least : 1 ≤ configuration.skew
-  pub skew_most : configuration.skew ≤ 4294967295
+  pub skew_most : configuration.skew ≤ greatest_span
   pub some_partition : 1 ≤ length configuration.partitions
   pub own_cores : All (AreCoresOf configuration.cores) configuration.partitions
 

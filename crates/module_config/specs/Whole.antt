@@ -2,6 +2,7 @@
 use Rattle.std.specs.Prelude.{◌+◌, List, [], ◌∷◌, length, Option, Some, None, is_some, Bool, false, not, ◌&&◌, ◌||◌, nat_eq, nat_lt, if◌then◌else◌, codes}
 use Rattle.std.specs.List.{list_any, list_all}
 use Rattle.toml.specs.Data.{Members, get_member}
+use Rattle.apex_types.specs.Bounds.{most_partitions, most_windows}
 use Rattle.apex_machine.specs.Configuration.{Configuration, PartitionLimits, Window, has_core, limits_among}
 use Rattle.module_config.specs.declared.fault.ConfigFault.{ConfigFault}
 use Rattle.module_config.specs.declared.fault.ConfigFault.TheVariants.{TooMany, Duplicate, CoreNotOfPartition, Overlap}
@@ -15,7 +16,7 @@ is_not_served keys configuration =
 
 -- more than 32 partitions, or more than 4,096 windows
 abbrev pub is_too_large : Configuration → Bool
-is_too_large configuration = nat_lt 32 (length configuration.partitions) || nat_lt 4096 (length configuration.windows)
+is_too_large configuration = nat_lt most_partitions (length configuration.partitions) || nat_lt most_windows (length configuration.windows)
 
 -- two partitions have one number
 abbrev pub has_duplicate : List PartitionLimits → Bool

@@ -3,7 +3,8 @@ use Rattle.std.proofs.Common.{◌≡◌, ◌≢◌, ◌<◌, ◌≤◌, ◌+◌,
 use Rattle.std.specs.Prelude.{if◌then◌else◌}
 use Rattle.std.proofs.lemmas.List.{append-nil}
 use Rattle.apex_types.specs.declared.record.Pair.{Pair}
-use Rattle.order_cert.specs.Order.{numbers_of, following, AllKnown, IsLawfulOrder, IsPrefixOfLawful, most_records}
+use Rattle.apex_types.specs.Bounds.{most_records}
+use Rattle.order_cert.specs.Order.{numbers_of, following, AllKnown, IsLawfulOrder, IsPrefixOfLawful}
 use Rattle.order_cert.specs.Kept.{Kept, Follows, taken_of}
 use Rattle.order_cert.proofs.Cores.{same_or}
 use Rattle.order_cert.proofs.Counts.{sum_zero, sum_lowered}

@@ -1,7 +1,8 @@
 -- What callers see of a keeper.
 use Rattle.std.specs.Prelude.{◌≡◌, ◌≤◌, ℕ, List, length, nat_eq, if◌then◌else◌, get_or, sum}
 use Rattle.apex_types.specs.declared.record.Pair.{Pair}
-use Rattle.order_cert.specs.Order.{IsPrefixOfLawful, most_records, numbers_of}
+use Rattle.apex_types.specs.Bounds.{most_records}
+use Rattle.order_cert.specs.Order.{IsPrefixOfLawful, numbers_of}
 
 -- the number of cores, and how many numbers of each were taken
 pub record Kept : Type 0 where

@@ -1,5 +1,6 @@
 -- Lawful orders of the records of all cores.
 use Rattle.std.specs.Prelude.{◌≡◌, ◌<◌, ◌≤◌, ℕ, zero, suc, List, [], ◌∷◌, ◌++◌, Option, Some, None, nat_eq, nat_lt, nat_le, ◌||◌, if◌then◌else◌}
+use Rattle.apex_types.specs.Bounds.{most_records}
 use Rattle.apex_types.specs.declared.record.Pair.{Pair}
 use Rattle.order_cert.specs.declared.fault.OrderFault.{OrderFault}
 use Rattle.order_cert.specs.declared.fault.OrderFault.TheVariants.{NoSuchCore, Skipped, Repeated}
@@ -28,10 +29,6 @@ AllKnown cores (p ∷ ps) = (p.core < cores) × AllKnown cores ps
 pub record IsLawfulOrder (cores : ℕ) (lens : ℕ → ℕ) (pairs : List Pair) : Type 0 where
   pub numbers : (core : ℕ) → core < cores → numbers_of core pairs ≡ following 0 (lens core)
   pub known : AllKnown cores pairs
-
--- a recording has at most this many records
-abbrev pub most_records : ℕ
-most_records = 4294967295
 
 -- for some lengths that recordings can have, and some further pairs, the whole is a lawful order
 pub record IsPrefixOfLawful (cores : ℕ) (pairs : List Pair) : Type 0 where

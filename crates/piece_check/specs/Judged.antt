@@ -1,17 +1,13 @@
 -- What a judgement says.
-use Rattle.std.specs.Prelude.{ℕ, List, Result, MatchResult}
-use Rattle.apex_types.specs.declared.cause.Cause.{Cause}
+use Rattle.std.specs.Prelude.{ℕ, List}
 use Rattle.apex_types.specs.declared.record.Body.{Body}
 use Rattle.apex_machine.specs.Configuration.{Configuration}
-use Rattle.apex_machine.specs.Demands.{Demand, AllHold, FirstFails, module_demands, partition_demands}
+pub use Rattle.apex_machine.specs.Demands.{Judges}
+use Rattle.apex_machine.specs.Demands.{Demand, module_demands, partition_demands}
 use Rattle.apex_machine.specs.Services.{is_built}
 use Rattle.piece_check.specs.declared.module_piece.ModulePiece.{ModulePiece}
 use Rattle.piece_check.specs.declared.partition_piece.PartitionPiece.{PartitionPiece}
 use Rattle.piece_check.specs.States.{partition_of}
-
--- all demands hold, or the cause is that of the first that fails
-abbrev pub Judges : List {1} Demand → Result (Unit {0}) Cause → Type 0
-Judges demands judgement = MatchResult judgement (λ _. AllHold demands) (λ cause. FirstFails demands cause)
 
 -- what the module's piece demands of a record of this core
 abbrev pub asked_by_module : Configuration → ModulePiece → ℕ → Body → List {1} Demand

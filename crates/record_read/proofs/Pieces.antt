@@ -1,14 +1,16 @@
 -- The pieces of a text, one after another, and the processes that they name.
-use Rattle.std.proofs.Common.{◌≡◌, ◌∙◌, ℕ, List, [], ◌∷◌, ◌++◌, ◌-◌, Bool, true, false, Option, Some, None, Result, Ok, Err, ◌≤◌, length, refl, sym, ap, nat_eq, append_assoc, arith, if◌then◌else◌}
+use Rattle.std.proofs.Common.{◌≡◌, ◌∙◌, ℕ, List, [], ◌∷◌, ◌++◌, ◌-◌, Bool, true, false, Option, Some, None, Result, Ok, Err, ◌≤◌, length, refl, sym, ap, subst, nat_eq, append_assoc, arith, if◌then◌else◌}
 use Rattle.std.specs.Prelude.{◌≢◌, is_some, option_and_then, option_map}
 use Rattle.std.specs.List.{slice_get}
 use Rattle.std.specs.Option.{ok_or}
 use Rattle.std.specs.Result.{result_unwrap_or}
 use Rattle.std.proofs.lemmas.List.{append-nil, length-append}
+use Rattle.std.proofs.lemmas.Option.{none-some, same_Some}
 use Rattle.apex_types.specs.declared.record.Who.{Who}
+use Rattle.apex_types.specs.Rising.{IsRising, RisesFrom}
 use Rattle.record_read.specs.declared.fault.RowFault.{RowFault}
 use Rattle.record_read.specs.declared.fault.RowFault.TheVariants.{BadWoken}
-use Rattle.record_read.specs.Woken.{IsList, front_of, rest_of, onto, pieces_of, next_process, processes_behind, processes_in, woken_of}
+use Rattle.record_read.specs.Woken.{IsList, front_of, rest_of, onto, pieces_of, process_of, next_process, processes_behind, processes_in, stands_behind, woken_of}
 
 -- the pieces of what is left, if anything is
 abbrev pub pieces_left : ℕ → Option (List ℕ) → List (List ℕ)
@@ -118,3 +120,39 @@ list_filled (b ∷ bs) long list none = by (processes_behind None (pieces_of 59 
 pub next_is : (last result : Option Who) (lent named : List Who) (front left : List ℕ) → result ≡ next_process last front
     → last ≡ slice_get lent (length lent - 1) → lent ≡ named → front ≡ front_of 59 left → next_process (last_of named) (front_of 59 left) ≡ result
 next_is last result lent named front left h l n f = sym (h ∙ ap (λ w. next_process w front) (l ∙ ap last_of n) ∙ ap (next_process (last_of named)) f)
+
+-- the processes of a list rise, behind a last one if there is one
+abbrev pub RisesBehind : Option Who → List Who → Type 0
+RisesBehind None named = IsRising named
+RisesBehind (Some last) named = RisesFrom last named
+
+next_behind : (last : Option Who) (text : List ℕ) (who : Who) → next_process last text ≡ Some who → stands_behind last who ≡ true
+unfolding next_process
+next_behind last text who e = by (process_of text) e
+  where
+    of_test : (test : Bool) (found : Who) → test ≡ stands_behind last found → (if test then Some found else None) ≡ Some who → stands_behind last who ≡ true
+    of_test true found t e = subst (λ other. stands_behind last other ≡ true) (same_Some found who e) (sym t)
+    of_test false found t e = absurd (none-some who e)
+    by : (o : Option Who) → option_and_then (λ found. if stands_behind last found then Some found else None) o ≡ Some who → stands_behind last who ≡ true
+    by (Some found) e = of_test (stands_behind last found) found refl e
+    by None e = absurd (none-some who e)
+
+rises_with : (last : Option Who) (who : Who) (more : List Who) → stands_behind last who ≡ true → RisesFrom who more → RisesBehind last (who ∷ more)
+rises_with None who more behind rises = rises
+rises_with (Some w) who more behind rises = (behind, rises)
+
+-- processes of which each stands behind the one before rise
+pub rising_behind : (last : Option Who) (pieces : List (List ℕ)) (named : List Who) → processes_behind last pieces ≡ Some named → RisesBehind last named
+unfolding processes_behind
+rising_behind None [] named e = subst IsRising (same_Some [] named e) tt
+rising_behind (Some w) [] named e = subst (RisesFrom w) (same_Some [] named e) tt
+rising_behind last (piece ∷ pieces) named e = by (λ who. rising_behind (Some who) pieces) (next_process last piece) refl e
+  where
+    with_more : (who : Who) → stands_behind last who ≡ true → ((rest : List Who) → processes_behind (Some who) pieces ≡ Some rest → RisesFrom who rest)
+        → (o : Option (List Who)) → processes_behind (Some who) pieces ≡ o → option_map (λ rest. who ∷ rest) o ≡ Some named → RisesBehind last named
+    with_more who behind rises (Some rest) is e = subst (RisesBehind last) (same_Some (who ∷ rest) named e) (rises_with last who rest behind (rises rest is))
+    with_more who behind rises None is e = absurd (none-some named e)
+    by : ((who : Who) (rest : List Who) → processes_behind (Some who) pieces ≡ Some rest → RisesFrom who rest) → (o : Option Who) → next_process last piece ≡ o
+        → option_and_then (λ who. option_map (λ rest. who ∷ rest) (processes_behind (Some who) pieces)) o ≡ Some named → RisesBehind last named
+    by rises (Some who) is e = with_more who (next_behind last piece who is) (rises who) (processes_behind (Some who) pieces) refl e
+    by rises None is e = absurd (none-some named e)

@@ -4,6 +4,7 @@
 use Rattle.std.specs.Prelude.{ℕ, List, Option, Some, None, Result, Ok, Err, length, nat_lt, nat_le, nat_eq, ◌==◌, if◌then◌else◌}
 use Rattle.csv_rows.specs.Stream.{Fields}
 use Rattle.csv_rows.specs.Source.{items_of}
+use Rattle.apex_types.specs.Bounds.{greatest_channel, greatest_number, greatest_partition, greatest_priority, most_records}
 use Rattle.apex_types.specs.declared.record.Who.{Who}
 use Rattle.apex_types.specs.declared.record.Claim.{Claim}
 use Rattle.apex_types.specs.declared.record.Call.{Call}
@@ -26,8 +27,8 @@ use Rattle.record_read.specs.Woken.{woken_of}
 -- the process of a call or a return
 unfoldable pub who_in : Fields → Result Who RowFault
 who_in fields = do
-  part ← number 31 (text_at fields 2)
-  proc ← number 2147483647 (text_at fields 3)
+  part ← number greatest_partition (text_at fields 2)
+  proc ← number greatest_number (text_at fields 3)
   Ok (record { part = part; proc = proc })
 
 -- the request of a call: the service, and just the arguments that it takes
@@ -44,11 +45,11 @@ request_in fields = do
 -- what a call claims
 unfoldable pub claim_in : Fields → Result Claim RowFault
 claim_in fields = do
-  prio ← number 239 (text_at fields 10)
+  prio ← number greatest_priority (text_at fields 10)
   out ← out_of (text_at fields 11)
   val ← maybe_signed (text_at fields 12)
   bytes ← maybe_message (text_at fields 13)
-  chan ← maybe_number 255 (text_at fields 14)
+  chan ← maybe_number greatest_channel (text_at fields 14)
   woken ← woken_of (text_at fields 15)
   Ok (record { prio = prio; out = out; val = val; bytes = bytes; chan = chan; woken = woken })
 
@@ -75,12 +76,12 @@ return_in fields = do
 -- the process of a dispatch: with its partition, or neither
 unfoldable pub proc_of : Option ℕ → List ℕ → Result (Option Who) RowFault
 proc_of None text = empty text >>= (λ u. Ok None)
-proc_of (Some part) text = number 2147483647 text >>= (λ proc. Ok (Some (record { part = part; proc = proc })))
+proc_of (Some part) text = number greatest_number text >>= (λ proc. Ok (Some (record { part = part; proc = proc })))
 
 -- a dispatch of a process, or of none
 unfoldable pub dispatch_in : Fields → Result (Option Who) RowFault
 dispatch_in fields = do
-  part ← maybe_number 31 (text_at fields 2)
+  part ← maybe_number greatest_partition (text_at fields 2)
   who ← proc_of part (text_at fields 3)
   unused ← all_empty fields 4 12
   Ok who
@@ -114,7 +115,7 @@ fields_read next fields = do
 -- the row of this number, from 0; a recording has at most 4,294,967,295 rows
 unfoldable pub record_of : ℕ → Fields → Result Record RowFault
 record_of next fields =
-    if nat_lt next 4294967295 then (if length fields == 16 then fields_read next fields else Err FieldCount) else Err TooMany
+    if nat_lt next most_records then (if length fields == 16 then fields_read next fields else Err FieldCount) else Err TooMany
 
 -- a record, or why a row is none
 abbrev pub Item : Type 0

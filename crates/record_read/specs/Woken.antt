@@ -1,9 +1,11 @@
 -- Lists of processes, `part:proc` joined by `;`.
-use Rattle.std.specs.Prelude.{◌≡◌, ℕ, List, [], ◌∷◌, Bool, true, Option, Some, None, Result, Ok, nat_lt, nat_eq, ◌&&◌, ◌||◌, if◌then◌else◌, option_map, option_and_then}
+use Rattle.std.specs.Prelude.{◌≡◌, ℕ, List, [], ◌∷◌, Bool, true, Option, Some, None, Result, Ok, nat_eq, if◌then◌else◌, option_map, option_and_then}
 use Rattle.std.specs.Option.{ok_or}
 use Rattle.std.specs.Result.{result_unwrap_or}
 use Rattle.csv_rows.specs.Decimal.{decimal}
+use Rattle.apex_types.specs.Bounds.{greatest_number, greatest_partition}
 use Rattle.apex_types.specs.declared.record.Who.{Who}
+use Rattle.apex_types.specs.Rising.{is_behind}
 use Rattle.record_read.specs.declared.fault.RowFault.{RowFault}
 use Rattle.record_read.specs.declared.fault.RowFault.TheVariants.{BadWoken}
 
@@ -34,13 +36,13 @@ process part number = if nat_eq number 0 then None else Some (record { part = pa
 -- a process: the decimals of its partition and of its number around a `:`
 unfoldable pub process_of : List ℕ → Option Who
 process_of text =
-    option_and_then (λ rest. option_and_then (λ part. option_and_then (λ number. process part number) (decimal 2147483647 rest)) (decimal 31 (front_of 58 text)))
+    option_and_then (λ rest. option_and_then (λ part. option_and_then (λ number. process part number) (decimal greatest_number rest)) (decimal greatest_partition (front_of 58 text)))
     (rest_of 58 text)
 
--- a process stands behind another by its partition, and in one partition by its number
+-- whether a process stands behind the last, if there is one
 abbrev pub stands_behind : Option Who → Who → Bool
 stands_behind None who = true
-stands_behind (Some last) who = nat_lt last.part who.part || (nat_eq last.part who.part && nat_lt last.proc who.proc)
+stands_behind (Some last) who = is_behind last who
 
 -- a process that stands behind the last
 unfoldable pub next_process : Option Who → List ℕ → Option Who

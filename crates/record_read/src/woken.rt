@@ -1,6 +1,7 @@
 // Lists of processes, `part:proc` joined by `;`.
 
 ghost use Rattle.std.specs.Prelude.{◌≡◌, ◌≢◌, ◌<◌, [], IfOk, IfErr, IfSome, IsSome, OnOk, OnErr, Ok, Err, None, is_some, length, option_map};
+ghost use Rattle.apex_types.specs.Rising.{IsRising};
 ghost use Rattle.record_read.specs.Steps.{IsOfRow};
 ghost use Rattle.record_read.specs.Woken.{IsList, front_of, rest_of, next_process, pieces_of, processes_behind, processes_in, stands_behind as behind, woken_of};
 
@@ -68,6 +69,7 @@ pub fn copy_woken(alloc: Global, text: &[u8]) -> Result<Woken, AllocError>
 fn copy_processes(alloc: Global, text: &[u8]) -> Result<Vec<Who>, AllocError>
     requires { IsSome (processes_behind None (pieces_of 59 text.now)) }
     ensures value { IfOk result (λ named. processes_behind None (pieces_of 59 text.now) ≡ Some named.items) }
+    ensures rising { IfOk result (λ named. IsRising named.items) }
 {
     let mut named = Vec::new(alloc);
     let mut left = Some(text);

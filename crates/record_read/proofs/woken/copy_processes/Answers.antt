@@ -1,7 +1,8 @@
-use Rattle.std.proofs.Common.{◌≡◌, ◌∙◌, Some, sym, ap, true, true≢false, rules}
+use Rattle.std.proofs.Common.{◌≡◌, ◌∙◌, None, Some, sym, ap, true, true≢false, rules}
 use Rattle.std.specs.Prelude.{is_some}
 use Rattle.std.specs.Result.{is_ok}
-use Rattle.record_read.proofs.Pieces.{Named, named_more, named_none, named_end, next_is}
+use Rattle.record_read.specs.Woken.{pieces_of}
+use Rattle.record_read.proofs.Pieces.{Named, named_more, named_none, named_end, next_is, rising_behind}
 use Rattle.record_read.proofs.woken.copy_processes.Goals as goal
 
 pub unreachable-requires : goal.unreachable-requires
@@ -19,4 +20,6 @@ pieces-preserved c =
     rw (c.push.ensures.items, good) (named_more c.args.text.now c.pieces.named.items c.in-Some.pieces.now c.in-Some-read_next.who _ (next ∙ c.in-Some-read_next.is) c.split_once-split.ensures.rest left)
 
 pub returns : goal.returns
-returns c = record { value = named_end c.args.text.now c.pieces.named.items (rw c.in_default.is at c.pieces.invariant) }
+returns c =
+    let all = named_end c.args.text.now c.pieces.named.items (rw c.in_default.is at c.pieces.invariant) in
+    record { value = all; rising = rising_behind None (pieces_of 59 c.args.text.now) c.pieces.named.items all }
