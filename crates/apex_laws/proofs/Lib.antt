@@ -47,6 +47,7 @@ pub mod ConditionTests
 pub mod ConditionCodes
 pub mod ConditionsMet
 pub mod ViewedRuns
+pub mod ViewNumbers
 pub mod Profile
 pub mod Numbers
 pub mod Waits

@@ -13,6 +13,7 @@ pub mod RecordLaws
 pub mod ConditionSentences
 pub mod ConditionLaws
 pub mod ViewLaws
+pub mod ViewNumbers
 pub mod ProfileLaws
 pub mod NumberLaws
 pub mod WaitLaws

@@ -15,6 +15,7 @@ ghost use Rattle.apex_laws.specs.NumberLaws.{NewNumberIsTheSentence, ObjectsAreF
 ghost use Rattle.apex_laws.specs.ProfileLaws.{ProfileIsTheSentence};
 ghost use Rattle.apex_laws.specs.WaitLaws.{EnteringIsTheSentence, TimeOutIsTheSentence};
 ghost use Rattle.apex_laws.specs.ViewLaws.{ViewsAreOfTheRun};
+ghost use Rattle.apex_laws.specs.ViewNumbers.{NumbersTell};
 ghost use Rattle.apex_laws.specs.WorkedRun.{WorkedRun};
 ghost use Rattle.apex_laws.specs.WorkedFacts.{LawfulFacts, WorkedFacts};
 ghost use Rattle.apex_laws.specs.ProcessLaws.{AnswerIsTheSentence, CallerIsTheSentence, CreationIsTheSentence, DueIsTheSentence, ReleaseIsTheSentence, SettingIsTheSentence, StoppingIsTheSentence, WakingIsTheSentence};
@@ -102,6 +103,12 @@ pub fn view_is_of_the_run()
 /// Over a whole recording, the views that the pieces give from their parts are the views of the machine's run, record by record.
 pub fn views_are_of_the_run()
     ensures { ViewsAreOfTheRun }
+{}
+
+/// No two services and no two outcomes have one number in a view: each number is a place in a list. A view's kind is its
+/// record's.
+pub fn view_numbers_tell()
+    ensures { NumbersTell }
 {}
 
 /// The choice is the ready process before which no other goes, and none where none is ready.

@@ -5,6 +5,7 @@ use Rattle.std.proofs.lemmas.Bool.Decides.{nat_tests}
 use Rattle.apex_machine.specs.Configuration.{Configuration}
 use Rattle.apex_machine.specs.Runs.{ArePlaced}
 use Rattle.apex_types.specs.declared.record.Ordered.{Ordered}
+use Rattle.apex_types.specs.Bounds.{most_records}
 use Rattle.apex_types.specs.declared.record.Pair.{Pair}
 use Rattle.apex_types.specs.declared.record.Record.{Record}
 use Rattle.module_config.specs.Reading.{configuration_of}
@@ -12,7 +13,7 @@ use Rattle.order_cert.specs.declared.fault.CertFault.TheVariants as cert
 use Rattle.order_cert.specs.declared.fault.OrderFault.{OrderFault}
 use Rattle.order_cert.specs.declared.fault.OrderFault.TheVariants.{NoSuchCore, Skipped, Repeated}
 use Rattle.order_cert.specs.Kept.{none_taken, put}
-use Rattle.order_cert.specs.Order.{AllKnown, following, misplaced, most_records, numbers_of}
+use Rattle.order_cert.specs.Order.{AllKnown, following, misplaced, numbers_of}
 use Rattle.order_cert.specs.Row.{Item as CertItem, pairs_of}
 use Rattle.placement.specs.declared.fault.InputFault.{InputFault}
 use Rattle.placement.specs.Lanes.{IsScanOf}

@@ -1,0 +1,46 @@
+-- The numbers in a view's fields, told by lists: a service, a code or an outcome has the number of its place.
+use Rattle.std.specs.Prelude.{◌≡◌, ◌<◌, ◌≤◌, ℕ, ◌-◌, pos, List, [], ◌∷◌, Option, Some}
+use Rattle.std.specs.List.{slice_get}
+use Rattle.apex_types.specs.declared.code.Code.TheVariants as code
+use Rattle.apex_types.specs.declared.record.Body.{Body}
+use Rattle.apex_types.specs.declared.record.Body.TheVariants.{Call, Ret, Disp, Tick}
+use Rattle.apex_types.specs.declared.record.Out.{Out}
+use Rattle.apex_types.specs.declared.record.Out.TheVariants as out
+use Rattle.apex_types.specs.declared.service.Service.{Service}
+use Rattle.apex_types.specs.declared.service.Service.TheVariants as service
+use Rattle.apex_machine.specs.State.{State}
+use Rattle.apex_machine.specs.Views.{out_number, service_number, view_by}
+
+-- the services by their numbers, from 1 on
+abbrev pub services_by_number : List Service
+services_by_number =
+    service.CreateProcess ∷ service.InitializeProcessCoreAffinity ∷ service.Start ∷ service.Stop ∷ service.StopSelf ∷ service.Suspend ∷
+    service.SuspendSelf ∷ service.Resume ∷ service.SetPriority ∷ service.GetMyId ∷ service.TimedWait ∷ service.PeriodicWait ∷
+    service.GetTime ∷ service.SetPartitionMode ∷ service.CreateBuffer ∷ service.SendBuffer ∷ service.ReceiveBuffer ∷
+    service.CreateBlackboard ∷ service.DisplayBlackboard ∷ service.ReadBlackboard ∷ service.ClearBlackboard ∷ service.CreateSemaphore ∷
+    service.WaitSemaphore ∷ service.SignalSemaphore ∷ service.CreateEvent ∷ service.SetEvent ∷ service.ResetEvent ∷ service.WaitEvent ∷
+    service.CreateMutex ∷ service.AcquireMutex ∷ service.ReleaseMutex ∷ service.CreateSamplingPort ∷ service.WriteSamplingMessage ∷
+    service.ReadSamplingMessage ∷ service.CreateQueuingPort ∷ service.SendQueuingMessage ∷ service.ReceiveQueuingMessage ∷ []
+
+-- the outcomes by their numbers, from 0 on: the codes, a call that waits, and one that does not return
+abbrev pub outcomes_by_number : List Out
+outcomes_by_number =
+    out.Answer code.NoError ∷ out.Answer code.NoAction ∷ out.Answer code.NotAvailable ∷ out.Answer code.InvalidParam
+    ∷ out.Answer code.InvalidConfig ∷ out.Answer code.InvalidMode ∷ out.Answer code.TimedOut ∷ out.Waits ∷ out.Never ∷ []
+
+-- the kind of a record: 0 for a call, 1 for a return, 2 for a dispatch, 3 for a tick
+abbrev pub kind_number : Body → ℕ
+kind_number (Call call) = 0
+kind_number (Ret ret) = 1
+kind_number (Disp who) = 2
+kind_number (Tick woken) = 3
+
+-- the number of a service and of an outcome is its place in these lists, so that no two have one number; and a view's kind is
+-- that of its record
+pub record NumbersTell : Type 0 where
+  pub service_place : (service : Service) → slice_get services_by_number (service_number service - 1) ≡ Some service
+  pub service_least : (service : Service) → 1 ≤ service_number service
+  pub services_differ : (one other : Service) → service_number one ≡ service_number other → one ≡ other
+  pub outcome_place : (out : Out) → slice_get outcomes_by_number (out_number out) ≡ Some out
+  pub outcomes_differ : (one other : Out) → out_number one ≡ out_number other → one ≡ other
+  pub kind : (state : State) (core : ℕ) (body : Body) → (view_by state core body).kind ≡ pos (kind_number body)
