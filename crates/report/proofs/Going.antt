@@ -18,12 +18,12 @@ use Rattle.verdict_merge.specs.declared.finding.Finding.{Finding}
 use Rattle.verdict_merge.specs.declared.verdict.Verdict.{Verdict}
 use Rattle.verdict_merge.specs.declared.verdict.Verdict.TheVariants.{Yes, No}
 use Rattle.verdict_merge.specs.Rounds.{AllRun, IsRound, Judging, cold_parts, parts_of}
-use Rattle.verdict_merge.specs.Verdicts.{IsVerdict, no_of}
+use Rattle.verdict_merge.specs.Verdicts.{IsVerdict, IsVerdictFrom, no_of}
 use Rattle.verdict_merge.proofs.Rounds.{all_run_on, no_behind, no_on}
 use Rattle.report.specs.declared.fault.CheckFault.{CheckFault}
 use Rattle.report.specs.declared.fault.CheckFault.TheVariants.{Config, Memory}
 use Rattle.report.specs.Outcome.{IsJudged, IsOutcome, IsOutcomeBy, config_refusal_of}
-use Rattle.report.specs.Rounds.{IsAnswer, IsJudgedRound, IsVerdictFrom, MayGoOn, answer_of}
+use Rattle.report.specs.Rounds.{IsAnswer, IsJudgedRound, MayGoOn, answer_of}
 
 -- a fault of the configuration as the check tells it
 pub config_told : (fault : ConfigFault) → (fault ≡ config.Memory) ⊎ ((fault ≢ config.Memory) × (config_refusal_of fault ≡ Config fault))
@@ -63,7 +63,7 @@ round_answers configuration old placed judging judged records None Full may othe
   },
 )
 round_answers configuration old placed judging judged records None (Ended end) may other filled going place lanes round =
-    inr (record { placed = records; end = end }, the_end old records end (λ e. other (ap Ended e)) filled, (Yes judged.count, (round.1, (parts_of judged, round.0)), refl))
+    inr (record { placed = records; end = end }, the_end old records end (λ e. other (ap Ended e)) filled, (Yes judged.count, (omega (arith, round.1), (parts_of judged, round.0)), refl))
 
 -- round behind round
 
@@ -74,7 +74,7 @@ lead_join start now next before records first second scanned ahead =
 verdict_on : (configuration : Configuration) (judging : Judging) (before records : List Ordered) (verdict : Verdict) → AllRun configuration (cold_parts configuration) before (parts_of judging)
     → judging.count ≡ length before → IsVerdictFrom configuration (parts_of judging) judging.count records verdict → IsVerdict configuration (before ++ records) verdict
 verdict_on configuration judging before records (Yes all) run count (counted, (final, more)) = (
-  counted ∙ ap (λ n. n + length records) count ∙ sym (length-append before records),
+  omega (arith, counted, count, length-append before records),
   (final, all_run_on configuration (cold_parts configuration) (parts_of judging) final before records run more),
 )
 verdict_on configuration judging before records (No pos piece cause) run count stands =

@@ -2,26 +2,19 @@
 use Rattle.std.specs.Prelude.{◌≡◌, ◌+◌, ◌⊎◌, ℕ, List, Option, Some, None, Result, Ok, Err, false, length}
 use Rattle.apex_types.specs.declared.record.Ordered.{Ordered}
 use Rattle.apex_machine.specs.Configuration.{Configuration}
-use Rattle.apex_machine.specs.Pieces.{Part}
 use Rattle.order_cert.specs.Kept.{place_of}
 use Rattle.placement.specs.declared.placer.Filled.{Filled}
 use Rattle.placement.specs.declared.placer.Filled.TheVariants.{Full, Ended}
 use Rattle.placement.specs.Lanes.{IsAhead, Lead, Placing}
 use Rattle.placement.specs.Scan.{Scan}
 use Rattle.verdict_merge.specs.declared.verdict.Verdict.{Verdict}
-use Rattle.verdict_merge.specs.declared.verdict.Verdict.TheVariants.{Yes, No}
+use Rattle.verdict_merge.specs.declared.verdict.Verdict.TheVariants.{Yes}
 use Rattle.verdict_merge.specs.declared.finding.Finding.{Finding}
-use Rattle.verdict_merge.specs.Verdicts.{no_of}
-use Rattle.verdict_merge.specs.Rounds.{AllRun, IsNo, IsReady, Judging, parts_of}
+use Rattle.verdict_merge.specs.Verdicts.{IsVerdictFrom, no_of}
+use Rattle.verdict_merge.specs.Rounds.{AllRun, IsReady, Judging, parts_of}
 use Rattle.report.specs.declared.fault.CheckFault.{CheckFault}
 use Rattle.report.specs.declared.fault.CheckFault.TheVariants.{Memory}
 use Rattle.report.specs.Outcome.{answer_with}
-
--- the verdict over records behind so many that were judged: Yes with the number of all where each piece runs over them, else a No
--- among them
-abbrev pub IsVerdictFrom : Configuration → (ℕ → Part) → ℕ → List Ordered → Verdict → Type 0
-IsVerdictFrom configuration parts count records (Yes all) = (all ≡ count + length records) × ((final : ℕ → Part) × AllRun configuration parts records final)
-IsVerdictFrom configuration parts count records (No pos piece cause) = IsNo configuration parts records (record { pos = pos; piece = piece; cause = cause })
 
 -- the answer of a check whose placer and judge have come so far: the verdict over records that are ahead, or the refusal behind
 -- them; want of memory outranks it

@@ -84,11 +84,7 @@ fn answer(found: Option<Finding>, filled: Filled, count: u64) -> Option<Result<V
     ensures { result ≡ answer_of found filled count }
 {
     match (found, filled) {
-        (Some(found), _) => Some(Ok(Verdict::No {
-            pos: found.pos,
-            piece: found.piece,
-            cause: found.cause,
-        })),
+        (Some(found), _) => Some(Ok(Verdict::no(found))),
         (None, Filled::Full) => None,
         (None, Filled::Ended(Ok(()))) => Some(Ok(Verdict::Yes { records: count })),
         (None, Filled::Ended(Err(fault))) => Some(Err(refusal(fault))),

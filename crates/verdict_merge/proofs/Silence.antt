@@ -149,5 +149,5 @@ pub run_where_yes : (configuration : Configuration) (records : List Ordered) (ve
     → WindowsAreConfigured configuration → ArePlaced 0 records → IsVerdict configuration records verdict → IsRunWhereYes configuration records verdict
 run_where_yes configuration records (Yes count) windows placed (counted, (final, all)) =
     let run = machine_runs configuration records windows placed (λ number within. (final number, all number within)) in
-    (run.0, run.1, counted)
+    (run.0, run.1, omega (arith, counted))
 run_where_yes configuration records (No pos piece cause) windows placed verdict = tt

@@ -351,7 +351,7 @@ follows_is : (configuration : Configuration) (records : List Ordered) (findings 
 follows_is configuration records findings (Yes count) placed all (none, counted) =
     let runs = part_where (length (pieces configuration)) (λ number final. PieceRun configuration (piece_at configuration number) (cold_parts configuration number) records final)
     (no_findings configuration records findings all none) in
-    (counted, ((λ number. (runs number).0), λ number within. (runs number).1 within))
+    (omega (arith, counted), ((λ number. (runs number).0), λ number within. (runs number).1 within))
 follows_is configuration records findings (No pos piece cause) placed all least =
     least_no configuration records findings (record { pos = pos; piece = piece; cause = cause }) placed all least
 

@@ -1,5 +1,5 @@
 -- The verdict over one order of records.
-use Rattle.std.specs.Prelude.{◌≡◌, ◌↔◌, ℕ, suc, List, [], ◌∷◌, ◌++◌, Option, Some, None, length}
+use Rattle.std.specs.Prelude.{◌≡◌, ◌↔◌, ◌+◌, ℕ, suc, List, [], ◌∷◌, ◌++◌, Option, Some, None, length}
 use Rattle.apex_types.specs.declared.record.Ordered.{Ordered}
 use Rattle.apex_machine.specs.Configuration.{Configuration}
 use Rattle.apex_machine.specs.Pieces.{Part, Piece, part, pieces}
@@ -16,11 +16,15 @@ use Rattle.verdict_merge.specs.Rounds.{AllRun, IsNo, cold_parts}
 abbrev pub no_of : Finding → Verdict
 no_of found = No found.pos found.piece found.cause
 
--- the verdict over one order of records: Yes with their number where each piece has a run over all of them, from the cold state
--- on; else a No by what stands up to its place
+-- the verdict over records behind so many that the pieces have judged, whose parts these are: Yes with the number of all where
+-- each piece has a run over them; else a No by what stands up to its place
+abbrev pub IsVerdictFrom : Configuration → (ℕ → Part) → ℕ → List Ordered → Verdict → Type 0
+IsVerdictFrom configuration parts count records (Yes all) = (all ≡ length records + count) × ((final : ℕ → Part) × AllRun configuration parts records final)
+IsVerdictFrom configuration parts count records (No pos piece cause) = IsNo configuration parts records (record { pos = pos; piece = piece; cause = cause })
+
+-- the verdict over one order of records, from the cold state on
 abbrev pub IsVerdict : Configuration → List Ordered → Verdict → Type 0
-IsVerdict configuration records (Yes count) = (count ≡ length records) × ((final : ℕ → Part) × AllRun configuration (cold_parts configuration) records final)
-IsVerdict configuration records (No pos piece cause) = IsNo configuration (cold_parts configuration) records (record { pos = pos; piece = piece; cause = cause })
+IsVerdict configuration records verdict = IsVerdictFrom configuration (cold_parts configuration) 0 records verdict
 
 -- what a Yes means: the records are a run of the machine from the cold state
 abbrev pub IsRunWhereYes : Configuration → List Ordered → Verdict → Type 0

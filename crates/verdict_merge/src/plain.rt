@@ -1,26 +1,14 @@
 // The verdict over one order of records, on one thread.
 
-ghost use Rattle.std.specs.Prelude.{◌≡◌, IfOk};
+ghost use Rattle.std.specs.Prelude.{IfOk};
 ghost use Rattle.apex_machine.specs.Runs.{ArePlaced, AreOfCores};
-ghost use Rattle.verdict_merge.specs.Verdicts.{IsRunWhereYes, IsVerdict, no_of};
+ghost use Rattle.verdict_merge.specs.Verdicts.{IsRunWhereYes, IsVerdict};
 
-use crate::finding::Finding;
 use crate::judge::{Judge, Memory};
 use crate::verdict::Verdict;
 use apex_types::Ordered;
 use module_config::Config;
 use std::alloc::Global;
-
-/// The No of a finding.
-pub fn no(found: Finding) -> Verdict
-    ensures { result ≡ no_of found }
-{
-    Verdict::No {
-        pos: found.pos,
-        piece: found.piece,
-        cause: found.cause,
-    }
-}
 
 /// The verdict over the records in this order: Yes where each piece makes its local steps over all of them, else No with
 /// the least finding. The records stand at the places 0, 1, 2, .. and are of configured cores.
@@ -36,7 +24,7 @@ pub fn check_plain(alloc: Global, config: &Config, records: &[Ordered]) -> Resul
         Err(memory) => return Err(memory),
     };
     match judge.round(config, records) {
-        Ok(Some(found)) => Ok(no(found)),
+        Ok(Some(found)) => Ok(Verdict::no(found)),
         Ok(None) => Ok(Verdict::Yes {
             records: judge.count(),
         }),

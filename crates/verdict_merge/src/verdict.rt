@@ -1,5 +1,9 @@
 // The verdict.
 
+ghost use Rattle.std.specs.Prelude.{◌≡◌};
+ghost use Rattle.verdict_merge.specs.Verdicts.{no_of};
+
+use crate::finding::Finding;
 use apex_types::{Cause, Place};
 
 /// The verdict over a recording.
@@ -15,4 +19,17 @@ pub enum Verdict {
         piece: usize,
         cause: Cause,
     },
+}
+
+impl Verdict {
+    /// The No of a finding.
+    pub fn no(found: Finding) -> Verdict
+        ensures { result ≡ no_of found }
+    {
+        Verdict::No {
+            pos: found.pos,
+            piece: found.piece,
+            cause: found.cause,
+        }
+    }
 }
