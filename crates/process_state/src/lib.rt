@@ -7,10 +7,12 @@
 
 mod caller;
 mod gift;
+mod moment;
 mod number;
 mod order;
 mod process;
 mod table;
 mod wait;
 
+pub use moment::Moment;
 pub use table::ProcTable;

@@ -12,6 +12,7 @@ ghost use Rattle.process_state.specs.Changes.{answered, moved_to, named, only, s
 ghost use Rattle.process_state.specs.Timely.{IsTimely, TimesFit};
 
 use super::ProcTable;
+use crate::moment::Moment;
 use crate::number::process_number;
 use crate::process;
 use apex_machine::{CoreState, Mode, Outcome, Process, Wait};
@@ -59,13 +60,13 @@ impl ProcTable {
         }
     }
 
-    /// START of this process, at this place and at these times of the cores; the period is the partition's, in ticks. Takes
-    /// no memory.
-    pub fn start(&mut self, process: ProcId, place: Place, period: u64, cores: &[CoreState])
-        requires { IsTimely period cores.now }
-        ensures { self.new ≡ with_each (only process (λ found. started place period (time_of cores.now found.affinity) self.old.mode found)) self.old }
+    /// START of this process at this moment; the period is the partition's, in ticks. Takes no memory.
+    pub fn start(&mut self, process: ProcId, period: u64, moment: &Moment<'_>)
+        requires { IsTimely period moment.now.cores.now }
+        ensures { self.new ≡ with_each (only process (λ found. started moment.now.place period (time_of moment.now.cores.now found.affinity) self.old.mode found)) self.old }
     {
         let mode = self.mode;
+        let (place, cores) = (moment.place, moment.cores);
         self.change(process, |process| {
             let now = time_at(cores, process.affinity);
             process::start(process, place, period, now, mode);
@@ -73,31 +74,31 @@ impl ProcTable {
     }
 
     /// The same of the process that a caller names by this number: of none, where there is none. Takes no memory.
-    pub fn start_named(&mut self, given: i64, place: Place, period: u64, cores: &[CoreState])
-        requires { IsTimely period cores.now }
-        ensures { self.new ≡ with_each (named given (λ found. started place period (time_of cores.now found.affinity) self.old.mode found)) self.old }
+    pub fn start_named(&mut self, given: i64, period: u64, moment: &Moment<'_>)
+        requires { IsTimely period moment.now.cores.now }
+        ensures { self.new ≡ with_each (named given (λ found. started moment.now.place period (time_of moment.now.cores.now found.affinity) self.old.mode found)) self.old }
     {
         // What is known of each table, that its numbers fit 32 bits, is known where one of its fields is used.
         let _ = &self.processes;
         if let Some(process) = process_number(given) {
-            self.start(process, place, period, cores);
+            self.start(process, period, moment);
         }
     }
 
-    /// SET_PARTITION_MODE to NORMAL, at this place and at these times of the cores: each process that waits for NORMAL
-    /// enters it. The period is the partition's, in ticks. Takes no memory.
-    pub fn normal(&mut self, place: Place, period: u64, cores: &[CoreState])
-        requires { IsTimely period cores.now }
+    /// SET_PARTITION_MODE to NORMAL at this moment: each process that waits for NORMAL enters it. The period is the
+    /// partition's, in ticks. Takes no memory.
+    pub fn normal(&mut self, period: u64, moment: &Moment<'_>)
+        requires { IsTimely period moment.now.cores.now }
         ensures { self.new ≡ record self.old {
           mode = Mode.Normal;
-          table = each_item (λ number process. after_normal place period (time_of cores.now process.affinity) process) self.old.table;
+          table = each_item (λ number process. after_normal moment.now.place period (time_of moment.now.cores.now process.affinity) process) self.old.table;
         } }
     {
         self.mode = Mode::Normal;
         for index in 0..self.processes.len() {
             let process = &mut self.processes[index];
-            let now = time_at(cores, process.affinity);
-            process::enter_normal(process, place, period, now);
+            let now = time_at(moment.cores, process.affinity);
+            process::enter_normal(process, moment.place, period, now);
         }
     }
 

@@ -18,39 +18,36 @@ use super::ProcTable;
 use super::changes::time_at;
 use crate::caller::{Settling, is_done, settling_of};
 use crate::gift::gifts_of;
+use crate::moment::Moment;
 use crate::number::claimed_number;
 use crate::order::is_newly_named;
-use apex_machine::CoreState;
 use apex_types::{Call, CoreId, PartId, Place, ProcId, Request, Who};
 use std::alloc::AllocError;
 
 impl ProcTable {
-    /// A call of one of the partition's processes on this core, at this place and at these times of the cores: what it sets
-    /// in the partition, and what becomes of its caller. The period is the partition's, in ticks. A process that it creates
-    /// runs on the first core.
+    /// A call of one of the partition's processes at this moment: what it sets in the partition, and what becomes of its
+    /// caller. The period is the partition's, in ticks. A process that it creates runs on the first core.
     ///
     /// AllocError where memory is refused; nothing has changed then.
     pub fn call(
         &mut self,
         first_core: CoreId,
         period: u64,
-        cores: &[CoreState],
-        place: Place,
-        core: CoreId,
+        moment: &Moment<'_>,
         call: &Call,
     ) -> Result<(), AllocError>
-        requires timely { IsTimely period cores.now }
+        requires timely { IsTimely period moment.now.cores.now }
         requires sound { IsSound self.old.table call.now }
-        ensures ok { OnOk result ((configuration : Configuration) (partition : Partition) → configured.first_core configuration call.now.who.part ≡ first_core → configured.period_of configuration call.now.who.part ≡ period → processes_of partition ≡ self.old → self.new ≡ processes_of (after.partition_called configuration cores.now place core call.now partition)) }
+        ensures ok { OnOk result ((configuration : Configuration) (partition : Partition) → configured.first_core configuration call.now.who.part ≡ first_core → configured.period_of configuration call.now.who.part ≡ period → processes_of partition ≡ self.old → self.new ≡ processes_of (after.partition_called configuration moment.now.cores.now moment.now.place moment.now.core call.now partition)) }
         ensures unchanged { OnErr result (self.new ≡ self.old) }
     {
         let alloc = *self.processes.allocator();
-        let now = time_at(cores, core);
-        let settling = settling_of(alloc, place, now, call)?;
+        let now = time_at(moment.cores, moment.core);
+        let settling = settling_of(alloc, moment.place, now, call)?;
         // Looked up before the call creates a process, which a caller that is not there may name as itself.
         let stands = self.proc(call.who.proc).is_some();
         if is_done(call.claim.out) {
-            self.carry_out(first_core, period, cores, place, call)?;
+            self.carry_out(first_core, period, moment, call)?;
         }
         if stands {
             self.settle(call.who.proc, now, settling);
@@ -96,16 +93,15 @@ impl ProcTable {
         &mut self,
         first_core: CoreId,
         period: u64,
-        cores: &[CoreState],
-        place: Place,
+        moment: &Moment<'_>,
         call: &Call,
     ) -> Result<(), AllocError>
-        requires timely { IsTimely period cores.now }
+        requires timely { IsTimely period moment.now.cores.now }
         requires done { after.is_done call.now.claim.out ≡ true }
         requires sound { IsSound self.old.table call.now }
         ensures ok { OnOk result ((partition : Partition) → processes_of partition ≡ self.old → self.new ≡ record self.old {
           mode = after.mode_by call.now.request self.old.mode;
-          table = each_item (set_by place period cores.now partition call.now.who.proc call.now.request) self.old.table ++ after.created_by first_core call.now call.now.request;
+          table = each_item (set_by moment.now.place period moment.now.cores.now partition call.now.who.proc call.now.request) self.old.table ++ after.created_by first_core call.now call.now.request;
         }) }
         ensures unchanged { OnErr result (self.new ≡ self.old) }
     {
@@ -122,8 +118,8 @@ impl ProcTable {
             Request::InitializeProcessCoreAffinity { process, core } => {
                 self.set_affinity_named(*process, CoreId::new(*core as u8));
             }
-            Request::Start { process } => self.start_named(*process, place, period, cores),
-            Request::SetPartitionMode { .. } => self.normal(place, period, cores),
+            Request::Start { process } => self.start_named(*process, period, moment),
+            Request::SetPartitionMode { .. } => self.normal(period, moment),
             _ => {}
         }
         Ok(())

@@ -12,7 +12,7 @@ returns-in_ok-create-in-CreateProcess-clause-ok c = λ partition seen.
     let fits_too : FitsSigned w64 c.in-CreateProcess.own_period = search rules in
     let added = simp to_z-of_z at c.in_ok-create-in-CreateProcess.ensures.added in
     rw c.in-CreateProcess.is
-    (carried-create c.args.place c.args.period c.args.first_core c.args.cores.now c.args.call.now c.in-CreateProcess.name c.in-CreateProcess.priority c.in-CreateProcess.own_period
+    (carried-create c.args.moment.now.place c.args.period c.args.first_core c.args.moment.now.cores.now c.args.call.now c.in-CreateProcess.name c.in-CreateProcess.priority c.in-CreateProcess.own_period
     partition c.args.self.now _ c.claimed_number.result c.in-Some.number _ added refl c.requires.done sound c.claimed_number.ensures c.in-Some.is)
 
 pub returns-in-Start-clause-ok : goal.returns-in-Start-clause-ok
@@ -20,12 +20,12 @@ returns-in-Start-clause-ok c = λ partition seen.
     let fits : FitsSigned w64 c.in-Start.process = search rules in
     let started = simp to_z-of_z at c.start_named.ensures in
     rw c.in-Start.is
-    (carried-start c.args.place c.args.period c.args.first_core c.args.cores.now c.args.call.now c.in-Start.process partition c.args.self.now _ (ap (λ (processes : Processes). processes.mode) seen) started)
+    (carried-start c.args.moment.now.place c.args.period c.args.first_core c.args.moment.now.cores.now c.args.call.now c.in-Start.process partition c.args.self.now _ (ap (λ (processes : Processes). processes.mode) seen) started)
 
 pub returns-in_default : goal.returns-in_default
 returns-in_default c =
     record {
-      ok = λ partition seen. carried-none c.args.place c.args.period c.args.first_core c.args.cores.now c.args.call.now c.args.call.now.request partition c.args.self.now c.requires.sound.judged
+      ok = λ partition seen. carried-none c.args.moment.now.place c.args.period c.args.first_core c.args.moment.now.cores.now c.args.call.now c.args.call.now.request partition c.args.self.now c.requires.sound.judged
           c.in_default.not-CreateProcess c.in_default.not-InitializeProcessCoreAffinity c.in_default.not-Start c.in_default.not-SetPartitionMode;
       unchanged = tt;
     }

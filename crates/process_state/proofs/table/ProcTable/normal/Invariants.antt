@@ -10,5 +10,5 @@ abbrev pub invariant-loop-index : goal.invariant-loop-index
 invariant-loop-index l = record {
   mode : l.self-inside.mode ≡ mode.Normal;
   table : l.self-inside.processes.entries
-      ≡ each_below (λ (process : Process). after_normal l.place l.period (time_of l.cores process.affinity) process) l.index l.fn.self.table;
+      ≡ each_below (λ (process : Process). after_normal l.moment.place l.period (time_of l.moment.cores.now process.affinity) process) l.index l.fn.self.table;
 }

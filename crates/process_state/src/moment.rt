@@ -1,0 +1,11 @@
+// When a record comes.
+
+use apex_machine::CoreState;
+use apex_types::{CoreId, Place};
+
+/// When a record comes: its place in the order, its core, and the cores as they are then.
+pub struct Moment<'a> {
+    pub place: Place,
+    pub core: CoreId,
+    pub cores: &'a [CoreState],
+}
