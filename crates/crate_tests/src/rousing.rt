@@ -8,7 +8,7 @@ use apex_types::{
     Call, ChanId, Claim, Code, CoreId, Message, Name, Out, PartId, Place, ProcId, Request, Service,
     Who, Woken,
 };
-use process_state::ProcTable;
+use process_state::{Moment, ProcTable};
 use std::alloc::{AllocError, Global};
 use std::test::Fail;
 
@@ -23,6 +23,17 @@ fn cold_core() -> [CoreState; 1]
         time: 0,
         occupant: None,
     }]
+}
+
+// A record of that core at this place.
+fn at<'a>(place: u64, cores: &'a [CoreState]) -> Moment<'a>
+    ensures { result.cores.now ≡ cores.now }
+{
+    Moment {
+        place: Place::new(place),
+        core: CoreId::new(0),
+        cores,
+    }
 }
 
 // The process of this number of partition 3.
@@ -46,8 +57,9 @@ fn one_that_waits(alloc: Global) -> Result<ProcTable, AllocError> {
         let name = Name::new(Vec::from_slice(alloc, b"P1")?);
         table.create(core, number, &name, 10, -1)?;
     }
-    table.normal(Place::new(1), PERIOD, &cold_core());
-    table.start(number, Place::new(2), PERIOD, &cold_core());
+    let cores = cold_core();
+    table.normal(PERIOD, &at(1, &cores));
+    table.start(number, PERIOD, &at(2, &cores));
     table.wait(number, 10, Wait::At(receivers(), None));
     Ok(table)
 }

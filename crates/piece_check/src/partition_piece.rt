@@ -27,6 +27,7 @@ use apex_types::{
 };
 use dispatch_rule::{Clock, owns_window};
 use module_config::Config;
+use process_state::Moment;
 use std::alloc::AllocError;
 
 /// The piece of a partition: its number, the cores, and its state.
@@ -81,9 +82,7 @@ impl PartitionPiece {
             }
             Body::Disp(who) => self.clock.dispatch(ordered.core, *who),
             Body::Tick(woken) => {
-                self.state
-                    .processes
-                    .tick(self.number, ordered.pos, woken.as_slice());
+                self.state.processes.tick(self.number, ordered.pos, woken);
                 self.clock.advance(ordered.core);
             }
         }
@@ -106,10 +105,14 @@ impl PartitionPiece {
         if call.who.part == self.number {
             let first_core = config.first_core(self.number);
             let period = config.period(self.number);
-            let cores = self.clock.states();
+            let moment = Moment {
+                place: ordered.pos,
+                core: ordered.core,
+                cores: self.clock.states(),
+            };
             self.state
                 .processes
-                .call(first_core, period, cores, ordered.pos, ordered.core, call)
+                .call(first_core, period, &moment, call)
         } else {
             self.state.processes.rouse(self.number, ordered.pos, call)
         }
@@ -143,7 +146,7 @@ impl PartitionPiece {
         if !self
             .state
             .processes
-            .names_those_due(self.number, core, next, woken.as_slice())
+            .names_those_due(self.number, core, next, woken)
         {
             return Err(Cause::Woken);
         }

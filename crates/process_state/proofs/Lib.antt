@@ -5,6 +5,7 @@ pub mod Searches
 pub mod Due
 pub mod Ranks
 pub mod Below
+pub mod Rising
 pub mod Ticks
 pub mod Carried
 pub mod Called

@@ -63,45 +63,17 @@ named-more part named who change processes here new =
         rw (is_named-push (record { part = part; proc = number }) named who, here_too)
         (once (is_named (record { part = part; proc = number }) named) (nat_eq number who.proc) change process (unnamed part number named who here_too new))
 
--- one who is named before, or is of another partition, changes nothing
-pub named-same : (part : ℕ) (named : List Who) (who : Who) (change : Process → Process) (processes : Processes)
-    → nat_eq who.part part && not (is_named who named) ≡ false
+-- one of another partition changes nothing
+pub named-same : (part : ℕ) (named : List Who) (who : Who) (change : Process → Process) (processes : Processes) → nat_eq who.part part ≡ false
     → with_each (each_named part named change) processes ≡ with_each (each_named part (named ++ who ∷ []) change) processes
-named-same part named who change processes not_new = ap (with_table processes) (each_item-congr _ _ one processes.table)
+named-same part named who change processes elsewhere = ap (with_table processes) (each_item-congr _ _ one processes.table)
   where
-    by : (a d : Bool) (process : Process) → (d ≡ true → a ≡ true) → (if a then change process else process) ≡ (if a || d then change process else process)
-    by true d process was = refl
-    by false true process was = let impossible : false ≡ true = was refl in cc
-    by false false process was = refl
-
-    second : (a b : Bool) → a ≡ true → a && not b ≡ false → b ≡ true
-    second true true h k = refl
-    second true false h k = cc
-    second false b h k = cc
-
-    before : (number : ℕ) → nat_eq part who.part && nat_eq number who.proc ≡ true → is_named (record { part = part; proc = number }) named ≡ true
-    before number same =
-        let part_same : nat_eq part who.part ≡ true = both-left _ _ same in
-        let number_same : nat_eq number who.proc ≡ true = both-right (nat_eq part who.part) _ same in
-        let part_is : part ≡ who.part = grind (arith, nat_tests) in
-        let number_is : number ≡ who.proc = grind (arith, nat_tests) in
-        let here : nat_eq who.part part ≡ true = grind (arith, nat_tests) in
-        let whole : record { part = part; proc = number } ≡ who = λ i. record { part = part_is i; proc = number_is i } in
-        rw whole (second _ _ here not_new)
+    by : (a : Bool) (process : Process) → (if a then change process else process) ≡ (if a || false then change process else process)
+    by true process = refl
+    by false process = refl
 
     one : (number : ℕ) (process : Process) → each_named part named change number process ≡ each_named part (named ++ who ∷ []) change number process
     one number process =
-        rw (is_named-push (record { part = part; proc = number }) named who)
-        (by (is_named (record { part = part; proc = number }) named) (nat_eq part who.part && nat_eq number who.proc) process (before number))
-
--- what a test of one more process says
-
-pub is_here : (part : ℕ) (named : List Who) (who : Who) → nat_eq who.part part && not (is_named who named) ≡ true → nat_eq who.part part ≡ true
-is_here part named who new = both-left _ _ new
-
-pub is_new : (part : ℕ) (named : List Who) (who : Who) → nat_eq who.part part && not (is_named who named) ≡ true → is_named who named ≡ false
-is_new part named who new = negated _ (both-right (nat_eq who.part part) _ new)
-  where
-    negated : (b : Bool) → not b ≡ true → b ≡ false
-    negated true h = cc
-    negated false h = refl
+        let elsewhere_too : nat_eq part who.part ≡ false = grind (arith, nat_tests) in
+        rw (is_named-push (record { part = part; proc = number }) named who, elsewhere_too)
+        (by (is_named (record { part = part; proc = number }) named) process)

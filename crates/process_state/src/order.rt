@@ -1,6 +1,6 @@
 // Which processes are ready, fall due or are named, and which goes before another.
 
-ghost use Rattle.std.specs.Prelude.{◌≡◌, ◌&&◌, ℕ, Some, MatchOption, if◌then◌else◌, nat_eq, not};
+ghost use Rattle.std.specs.Prelude.{◌≡◌, ℕ, Some, MatchOption, if◌then◌else◌, nat_eq};
 ghost use Rattle.apex_machine.specs.declared.state.Process.{Process as ProcessValue};
 ghost use Rattle.apex_machine.specs.Choice as choice;
 ghost use Rattle.apex_machine.specs.State as state;
@@ -79,9 +79,9 @@ pub fn is_named(who: Who, named: &[Who]) -> bool
     named.iter().any(|other| who == *other)
 }
 
-/// Whether this process is of this partition, and not among those named before.
-pub fn is_newly_named(who: Who, part: PartId, before: &[Who]) -> bool
-    ensures { result ≡ nat_eq who.part part && not (state.is_named who before.now) }
+/// Whether this process is of this partition.
+pub fn is_of(who: Who, part: PartId) -> bool
+    ensures { result ≡ nat_eq who.part part }
 {
-    who.part == part && !is_named(who, before)
+    who.part == part
 }

@@ -22,7 +22,7 @@ use crate::order::{Rank, falls_due, first_of, is_named, is_ready};
 use crate::process::initialising;
 use crate::wait;
 use apex_machine::{Mode, Process, WaitingSet};
-use apex_types::{CoreId, Name, PartId, ProcId, Who};
+use apex_types::{CoreId, Name, PartId, ProcId, Who, Woken};
 use indexmap::IndexMap;
 use std::alloc::{AllocError, Global};
 use std::marker::Model;
@@ -128,10 +128,11 @@ impl ProcTable {
 
     /// Whether, of this partition, the list names exactly the processes of the core whose wait is over once the core comes
     /// to this time, in ticks.
-    pub fn names_those_due(&self, part: PartId, core: CoreId, time: u64, woken: &[Who]) -> bool
+    pub fn names_those_due(&self, part: PartId, core: CoreId, time: u64, woken: &Woken) -> bool
         ensures { IsTrue result ↔ due_times.NamesThoseDue part core time self.now.table woken.now }
     {
-        self.named_fall_due(part, core, time, woken) && self.due_are_named(part, core, time, woken)
+        let named = woken.as_slice();
+        self.named_fall_due(part, core, time, named) && self.due_are_named(part, core, time, named)
     }
 
     /// Whether a claimed value is a number that a new process can take: 1 to 2,147,483,647, and no process has it.

@@ -20,8 +20,8 @@ use crate::caller::{Settling, is_done, settling_of};
 use crate::gift::gifts_of;
 use crate::moment::Moment;
 use crate::number::claimed_number;
-use crate::order::is_newly_named;
-use apex_types::{Call, CoreId, PartId, Place, ProcId, Request, Who};
+use crate::order::is_of;
+use apex_types::{Call, CoreId, PartId, Place, ProcId, Request, Woken};
 use std::alloc::AllocError;
 
 impl ProcTable {
@@ -66,8 +66,8 @@ impl ProcTable {
         let alloc = *self.processes.allocator();
         let woken = call.claim.woken.as_slice();
         let mut gifts = gifts_of(alloc, &call.request, woken.len())?;
-        for (index, who) in woken.iter().enumerate() {
-            if is_newly_named(*who, part, &woken[..index]) {
+        for who in woken {
+            if is_of(*who, part) {
                 if let Some(gift) = gifts.pop() {
                     self.wake(who.proc, place, gift);
                 }
@@ -77,12 +77,12 @@ impl ProcTable {
     }
 
     /// A tick that ends the waits of these processes, at this place; those of other partitions stay out. Takes no memory.
-    pub fn tick(&mut self, part: PartId, place: Place, woken: &[Who])
+    pub fn tick(&mut self, part: PartId, place: Place, woken: &Woken)
         ensures { self.new ≡ with_each (after.ticked place part woken.now) self.old }
     {
-        for (index, who) in woken.iter().enumerate() {
-            // A wait ends once, also where a list names its process twice.
-            if is_newly_named(*who, part, &woken[..index]) {
+        let named = woken.as_slice();
+        for who in named {
+            if is_of(*who, part) {
                 self.release(who.proc, place);
             }
         }

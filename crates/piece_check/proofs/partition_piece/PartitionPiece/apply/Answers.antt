@@ -14,4 +14,4 @@ apply_call-requires-clause-sound c = λ same.
 
 pub returns-in-Tick-clause-ok : goal.returns-in-Tick-clause-ok
 returns-in-Tick-clause-ok c =
-    rw (c.in-Tick.is, ← c.as_slice.ensures.list, c.tick.ensures, c.advance.ensures) refl
+    rw (c.in-Tick.is, c.tick.ensures, c.advance.ensures) refl

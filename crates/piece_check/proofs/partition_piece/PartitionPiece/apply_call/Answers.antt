@@ -23,4 +23,4 @@ returns-then-eq-clause-ok c =
     (λ becomes. ap (PartitionPart held.number held.clock.cores)
     (partition_is_called a.config.now held.clock.cores a.ordered.now.pos a.ordered.now.core call held.state.processes c.call.new.self sound.judged
     (becomes a.config.now (partition_of held.state) first ticks refl)))
-    (rw c.states-cores.ensures at c.call.ensures.ok))
+    (rw c.states.ensures at c.call.ensures.ok))

@@ -5,9 +5,9 @@ use Rattle.process_state.specs.Gifts.{AreCopies}
 use Rattle.process_state.proofs.Ticks.{each_named}
 use Rattle.process_state.proofs.table.ProcTable.rouse.Given as goal
 
-abbrev pub invariant-loop-index : goal.invariant-loop-index
-invariant-loop-index l = record {
-  named : l.self ≡ with_each (each_named l.part (take l.index l.woken) (woken_by l.place (gift_of l.call.request))) l.fn.self;
+abbrev pub invariant-loop-who : goal.invariant-loop-who
+invariant-loop-who l = record {
+  named : l.self ≡ with_each (each_named l.part (take l.who-index l.woken) (woken_by l.place (gift_of l.call.request))) l.fn.self;
   alike : AreCopies (gift_of l.call.request) l.gifts.items;
-  enough : length l.woken ≤ vec_len l.gifts + l.index;
+  enough : length l.woken ≤ vec_len l.gifts + l.who-index;
 }

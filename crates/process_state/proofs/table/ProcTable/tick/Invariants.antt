@@ -4,5 +4,5 @@ use Rattle.process_state.specs.Changes.{with_each}
 use Rattle.process_state.proofs.Ticks.{each_named}
 use Rattle.process_state.proofs.table.ProcTable.tick.Given as goal
 
-abbrev pub invariant-loop-index : goal.invariant-loop-index
-invariant-loop-index l = l.self ≡ with_each (each_named l.part (take l.index l.woken) (released l.place)) l.fn.self
+abbrev pub invariant-loop-who : goal.invariant-loop-who
+invariant-loop-who l = l.self ≡ with_each (each_named l.part (take l.who-index l.named) (released l.place)) l.fn.self
