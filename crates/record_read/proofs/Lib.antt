@@ -1,4 +1,9 @@
 pub mod Empty
+pub mod GrammarFields
+pub mod GrammarLists
+pub mod GrammarTexts
+pub mod GrammarNames
+pub mod GrammarRows
 pub mod Hexadecimal
 pub mod Lengths
 pub mod Memory

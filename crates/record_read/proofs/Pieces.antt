@@ -133,6 +133,7 @@ next_behind last text who e = by (process_of text) e
     of_test : (test : Bool) (found : Who) → test ≡ stands_behind last found → (if test then Some found else None) ≡ Some who → stands_behind last who ≡ true
     of_test true found t e = subst (λ other. stands_behind last other ≡ true) (same_Some found who e) (sym t)
     of_test false found t e = absurd (none-some who e)
+
     by : (o : Option Who) → option_and_then (λ found. if stands_behind last found then Some found else None) o ≡ Some who → stands_behind last who ≡ true
     by (Some found) e = of_test (stands_behind last found) found refl e
     by None e = absurd (none-some who e)
@@ -152,6 +153,7 @@ rising_behind last (piece ∷ pieces) named e = by (λ who. rising_behind (Some 
         → (o : Option (List Who)) → processes_behind (Some who) pieces ≡ o → option_map (λ rest. who ∷ rest) o ≡ Some named → RisesBehind last named
     with_more who behind rises (Some rest) is e = subst (RisesBehind last) (same_Some (who ∷ rest) named e) (rises_with last who rest behind (rises rest is))
     with_more who behind rises None is e = absurd (none-some named e)
+
     by : ((who : Who) (rest : List Who) → processes_behind (Some who) pieces ≡ Some rest → RisesFrom who rest) → (o : Option Who) → next_process last piece ≡ o
         → option_and_then (λ who. option_map (λ rest. who ∷ rest) (processes_behind (Some who) pieces)) o ≡ Some named → RisesBehind last named
     by rises (Some who) is e = with_more who (next_behind last piece who is) (rises who) (processes_behind (Some who) pieces) refl e

@@ -6,3 +6,5 @@ pub mod Woken
 pub mod Arguments
 pub mod Row
 pub mod Memory
+pub mod Grammar
+pub mod GrammarLaws

@@ -1,7 +1,8 @@
 //! The records of a core's recording, read row by row.
 //!
 //! Promises: the n-th answer of a source is the record that the n-th row of the text is by the row grammar, or the
-//! first fault of that row from left to right; the end is told only behind the last row.
+//! first fault of that row from left to right; the end is told only behind the last row. The grammar is a relation between
+//! rows and records (`IsRow`), and a row is read as a record exactly where the relation holds.
 #![tactic(auto)]
 
 mod arguments;
@@ -10,6 +11,7 @@ mod dispatch;
 mod fault;
 mod field;
 mod kind;
+mod laws;
 mod named;
 mod payload;
 mod request;
@@ -19,4 +21,5 @@ mod source;
 mod woken;
 
 pub use fault::RowFault;
+pub use laws::{one_record_of_a_row, rows_are_the_grammar};
 pub use source::RowSource;

@@ -1,0 +1,104 @@
+-- One field: a step of the reader gives a value exactly where the field holds it.
+use Rattle.std.proofs.Common.{◌≡◌, ℕ, ℤ, pos, List, [], ◌∷◌, Bool, true, false, Option, Some, None, Result, Ok, Err, refl, sym, ap, subst, if◌then◌else◌}
+use Rattle.std.specs.Option.{ok_or}
+use Rattle.csv_rows.specs.Decimal.{decimal, signed_decimal}
+use Rattle.record_read.specs.declared.fault.RowFault.{RowFault}
+use Rattle.record_read.specs.declared.fault.RowFault.TheVariants.{BadNumber, FieldNotForKind}
+use Rattle.record_read.specs.Field.{argument, empty, maybe_number, maybe_signed, number, signed}
+use Rattle.record_read.specs.Grammar.{HoldsIf, HoldsNumber, HoldsSigned, MayHold}
+use Rattle.record_read.specs.Steps.{◌>>=◌}
+
+-- one value is given
+pub same_ok : {A : Type 0} (x y : A) → ◌≡◌ {A = Result A RowFault} (Ok x) (Ok y) → x ≡ y
+same_ok x y e = cc
+
+-- a fault is no value
+pub no_fault : {A : Type 0} {Goal : Type 0} (fault : RowFault) (y : A) → ◌≡◌ {A = Result A RowFault} (Err fault) (Ok y) → Goal
+no_fault fault y e = absurd (let f : ◌≡◌ {A = Result _ RowFault} (Err fault) (Ok y) = e in cc)
+
+-- a step that gave a value, and the steps behind it
+pub step_ok : {A B : Type 0} (read : Result A RowFault) (more : A → Result B RowFault) (y : B) → (read >>= more) ≡ Ok y → (x : A) × (read ≡ Ok x) × (more x ≡ Ok y)
+step_ok (Ok x) more y e = (x, refl, e)
+step_ok (Err fault) more y e = no_fault fault y e
+
+-- what an option gave, or else a fault
+pub ok_some : {A : Type 0} (o : Option A) (fault : RowFault) (x : A) → ok_or o fault ≡ Ok x → o ≡ Some x
+ok_some None fault x e = no_fault fault x e
+ok_some (Some y) fault x e = ap Some (same_ok y x e)
+
+-- what a test lets through
+pub test_ok : {A : Type 0} (test : Bool) (fault : RowFault) (x y : A) → (if test then Ok x else Err fault) ≡ Ok y → (test ≡ true) × (x ≡ y)
+test_ok true fault x y e = (refl, same_ok x y e)
+test_ok false fault x y e = no_fault fault y e
+
+-- numbers
+pub number_holds : (greatest : ℕ) (text : List ℕ) (n : ℕ) → number greatest text ≡ Ok n → HoldsNumber greatest text n
+unfolding number
+number_holds greatest [] n e = no_fault FieldNotForKind n e
+number_holds greatest (b ∷ bs) n e = ok_some (decimal greatest (b ∷ bs)) BadNumber n e
+
+pub holds_number : (greatest : ℕ) (text : List ℕ) (n : ℕ) → HoldsNumber greatest text n → number greatest text ≡ Ok n
+unfolding number decimal
+holds_number greatest [] n h = let f : ◌≡◌ {A = Option ℕ} None (Some n) = h in cc
+holds_number greatest (b ∷ bs) n h = ap (λ o. ok_or o BadNumber) h
+
+pub signed_holds : (text : List ℕ) (n : ℤ) → signed text ≡ Ok n → HoldsSigned text n
+unfolding signed
+signed_holds [] n e = no_fault FieldNotForKind n e
+signed_holds (b ∷ bs) n e = ok_some (signed_decimal (b ∷ bs)) BadNumber n e
+
+pub holds_signed : (text : List ℕ) (n : ℤ) → HoldsSigned text n → signed text ≡ Ok n
+unfolding signed signed_decimal
+holds_signed [] n h = let f : ◌≡◌ {A = Option ℤ} None (Some n) = h in cc
+holds_signed (b ∷ bs) n h = ap (λ o. ok_or o BadNumber) h
+
+-- numbers that may be left out
+pub maybe_number_holds : (greatest : ℕ) (text : List ℕ) (o : Option ℕ) → maybe_number greatest text ≡ Ok o → MayHold (HoldsNumber greatest) text o
+unfolding maybe_number
+maybe_number_holds greatest [] o e = subst (MayHold (HoldsNumber greatest) []) (same_ok None o e) refl
+maybe_number_holds greatest (b ∷ bs) o e =
+    let s = step_ok (number greatest (b ∷ bs)) (λ n. Ok (Some n)) o e in
+    subst (MayHold (HoldsNumber greatest) (b ∷ bs)) (same_ok (Some s.0) o s.2) (number_holds greatest (b ∷ bs) s.0 s.1)
+
+pub holds_maybe_number : (greatest : ℕ) (text : List ℕ) (o : Option ℕ) → MayHold (HoldsNumber greatest) text o → maybe_number greatest text ≡ Ok o
+unfolding maybe_number decimal
+holds_maybe_number greatest text None h = rw h refl
+holds_maybe_number greatest [] (Some n) h = let f : ◌≡◌ {A = Option ℕ} None (Some n) = h in cc
+holds_maybe_number greatest (b ∷ bs) (Some n) h = rw (holds_number greatest (b ∷ bs) n h) refl
+
+pub maybe_signed_holds : (text : List ℕ) (o : Option ℤ) → maybe_signed text ≡ Ok o → MayHold HoldsSigned text o
+unfolding maybe_signed
+maybe_signed_holds [] o e = subst (MayHold HoldsSigned []) (same_ok None o e) refl
+maybe_signed_holds (b ∷ bs) o e =
+    let s = step_ok (signed (b ∷ bs)) (λ n. Ok (Some n)) o e in
+    subst (MayHold HoldsSigned (b ∷ bs)) (same_ok (Some s.0) o s.2) (signed_holds (b ∷ bs) s.0 s.1)
+
+pub holds_maybe_signed : (text : List ℕ) (o : Option ℤ) → MayHold HoldsSigned text o → maybe_signed text ≡ Ok o
+unfolding maybe_signed signed_decimal
+holds_maybe_signed text None h = rw h refl
+holds_maybe_signed [] (Some n) h = let f : ◌≡◌ {A = Option ℤ} None (Some n) = h in cc
+holds_maybe_signed (b ∷ bs) (Some n) h = rw (holds_signed (b ∷ bs) n h) refl
+
+-- empty fields
+pub empty_is : (text : List ℕ) → empty text ≡ Ok tt → text ≡ []
+empty_is [] e = refl
+empty_is (b ∷ bs) e = no_fault FieldNotForKind tt e
+
+-- what stands for an empty field
+pub unused_is : {A : Type 0} (text : List ℕ) (unused value : A) → (empty text >>= (λ u. Ok unused)) ≡ Ok value → (text ≡ []) × (value ≡ unused)
+unused_is [] unused value e = (refl, sym (same_ok unused value e))
+unused_is (b ∷ bs) unused value e = no_fault FieldNotForKind value e
+
+pub is_unused : {A : Type 0} (text : List ℕ) (unused value : A) → (text ≡ []) × (value ≡ unused) → (empty text >>= (λ u. Ok unused)) ≡ Ok value
+is_unused text unused value h = rw (h.0, h.1) refl
+
+-- arguments
+pub argument_holds : (taken : Bool) (text : List ℕ) (n : ℤ) → argument taken text ≡ Ok n → HoldsIf taken (pos 0) HoldsSigned text n
+unfolding argument
+argument_holds true text n e = signed_holds text n e
+argument_holds false text n e = unused_is text (pos 0) n e
+
+pub holds_argument : (taken : Bool) (text : List ℕ) (n : ℤ) → HoldsIf taken (pos 0) HoldsSigned text n → argument taken text ≡ Ok n
+unfolding argument
+holds_argument true text n h = holds_signed text n h
+holds_argument false text n h = is_unused text (pos 0) n h

@@ -1,0 +1,133 @@
+-- What is given by its name: a step of the reader gives it exactly where the field is its name.
+use Rattle.std.proofs.Common.{◌≡◌, ◌∙◌, ℕ, List, [], ◌∷◌, Bool, true, false, Option, Some, None, Ok, refl, sym, ap, subst, if◌then◌else◌}
+use Rattle.std.specs.Prelude.{codes, option_map}
+use Rattle.std.specs.Str.{bytes_eq}
+use Rattle.std.proofs.lemmas.Option.{none-some, same_Some}
+use Rattle.std.proofs.lemmas.Slice.Eq.{bytes_eq-Decides}
+use Rattle.apex_types.specs.declared.code.Code.{Code}
+use Rattle.apex_types.specs.declared.code.Code.TheVariants as code
+use Rattle.apex_types.specs.declared.record.Out.{Out}
+use Rattle.apex_types.specs.declared.record.Out.TheVariants as out
+use Rattle.apex_types.specs.declared.service.Service.{Service}
+use Rattle.apex_types.specs.declared.service.Service.TheVariants as service
+use Rattle.apex_types.specs.CodeName as CodeName
+use Rattle.apex_types.specs.ServiceName as ServiceName
+use Rattle.record_read.specs.declared.fault.RowFault.TheVariants.{BadKind, BadOut, BadService, FieldNotForKind}
+use Rattle.record_read.specs.declared.kind.Kind.{Kind}
+use Rattle.record_read.specs.declared.kind.Kind.TheVariants as kind
+use Rattle.record_read.specs.Grammar.{HoldsOutcome}
+use Rattle.record_read.specs.Named.{all_codes, all_services, code_among, code_named, code_of, kind_named, kind_of, out_named, out_of, service_among, service_named, service_of}
+use Rattle.record_read.proofs.GrammarFields.{no_fault, ok_some}
+
+-- the first of two finds: the text has the first name and this is what it names, or the second find gives it
+first_is : {A : Type 0} (name text : List ℕ) (named : A) (others : Option A) (found : A) (Holds : A → Type 0) → (name ≡ text → Holds named)
+    → (others ≡ Some found → Holds found) → (if bytes_eq name text then Some named else others) ≡ Some found → Holds found
+first_is name text named others found Holds first more e = by (bytes_eq name text) refl e
+  where
+    by : (same : Bool) → bytes_eq name text ≡ same → (if same then Some named else others) ≡ Some found → Holds found
+    by true same e = subst Holds (same_Some named found e) (first ((bytes_eq-Decides name text).0 same))
+    by false same e = more e
+
+-- the name of each kind of row
+abbrev pub kind_name : Kind → List ℕ
+kind_name kind.Call = codes "call"
+kind_name kind.Ret = codes "ret"
+kind_name kind.Disp = codes "disp"
+kind_name kind.Tick = codes "tick"
+
+kind_named_is : (text : List ℕ) (k : Kind) → kind_named text ≡ Some k → text ≡ kind_name k
+unfolding kind_named
+kind_named_is text k e =
+    first_is text (codes "call") kind.Call _ k (λ found. text ≡ kind_name found) (λ same. same)
+    (first_is text (codes "ret") kind.Ret _ k (λ found. text ≡ kind_name found) (λ same. same)
+    (first_is text (codes "disp") kind.Disp _ k (λ found. text ≡ kind_name found) (λ same. same)
+    (first_is text (codes "tick") kind.Tick None k (λ found. text ≡ kind_name found) (λ same. same)
+    (λ none. absurd (none-some k none))))) e
+
+pub kind_is : (text : List ℕ) (k : Kind) → kind_of text ≡ Ok k → text ≡ kind_name k
+unfolding kind_of
+kind_is [] k e = no_fault FieldNotForKind k e
+kind_is (b ∷ bs) k e = kind_named_is (b ∷ bs) k (ok_some (kind_named (b ∷ bs)) BadKind k e)
+
+of_kind_name : (k : Kind) → kind_of (kind_name k) ≡ Ok k
+unfolding kind_of kind_named
+of_kind_name kind.Call = refl
+of_kind_name _ = refl
+
+pub is_kind : (text : List ℕ) (k : Kind) → text ≡ kind_name k → kind_of text ≡ Ok k
+is_kind text k e = ap kind_of e ∙ of_kind_name k
+
+-- services
+service_among_is : (services : List Service) (text : List ℕ) (s : Service) → service_among services text ≡ Some s → text ≡ ServiceName.name_of s
+unfolding service_among
+service_among_is [] text s e = absurd (none-some s e)
+service_among_is (first ∷ others) text s e =
+    first_is (ServiceName.name_of first) text first (service_among others text) s (λ found. text ≡ ServiceName.name_of found) sym (service_among_is others text s) e
+
+pub service_is : (text : List ℕ) (s : Service) → service_of text ≡ Ok s → text ≡ ServiceName.name_of s
+unfolding service_of service_named
+service_is [] s e = no_fault FieldNotForKind s e
+service_is (b ∷ bs) s e = service_among_is all_services (b ∷ bs) s (ok_some (service_named (b ∷ bs)) BadService s e)
+
+of_service_name : (s : Service) → service_of (ServiceName.name_of s) ≡ Ok s
+unfolding service_of service_named service_among
+of_service_name service.CreateProcess = refl
+of_service_name _ = refl
+
+pub is_service : (text : List ℕ) (s : Service) → text ≡ ServiceName.name_of s → service_of text ≡ Ok s
+is_service text s e = ap service_of e ∙ of_service_name s
+
+-- codes
+code_among_is : (cs : List Code) (text : List ℕ) (c : Code) → code_among cs text ≡ Some c → text ≡ CodeName.name_of c
+unfolding code_among
+code_among_is [] text c e = absurd (none-some c e)
+code_among_is (first ∷ others) text c e =
+    first_is (CodeName.name_of first) text first (code_among others text) c (λ found. text ≡ CodeName.name_of found) sym (code_among_is others text c) e
+
+pub code_is : (text : List ℕ) (c : Code) → code_of text ≡ Ok c → text ≡ CodeName.name_of c
+unfolding code_of
+code_is [] c e = no_fault FieldNotForKind c e
+code_is (b ∷ bs) c e = code_among_is all_codes (b ∷ bs) c (ok_some (code_named (b ∷ bs)) BadOut c e)
+
+of_code_name : (c : Code) → code_of (CodeName.name_of c) ≡ Ok c
+unfolding code_of code_among
+of_code_name code.NoError = refl
+of_code_name _ = refl
+
+pub is_code : (text : List ℕ) (c : Code) → text ≡ CodeName.name_of c → code_of text ≡ Ok c
+is_code text c e = ap code_of e ∙ of_code_name c
+
+-- outcomes
+answer_is : (text : List ℕ) (o : Out) (found : Option Code) → code_named text ≡ found → option_map out.Answer found ≡ Some o → HoldsOutcome text o
+answer_is text o None none e = absurd (none-some o e)
+answer_is text o (Some c) is e = subst (HoldsOutcome text) (same_Some (out.Answer c) o e) (code_among_is all_codes text c is)
+
+out_named_is : (text : List ℕ) (o : Out) → out_named text ≡ Some o → HoldsOutcome text o
+unfolding out_named
+out_named_is text o e =
+    first_is text (codes "wait") out.Waits _ o (HoldsOutcome text) (λ same. same)
+    (first_is text (codes "none") out.Never (option_map out.Answer (code_named text)) o (HoldsOutcome text) (λ same. same)
+    (answer_is text o (code_named text) refl)) e
+
+pub outcome_is : (text : List ℕ) (o : Out) → out_of text ≡ Ok o → HoldsOutcome text o
+unfolding out_of
+outcome_is [] o e = no_fault FieldNotForKind o e
+outcome_is (b ∷ bs) o e = out_named_is (b ∷ bs) o (ok_some (out_named (b ∷ bs)) BadOut o e)
+
+of_code_outcome : (c : Code) → out_of (CodeName.name_of c) ≡ Ok (out.Answer c)
+unfolding out_of out_named code_among
+of_code_outcome code.NoError = refl
+of_code_outcome _ = refl
+
+waits_is : out_of (codes "wait") ≡ Ok out.Waits
+unfolding out_of out_named
+waits_is = refl
+
+never_is : out_of (codes "none") ≡ Ok out.Never
+unfolding out_of out_named
+never_is = refl
+
+pub is_outcome : (text : List ℕ) (o : Out) → HoldsOutcome text o → out_of text ≡ Ok o
+is_outcome text out.Waits e = ap out_of e ∙ waits_is
+is_outcome text out.Never e = ap out_of e ∙ never_is
+is_outcome text (out.Answer c) e = ap out_of e ∙ of_code_outcome c

@@ -1,0 +1,344 @@
+-- Whole rows: the reader's steps from left to right give a record exactly where the row is the record's.
+use Rattle.std.proofs.Common.{◌≡◌, ◌∙◌, ◌≤◌, ◌+◌, ◌*◌, ◌-◌, ℕ, zero, suc, pred, List, [], ◌∷◌, ◌++◌, Bool, true, false, Option, Some, None, Result, Ok, Err, length, refl, sym, ap, subst, nat_le, nat_lt, nat_eq, arith, if◌then◌else◌, ◌==◌, ◌&&◌}
+use Rattle.std.specs.Prelude.{codes}
+use Rattle.std.specs.Char.{is_ascii_digit}
+use Rattle.std.proofs.lemmas.Bool.{eq-eqb, eqb-true, leb-true, lt-ltb}
+use Rattle.std.proofs.lemmas.Option.{none-some, same_Some}
+use Rattle.csv_rows.specs.Decimal.{decimal, digits_from}
+use Rattle.csv_rows.specs.Stream.{Fields}
+use Rattle.apex_types.specs.Bounds.{greatest_channel, greatest_number, greatest_partition, greatest_priority, most_records}
+use Rattle.apex_types.specs.declared.record.Body.{Body}
+use Rattle.apex_types.specs.declared.record.Body.TheVariants as body
+use Rattle.apex_types.specs.declared.record.Call.{Call}
+use Rattle.apex_types.specs.declared.record.Claim.{Claim}
+use Rattle.apex_types.specs.declared.record.Record.{Record}
+use Rattle.apex_types.specs.declared.record.Return.{Return}
+use Rattle.apex_types.specs.declared.record.Who.{Who}
+use Rattle.apex_types.specs.declared.request.Request.{Request}
+use Rattle.record_read.specs.declared.fault.RowFault.{RowFault}
+use Rattle.record_read.specs.declared.fault.RowFault.TheVariants.{FieldCount, SeqGap, TooMany}
+use Rattle.record_read.specs.declared.kind.Kind.{Kind}
+use Rattle.record_read.specs.declared.kind.Kind.TheVariants as kind
+use Rattle.record_read.specs.Arguments.{arguments_of, request_of}
+use Rattle.record_read.specs.Field.{all_empty, empty, maybe_number, text_at}
+use Rattle.record_read.specs.Grammar.{AreEmpty, Dispatches, HoldsClaim, HoldsNumber, HoldsRequest, IsRow, IsRowOf, IsRowOfCall, IsRowOfDispatch, IsRowOfReturn, IsRowOfTick, NamesProcess, columns_of}
+use Rattle.record_read.specs.GrammarLaws.{OneRecordOfARow, RowsAreTheGrammar}
+use Rattle.record_read.specs.Row.{body_in, call_in, claim_in, dispatch_in, fields_read, proc_of, record_of, request_in, return_in, seq_in, tick_in, who_in}
+use Rattle.record_read.proofs.GrammarFields.{argument_holds, empty_is, holds_argument, holds_maybe_number, holds_maybe_signed, holds_number, maybe_number_holds, maybe_signed_holds, no_fault, number_holds, same_ok, step_ok, test_ok}
+use Rattle.record_read.proofs.GrammarLists.{hold_processes, processes_hold}
+use Rattle.record_read.proofs.GrammarNames.{code_is, is_code, is_kind, is_outcome, is_service, kind_is, kind_name, outcome_is, service_is}
+use Rattle.record_read.proofs.GrammarTexts.{data_holds, holds_data, holds_message, holds_name, message_holds, name_holds}
+
+-- so many fields from this place on
+abbrev pub texts_from : Fields → ℕ → ℕ → List (List ℕ)
+texts_from fields place zero = []
+texts_from fields place (suc n) = text_at fields place ∷ texts_from fields (suc place) n
+
+all_are_empty : (fields : Fields) (place count : ℕ) → all_empty fields place count ≡ Ok tt → AreEmpty (texts_from fields place count)
+unfolding all_empty
+all_are_empty fields place zero e = tt
+all_are_empty fields place (suc n) e =
+    let s = step_ok (empty (text_at fields place)) (λ u. all_empty fields (suc place) n) tt e in
+    (empty_is (text_at fields place) s.1, all_are_empty fields (suc place) n s.2)
+
+are_all_empty : (fields : Fields) (place count : ℕ) → AreEmpty (texts_from fields place count) → all_empty fields place count ≡ Ok tt
+unfolding all_empty
+are_all_empty fields place zero h = refl
+are_all_empty fields place (suc n) h = rw h.0 (are_all_empty fields (suc place) n h.1)
+
+-- empty fields behind others
+both_empty : (front back : List (List ℕ)) → AreEmpty front → AreEmpty back → AreEmpty (front ++ back)
+both_empty [] back h k = k
+both_empty (text ∷ texts) back h k = (h.0, both_empty texts back h.1 k)
+
+front_empty : (front back : List (List ℕ)) → AreEmpty (front ++ back) → AreEmpty front
+front_empty [] back h = tt
+front_empty (text ∷ texts) back h = (h.0, front_empty texts back h.1)
+
+back_empty : (front back : List (List ℕ)) → AreEmpty (front ++ back) → AreEmpty back
+back_empty [] back h = h
+back_empty (text ∷ texts) back h = back_empty texts back h.1
+
+-- the process of a call or a return
+who_is : (fields : Fields) (who : Who) → who_in fields ≡ Ok who → NamesProcess (columns_of fields) who
+unfolding who_in
+who_is fields who e =
+    let part = step_ok _ _ who e in
+    let proc = step_ok _ _ who part.2 in
+    subst (NamesProcess (columns_of fields)) (same_ok (record { part = part.0; proc = proc.0 }) who proc.2) (record {
+      part = number_holds greatest_partition (text_at fields 2) part.0 part.1;
+      proc = number_holds greatest_number (text_at fields 3) proc.0 proc.1;
+    })
+
+is_who : (fields : Fields) (who : Who) → NamesProcess (columns_of fields) who → who_in fields ≡ Ok who
+unfolding who_in
+is_who fields who h = rw (holds_number greatest_partition (text_at fields 2) who.part h.part, holds_number greatest_number (text_at fields 3) who.proc h.proc) refl
+
+-- the request of a call
+request_is : (fields : Fields) (request : Request) → request_in fields ≡ Ok request → HoldsRequest (columns_of fields) request
+unfolding request_in
+request_is fields request e =
+    let service = step_ok _ _ request e in
+    let n1 = step_ok _ _ request service.2 in
+    let n2 = step_ok _ _ request n1.2 in
+    let n3 = step_ok _ _ request n2.2 in
+    let name = step_ok _ _ request n3.2 in
+    let message = step_ok _ _ request name.2 in
+    let takes = arguments_of service.0 in
+    record {
+      service = service.0;
+      n1 = n1.0;
+      n2 = n2.0;
+      n3 = n3.0;
+      name = name.0;
+      message = message.0;
+      is = sym (same_ok (request_of service.0 n1.0 n2.0 n3.0 name.0 message.0) request message.2);
+      has_service = service_is (text_at fields 4) service.0 service.1;
+      has_n1 = argument_holds (nat_le 1 takes.numbers) (text_at fields 5) n1.0 n1.1;
+      has_n2 = argument_holds (nat_le 2 takes.numbers) (text_at fields 6) n2.0 n2.1;
+      has_n3 = argument_holds (nat_le 3 takes.numbers) (text_at fields 7) n3.0 n3.1;
+      has_name = name_holds takes.name (text_at fields 8) name.0 name.1;
+      has_message = message_holds takes.message n2.0 (text_at fields 9) message.0 message.1;
+    }
+
+is_request : (fields : Fields) (request : Request) → HoldsRequest (columns_of fields) request → request_in fields ≡ Ok request
+unfolding request_in
+is_request fields request h =
+    let takes = arguments_of h.service in
+    rw (
+      is_service (text_at fields 4) h.service h.has_service,
+      holds_argument (nat_le 1 takes.numbers) (text_at fields 5) h.n1 h.has_n1,
+      holds_argument (nat_le 2 takes.numbers) (text_at fields 6) h.n2 h.has_n2,
+      holds_argument (nat_le 3 takes.numbers) (text_at fields 7) h.n3 h.has_n3,
+      holds_name takes.name (text_at fields 8) h.name h.has_name,
+      holds_message takes.message h.n2 (text_at fields 9) h.message h.has_message,
+    ) (ap Ok (sym h.is))
+
+-- what a call claims
+claim_is : (fields : Fields) (claim : Claim) → claim_in fields ≡ Ok claim → HoldsClaim (columns_of fields) claim
+unfolding claim_in
+claim_is fields claim e =
+    let prio = step_ok _ _ claim e in
+    let out = step_ok _ _ claim prio.2 in
+    let val = step_ok _ _ claim out.2 in
+    let bytes = step_ok _ _ claim val.2 in
+    let chan = step_ok _ _ claim bytes.2 in
+    let woken = step_ok _ _ claim chan.2 in
+    subst (HoldsClaim (columns_of fields))
+    (same_ok (record { prio = prio.0; out = out.0; val = val.0; bytes = bytes.0; chan = chan.0; woken = woken.0 }) claim woken.2) (record {
+      prio = number_holds greatest_priority (text_at fields 10) prio.0 prio.1;
+      out = outcome_is (text_at fields 11) out.0 out.1;
+      val = maybe_signed_holds (text_at fields 12) val.0 val.1;
+      bytes = data_holds (text_at fields 13) bytes.0 bytes.1;
+      chan = maybe_number_holds greatest_channel (text_at fields 14) chan.0 chan.1;
+      woken = processes_hold (text_at fields 15) woken.0 woken.1;
+    })
+
+is_claim : (fields : Fields) (claim : Claim) → HoldsClaim (columns_of fields) claim → claim_in fields ≡ Ok claim
+unfolding claim_in
+is_claim fields claim h =
+    rw (
+      holds_number greatest_priority (text_at fields 10) claim.prio h.prio,
+      is_outcome (text_at fields 11) claim.out h.out,
+      holds_maybe_signed (text_at fields 12) claim.val h.val,
+      holds_data (text_at fields 13) claim.bytes h.bytes,
+      holds_maybe_number greatest_channel (text_at fields 14) claim.chan h.chan,
+      hold_processes (text_at fields 15) claim.woken h.woken,
+    ) refl
+
+-- a call
+call_is : (fields : Fields) (call : Call) → text_at fields 1 ≡ codes "call" → call_in fields ≡ Ok call → IsRowOfCall (columns_of fields) call
+unfolding call_in
+call_is fields call named e =
+    let who = step_ok _ _ call e in
+    let request = step_ok _ _ call who.2 in
+    let claim = step_ok _ _ call request.2 in
+    subst (IsRowOfCall (columns_of fields)) (same_ok (record { who = who.0; request = request.0; claim = claim.0 }) call claim.2) (record {
+      kind = named;
+      who = who_is fields who.0 who.1;
+      request = request_is fields request.0 request.1;
+      claim = claim_is fields claim.0 claim.1;
+    })
+
+is_call : (fields : Fields) (call : Call) → IsRowOfCall (columns_of fields) call → call_in fields ≡ Ok call
+unfolding call_in
+is_call fields call h = rw (is_who fields call.who h.who, is_request fields call.request h.request, is_claim fields call.claim h.claim) refl
+
+-- a return
+return_is : (fields : Fields) (ret : Return) → text_at fields 1 ≡ codes "ret" → return_in fields ≡ Ok ret → IsRowOfReturn (columns_of fields) ret
+unfolding return_in
+return_is fields ret named e =
+    let who = step_ok _ _ ret e in
+    let service = step_ok _ _ ret who.2 in
+    let unused = step_ok _ _ ret service.2 in
+    let code = step_ok _ _ ret unused.2 in
+    let val = step_ok _ _ ret code.2 in
+    let bytes = step_ok _ _ ret val.2 in
+    let unused_too = step_ok _ _ ret bytes.2 in
+    subst (IsRowOfReturn (columns_of fields))
+    (same_ok (record { who = who.0; service = service.0; code = code.0; val = val.0; bytes = bytes.0 }) ret unused_too.2) (record {
+      kind = named;
+      who = who_is fields who.0 who.1;
+      service = service_is (text_at fields 4) service.0 service.1;
+      code = code_is (text_at fields 11) code.0 code.1;
+      val = maybe_signed_holds (text_at fields 12) val.0 val.1;
+      bytes = data_holds (text_at fields 13) bytes.0 bytes.1;
+      empty = both_empty (texts_from fields 5 6) (texts_from fields 14 2) (all_are_empty fields 5 6 unused.1) (all_are_empty fields 14 2 unused_too.1);
+    })
+
+is_return : (fields : Fields) (ret : Return) → IsRowOfReturn (columns_of fields) ret → return_in fields ≡ Ok ret
+unfolding return_in
+is_return fields ret h =
+    rw (
+      is_who fields ret.who h.who,
+      is_service (text_at fields 4) ret.service h.service,
+      are_all_empty fields 5 6 (front_empty (texts_from fields 5 6) (texts_from fields 14 2) h.empty),
+      is_code (text_at fields 11) ret.code h.code,
+      holds_maybe_signed (text_at fields 12) ret.val h.val,
+      holds_data (text_at fields 13) ret.bytes h.bytes,
+      are_all_empty fields 14 2 (back_empty (texts_from fields 5 6) (texts_from fields 14 2) h.empty),
+    ) refl
+
+-- a dispatch
+proc_is : (fields : Fields) (part : Option ℕ) (who : Option Who) → maybe_number greatest_partition (text_at fields 2) ≡ Ok part → proc_of part (text_at fields 3) ≡ Ok who
+    → Dispatches (columns_of fields) who
+unfolding proc_of
+proc_is fields None who p e =
+    let unused = step_ok _ _ who e in
+    subst (Dispatches (columns_of fields)) (same_ok None who unused.2)
+    (maybe_number_holds greatest_partition (text_at fields 2) None p, (empty_is (text_at fields 3) unused.1, tt))
+proc_is fields (Some part) who p e =
+    let proc = step_ok _ _ who e in
+    subst (Dispatches (columns_of fields)) (same_ok (Some (record { part = part; proc = proc.0 })) who proc.2)
+    (record { part = maybe_number_holds greatest_partition (text_at fields 2) (Some part) p; proc = number_holds greatest_number (text_at fields 3) proc.0 proc.1 })
+
+dispatch_is : (fields : Fields) (who : Option Who) → text_at fields 1 ≡ codes "disp" → dispatch_in fields ≡ Ok who → IsRowOfDispatch (columns_of fields) who
+unfolding dispatch_in
+dispatch_is fields who named e =
+    let part = step_ok _ _ who e in
+    let found = step_ok _ _ who part.2 in
+    let unused = step_ok _ _ who found.2 in
+    subst (IsRowOfDispatch (columns_of fields)) (same_ok found.0 who unused.2) (record {
+      kind = named;
+      process = proc_is fields part.0 found.0 part.1 found.1;
+      empty = all_are_empty fields 4 12 unused.1;
+    })
+
+is_dispatch : (fields : Fields) (who : Option Who) → IsRowOfDispatch (columns_of fields) who → dispatch_in fields ≡ Ok who
+unfolding dispatch_in proc_of
+is_dispatch fields None h =
+    rw (holds_maybe_number greatest_partition (text_at fields 2) None h.process.0, h.process.1.0, are_all_empty fields 4 12 h.empty) refl
+is_dispatch fields (Some who) h =
+    rw (
+      holds_maybe_number greatest_partition (text_at fields 2) (Some who.part) h.process.part,
+      holds_number greatest_number (text_at fields 3) who.proc h.process.proc,
+      are_all_empty fields 4 12 h.empty,
+    ) refl
+
+-- a tick
+tick_is : (fields : Fields) (named : List Who) → text_at fields 1 ≡ codes "tick" → tick_in fields ≡ Ok named → IsRowOfTick (columns_of fields) named
+unfolding tick_in
+tick_is fields named is e =
+    let unused = step_ok _ _ named e in
+    record { kind = is; woken = processes_hold (text_at fields 15) named unused.2; empty = all_are_empty fields 2 13 unused.1 }
+
+is_tick : (fields : Fields) (named : List Who) → IsRowOfTick (columns_of fields) named → tick_in fields ≡ Ok named
+unfolding tick_in
+is_tick fields named h = rw (are_all_empty fields 2 13 h.empty) (hold_processes (text_at fields 15) named h.woken)
+
+-- what a row of a kind records
+body_is : (fields : Fields) (k : Kind) (b : Body) → text_at fields 1 ≡ kind_name k → body_in k fields ≡ Ok b → IsRowOf (columns_of fields) b
+unfolding body_in
+body_is fields kind.Call b named e =
+    let call = step_ok _ _ b e in subst (IsRowOf (columns_of fields)) (same_ok (body.Call call.0) b call.2) (call_is fields call.0 named call.1)
+body_is fields kind.Ret b named e =
+    let ret = step_ok _ _ b e in subst (IsRowOf (columns_of fields)) (same_ok (body.Ret ret.0) b ret.2) (return_is fields ret.0 named ret.1)
+body_is fields kind.Disp b named e =
+    let who = step_ok _ _ b e in subst (IsRowOf (columns_of fields)) (same_ok (body.Disp who.0) b who.2) (dispatch_is fields who.0 named who.1)
+body_is fields kind.Tick b named e =
+    let woken = step_ok _ _ b e in subst (IsRowOf (columns_of fields)) (same_ok (body.Tick woken.0) b woken.2) (tick_is fields woken.0 named woken.1)
+
+is_body : (fields : Fields) (b : Body) → IsRowOf (columns_of fields) b → (k : Kind) × (text_at fields 1 ≡ kind_name k) × (body_in k fields ≡ Ok b)
+unfolding body_in
+is_body fields (body.Call call) h = (kind.Call, h.kind, rw (is_call fields call h) refl)
+is_body fields (body.Ret ret) h = (kind.Ret, h.kind, rw (is_return fields ret h) refl)
+is_body fields (body.Disp who) h = (kind.Disp, h.kind, rw (is_dispatch fields who h) refl)
+is_body fields (body.Tick named) h = (kind.Tick, h.kind, rw (is_tick fields named h) refl)
+
+-- a number is at most the greatest one
+digits_bound : (greatest value : ℕ) (text : List ℕ) (n : ℕ) → value ≤ greatest → digits_from greatest value text ≡ Some n → n ≤ greatest
+unfolding digits_from
+digits_bound greatest value [] n fits e = let same : value ≡ n = same_Some value n e in omega arith
+digits_bound greatest value (b ∷ bs) n fits e =
+    by (is_ascii_digit b) (nat_le (value * 10 + (b - 48)) greatest) refl e (λ more. digits_bound greatest (value * 10 + (b - 48)) bs n more)
+  where
+    by : (digit small : Bool) → nat_le (value * 10 + (b - 48)) greatest ≡ small → (if digit && small then digits_from greatest (value * 10 + (b - 48)) bs else None) ≡ Some n
+        → (value * 10 + (b - 48) ≤ greatest → digits_from greatest (value * 10 + (b - 48)) bs ≡ Some n → n ≤ greatest) → n ≤ greatest
+    by true true is e more = more (leb-true (value * 10 + (b - 48)) greatest is) e
+    by false small is e more = absurd (none-some n e)
+    by true false is e more = absurd (none-some n e)
+
+number_bound : (greatest : ℕ) (text : List ℕ) (n : ℕ) → HoldsNumber greatest text n → n ≤ greatest
+unfolding decimal
+number_bound greatest [] n h = absurd (none-some n h)
+number_bound greatest (b ∷ bs) n h = by ((b == 48) && nat_lt 0 (length bs)) h
+  where
+    by : (led : Bool) → (if led then None else digits_from greatest 0 (b ∷ bs)) ≡ Some n → n ≤ greatest
+    by true e = absurd (none-some n e)
+    by false e = digits_bound greatest 0 (b ∷ bs) n (omega arith) e
+
+-- a test that let a value through
+test_then : {A : Type 0} (test : Bool) (fault : RowFault) (read : Result A RowFault) (y : A) → (if test then read else Err fault) ≡ Ok y → (test ≡ true) × (read ≡ Ok y)
+test_then true fault read y e = (refl, e)
+test_then false fault read y e = no_fault fault y e
+
+-- sixteen fields
+fields_are : (next : ℕ) (fields : Fields) (rec : Record) → length fields ≡ 16 → fields_read next fields ≡ Ok rec → IsRow next fields rec
+unfolding fields_read seq_in
+fields_are next fields rec count e =
+    let given = step_ok _ _ rec e in
+    let seq = step_ok _ _ rec given.2 in
+    let k = step_ok _ _ rec seq.2 in
+    let found = step_ok _ _ rec k.2 in
+    let test = test_ok (nat_eq given.0 next) SeqGap given.0 seq.0 seq.1 in
+    let same : given.0 ≡ next = eqb-true given.0 next test.0 in
+    subst (IsRow next fields) (same_ok (record { seq = seq.0; body = found.0 }) rec found.2) (record {
+      count = count;
+      is = sym test.1 ∙ same;
+      seq = subst (HoldsNumber (pred most_records) (text_at fields 0)) same (number_holds (pred most_records) (text_at fields 0) given.0 given.1);
+      body = body_is fields k.0 found.0 (kind_is (text_at fields 1) k.0 k.1) found.1;
+    })
+
+are_fields : (next : ℕ) (fields : Fields) (rec : Record) → IsRow next fields rec → fields_read next fields ≡ Ok rec
+unfolding fields_read seq_in
+are_fields next fields rec h =
+    let b = is_body fields rec.body h.body in
+    rw (
+      holds_number (pred most_records) (text_at fields 0) next h.seq,
+      eq-eqb next next refl,
+      is_kind (text_at fields 1) b.0 b.1,
+      b.2,
+      h.is,
+    ) refl
+
+-- a row is read as a record exactly where it is the record's row
+row_is : (next : ℕ) (fields : Fields) (rec : Record) → record_of next fields ≡ Ok rec → IsRow next fields rec
+unfolding record_of
+row_is next fields rec e =
+    let room = test_then (nat_lt next most_records) TooMany _ rec e in
+    let count = test_then (length fields == 16) FieldCount (fields_read next fields) rec room.1 in
+    fields_are next fields rec (eqb-true (length fields) 16 count.0) count.1
+
+is_row : (next : ℕ) (fields : Fields) (rec : Record) → IsRow next fields rec → record_of next fields ≡ Ok rec
+unfolding record_of
+is_row next fields rec h =
+    let bound : next ≤ pred most_records = number_bound (pred most_records) (text_at fields 0) next h.seq in
+    let room : nat_lt next most_records ≡ true = lt-ltb next most_records (omega (arith, bound)) in
+    rw (room, eq-eqb (length fields) 16 h.count) (are_fields next fields rec h)
+
+pub rows_are_the_grammar : RowsAreTheGrammar
+rows_are_the_grammar next fields rec = (row_is next fields rec, is_row next fields rec)
+
+-- so a row is the row of at most one record
+pub one_record_of_a_row : OneRecordOfARow
+one_record_of_a_row next fields rec other h k = same_ok rec other (sym (is_row next fields rec h) ∙ is_row next fields other k)

@@ -1,0 +1,104 @@
+-- Names and messages: a step of the reader gives one exactly where the field holds it.
+use Rattle.std.proofs.Common.{◌≡◌, ◌∙◌, ◌≤◌, ◌<◌, ℕ, zero, suc, ℤ, pos, negsuc, List, [], ◌∷◌, Bool, true, false, Result, Ok, Err, length, refl, sym, ap, subst, inl, inr, nat_le, nat_eq, arith, if◌then◌else◌, ◌&&◌}
+use Rattle.std.specs.Prelude.{◌≢◌}
+use Rattle.std.specs.Bool.{Decides}
+use Rattle.std.specs.List.{list_all}
+use Rattle.std.proofs.lemmas.Bool.{and_parts, eqb-true, eq-eqb, le-leb, leb-true, leb-false}
+use Rattle.std.proofs.lemmas.List.Sums.{AllPass-from_list_all, list_all-from_AllPass}
+use Rattle.hex.specs.Hex.{decode_of}
+use Rattle.hex.specs.declared.error.FromHexError.{FromHexError}
+use Rattle.apex_types.specs.Bounds.{longest_message, longest_name}
+use Rattle.record_read.specs.declared.fault.RowFault.{RowFault}
+use Rattle.record_read.specs.declared.fault.RowFault.TheVariants.{BadHex, BadLength, BadName, FieldNotForKind}
+use Rattle.record_read.specs.Grammar.{GoesWith, HoldsData, HoldsIf, HoldsMessage, HoldsName, IsMessageLength}
+use Rattle.record_read.specs.Payload.{from_hex, goes_with, is_printable, maybe_message, message_in, message_of, name_in, name_of}
+use Rattle.record_read.proofs.GrammarFields.{is_unused, no_fault, step_ok, test_ok, unused_is}
+
+-- a name that is filled
+name_is : (text name : List ℕ) → text ≢ [] → name_of text ≡ Ok name → HoldsName text name
+unfolding name_of
+name_is text name filled e =
+    let t = test_ok (nat_le (length text) longest_name && list_all is_printable text) BadName text name e in
+    let parts = and_parts (nat_le (length text) longest_name) (list_all is_printable text) t.0 in
+    record {
+      is = sym t.1;
+      filled = filled;
+      short = leb-true (length text) longest_name parts.0;
+      printable = AllPass-from_list_all is_printable text parts.1;
+    }
+
+is_name : (text name : List ℕ) → HoldsName text name → name_of text ≡ Ok name
+unfolding name_of
+is_name text name h = rw (le-leb (length text) longest_name h.short, list_all-from_AllPass is_printable text h.printable, h.is) refl
+
+-- the name of a service that takes one, and else none
+pub name_holds : (taken : Bool) (text name : List ℕ) → name_in taken text ≡ Ok name → HoldsIf taken [] HoldsName text name
+unfolding name_in
+name_holds true [] name e = no_fault FieldNotForKind name e
+name_holds true (b ∷ bs) name e = name_is (b ∷ bs) name (λ none. cc) e
+name_holds false text name e = unused_is text [] name e
+
+pub holds_name : (taken : Bool) (text name : List ℕ) → HoldsIf taken [] HoldsName text name → name_in taken text ≡ Ok name
+unfolding name_in
+holds_name true [] name h = absurd (h.filled refl)
+holds_name true (b ∷ bs) name h = is_name (b ∷ bs) name h
+holds_name false text name h = is_unused text [] name h
+
+-- bytes in hexadecimal
+hex_is : (read : Result (List ℕ) FromHexError) (bytes : List ℕ) → from_hex read ≡ Ok bytes → read ≡ Ok bytes
+hex_is (Ok found) bytes e = let f : ◌≡◌ {A = Result (List ℕ) RowFault} (Ok found) (Ok bytes) = e in cc
+hex_is (Err error) bytes e = no_fault BadHex bytes e
+
+-- no bytes but those that go with another length
+none_goes : (argument : ℤ) (count : ℕ) → ¬ IsMessageLength argument → Decides (nat_eq count 0) (GoesWith argument count)
+none_goes argument count none = (λ e. inr (none, eqb-true count 0 e), back)
+  where
+    back : GoesWith argument count → nat_eq count 0 ≡ true
+    back (inl h) = absurd (none h.0)
+    back (inr h) = eq-eqb count 0 h.1
+
+-- the reader's test of a length is the sentence
+pub length_decides : (argument : ℤ) (count : ℕ) → Decides (goes_with argument count) (GoesWith argument count)
+length_decides (pos zero) count = none_goes (pos zero) count (λ h. let l : 1 ≤ 0 = h.0 in absurd (omega arith))
+length_decides (negsuc n) count = none_goes (negsuc n) count (λ h. h)
+length_decides (pos (suc n)) count = by (nat_le (suc n) longest_message) refl
+  where
+    goes : suc n ≤ longest_message → GoesWith (pos (suc n)) count → nat_eq count (suc n) ≡ true
+    goes fits (inl h) = eq-eqb count (suc n) (let e : pos (suc n) ≡ pos count = h.1 in cc)
+    goes fits (inr h) = absurd (h.0 (omega arith, fits))
+
+    by : (fits : Bool) → nat_le (suc n) longest_message ≡ fits → Decides (if fits then nat_eq count (suc n) else nat_eq count 0) (GoesWith (pos (suc n)) count)
+    by true fits =
+        let short : suc n ≤ longest_message = leb-true (suc n) longest_message fits in
+        (λ e. inl ((omega arith, short), ap pos (sym (eqb-true count (suc n) e))), goes short)
+    by false long =
+        let over : longest_message < suc n = leb-false (suc n) longest_message long in
+        none_goes (pos (suc n)) count (λ h. let short : suc n ≤ longest_message = h.1 in absurd (omega arith))
+
+-- a message that a service takes, and else none
+pub message_holds : (taken : Bool) (len : ℤ) (text bytes : List ℕ) → message_in taken len text ≡ Ok bytes → HoldsIf taken [] (HoldsMessage len) text bytes
+unfolding message_in message_of
+message_holds true len text bytes e =
+    let s = step_ok (from_hex (decode_of text)) (λ found. if goes_with len (length found) then Ok found else Err BadLength) bytes e in
+    let t = test_ok (goes_with len (length s.0)) BadLength s.0 bytes s.2 in
+    let digits : decode_of text ≡ Ok bytes = hex_is (decode_of text) s.0 s.1 ∙ ap Ok t.1 in
+    record { digits = digits; count = subst (λ given. GoesWith len (length given)) t.1 ((length_decides len (length s.0)).0 t.0) }
+message_holds false len text bytes e = unused_is text [] bytes e
+
+pub holds_message : (taken : Bool) (len : ℤ) (text bytes : List ℕ) → HoldsIf taken [] (HoldsMessage len) text bytes → message_in taken len text ≡ Ok bytes
+unfolding message_in message_of
+holds_message true len text bytes h = rw (h.digits, (length_decides len (length bytes)).1 h.count) refl
+holds_message false len text bytes h = is_unused text [] bytes h
+
+-- a message that a service gives
+pub data_holds : (text bytes : List ℕ) → maybe_message text ≡ Ok bytes → HoldsData text bytes
+unfolding maybe_message
+data_holds text bytes e =
+    let s = step_ok (from_hex (decode_of text)) (λ found. if nat_le (length found) longest_message then Ok found else Err BadLength) bytes e in
+    let t = test_ok (nat_le (length s.0) longest_message) BadLength s.0 bytes s.2 in
+    let digits : decode_of text ≡ Ok bytes = hex_is (decode_of text) s.0 s.1 ∙ ap Ok t.1 in
+    record { digits = digits; count = subst (λ given. length given ≤ longest_message) t.1 (leb-true (length s.0) longest_message t.0) }
+
+pub holds_data : (text bytes : List ℕ) → HoldsData text bytes → maybe_message text ≡ Ok bytes
+unfolding maybe_message
+holds_data text bytes h = rw (h.digits, le-leb (length bytes) longest_message h.count) refl

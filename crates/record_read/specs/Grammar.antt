@@ -1,0 +1,225 @@
+-- The grammar of rows: which rows are the row of a call, of a return, of a dispatch and of a tick, by what their fields hold.
+use Rattle.std.specs.Prelude.{◌≡◌, ◌≢◌, ◌⊎◌, ◌≤◌, ℕ, pred, ℤ, pos, negsuc, List, [], ◌∷◌, ◌++◌, Bool, true, false, Option, Some, None, Ok, codes, length, nat_le}
+use Rattle.std.specs.List.{AllPass, AllZip, join_with_byte}
+use Rattle.hex.specs.Hex.{decode_of}
+use Rattle.csv_rows.specs.Decimal.{decimal, signed_decimal}
+use Rattle.csv_rows.specs.Stream.{Fields}
+use Rattle.apex_types.specs.Bounds.{greatest_channel, greatest_number, greatest_partition, greatest_priority, longest_message, longest_name, most_records}
+use Rattle.apex_types.specs.CodeName as CodeName
+use Rattle.apex_types.specs.Rising.{IsRising}
+use Rattle.apex_types.specs.ServiceName as ServiceName
+use Rattle.apex_types.specs.declared.record.Body.{Body}
+use Rattle.apex_types.specs.declared.record.Body.TheVariants as body
+use Rattle.apex_types.specs.declared.record.Call.{Call}
+use Rattle.apex_types.specs.declared.record.Claim.{Claim}
+use Rattle.apex_types.specs.declared.record.Out.{Out}
+use Rattle.apex_types.specs.declared.record.Out.TheVariants as out
+use Rattle.apex_types.specs.declared.record.Record.{Record}
+use Rattle.apex_types.specs.declared.record.Return.{Return}
+use Rattle.apex_types.specs.declared.record.Who.{Who}
+use Rattle.apex_types.specs.declared.request.Request.{Request}
+use Rattle.apex_types.specs.declared.service.Service.{Service}
+use Rattle.record_read.specs.Arguments.{arguments_of, request_of}
+use Rattle.record_read.specs.Field.{text_at}
+use Rattle.record_read.specs.Payload.{is_printable}
+
+-- what one field holds
+
+-- a field that may be left out: it is empty, or holds what it may hold
+abbrev pub MayHold : {A : Type 0} → (List ℕ → A → Type 0) → List ℕ → Option A → Type 0
+MayHold Holds text None = text ≡ []
+MayHold Holds text (Some value) = Holds text value
+
+-- a number from 0 to a greatest one, in canonical decimal
+abbrev pub HoldsNumber : ℕ → List ℕ → ℕ → Type 0
+HoldsNumber greatest text number = decimal greatest text ≡ Some number
+
+-- a number of 64 bits with a sign, in canonical decimal
+abbrev pub HoldsSigned : List ℕ → ℤ → Type 0
+HoldsSigned text number = signed_decimal text ≡ Some number
+
+-- an outcome: `wait`, `none` or the name of a code
+abbrev pub HoldsOutcome : List ℕ → Out → Type 0
+HoldsOutcome text out.Waits = text ≡ codes "wait"
+HoldsOutcome text out.Never = text ≡ codes "none"
+HoldsOutcome text (out.Answer code) = text ≡ CodeName.name_of code
+
+-- a name: 1 to 32 bytes, all printable
+pub record HoldsName (text name : List ℕ) : Type 0 where
+  pub is : name ≡ text
+  pub filled : text ≢ []
+  pub short : length text ≤ longest_name
+  pub printable : AllPass is_printable text
+
+-- a length that a message can have
+abbrev pub IsMessageLength : ℤ → Type 0
+IsMessageLength (pos count) = (1 ≤ count) × (count ≤ longest_message)
+IsMessageLength (negsuc below) = ⊥
+
+-- so many bytes go with a length argument: just that many where a message can have that length, and none where it can't
+abbrev pub GoesWith : ℤ → ℕ → Type 0
+GoesWith argument count = (IsMessageLength argument × (argument ≡ pos count)) ⊎ ((¬ IsMessageLength argument) × (count ≡ 0))
+
+-- a message that a service takes: two hexadecimal digits a byte, as many bytes as go with the length argument
+pub record HoldsMessage (argument : ℤ) (text bytes : List ℕ) : Type 0 where
+  pub digits : decode_of text ≡ Ok bytes
+  pub count : GoesWith argument (length bytes)
+
+-- a message that a service gives, or none: two hexadecimal digits a byte, at most 8,192 bytes
+pub record HoldsData (text bytes : List ℕ) : Type 0 where
+  pub digits : decode_of text ≡ Ok bytes
+  pub count : length bytes ≤ longest_message
+
+-- a process of a list: its partition, `:` and its number, which is 1 or more
+pub record HoldsProcess (text : List ℕ) (who : Who) : Type 0 where
+  pub part : List ℕ
+  pub proc : List ℕ
+  pub joined : text ≡ part ++ codes ":" ++ proc
+  pub has_part : HoldsNumber greatest_partition part who.part
+  pub has_proc : HoldsNumber greatest_number proc who.proc
+  pub created : 1 ≤ who.proc
+
+-- the byte `;`
+abbrev pub semicolon : ℕ
+semicolon = 0x3B
+
+-- a list of processes: the texts of its processes joined by `;`, in rising order; an empty field holds none
+pub record HoldsProcesses (text : List ℕ) (named : List Who) : Type 0 where
+  pub texts : List (List ℕ)
+  pub joined : text ≡ join_with_byte semicolon texts
+  pub each : AllZip HoldsProcess texts named
+  pub rising : IsRising named
+
+-- what a row holds
+
+-- the texts of a row's sixteen fields, by the fields' names
+pub record Columns : Type 0 where
+  pub seq : List ℕ
+  pub kind : List ℕ
+  pub part : List ℕ
+  pub proc : List ℕ
+  pub service : List ℕ
+  pub n1 : List ℕ
+  pub n2 : List ℕ
+  pub n3 : List ℕ
+  pub name : List ℕ
+  pub msg : List ℕ
+  pub prio : List ℕ
+  pub out : List ℕ
+  pub val : List ℕ
+  pub «data» : List ℕ
+  pub chan : List ℕ
+  pub woken : List ℕ
+
+-- the fields from the first to the sixteenth
+abbrev pub columns_of : Fields → Columns
+columns_of fields = record {
+  seq = text_at fields 0;
+  kind = text_at fields 1;
+  part = text_at fields 2;
+  proc = text_at fields 3;
+  service = text_at fields 4;
+  n1 = text_at fields 5;
+  n2 = text_at fields 6;
+  n3 = text_at fields 7;
+  name = text_at fields 8;
+  msg = text_at fields 9;
+  prio = text_at fields 10;
+  out = text_at fields 11;
+  val = text_at fields 12;
+  «data» = text_at fields 13;
+  chan = text_at fields 14;
+  woken = text_at fields 15;
+}
+
+-- all these fields are empty
+abbrev pub AreEmpty : List (List ℕ) → Type 0
+AreEmpty [] = Unit {0}
+AreEmpty (text ∷ texts) = (text ≡ []) × AreEmpty texts
+
+-- where a service takes a value the field holds it; else the field is empty, and the unused value stands for it
+abbrev pub HoldsIf : {A : Type 0} → Bool → A → (List ℕ → A → Type 0) → List ℕ → A → Type 0
+HoldsIf true unused Holds text value = Holds text value
+HoldsIf false unused Holds text value = (text ≡ []) × (value ≡ unused)
+
+-- the first, second or third of a service's numbers; 0 stands for one that it doesn't take
+abbrev pub HoldsArgument : Service → ℕ → List ℕ → ℤ → Type 0
+HoldsArgument service place text number = HoldsIf (nat_le place (arguments_of service).numbers) (pos 0) HoldsSigned text number
+
+-- the process of a call, of a return or of a dispatch
+pub record NamesProcess (row : Columns) (who : Who) : Type 0 where
+  pub part : HoldsNumber greatest_partition row.part who.part
+  pub proc : HoldsNumber greatest_number row.proc who.proc
+
+-- the request of a call: a service by its name, and just the arguments that this service takes
+pub record HoldsRequest (row : Columns) (request : Request) : Type 0 where
+  pub service : Service
+  pub n1 : ℤ
+  pub n2 : ℤ
+  pub n3 : ℤ
+  pub name : List ℕ
+  pub message : List ℕ
+  pub is : request ≡ request_of service n1 n2 n3 name message
+  pub has_service : row.service ≡ ServiceName.name_of service
+  pub has_n1 : HoldsArgument service 1 row.n1 n1
+  pub has_n2 : HoldsArgument service 2 row.n2 n2
+  pub has_n3 : HoldsArgument service 3 row.n3 n3
+  pub has_name : HoldsIf (arguments_of service).name [] HoldsName row.name name
+  pub has_message : HoldsIf (arguments_of service).message [] (HoldsMessage n2) row.msg message
+
+-- what a call claims: the priority and the outcome, and what may be left out
+pub record HoldsClaim (row : Columns) (claim : Claim) : Type 0 where
+  pub prio : HoldsNumber greatest_priority row.prio claim.prio
+  pub out : HoldsOutcome row.out claim.out
+  pub val : MayHold HoldsSigned row.val claim.val
+  pub bytes : HoldsData row.«data» claim.bytes
+  pub chan : MayHold (HoldsNumber greatest_channel) row.chan claim.chan
+  pub woken : HoldsProcesses row.woken claim.woken
+
+-- the row of a call
+pub record IsRowOfCall (row : Columns) (call : Call) : Type 0 where
+  pub kind : row.kind ≡ codes "call"
+  pub who : NamesProcess row call.who
+  pub request : HoldsRequest row call.request
+  pub claim : HoldsClaim row call.claim
+
+-- the row of a return: a service without arguments, and a code
+pub record IsRowOfReturn (row : Columns) (ret : Return) : Type 0 where
+  pub kind : row.kind ≡ codes "ret"
+  pub who : NamesProcess row ret.who
+  pub service : row.service ≡ ServiceName.name_of ret.service
+  pub code : row.out ≡ CodeName.name_of ret.code
+  pub val : MayHold HoldsSigned row.val ret.val
+  pub bytes : HoldsData row.«data» ret.bytes
+  pub empty : AreEmpty (row.n1 ∷ row.n2 ∷ row.n3 ∷ row.name ∷ row.msg ∷ row.prio ∷ row.chan ∷ row.woken ∷ [])
+
+-- a dispatch names a process, or leaves both fields empty
+abbrev pub Dispatches : Columns → Option Who → Type 0
+Dispatches row None = AreEmpty (row.part ∷ row.proc ∷ [])
+Dispatches row (Some who) = NamesProcess row who
+
+-- the row of a dispatch
+pub record IsRowOfDispatch (row : Columns) (who : Option Who) : Type 0 where
+  pub kind : row.kind ≡ codes "disp"
+  pub process : Dispatches row who
+  pub empty : AreEmpty (row.service ∷ row.n1 ∷ row.n2 ∷ row.n3 ∷ row.name ∷ row.msg ∷ row.prio ∷ row.out ∷ row.val ∷ row.«data» ∷ row.chan ∷ row.woken ∷ [])
+
+-- the row of a tick
+pub record IsRowOfTick (row : Columns) (named : List Who) : Type 0 where
+  pub kind : row.kind ≡ codes "tick"
+  pub woken : HoldsProcesses row.woken named
+  pub empty : AreEmpty (row.part ∷ row.proc ∷ row.service ∷ row.n1 ∷ row.n2 ∷ row.n3 ∷ row.name ∷ row.msg ∷ row.prio ∷ row.out ∷ row.val ∷ row.«data» ∷ row.chan ∷ [])
+
+-- one case for each kind of row
+abbrev pub IsRowOf : Columns → Body → Type 0
+IsRowOf row (body.Call call) = IsRowOfCall row call
+IsRowOf row (body.Ret ret) = IsRowOfReturn row ret
+IsRowOf row (body.Disp who) = IsRowOfDispatch row who
+IsRowOf row (body.Tick woken) = IsRowOfTick row woken
+
+-- sixteen fields are the row of a record of this number: the first holds the number, the others are the row of what it records
+pub record IsRow (number : ℕ) (fields : Fields) (rec : Record) : Type 0 where
+  pub count : length fields ≡ 16
+  pub is : rec.seq ≡ number
+  pub seq : HoldsNumber (pred most_records) (columns_of fields).seq number
+  pub body : IsRowOf (columns_of fields) rec.body

@@ -1,0 +1,14 @@
+-- The row grammar is what the reader's steps from left to right read.
+use Rattle.std.specs.Prelude.{◌≡◌, ◌↔◌, ℕ, Ok}
+use Rattle.csv_rows.specs.Stream.{Fields}
+use Rattle.apex_types.specs.declared.record.Record.{Record}
+use Rattle.record_read.specs.Grammar.{IsRow}
+use Rattle.record_read.specs.Row.{record_of}
+
+-- a row is read as a record exactly where it is the record's row
+abbrev pub RowsAreTheGrammar : Type 0
+RowsAreTheGrammar = (next : ℕ) (fields : Fields) (rec : Record) → (record_of next fields ≡ Ok rec) ↔ IsRow next fields rec
+
+-- a row is the row of at most one record
+abbrev pub OneRecordOfARow : Type 0
+OneRecordOfARow = (next : ℕ) (fields : Fields) (rec other : Record) → IsRow next fields rec → IsRow next fields other → rec ≡ other

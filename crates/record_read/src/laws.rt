@@ -1,0 +1,13 @@
+// The laws of the row grammar. Each is the contract of a function without code.
+
+ghost use Rattle.record_read.specs.GrammarLaws.{OneRecordOfARow, RowsAreTheGrammar};
+
+/// A row is read as a record exactly where the grammar says that it is the record's row.
+pub fn rows_are_the_grammar()
+    ensures { RowsAreTheGrammar }
+{}
+
+/// A row is the row of at most one record.
+pub fn one_record_of_a_row()
+    ensures { OneRecordOfARow }
+{}
