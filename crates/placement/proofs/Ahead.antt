@@ -22,7 +22,7 @@ use Rattle.placement.specs.declared.fault.InputFault.{InputFault}
 use Rattle.placement.specs.declared.fault.InputFault.TheVariants as input
 use Rattle.placement.specs.Lanes.{AreLeft, IsAhead, IsEnded, IsNext, IsScanOf, IsTheEnd, Lead, Placing, left_at}
 use Rattle.placement.specs.Reading.{Reads}
-use Rattle.placement.specs.Scan.{Scan, cert_fault, ends_so, ends_of, led_by, no_more, placed_at, row_fault, scan}
+use Rattle.placement.specs.Scan.{Scan, cert_fault, ends_so, led_by, no_more, placed_at, row_fault, scan}
 use Rattle.placement.proofs.Readings.{reads_all, reads_more, fault_read, put-here, put-other, put-back, put_reads, same_or}
 
 -- what is ahead where these are left, so many cores are there, so many records of each were taken, and this place is next

@@ -12,7 +12,7 @@ use Rattle.placement.specs.declared.fault.InputFault.TheVariants as input
 use Rattle.placement.specs.declared.placer.Filled.{Filled}
 use Rattle.placement.specs.declared.placer.Filled.TheVariants.{Full, Ended}
 use Rattle.placement.specs.Reading.{Reads}
-use Rattle.placement.specs.Scan.{Scan, ends_of, ends_so, led_by, scan}
+use Rattle.placement.specs.Scan.{Scan, ends_of, led_by, scan}
 
 -- what a source has left; nothing is known of it once a fault has stopped it
 abbrev pub standing : Source Item → Option (List Item)

@@ -1,4 +1,4 @@
-use Rattle.std.proofs.Common.{◌≡◌, ◌∙◌, ◌∷◌, [], length, suc, sym, ap, subst, inl, inr, Err, Some, true, ℕ}
+use Rattle.std.proofs.Common.{◌∙◌, ◌∷◌, [], length, suc, sym, ap, subst, inl, inr, Err, true, ℕ}
 use Rattle.order_cert.specs.Kept.{place_of, put, taken_of}
 use Rattle.order_cert.specs.declared.fault.OrderFault.TheVariants.{Absent}
 use Rattle.placement.specs.declared.fault.InputFault.TheVariants as input
