@@ -110,9 +110,7 @@ impl PartitionPiece {
                 core: ordered.core,
                 cores: self.clock.states(),
             };
-            self.state
-                .processes
-                .call(first_core, period, &moment, call)
+            self.state.processes.call(first_core, period, &moment, call)
         } else {
             self.state.processes.rouse(self.number, ordered.pos, call)
         }

@@ -25,4 +25,3 @@ loop-who-preserved c =
       | else-is_of w ↦ rw (w.self-is, c.loop-who.invariant, more, ← c.who-item.is)
           (named-same a.part named who (released a.place) a.self.now (sym c.is_of.ensures ∙ w.if-is_of.false))
     ]
-
