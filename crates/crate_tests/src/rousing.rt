@@ -26,11 +26,11 @@ fn cold_core() -> [CoreState; 1]
 }
 
 // A record of that core at this place.
-fn at<'a>(place: u64, cores: &'a [CoreState]) -> Moment<'a>
+fn at<'a>(place: Place, cores: &'a [CoreState]) -> Moment<'a>
     ensures { result.cores.now ≡ cores.now }
 {
     Moment {
-        place: Place::new(place),
+        place,
         core: CoreId::new(0),
         cores,
     }
@@ -58,8 +58,8 @@ fn one_that_waits(alloc: Global) -> Result<ProcTable, AllocError> {
         table.create(core, number, &name, 10, -1)?;
     }
     let cores = cold_core();
-    table.normal(PERIOD, &at(1, &cores));
-    table.start(number, PERIOD, &at(2, &cores));
+    table.normal(PERIOD, &at(Place::new(1), &cores));
+    table.start(number, PERIOD, &at(Place::new(2), &cores));
     table.wait(number, 10, Wait::At(receivers(), None));
     Ok(table)
 }
