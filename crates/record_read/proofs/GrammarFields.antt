@@ -1,12 +1,14 @@
 -- One field: a step of the reader gives a value exactly where the field holds it.
-use Rattle.std.proofs.Common.{◌≡◌, ℕ, ℤ, pos, List, [], ◌∷◌, Bool, true, false, Option, Some, None, Result, Ok, Err, refl, sym, ap, subst, if◌then◌else◌}
+use Rattle.std.proofs.Common.{◌≡◌, ◌<◌, ◌^◌, ℕ, ℤ, pos, List, [], ◌∷◌, Bool, true, false, Option, Some, None, Result, Ok, Err, refl, sym, ap, subst, if◌then◌else◌}
 use Rattle.std.specs.Option.{ok_or}
+use Rattle.std.proofs.lemmas.Option.{none-some}
 use Rattle.csv_rows.specs.Decimal.{decimal, signed_decimal}
 use Rattle.record_read.specs.declared.fault.RowFault.{RowFault}
 use Rattle.record_read.specs.declared.fault.RowFault.TheVariants.{BadNumber, FieldNotForKind}
 use Rattle.record_read.specs.Field.{argument, empty, maybe_number, maybe_signed, number, signed}
 use Rattle.record_read.specs.Grammar.{HoldsIf, HoldsNumber, HoldsSigned, MayHold}
 use Rattle.record_read.specs.Steps.{◌>>=◌}
+use Rattle.record_read.proofs.GrammarNumbers.{number_read, number_written, signed_read_back, signed_written}
 
 -- one value is given
 pub same_ok : {A : Type 0} (x y : A) → ◌≡◌ {A = Result A RowFault} (Ok x) (Ok y) → x ≡ y
@@ -32,51 +34,53 @@ test_ok true fault x y e = (refl, same_ok x y e)
 test_ok false fault x y e = no_fault fault y e
 
 -- numbers
-pub number_holds : (greatest : ℕ) (text : List ℕ) (n : ℕ) → number greatest text ≡ Ok n → HoldsNumber greatest text n
+pub number_holds : (greatest : ℕ) (text : List ℕ) (n : ℕ) → greatest < 2 ^ 64 → number greatest text ≡ Ok n → HoldsNumber greatest text n
 unfolding number
-number_holds greatest [] n e = no_fault FieldNotForKind n e
-number_holds greatest (b ∷ bs) n e = ok_some (decimal greatest (b ∷ bs)) BadNumber n e
+number_holds greatest [] n room e = no_fault FieldNotForKind n e
+number_holds greatest (b ∷ bs) n room e =
+    let w = number_written greatest (b ∷ bs) n room (ok_some (decimal greatest (b ∷ bs)) BadNumber n e) in
+    record { written = w.0; bound = w.1 }
 
-pub holds_number : (greatest : ℕ) (text : List ℕ) (n : ℕ) → HoldsNumber greatest text n → number greatest text ≡ Ok n
+pub holds_number : (greatest : ℕ) (text : List ℕ) (n : ℕ) → greatest < 2 ^ 64 → HoldsNumber greatest text n → number greatest text ≡ Ok n
 unfolding number decimal
-holds_number greatest [] n h = let f : ◌≡◌ {A = Option ℕ} None (Some n) = h in cc
-holds_number greatest (b ∷ bs) n h = ap (λ o. ok_or o BadNumber) h
+holds_number greatest [] n room h = absurd (none-some n (number_read greatest n [] room h.bound h.written))
+holds_number greatest (b ∷ bs) n room h = ap (λ o. ok_or o BadNumber) (number_read greatest n (b ∷ bs) room h.bound h.written)
 
 pub signed_holds : (text : List ℕ) (n : ℤ) → signed text ≡ Ok n → HoldsSigned text n
 unfolding signed
 signed_holds [] n e = no_fault FieldNotForKind n e
-signed_holds (b ∷ bs) n e = ok_some (signed_decimal (b ∷ bs)) BadNumber n e
+signed_holds (b ∷ bs) n e = let w = signed_written (b ∷ bs) n (ok_some (signed_decimal (b ∷ bs)) BadNumber n e) in record { written = w.0; bound = w.1 }
 
 pub holds_signed : (text : List ℕ) (n : ℤ) → HoldsSigned text n → signed text ≡ Ok n
 unfolding signed signed_decimal
-holds_signed [] n h = let f : ◌≡◌ {A = Option ℤ} None (Some n) = h in cc
-holds_signed (b ∷ bs) n h = ap (λ o. ok_or o BadNumber) h
+holds_signed [] n h = absurd (none-some n (signed_read_back [] n h.written h.bound))
+holds_signed (b ∷ bs) n h = ap (λ o. ok_or o BadNumber) (signed_read_back (b ∷ bs) n h.written h.bound)
 
 -- numbers that may be left out
-pub maybe_number_holds : (greatest : ℕ) (text : List ℕ) (o : Option ℕ) → maybe_number greatest text ≡ Ok o → MayHold (HoldsNumber greatest) text o
+pub maybe_number_holds : (greatest : ℕ) (text : List ℕ) (o : Option ℕ) → greatest < 2 ^ 64 → maybe_number greatest text ≡ Ok o → MayHold (HoldsNumber greatest) text o
 unfolding maybe_number
-maybe_number_holds greatest [] o e = subst (MayHold (HoldsNumber greatest) []) (same_ok None o e) refl
-maybe_number_holds greatest (b ∷ bs) o e =
-    let s = step_ok (number greatest (b ∷ bs)) (λ n. Ok (Some n)) o e in
-    subst (MayHold (HoldsNumber greatest) (b ∷ bs)) (same_ok (Some s.0) o s.2) (number_holds greatest (b ∷ bs) s.0 s.1)
+maybe_number_holds greatest [] o room e = subst (MayHold (HoldsNumber greatest) []) (same_ok None o e) refl
+maybe_number_holds greatest (b ∷ bs) o room e =
+    let s = step_ok _ _ o e in
+    subst (MayHold (HoldsNumber greatest) (b ∷ bs)) (same_ok (Some s.0) o s.2) (number_holds greatest (b ∷ bs) s.0 room s.1)
 
-pub holds_maybe_number : (greatest : ℕ) (text : List ℕ) (o : Option ℕ) → MayHold (HoldsNumber greatest) text o → maybe_number greatest text ≡ Ok o
-unfolding maybe_number decimal
-holds_maybe_number greatest text None h = rw h refl
-holds_maybe_number greatest [] (Some n) h = let f : ◌≡◌ {A = Option ℕ} None (Some n) = h in cc
-holds_maybe_number greatest (b ∷ bs) (Some n) h = rw (holds_number greatest (b ∷ bs) n h) refl
+pub holds_maybe_number : (greatest : ℕ) (text : List ℕ) (o : Option ℕ) → greatest < 2 ^ 64 → MayHold (HoldsNumber greatest) text o → maybe_number greatest text ≡ Ok o
+unfolding maybe_number number
+holds_maybe_number greatest text None room h = rw h refl
+holds_maybe_number greatest [] (Some n) room h = absurd (let e = holds_number greatest [] n room h in no_fault FieldNotForKind n e)
+holds_maybe_number greatest (b ∷ bs) (Some n) room h = rw (holds_number greatest (b ∷ bs) n room h) refl
 
 pub maybe_signed_holds : (text : List ℕ) (o : Option ℤ) → maybe_signed text ≡ Ok o → MayHold HoldsSigned text o
 unfolding maybe_signed
 maybe_signed_holds [] o e = subst (MayHold HoldsSigned []) (same_ok None o e) refl
 maybe_signed_holds (b ∷ bs) o e =
-    let s = step_ok (signed (b ∷ bs)) (λ n. Ok (Some n)) o e in
+    let s = step_ok _ _ o e in
     subst (MayHold HoldsSigned (b ∷ bs)) (same_ok (Some s.0) o s.2) (signed_holds (b ∷ bs) s.0 s.1)
 
 pub holds_maybe_signed : (text : List ℕ) (o : Option ℤ) → MayHold HoldsSigned text o → maybe_signed text ≡ Ok o
-unfolding maybe_signed signed_decimal
+unfolding maybe_signed signed
 holds_maybe_signed text None h = rw h refl
-holds_maybe_signed [] (Some n) h = let f : ◌≡◌ {A = Option ℤ} None (Some n) = h in cc
+holds_maybe_signed [] (Some n) h = absurd (let e = holds_signed [] n h in no_fault FieldNotForKind n e)
 holds_maybe_signed (b ∷ bs) (Some n) h = rw (holds_signed (b ∷ bs) n h) refl
 
 -- empty fields

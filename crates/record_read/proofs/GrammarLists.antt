@@ -1,19 +1,23 @@
 -- Lists of processes: the reader's walk over the pieces of a text gives processes exactly where the text is the joining of their texts.
-use Rattle.std.proofs.Common.{◌≡◌, ◌∙◌, ◌≤◌, ◌+◌, ◌*◌, ◌-◌, ℕ, List, [], ◌∷◌, ◌++◌, Bool, true, false, Option, Some, None, Ok, length, refl, sym, ap, subst, nat_le, nat_lt, nat_eq, append_assoc, arith, true≢false, if◌then◌else◌, ◌==◌, ◌&&◌}
+use Rattle.std.proofs.Common.{◌≡◌, ◌<◌, ◌^◌, ◌∙◌, ◌≤◌, ◌+◌, ◌*◌, ◌-◌, ℕ, List, [], ◌∷◌, ◌++◌, Bool, true, false, Option, Some, None, Ok, length, refl, sym, ap, map, subst, nat_le, nat_lt, nat_eq, append_assoc, arith, true≢false, if◌then◌else◌, ◌==◌, ◌&&◌}
 use Rattle.std.specs.Prelude.{◌≢◌, codes, option_and_then, option_map}
 use Rattle.std.specs.Char.{is_ascii_digit}
-use Rattle.std.specs.List.{AllZip, join_with_byte}
+use Rattle.std.specs.Fmt.{decimal as written}
+use Rattle.std.specs.List.{All, join_by, join_with_byte}
 use Rattle.std.specs.Option.{ok_or}
 use Rattle.std.proofs.lemmas.Bool.{and_parts, eqb-true, eq-eqb, eqb-false}
+use Rattle.std.proofs.lemmas.List.{append-nil}
+use Rattle.std.proofs.lemmas.List.Elements.{All-cons, All-head, All-nil, All-tail}
 use Rattle.std.proofs.lemmas.Option.{none-some, same_Some}
 use Rattle.csv_rows.specs.Decimal.{decimal, digits_from}
 use Rattle.apex_types.specs.Bounds.{greatest_number, greatest_partition}
 use Rattle.apex_types.specs.declared.record.Who.{Who}
-use Rattle.apex_types.specs.Rising.{IsRising, RisesFrom}
+use Rattle.apex_types.specs.Rising.{RisesFrom}
 use Rattle.record_read.specs.declared.fault.RowFault.TheVariants.{BadWoken}
-use Rattle.record_read.specs.Grammar.{HoldsNumber, HoldsProcess, HoldsProcesses, semicolon}
+use Rattle.record_read.specs.Grammar.{HoldsProcesses, IsNameable, process_text}
 use Rattle.record_read.specs.Woken.{front_of, next_process, onto, pieces_of, process, process_of, processes_behind, rest_of, stands_behind, woken_of}
 use Rattle.record_read.proofs.GrammarFields.{ok_some, same_ok}
+use Rattle.record_read.proofs.GrammarNumbers.{number_read, number_written}
 use Rattle.record_read.proofs.Pieces.{RisesBehind, pieces_left, pieces_split, rising_behind}
 
 -- a text in which a byte doesn't stand
@@ -83,7 +87,7 @@ digits_lack separator greatest value (b ∷ bs) n none e =
     by true fits e more = (no_digit b separator none (and_parts (is_ascii_digit b) (nat_le (value * 10 + (b - 48)) greatest) fits).0, more e)
     by false fits e more = absurd (none-some n e)
 
-number_lacks : (separator greatest : ℕ) (text : List ℕ) (n : ℕ) → is_ascii_digit separator ≡ false → HoldsNumber greatest text n → Lacks separator text
+number_lacks : (separator greatest : ℕ) (text : List ℕ) (n : ℕ) → is_ascii_digit separator ≡ false → decimal greatest text ≡ Some n → Lacks separator text
 unfolding decimal
 number_lacks separator greatest [] n none h = tt
 number_lacks separator greatest (b ∷ bs) n none h = by ((b == 48) && nat_lt 0 (length bs)) h
@@ -114,21 +118,27 @@ process_is part number who e = by (nat_eq number 0) refl e
         let filled : number ≢ 0 = eqb-false number 0 is in
         (ap (λ (w : Who). w.part) same, proc, omega (arith, proc, filled))
 
-process_holds : (text : List ℕ) (who : Who) → process_of text ≡ Some who → HoldsProcess text who
+process_written : (text front rest : List ℕ) (who : Who) → text ≡ front ++ 58 ∷ rest → front ≡ written who.part → rest ≡ written who.proc → text ≡ process_text who
+process_written text front rest who joined before behind = joined ∙ rw (before, behind) (sym (append_assoc (written who.part) (codes ":") (written who.proc)))
+
+process_holds : (text : List ℕ) (who : Who) → process_of text ≡ Some who → (text ≡ process_text who) × IsNameable who
 unfolding process_of
 process_holds text who e =
-    let rest = found_first (λ rest. option_and_then (λ part. option_and_then (λ number. process part number) (decimal greatest_number rest)) (decimal greatest_partition (front_of 58 text))) (rest_of 58 text) who e in
-    let part = found_first (λ part. option_and_then (λ number. process part number) (decimal greatest_number rest.0)) (decimal greatest_partition (front_of 58 text)) who rest.2 in
-    let number = found_first (λ number. process part.0 number) (decimal greatest_number rest.0) who part.2 in
+    let room : greatest_partition < 2 ^ 64 = omega arith in
+    let room_too : greatest_number < 2 ^ 64 = omega arith in
+    let rest = found_first _ _ who e in
+    let part = found_first _ _ who rest.2 in
+    let number = found_first _ _ who part.2 in
     let is = process_is part.0 number.0 who number.2 in
-    record {
-      part = front_of 58 text;
-      proc = rest.0;
-      joined = joined_at 58 text rest.0 rest.1 ∙ sym (append_assoc (front_of 58 text) (codes ":") rest.0);
-      has_part = part.1 ∙ ap Some is.0;
-      has_proc = number.1 ∙ ap Some is.1;
-      created = is.2;
-    }
+    let front = number_written greatest_partition (front_of 58 text) part.0 room part.1 in
+    let back = number_written greatest_number rest.0 number.0 room_too number.1 in (
+      process_written text (front_of 58 text) rest.0 who (joined_at 58 text rest.0 rest.1) (front.0 ∙ ap written is.0) (back.0 ∙ ap written is.1),
+      record {
+        part = subst (λ n. n ≤ greatest_partition) is.0 front.1;
+        created = is.2;
+        proc = subst (λ n. n ≤ greatest_number) is.1 back.1;
+      },
+    )
 
 is_process : (who : Who) → 1 ≤ who.proc → process who.part who.proc ≡ Some who
 is_process who created = by (nat_eq who.proc 0) refl
@@ -137,63 +147,70 @@ is_process who created = by (nat_eq who.proc 0) refl
     by true is = let none : who.proc ≡ 0 = eqb-true who.proc 0 is in absurd (omega (arith, none, created))
     by false is = refl
 
-holds_process : (text : List ℕ) (who : Who) → HoldsProcess text who → process_of text ≡ Some who
+-- no `:` stands in a partition's number, and no `;` in the text of a process
+part_lacks : (separator : ℕ) (who : Who) → is_ascii_digit separator ≡ false → IsNameable who → Lacks separator (written who.part)
+part_lacks separator who none h =
+    number_lacks separator greatest_partition (written who.part) who.part none (number_read greatest_partition who.part (written who.part) (omega arith) h.part refl)
+
+proc_lacks : (separator : ℕ) (who : Who) → is_ascii_digit separator ≡ false → IsNameable who → Lacks separator (written who.proc)
+proc_lacks separator who none h =
+    number_lacks separator greatest_number (written who.proc) who.proc none (number_read greatest_number who.proc (written who.proc) (omega arith) h.proc refl)
+
+process_lacks : (who : Who) → IsNameable who → Lacks 59 (process_text who)
+process_lacks who h =
+    rw append_assoc (lacks_both 59 (written who.part) (58 ∷ written who.proc) (part_lacks 59 who refl h) (refl, proc_lacks 59 who refl h))
+
+holds_process : (who : Who) → IsNameable who → process_of (process_text who) ≡ Some who
 unfolding process_of
-holds_process text who h =
-    let joined : text ≡ h.part ++ 58 ∷ h.proc = h.joined ∙ append_assoc h.part (codes ":") h.proc in
-    let lacks : Lacks 58 h.part = number_lacks 58 greatest_partition h.part who.part refl h.has_part in
-    let rest : rest_of 58 text ≡ Some h.proc = ap (rest_of 58) joined ∙ rest_joined 58 h.part h.proc lacks in
-    let front : front_of 58 text ≡ h.part = ap (front_of 58) joined ∙ front_joined 58 h.part h.proc lacks in
-    rw (rest, front, h.has_part, h.has_proc) (is_process who h.created)
+holds_process who h =
+    let joined : process_text who ≡ written who.part ++ 58 ∷ written who.proc = append_assoc (written who.part) (codes ":") (written who.proc) in
+    let lacks : Lacks 58 (written who.part) = part_lacks 58 who refl h in
+    let rest : rest_of 58 (process_text who) ≡ Some (written who.proc) = ap (rest_of 58) joined ∙ rest_joined 58 (written who.part) (written who.proc) lacks in
+    let front : front_of 58 (process_text who) ≡ written who.part = ap (front_of 58) joined ∙ front_joined 58 (written who.part) (written who.proc) lacks in
+    let part = number_read greatest_partition who.part (written who.part) (omega arith) h.part refl in
+    let proc = number_read greatest_number who.proc (written who.proc) (omega arith) h.proc refl in
+    rw (rest, front, part, proc) (is_process who h.created)
 
--- no `;` stands in the text of a process
-process_lacks : (text : List ℕ) (who : Who) → HoldsProcess text who → Lacks semicolon text
-process_lacks text who h =
-    rw (h.joined, append_assoc) (lacks_both semicolon h.part (58 ∷ h.proc) (number_lacks semicolon greatest_partition h.part who.part refl h.has_part)
-    (refl, number_lacks semicolon greatest_number h.proc who.proc refl h.has_proc))
-
--- the joining of a first text and others
-abbrev pub joined_with : List ℕ → List (List ℕ) → List ℕ
-joined_with text [] = text
-joined_with text (other ∷ others) = text ++ semicolon ∷ join_with_byte semicolon (other ∷ others)
-
-join_more : (text : List ℕ) (texts : List (List ℕ)) → join_with_byte semicolon (text ∷ texts) ≡ joined_with text texts
-join_more text [] = refl
-join_more text (other ∷ others) = refl
+-- the texts of processes joined by `;`
+texts_joined : (named : List Who) → join_with_byte 59 (map process_text named) ≡ join_by process_text (codes ";") named
+texts_joined [] = refl
+texts_joined (who ∷ []) = sym (append-nil (process_text who))
+texts_joined (who ∷ next ∷ others) = ap (λ rest. process_text who ++ 59 ∷ rest) (texts_joined (next ∷ others))
 
 -- the pieces of a joining are the texts that were joined
-all_pieces : (text : List ℕ) (texts : List (List ℕ)) (who : Who) (others : List Who) → AllZip HoldsProcess (text ∷ texts) (who ∷ others)
-    → pieces_of semicolon (join_with_byte semicolon (text ∷ texts)) ≡ text ∷ texts
-all_pieces text [] who others all =
-    let lacks = process_lacks text who all.0 in
-    pieces_split semicolon text ∙ rw (front_whole semicolon text lacks, rest_whole semicolon text lacks) refl
-all_pieces text (other ∷ texts) who [] all = absurd all.1
-all_pieces text (other ∷ texts) who (next ∷ others) all =
-    let rest = join_with_byte semicolon (other ∷ texts) in
-    let lacks = process_lacks text who all.0 in
-    pieces_split semicolon (text ++ semicolon ∷ rest)
-    ∙ rw (front_joined semicolon text rest lacks, rest_joined semicolon text rest lacks) (ap (λ found. text ∷ found) (all_pieces other texts next others all.1))
+all_pieces : (who : Who) (others : List Who) → All IsNameable (who ∷ others)
+    → pieces_of 59 (join_with_byte 59 (map process_text (who ∷ others))) ≡ map process_text (who ∷ others)
+all_pieces who [] all =
+    let lacks = process_lacks who (All-head IsNameable who [] all) in
+    pieces_split 59 (process_text who) ∙ rw (front_whole 59 (process_text who) lacks, rest_whole 59 (process_text who) lacks) refl
+all_pieces who (next ∷ others) all =
+    let rest = join_with_byte 59 (map process_text (next ∷ others)) in
+    let lacks = process_lacks who (All-head IsNameable who (next ∷ others) all) in
+    pieces_split 59 (process_text who ++ 59 ∷ rest)
+    ∙ rw (front_joined 59 (process_text who) rest lacks, rest_joined 59 (process_text who) rest lacks)
+    (ap (λ found. process_text who ∷ found) (all_pieces next others (All-tail IsNameable who (next ∷ others) all)))
 
 -- texts of processes that rise name them, each behind the one before
-next_is_read : (last : Option Who) (text : List ℕ) (who : Who) (others : List Who) → HoldsProcess text who → RisesBehind last (who ∷ others) → next_process last text ≡ Some who
+next_is_read : (last : Option Who) (who : Who) (others : List Who) → IsNameable who → RisesBehind last (who ∷ others) → next_process last (process_text who) ≡ Some who
 unfolding next_process
-next_is_read None text who others h rises = rw (holds_process text who h) refl
-next_is_read (Some last) text who others h rises = rw (holds_process text who h, rises.0) refl
+next_is_read None who others h rises = rw (holds_process who h) refl
+next_is_read (Some last) who others h rises = rw (holds_process who h, rises.0) refl
 
 rises_on : (last : Option Who) (who : Who) (others : List Who) → RisesBehind last (who ∷ others) → RisesFrom who others
 rises_on None who others rises = rises
 rises_on (Some last) who others rises = rises.1
 
-are_read : (last : Option Who) (texts : List (List ℕ)) (named : List Who) → AllZip HoldsProcess texts named → RisesBehind last named → processes_behind last texts ≡ Some named
+are_read : (last : Option Who) (named : List Who) → All IsNameable named → RisesBehind last named → processes_behind last (map process_text named) ≡ Some named
 unfolding processes_behind
-are_read last [] [] all rises = refl
-are_read last [] (who ∷ others) all rises = absurd all
-are_read last (text ∷ texts) [] all rises = absurd all
-are_read last (text ∷ texts) (who ∷ others) all rises =
-    rw (next_is_read last text who others all.0 rises, are_read (Some who) texts others all.1 (rises_on last who others rises)) refl
+are_read last [] all rises = refl
+are_read last (who ∷ others) all rises =
+    rw (
+      next_is_read last who others (All-head IsNameable who others all) rises,
+      are_read (Some who) others (All-tail IsNameable who others all) (rises_on last who others rises),
+    ) refl
 
--- processes that pieces name are in the pieces
-next_holds : (last : Option Who) (text : List ℕ) (who : Who) → next_process last text ≡ Some who → HoldsProcess text who
+-- processes that pieces name have the pieces as their texts
+next_holds : (last : Option Who) (text : List ℕ) (who : Who) → next_process last text ≡ Some who → (text ≡ process_text who) × IsNameable who
 unfolding next_process
 next_holds last text who e =
     let found = found_first (λ w. if stands_behind last w then Some w else None) (process_of text) who e in
@@ -203,63 +220,69 @@ next_holds last text who e =
     by w true e = e
     by w false e = absurd (none-some who e)
 
-are_held : (last : Option Who) (texts : List (List ℕ)) (named : List Who) → processes_behind last texts ≡ Some named → AllZip HoldsProcess texts named
+-- equal texts before equal ones
+both_same : (one other : List ℕ) (ones others : List (List ℕ)) → one ≡ other → ones ≡ others → one ∷ ones ≡ other ∷ others
+both_same one other ones others e f = cc
+
+are_held : (last : Option Who) (texts : List (List ℕ)) (named : List Who) → processes_behind last texts ≡ Some named → (texts ≡ map process_text named) × All IsNameable named
 unfolding processes_behind
-are_held last [] named e = subst (AllZip HoldsProcess []) (same_Some [] named e) tt
+are_held last [] named e = subst (λ found. ([] ≡ map process_text found) × All IsNameable found) (same_Some [] named e) (refl, All-nil IsNameable)
 are_held last (text ∷ texts) named e =
     let who = found_first (λ w. option_map (λ more. w ∷ more) (processes_behind (Some w) texts)) (next_process last text) named e in
     let others = found_map (λ more. who.0 ∷ more) (processes_behind (Some who.0) texts) named who.2 in
-    subst (AllZip HoldsProcess (text ∷ texts)) others.2 (next_holds last text who.0 who.1, are_held (Some who.0) texts others.0 others.1)
+    let first = next_holds last text who.0 who.1 in
+    let rest = are_held (Some who.0) texts others.0 others.1 in
+    subst (λ found. (text ∷ texts ≡ map process_text found) × All IsNameable found) others.2
+    (both_same text (process_text who.0) texts (map process_text others.0) first.0 rest.0, All-cons IsNameable who.0 others.0 first.1 rest.1)
 
 -- a byte in front of the first text of a joining
-join_onto : (b : ℕ) (text : List ℕ) (texts : List (List ℕ)) → join_with_byte semicolon ((b ∷ text) ∷ texts) ≡ b ∷ join_with_byte semicolon (text ∷ texts)
+join_onto : (b : ℕ) (text : List ℕ) (texts : List (List ℕ)) → join_with_byte 59 ((b ∷ text) ∷ texts) ≡ b ∷ join_with_byte 59 (text ∷ texts)
 join_onto b text [] = refl
 join_onto b text (other ∷ others) = refl
 
 -- the pieces of a text joined are the text
-pieces_joined : (text : List ℕ) → join_with_byte semicolon (pieces_of semicolon text) ≡ text
+pieces_joined : (text : List ℕ) → join_with_byte 59 (pieces_of 59 text) ≡ text
 pieces_joined [] = refl
-pieces_joined (b ∷ bs) = by (nat_eq b semicolon) refl (pieces_split semicolon bs) (pieces_joined bs)
+pieces_joined (b ∷ bs) = by (nat_eq b 59) refl (pieces_split 59 bs) (pieces_joined bs)
   where
-    by : (here : Bool) → nat_eq b semicolon ≡ here → pieces_of semicolon bs ≡ front_of semicolon bs ∷ pieces_left semicolon (rest_of semicolon bs)
-        → join_with_byte semicolon (pieces_of semicolon bs) ≡ bs
-        → join_with_byte semicolon (if here then [] ∷ pieces_of semicolon bs else onto b (pieces_of semicolon bs)) ≡ b ∷ bs
+    by : (here : Bool) → nat_eq b 59 ≡ here → pieces_of 59 bs ≡ front_of 59 bs ∷ pieces_left 59 (rest_of 59 bs)
+        → join_with_byte 59 (pieces_of 59 bs) ≡ bs
+        → join_with_byte 59 (if here then [] ∷ pieces_of 59 bs else onto b (pieces_of 59 bs)) ≡ b ∷ bs
     by true here split more =
-        ap (λ pieces. join_with_byte semicolon ([] ∷ pieces)) split ∙ ap (λ text. semicolon ∷ text) (ap (join_with_byte semicolon) (sym split) ∙ more)
-        ∙ ap (λ byte. byte ∷ bs) (sym (eqb-true b semicolon here))
+        ap (λ pieces. join_with_byte 59 ([] ∷ pieces)) split ∙ ap (λ text. 59 ∷ text) (ap (join_with_byte 59) (sym split) ∙ more)
+        ∙ ap (λ byte. byte ∷ bs) (sym (eqb-true b 59 here))
     by false here split more =
-        ap (λ pieces. join_with_byte semicolon (onto b pieces)) split ∙ join_onto b (front_of semicolon bs) (pieces_left semicolon (rest_of semicolon bs))
-        ∙ ap (λ text. b ∷ text) (ap (join_with_byte semicolon) (sym split) ∙ more)
+        ap (λ pieces. join_with_byte 59 (onto b pieces)) split ∙ join_onto b (front_of 59 bs) (pieces_left 59 (rest_of 59 bs))
+        ∙ ap (λ text. b ∷ text) (ap (join_with_byte 59) (sym split) ∙ more)
 
 -- a list of processes
 pub processes_hold : (text : List ℕ) (named : List Who) → woken_of text ≡ Ok named → HoldsProcesses text named
 unfolding woken_of
-processes_hold [] named e = let none = same_ok [] named e in record { texts = []; joined = refl; each = subst (AllZip HoldsProcess []) none tt; rising = subst IsRising none tt }
+processes_hold [] named e =
+    subst (HoldsProcesses []) (same_ok [] named e) (record { joined = refl; each = All-nil IsNameable; rising = tt })
 processes_hold (b ∷ bs) named e =
-    let read = ok_some (processes_behind None (pieces_of semicolon (b ∷ bs))) BadWoken named e in
+    let read = ok_some (processes_behind None (pieces_of 59 (b ∷ bs))) BadWoken named e in
+    let held = are_held None (pieces_of 59 (b ∷ bs)) named read in
     record {
-      texts = pieces_of semicolon (b ∷ bs);
-      joined = sym (pieces_joined (b ∷ bs));
-      each = are_held None (pieces_of semicolon (b ∷ bs)) named read;
-      rising = rising_behind None (pieces_of semicolon (b ∷ bs)) named read;
+      joined = sym (pieces_joined (b ∷ bs)) ∙ ap (join_with_byte 59) held.0 ∙ texts_joined named;
+      each = held.1;
+      rising = rising_behind None (pieces_of 59 (b ∷ bs)) named read;
     }
 
 -- the text of a process is filled
-process_filled : (text : List ℕ) (who : Who) → HoldsProcess text who → text ≢ []
+process_filled : (who : Who) → IsNameable who → process_text who ≢ []
 unfolding process_of
-process_filled text who h none = absurd (none-some who (ap process_of (sym none) ∙ holds_process text who h))
+process_filled who h none = absurd (none-some who (ap process_of (sym none) ∙ holds_process who h))
 
 pub hold_processes : (text : List ℕ) (named : List Who) → HoldsProcesses text named → woken_of text ≡ Ok named
 unfolding woken_of
-hold_processes text named h = by text named h.texts h.joined h.each h.rising
+hold_processes text [] h = rw h.joined refl
+hold_processes text (who ∷ others) h = by text (h.joined ∙ sym (texts_joined (who ∷ others)))
   where
-    by : (text : List ℕ) (named : List Who) (texts : List (List ℕ)) → text ≡ join_with_byte semicolon texts → AllZip HoldsProcess texts named → IsRising named → woken_of text ≡ Ok named
-    by text [] [] joined each rising = rw joined refl
-    by text (who ∷ others) [] joined each rising = absurd each
-    by text [] (first ∷ texts) joined each rising = absurd each
-    by [] (who ∷ others) (first ∷ texts) joined each rising =
-        let pieces : [] ∷ [] ≡ first ∷ texts = ap (pieces_of semicolon) joined ∙ all_pieces first texts who others each in
-        absurd (process_filled first who each.0 (cc))
-    by (b ∷ bs) (who ∷ others) (first ∷ texts) joined each rising =
-        ap (λ read. ok_or read BadWoken) (ap (processes_behind None) (ap (pieces_of semicolon) joined ∙ all_pieces first texts who others each)
-        ∙ are_read None (first ∷ texts) (who ∷ others) each rising)
+    by : (text : List ℕ) → text ≡ join_with_byte 59 (map process_text (who ∷ others)) → woken_of text ≡ Ok (who ∷ others)
+    by [] joined =
+        let pieces : [] ∷ [] ≡ process_text who ∷ map process_text others = ap (pieces_of 59) joined ∙ all_pieces who others h.each in
+        absurd (process_filled who (All-head IsNameable who others h.each) (cc))
+    by (b ∷ bs) joined =
+        ap (λ read. ok_or read BadWoken) (ap (processes_behind None) (ap (pieces_of 59) joined ∙ all_pieces who others h.each)
+        ∙ are_read None (who ∷ others) h.each h.rising)

@@ -1,10 +1,8 @@
 -- Whole rows: the reader's steps from left to right give a record exactly where the row is the record's.
-use Rattle.std.proofs.Common.{◌≡◌, ◌∙◌, ◌≤◌, ◌+◌, ◌*◌, ◌-◌, ℕ, zero, suc, pred, List, [], ◌∷◌, ◌++◌, Bool, true, false, Option, Some, None, Result, Ok, Err, length, refl, sym, ap, subst, nat_le, nat_lt, nat_eq, arith, if◌then◌else◌, ◌==◌, ◌&&◌}
+use Rattle.std.proofs.Common.{◌≡◌, ◌^◌, ◌<◌, ◌∙◌, ◌≤◌, ℕ, zero, suc, pred, List, [], ◌∷◌, ◌++◌, Bool, true, false, Option, Some, None, Result, Ok, Err, length, refl, sym, ap, subst, nat_le, nat_lt, nat_eq, arith, if◌then◌else◌, ◌==◌}
 use Rattle.std.specs.Prelude.{codes}
-use Rattle.std.specs.Char.{is_ascii_digit}
-use Rattle.std.proofs.lemmas.Bool.{eq-eqb, eqb-true, leb-true, lt-ltb}
-use Rattle.std.proofs.lemmas.Option.{none-some, same_Some}
-use Rattle.csv_rows.specs.Decimal.{decimal, digits_from}
+use Rattle.std.specs.Fmt.{decimal}
+use Rattle.std.proofs.lemmas.Bool.{eq-eqb, eqb-true, lt-ltb}
 use Rattle.csv_rows.specs.Stream.{Fields}
 use Rattle.apex_types.specs.Bounds.{greatest_channel, greatest_number, greatest_partition, greatest_priority, most_records}
 use Rattle.apex_types.specs.declared.record.Body.{Body}
@@ -66,13 +64,13 @@ who_is fields who e =
     let part = step_ok _ _ who e in
     let proc = step_ok _ _ who part.2 in
     subst (NamesProcess (columns_of fields)) (same_ok (record { part = part.0; proc = proc.0 }) who proc.2) (record {
-      part = number_holds greatest_partition (text_at fields 2) part.0 part.1;
-      proc = number_holds greatest_number (text_at fields 3) proc.0 proc.1;
+      part = number_holds greatest_partition (text_at fields 2) part.0 (omega arith) part.1;
+      proc = number_holds greatest_number (text_at fields 3) proc.0 (omega arith) proc.1;
     })
 
 is_who : (fields : Fields) (who : Who) → NamesProcess (columns_of fields) who → who_in fields ≡ Ok who
 unfolding who_in
-is_who fields who h = rw (holds_number greatest_partition (text_at fields 2) who.part h.part, holds_number greatest_number (text_at fields 3) who.proc h.proc) refl
+is_who fields who h = rw (holds_number greatest_partition (text_at fields 2) who.part (omega arith) h.part, holds_number greatest_number (text_at fields 3) who.proc (omega arith) h.proc) refl
 
 -- the request of a call
 request_is : (fields : Fields) (request : Request) → request_in fields ≡ Ok request → HoldsRequest (columns_of fields) request
@@ -126,11 +124,11 @@ claim_is fields claim e =
     let woken = step_ok _ _ claim chan.2 in
     subst (HoldsClaim (columns_of fields))
     (same_ok (record { prio = prio.0; out = out.0; val = val.0; bytes = bytes.0; chan = chan.0; woken = woken.0 }) claim woken.2) (record {
-      prio = number_holds greatest_priority (text_at fields 10) prio.0 prio.1;
+      prio = number_holds greatest_priority (text_at fields 10) prio.0 (omega arith) prio.1;
       out = outcome_is (text_at fields 11) out.0 out.1;
       val = maybe_signed_holds (text_at fields 12) val.0 val.1;
       bytes = data_holds (text_at fields 13) bytes.0 bytes.1;
-      chan = maybe_number_holds greatest_channel (text_at fields 14) chan.0 chan.1;
+      chan = maybe_number_holds greatest_channel (text_at fields 14) chan.0 (omega arith) chan.1;
       woken = processes_hold (text_at fields 15) woken.0 woken.1;
     })
 
@@ -138,11 +136,11 @@ is_claim : (fields : Fields) (claim : Claim) → HoldsClaim (columns_of fields) 
 unfolding claim_in
 is_claim fields claim h =
     rw (
-      holds_number greatest_priority (text_at fields 10) claim.prio h.prio,
+      holds_number greatest_priority (text_at fields 10) claim.prio (omega arith) h.prio,
       is_outcome (text_at fields 11) claim.out h.out,
       holds_maybe_signed (text_at fields 12) claim.val h.val,
       holds_data (text_at fields 13) claim.bytes h.bytes,
-      holds_maybe_number greatest_channel (text_at fields 14) claim.chan h.chan,
+      holds_maybe_number greatest_channel (text_at fields 14) claim.chan (omega arith) h.chan,
       hold_processes (text_at fields 15) claim.woken h.woken,
     ) refl
 
@@ -206,11 +204,11 @@ unfolding proc_of
 proc_is fields None who p e =
     let unused = step_ok _ _ who e in
     subst (Dispatches (columns_of fields)) (same_ok None who unused.2)
-    (maybe_number_holds greatest_partition (text_at fields 2) None p, (empty_is (text_at fields 3) unused.1, tt))
+    (maybe_number_holds greatest_partition (text_at fields 2) None (omega arith) p, (empty_is (text_at fields 3) unused.1, tt))
 proc_is fields (Some part) who p e =
     let proc = step_ok _ _ who e in
     subst (Dispatches (columns_of fields)) (same_ok (Some (record { part = part; proc = proc.0 })) who proc.2)
-    (record { part = maybe_number_holds greatest_partition (text_at fields 2) (Some part) p; proc = number_holds greatest_number (text_at fields 3) proc.0 proc.1 })
+    (record { part = maybe_number_holds greatest_partition (text_at fields 2) (Some part) (omega arith) p; proc = number_holds greatest_number (text_at fields 3) proc.0 (omega arith) proc.1 })
 
 dispatch_is : (fields : Fields) (who : Option Who) → text_at fields 1 ≡ codes "disp" → dispatch_in fields ≡ Ok who → IsRowOfDispatch (columns_of fields) who
 unfolding dispatch_in
@@ -227,11 +225,11 @@ dispatch_is fields who named e =
 is_dispatch : (fields : Fields) (who : Option Who) → IsRowOfDispatch (columns_of fields) who → dispatch_in fields ≡ Ok who
 unfolding dispatch_in proc_of
 is_dispatch fields None h =
-    rw (holds_maybe_number greatest_partition (text_at fields 2) None h.process.0, h.process.1.0, are_all_empty fields 4 12 h.empty) refl
+    rw (holds_maybe_number greatest_partition (text_at fields 2) None (omega arith) h.process.0, h.process.1.0, are_all_empty fields 4 12 h.empty) refl
 is_dispatch fields (Some who) h =
     rw (
-      holds_maybe_number greatest_partition (text_at fields 2) (Some who.part) h.process.part,
-      holds_number greatest_number (text_at fields 3) who.proc h.process.proc,
+      holds_maybe_number greatest_partition (text_at fields 2) (Some who.part) (omega arith) h.process.part,
+      holds_number greatest_number (text_at fields 3) who.proc (omega arith) h.process.proc,
       are_all_empty fields 4 12 h.empty,
     ) refl
 
@@ -265,28 +263,6 @@ is_body fields (body.Ret ret) h = (kind.Ret, h.kind, rw (is_return fields ret h)
 is_body fields (body.Disp who) h = (kind.Disp, h.kind, rw (is_dispatch fields who h) refl)
 is_body fields (body.Tick named) h = (kind.Tick, h.kind, rw (is_tick fields named h) refl)
 
--- a number is at most the greatest one
-digits_bound : (greatest value : ℕ) (text : List ℕ) (n : ℕ) → value ≤ greatest → digits_from greatest value text ≡ Some n → n ≤ greatest
-unfolding digits_from
-digits_bound greatest value [] n fits e = let same : value ≡ n = same_Some value n e in omega arith
-digits_bound greatest value (b ∷ bs) n fits e =
-    by (is_ascii_digit b) (nat_le (value * 10 + (b - 48)) greatest) refl e (λ more. digits_bound greatest (value * 10 + (b - 48)) bs n more)
-  where
-    by : (digit small : Bool) → nat_le (value * 10 + (b - 48)) greatest ≡ small → (if digit && small then digits_from greatest (value * 10 + (b - 48)) bs else None) ≡ Some n
-        → (value * 10 + (b - 48) ≤ greatest → digits_from greatest (value * 10 + (b - 48)) bs ≡ Some n → n ≤ greatest) → n ≤ greatest
-    by true true is e more = more (leb-true (value * 10 + (b - 48)) greatest is) e
-    by false small is e more = absurd (none-some n e)
-    by true false is e more = absurd (none-some n e)
-
-number_bound : (greatest : ℕ) (text : List ℕ) (n : ℕ) → HoldsNumber greatest text n → n ≤ greatest
-unfolding decimal
-number_bound greatest [] n h = absurd (none-some n h)
-number_bound greatest (b ∷ bs) n h = by ((b == 48) && nat_lt 0 (length bs)) h
-  where
-    by : (led : Bool) → (if led then None else digits_from greatest 0 (b ∷ bs)) ≡ Some n → n ≤ greatest
-    by true e = absurd (none-some n e)
-    by false e = digits_bound greatest 0 (b ∷ bs) n (omega arith) e
-
 -- a test that let a value through
 test_then : {A : Type 0} (test : Bool) (fault : RowFault) (read : Result A RowFault) (y : A) → (if test then read else Err fault) ≡ Ok y → (test ≡ true) × (read ≡ Ok y)
 test_then true fault read y e = (refl, e)
@@ -296,16 +272,19 @@ test_then false fault read y e = no_fault fault y e
 fields_are : (next : ℕ) (fields : Fields) (rec : Record) → length fields ≡ 16 → fields_read next fields ≡ Ok rec → IsRow next fields rec
 unfolding fields_read seq_in
 fields_are next fields rec count e =
+    let room : pred most_records < 2 ^ 64 = omega arith in
     let given = step_ok _ _ rec e in
     let seq = step_ok _ _ rec given.2 in
     let k = step_ok _ _ rec seq.2 in
     let found = step_ok _ _ rec k.2 in
     let test = test_ok (nat_eq given.0 next) SeqGap given.0 seq.0 seq.1 in
-    let same : given.0 ≡ next = eqb-true given.0 next test.0 in
+    let number = number_holds (pred most_records) (text_at fields 0) given.0 room given.1 in
+    let bound : given.0 ≤ pred most_records = number.bound in
     subst (IsRow next fields) (same_ok (record { seq = seq.0; body = found.0 }) rec found.2) (record {
       count = count;
-      is = sym test.1 ∙ same;
-      seq = subst (HoldsNumber (pred most_records) (text_at fields 0)) same (number_holds (pred most_records) (text_at fields 0) given.0 given.1);
+      number = sym test.1 ∙ eqb-true given.0 next test.0;
+      bound = subst (λ n. n < most_records) test.1 (omega arith);
+      seq = number.written ∙ ap decimal test.1;
       body = body_is fields k.0 found.0 (kind_is (text_at fields 1) k.0 k.1) found.1;
     })
 
@@ -313,12 +292,13 @@ are_fields : (next : ℕ) (fields : Fields) (rec : Record) → IsRow next fields
 unfolding fields_read seq_in
 are_fields next fields rec h =
     let b = is_body fields rec.body h.body in
+    let bound : rec.seq < most_records = h.bound in
+    let seq : HoldsNumber (pred most_records) (text_at fields 0) rec.seq = record { written = h.seq; bound = omega arith } in
     rw (
-      holds_number (pred most_records) (text_at fields 0) next h.seq,
-      eq-eqb next next refl,
+      holds_number (pred most_records) (text_at fields 0) rec.seq (omega arith) seq,
+      eq-eqb rec.seq next h.number,
       is_kind (text_at fields 1) b.0 b.1,
       b.2,
-      h.is,
     ) refl
 
 -- a row is read as a record exactly where it is the record's row
@@ -332,8 +312,8 @@ row_is next fields rec e =
 is_row : (next : ℕ) (fields : Fields) (rec : Record) → IsRow next fields rec → record_of next fields ≡ Ok rec
 unfolding record_of
 is_row next fields rec h =
-    let bound : next ≤ pred most_records = number_bound (pred most_records) (text_at fields 0) next h.seq in
-    let room : nat_lt next most_records ≡ true = lt-ltb next most_records (omega (arith, bound)) in
+    let bound : next < most_records = subst (λ n. n < most_records) h.number h.bound in
+    let room : nat_lt next most_records ≡ true = lt-ltb next most_records bound in
     rw (room, eq-eqb (length fields) 16 h.count) (are_fields next fields rec h)
 
 pub rows_are_the_grammar : RowsAreTheGrammar

@@ -3,6 +3,7 @@ pub mod GrammarFields
 pub mod GrammarLists
 pub mod GrammarTexts
 pub mod GrammarNames
+pub mod GrammarNumbers
 pub mod GrammarRows
 pub mod Hexadecimal
 pub mod Lengths

@@ -1,8 +1,9 @@
 -- The grammar of rows: which rows are the row of a call, of a return, of a dispatch and of a tick, by what their fields hold.
-use Rattle.std.specs.Prelude.{◌≡◌, ◌≢◌, ◌⊎◌, ◌≤◌, ℕ, pred, ℤ, pos, negsuc, List, [], ◌∷◌, ◌++◌, Bool, true, false, Option, Some, None, Ok, codes, length, nat_le}
-use Rattle.std.specs.List.{AllPass, AllZip, join_with_byte}
+use Rattle.std.specs.Prelude.{◌≡◌, ◌≢◌, ◌⊎◌, ◌≤◌, ◌<◌, ℕ, ℤ, pos, negsuc, List, [], ◌∷◌, ◌++◌, Bool, true, false, Option, Some, None, Ok, codes, length, nat_le, FitsSigned}
+use Rattle.std.specs.Fmt.{decimal, signed_decimal}
+use Rattle.std.specs.Int.{w64}
+use Rattle.std.specs.List.{All, AllPass, join_by}
 use Rattle.hex.specs.Hex.{decode_of}
-use Rattle.csv_rows.specs.Decimal.{decimal, signed_decimal}
 use Rattle.csv_rows.specs.Stream.{Fields}
 use Rattle.apex_types.specs.Bounds.{greatest_channel, greatest_number, greatest_partition, greatest_priority, longest_message, longest_name, most_records}
 use Rattle.apex_types.specs.CodeName as CodeName
@@ -30,13 +31,15 @@ abbrev pub MayHold : {A : Type 0} → (List ℕ → A → Type 0) → List ℕ �
 MayHold Holds text None = text ≡ []
 MayHold Holds text (Some value) = Holds text value
 
--- a number from 0 to a greatest one, in canonical decimal
-abbrev pub HoldsNumber : ℕ → List ℕ → ℕ → Type 0
-HoldsNumber greatest text number = decimal greatest text ≡ Some number
+-- a number from 0 to a greatest one: its decimal digits, with no zero in front
+pub record HoldsNumber (greatest : ℕ) (text : List ℕ) (number : ℕ) : Type 0 where
+  pub written : text ≡ decimal number
+  pub bound : number ≤ greatest
 
--- a number of 64 bits with a sign, in canonical decimal
-abbrev pub HoldsSigned : List ℕ → ℤ → Type 0
-HoldsSigned text number = signed_decimal text ≡ Some number
+-- a number of 64 bits with a sign: its decimal digits, with no zero in front, and behind a `-` where it is negative
+pub record HoldsSigned (text : List ℕ) (number : ℤ) : Type 0 where
+  pub written : text ≡ signed_decimal number
+  pub bound : FitsSigned w64 number
 
 -- an outcome: `wait`, `none` or the name of a code
 abbrev pub HoldsOutcome : List ℕ → Out → Type 0
@@ -70,24 +73,20 @@ pub record HoldsData (text bytes : List ℕ) : Type 0 where
   pub digits : decode_of text ≡ Ok bytes
   pub count : length bytes ≤ longest_message
 
--- a process of a list: its partition, `:` and its number, which is 1 or more
-pub record HoldsProcess (text : List ℕ) (who : Who) : Type 0 where
-  pub part : List ℕ
-  pub proc : List ℕ
-  pub joined : text ≡ part ++ codes ":" ++ proc
-  pub has_part : HoldsNumber greatest_partition part who.part
-  pub has_proc : HoldsNumber greatest_number proc who.proc
+-- the text of a process in a list: its partition, `:` and its number
+abbrev pub process_text : Who → List ℕ
+process_text who = decimal who.part ++ codes ":" ++ decimal who.proc
+
+-- a process that a list can name: not the initialising one, whose number is 0
+pub record IsNameable (who : Who) : Type 0 where
+  pub part : who.part ≤ greatest_partition
   pub created : 1 ≤ who.proc
+  pub proc : who.proc ≤ greatest_number
 
--- the byte `;`
-abbrev pub semicolon : ℕ
-semicolon = 0x3B
-
--- a list of processes: the texts of its processes joined by `;`, in rising order; an empty field holds none
+-- a list of processes: their texts joined by `;`, in rising order; an empty field is the list of none
 pub record HoldsProcesses (text : List ℕ) (named : List Who) : Type 0 where
-  pub texts : List (List ℕ)
-  pub joined : text ≡ join_with_byte semicolon texts
-  pub each : AllZip HoldsProcess texts named
+  pub joined : text ≡ join_by process_text (codes ";") named
+  pub each : All IsNameable named
   pub rising : IsRising named
 
 -- what a row holds
@@ -217,9 +216,11 @@ IsRowOf row (body.Ret ret) = IsRowOfReturn row ret
 IsRowOf row (body.Disp who) = IsRowOfDispatch row who
 IsRowOf row (body.Tick woken) = IsRowOfTick row woken
 
--- sixteen fields are the row of a record of this number: the first holds the number, the others are the row of what it records
-pub record IsRow (number : ℕ) (fields : Fields) (rec : Record) : Type 0 where
+-- sixteen fields are the row of a record: the first is the record's number, which is the row's own, and the others are the row of
+-- what it records
+pub record IsRow (next : ℕ) (fields : Fields) (rec : Record) : Type 0 where
   pub count : length fields ≡ 16
-  pub is : rec.seq ≡ number
-  pub seq : HoldsNumber (pred most_records) (columns_of fields).seq number
+  pub number : rec.seq ≡ next
+  pub bound : rec.seq < most_records
+  pub seq : (columns_of fields).seq ≡ decimal rec.seq
   pub body : IsRowOf (columns_of fields) rec.body
