@@ -33,7 +33,7 @@ pub test_ok : {A : Type 0} (test : Bool) (fault : RowFault) (x y : A) → (if te
 test_ok true fault x y e = (refl, same_ok x y e)
 test_ok false fault x y e = no_fault fault y e
 
--- numbers
+-- a number that is read is what the field holds
 pub number_holds : (greatest : ℕ) (text : List ℕ) (n : ℕ) → greatest < 2 ^ 64 → number greatest text ≡ Ok n → HoldsNumber greatest text n
 unfolding number
 number_holds greatest [] n room e = no_fault FieldNotForKind n e
@@ -41,22 +41,25 @@ number_holds greatest (b ∷ bs) n room e =
     let w = number_written greatest (b ∷ bs) n room (ok_some (decimal greatest (b ∷ bs)) BadNumber n e) in
     record { written = w.0; bound = w.1 }
 
+-- a number that the field holds is read
 pub holds_number : (greatest : ℕ) (text : List ℕ) (n : ℕ) → greatest < 2 ^ 64 → HoldsNumber greatest text n → number greatest text ≡ Ok n
 unfolding number decimal
 holds_number greatest [] n room h = absurd (none-some n (number_read greatest n [] room h.bound h.written))
 holds_number greatest (b ∷ bs) n room h = ap (λ o. ok_or o BadNumber) (number_read greatest n (b ∷ bs) room h.bound h.written)
 
+-- a number with a sign that is read is what the field holds
 pub signed_holds : (text : List ℕ) (n : ℤ) → signed text ≡ Ok n → HoldsSigned text n
 unfolding signed
 signed_holds [] n e = no_fault FieldNotForKind n e
 signed_holds (b ∷ bs) n e = let w = signed_written (b ∷ bs) n (ok_some (signed_decimal (b ∷ bs)) BadNumber n e) in record { written = w.0; bound = w.1 }
 
+-- a number with a sign that the field holds is read
 pub holds_signed : (text : List ℕ) (n : ℤ) → HoldsSigned text n → signed text ≡ Ok n
 unfolding signed signed_decimal
 holds_signed [] n h = absurd (none-some n (signed_read_back [] n h.written h.bound))
 holds_signed (b ∷ bs) n h = ap (λ o. ok_or o BadNumber) (signed_read_back (b ∷ bs) n h.written h.bound)
 
--- numbers that may be left out
+-- a number that may be left out and is read, or is none, is what the field may hold
 pub maybe_number_holds : (greatest : ℕ) (text : List ℕ) (o : Option ℕ) → greatest < 2 ^ 64 → maybe_number greatest text ≡ Ok o → MayHold (HoldsNumber greatest) text o
 unfolding maybe_number
 maybe_number_holds greatest [] o room e = subst (MayHold (HoldsNumber greatest) []) (same_ok None o e) refl
@@ -64,12 +67,14 @@ maybe_number_holds greatest (b ∷ bs) o room e =
     let s = step_ok _ _ o e in
     subst (MayHold (HoldsNumber greatest) (b ∷ bs)) (same_ok (Some s.0) o s.2) (number_holds greatest (b ∷ bs) s.0 room s.1)
 
+-- what the field may hold is read
 pub holds_maybe_number : (greatest : ℕ) (text : List ℕ) (o : Option ℕ) → greatest < 2 ^ 64 → MayHold (HoldsNumber greatest) text o → maybe_number greatest text ≡ Ok o
 unfolding maybe_number number
 holds_maybe_number greatest text None room h = rw h refl
 holds_maybe_number greatest [] (Some n) room h = absurd (let e = holds_number greatest [] n room h in no_fault FieldNotForKind n e)
 holds_maybe_number greatest (b ∷ bs) (Some n) room h = rw (holds_number greatest (b ∷ bs) n room h) refl
 
+-- the same of a number with a sign that may be left out
 pub maybe_signed_holds : (text : List ℕ) (o : Option ℤ) → maybe_signed text ≡ Ok o → MayHold HoldsSigned text o
 unfolding maybe_signed
 maybe_signed_holds [] o e = subst (MayHold HoldsSigned []) (same_ok None o e) refl
@@ -77,31 +82,34 @@ maybe_signed_holds (b ∷ bs) o e =
     let s = step_ok _ _ o e in
     subst (MayHold HoldsSigned (b ∷ bs)) (same_ok (Some s.0) o s.2) (signed_holds (b ∷ bs) s.0 s.1)
 
+-- the same of a number with a sign, the other way round
 pub holds_maybe_signed : (text : List ℕ) (o : Option ℤ) → MayHold HoldsSigned text o → maybe_signed text ≡ Ok o
 unfolding maybe_signed signed
 holds_maybe_signed text None h = rw h refl
 holds_maybe_signed [] (Some n) h = absurd (let e = holds_signed [] n h in no_fault FieldNotForKind n e)
 holds_maybe_signed (b ∷ bs) (Some n) h = rw (holds_signed (b ∷ bs) n h) refl
 
--- empty fields
+-- a field without a fault that must be empty is empty
 pub empty_is : (text : List ℕ) → empty text ≡ Ok tt → text ≡ []
 empty_is [] e = refl
 empty_is (b ∷ bs) e = no_fault FieldNotForKind tt e
 
--- what stands for an empty field
+-- a value that stands for an empty field was given for one
 pub unused_is : {A : Type 0} (text : List ℕ) (unused value : A) → (empty text >>= (λ u. Ok unused)) ≡ Ok value → (text ≡ []) × (value ≡ unused)
 unused_is [] unused value e = (refl, sym (same_ok unused value e))
 unused_is (b ∷ bs) unused value e = no_fault FieldNotForKind value e
 
+-- for an empty field the value that stands for it is given
 pub is_unused : {A : Type 0} (text : List ℕ) (unused value : A) → (text ≡ []) × (value ≡ unused) → (empty text >>= (λ u. Ok unused)) ≡ Ok value
 is_unused text unused value h = rw (h.0, h.1) refl
 
--- arguments
+-- an argument that is read is what the field holds, or stands for the empty field
 pub argument_holds : (taken : Bool) (text : List ℕ) (n : ℤ) → argument taken text ≡ Ok n → HoldsIf taken (pos 0) HoldsSigned text n
 unfolding argument
 argument_holds true text n e = signed_holds text n e
 argument_holds false text n e = unused_is text (pos 0) n e
 
+-- an argument that the field holds, or that stands for the empty field, is read
 pub holds_argument : (taken : Bool) (text : List ℕ) (n : ℤ) → HoldsIf taken (pos 0) HoldsSigned text n → argument taken text ≡ Ok n
 unfolding argument
 holds_argument true text n h = holds_signed text n h

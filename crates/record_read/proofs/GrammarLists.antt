@@ -25,24 +25,27 @@ abbrev pub Lacks : ℕ → List ℕ → Type 0
 Lacks separator [] = Unit {0}
 Lacks separator (b ∷ bs) = (nat_eq b separator ≡ false) × Lacks separator bs
 
+-- a byte that stands in neither of two texts stands in no joining of them
 lacks_both : (separator : ℕ) (front back : List ℕ) → Lacks separator front → Lacks separator back → Lacks separator (front ++ back)
 lacks_both separator [] back h k = k
 lacks_both separator (b ∷ bs) back h k = (h.0, lacks_both separator bs back h.1 k)
 
--- the front and the rest of a text that was joined at a byte
+-- the front of a text that was joined at a byte
 front_joined : (separator : ℕ) (front rest : List ℕ) → Lacks separator front → front_of separator (front ++ separator ∷ rest) ≡ front
 front_joined separator [] rest h = rw (eq-eqb separator separator refl) refl
 front_joined separator (b ∷ bs) rest h = rw h.0 (ap (λ found. b ∷ found) (front_joined separator bs rest h.1))
 
+-- the rest of a text that was joined at a byte
 rest_joined : (separator : ℕ) (front rest : List ℕ) → Lacks separator front → rest_of separator (front ++ separator ∷ rest) ≡ Some rest
 rest_joined separator [] rest h = rw (eq-eqb separator separator refl) refl
 rest_joined separator (b ∷ bs) rest h = rw h.0 (rest_joined separator bs rest h.1)
 
--- the front and the rest of a text in which the byte doesn't stand
+-- a text in which the byte doesn't stand is its own front
 front_whole : (separator : ℕ) (text : List ℕ) → Lacks separator text → front_of separator text ≡ text
 front_whole separator [] h = refl
 front_whole separator (b ∷ bs) h = rw h.0 (ap (λ found. b ∷ found) (front_whole separator bs h.1))
 
+-- and it has no rest
 rest_whole : (separator : ℕ) (text : List ℕ) → Lacks separator text → rest_of separator text ≡ None
 rest_whole separator [] h = refl
 rest_whole separator (b ∷ bs) h = rw h.0 (rest_whole separator bs h.1)
@@ -68,7 +71,7 @@ whole_front separator (b ∷ bs) e = by (nat_eq b separator) e (whole_front sepa
     by true e more = absurd (none-some bs (sym e))
     by false e more = ap (λ found. b ∷ found) (more e)
 
--- a byte that is no digit doesn't stand in a number
+-- a digit is another byte than one that is no digit
 no_digit : (b separator : ℕ) → is_ascii_digit separator ≡ false → is_ascii_digit b ≡ true → nat_eq b separator ≡ false
 no_digit b separator none digit = by (nat_eq b separator) refl
   where
@@ -76,6 +79,7 @@ no_digit b separator none digit = by (nat_eq b separator) refl
     by true same = absurd (true≢false (sym digit ∙ ap is_ascii_digit (eqb-true b separator same) ∙ none))
     by false same = refl
 
+-- a byte that is no digit doesn't stand in digits that were read
 digits_lack : (separator greatest value : ℕ) (text : List ℕ) (n : ℕ) → is_ascii_digit separator ≡ false → digits_from greatest value text ≡ Some n → Lacks separator text
 unfolding digits_from
 digits_lack separator greatest value [] n none e = tt
@@ -87,6 +91,7 @@ digits_lack separator greatest value (b ∷ bs) n none e =
     by true fits e more = (no_digit b separator none (and_parts (is_ascii_digit b) (nat_le (value * 10 + (b - 48)) greatest) fits).0, more e)
     by false fits e more = absurd (none-some n e)
 
+-- nor in a number that was read
 number_lacks : (separator greatest : ℕ) (text : List ℕ) (n : ℕ) → is_ascii_digit separator ≡ false → decimal greatest text ≡ Some n → Lacks separator text
 unfolding decimal
 number_lacks separator greatest [] n none h = tt
@@ -96,16 +101,17 @@ number_lacks separator greatest (b ∷ bs) n none h = by ((b == 48) && nat_lt 0 
     by true e = absurd (none-some n e)
     by false e = digits_lack separator greatest 0 (b ∷ bs) n none e
 
--- what the first of two finds gave, and the second behind it
+-- what the first of two finds gives, and the second behind it
 found_first : {A B : Type 0} (more : A → Option B) (first : Option A) (y : B) → option_and_then more first ≡ Some y → (x : A) × (first ≡ Some x) × (more x ≡ Some y)
 found_first more None y e = absurd (none-some y e)
 found_first more (Some x) y e = (x, refl, e)
 
+-- what a find gives, and what is made of it
 found_map : {A B : Type 0} (make : A → B) (first : Option A) (y : B) → option_map make first ≡ Some y → (x : A) × (first ≡ Some x) × (make x ≡ y)
 found_map make None y e = absurd (none-some y e)
 found_map make (Some x) y e = (x, refl, same_Some (make x) y e)
 
--- one process
+-- the process of a partition and a number is made of them, and its number is 1 or more
 process_is : (part number : ℕ) (who : Who) → process part number ≡ Some who → (part ≡ who.part) × (number ≡ who.proc) × (1 ≤ who.proc)
 process_is part number who e = by (nat_eq number 0) refl e
   where
@@ -118,9 +124,11 @@ process_is part number who e = by (nat_eq number 0) refl e
         let filled : number ≢ 0 = eqb-false number 0 is in
         (ap (λ (w : Who). w.part) same, proc, omega (arith, proc, filled))
 
+-- a text of a front and a rest, which are the numbers of a process, is the text of the process
 process_written : (text front rest : List ℕ) (who : Who) → text ≡ front ++ 58 ∷ rest → front ≡ written who.part → rest ≡ written who.proc → text ≡ process_text who
 process_written text front rest who joined before behind = joined ∙ rw (before, behind) (sym (append_assoc (written who.part) (codes ":") (written who.proc)))
 
+-- a process that is read from a text has this text, and a list can name it
 process_holds : (text : List ℕ) (who : Who) → process_of text ≡ Some who → (text ≡ process_text who) × IsNameable who
 unfolding process_of
 process_holds text who e =
@@ -140,6 +148,7 @@ process_holds text who e =
       },
     )
 
+-- a process whose number is 1 or more is made of its partition and its number
 is_process : (who : Who) → 1 ≤ who.proc → process who.part who.proc ≡ Some who
 is_process who created = by (nat_eq who.proc 0) refl
   where
@@ -147,19 +156,22 @@ is_process who created = by (nat_eq who.proc 0) refl
     by true is = let none : who.proc ≡ 0 = eqb-true who.proc 0 is in absurd (omega (arith, none, created))
     by false is = refl
 
--- no `:` stands in a partition's number, and no `;` in the text of a process
+-- a byte that is no digit doesn't stand in a partition's number
 part_lacks : (separator : ℕ) (who : Who) → is_ascii_digit separator ≡ false → IsNameable who → Lacks separator (written who.part)
 part_lacks separator who none h =
     number_lacks separator greatest_partition (written who.part) who.part none (number_read greatest_partition who.part (written who.part) (omega arith) h.part refl)
 
+-- nor in a process's number
 proc_lacks : (separator : ℕ) (who : Who) → is_ascii_digit separator ≡ false → IsNameable who → Lacks separator (written who.proc)
 proc_lacks separator who none h =
     number_lacks separator greatest_number (written who.proc) who.proc none (number_read greatest_number who.proc (written who.proc) (omega arith) h.proc refl)
 
+-- so no `;` stands in the text of a process
 process_lacks : (who : Who) → IsNameable who → Lacks 59 (process_text who)
 process_lacks who h =
     rw append_assoc (lacks_both 59 (written who.part) (58 ∷ written who.proc) (part_lacks 59 who refl h) (refl, proc_lacks 59 who refl h))
 
+-- a process that a list can name is read from its text
 holds_process : (who : Who) → IsNameable who → process_of (process_text who) ≡ Some who
 unfolding process_of
 holds_process who h =
@@ -190,16 +202,18 @@ all_pieces who (next ∷ others) all =
     ∙ rw (front_joined 59 (process_text who) rest lacks, rest_joined 59 (process_text who) rest lacks)
     (ap (λ found. process_text who ∷ found) (all_pieces next others (All-tail IsNameable who (next ∷ others) all)))
 
--- texts of processes that rise name them, each behind the one before
+-- the text of a process that stands behind the last names it
 next_is_read : (last : Option Who) (who : Who) (others : List Who) → IsNameable who → RisesBehind last (who ∷ others) → next_process last (process_text who) ≡ Some who
 unfolding next_process
 next_is_read None who others h rises = rw (holds_process who h) refl
 next_is_read (Some last) who others h rises = rw (holds_process who h, rises.0) refl
 
+-- processes that rise behind a last one rise behind the first of them
 rises_on : (last : Option Who) (who : Who) (others : List Who) → RisesBehind last (who ∷ others) → RisesFrom who others
 rises_on None who others rises = rises
 rises_on (Some last) who others rises = rises.1
 
+-- the texts of processes that rise name them, each behind the one before
 are_read : (last : Option Who) (named : List Who) → All IsNameable named → RisesBehind last named → processes_behind last (map process_text named) ≡ Some named
 unfolding processes_behind
 are_read last [] all rises = refl
@@ -209,7 +223,7 @@ are_read last (who ∷ others) all rises =
       are_read (Some who) others (All-tail IsNameable who others all) (rises_on last who others rises),
     ) refl
 
--- processes that pieces name have the pieces as their texts
+-- a process that a piece names has the piece as its text
 next_holds : (last : Option Who) (text : List ℕ) (who : Who) → next_process last text ≡ Some who → (text ≡ process_text who) × IsNameable who
 unfolding next_process
 next_holds last text who e =
@@ -224,6 +238,7 @@ next_holds last text who e =
 both_same : (one other : List ℕ) (ones others : List (List ℕ)) → one ≡ other → ones ≡ others → one ∷ ones ≡ other ∷ others
 both_same one other ones others e f = cc
 
+-- processes that pieces name have the pieces as their texts
 are_held : (last : Option Who) (texts : List (List ℕ)) (named : List Who) → processes_behind last texts ≡ Some named → (texts ≡ map process_text named) × All IsNameable named
 unfolding processes_behind
 are_held last [] named e = subst (λ found. ([] ≡ map process_text found) × All IsNameable found) (same_Some [] named e) (refl, All-nil IsNameable)
@@ -255,7 +270,7 @@ pieces_joined (b ∷ bs) = by (nat_eq b 59) refl (pieces_split 59 bs) (pieces_jo
         ap (λ pieces. join_with_byte 59 (onto b pieces)) split ∙ join_onto b (front_of 59 bs) (pieces_left 59 (rest_of 59 bs))
         ∙ ap (λ text. b ∷ text) (ap (join_with_byte 59) (sym split) ∙ more)
 
--- a list of processes
+-- a list that is read is what the field holds
 pub processes_hold : (text : List ℕ) (named : List Who) → woken_of text ≡ Ok named → HoldsProcesses text named
 unfolding woken_of
 processes_hold [] named e =
@@ -274,6 +289,7 @@ process_filled : (who : Who) → IsNameable who → process_text who ≢ []
 unfolding process_of
 process_filled who h none = absurd (none-some who (ap process_of (sym none) ∙ holds_process who h))
 
+-- a list that the field holds is read
 pub hold_processes : (text : List ℕ) (named : List Who) → HoldsProcesses text named → woken_of text ≡ Ok named
 unfolding woken_of
 hold_processes text [] h = rw h.joined refl

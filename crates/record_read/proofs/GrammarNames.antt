@@ -35,6 +35,7 @@ kind_name kind.Ret = codes "ret"
 kind_name kind.Disp = codes "disp"
 kind_name kind.Tick = codes "tick"
 
+-- a text that names a kind is its name
 kind_named_is : (text : List ℕ) (k : Kind) → kind_named text ≡ Some k → text ≡ kind_name k
 unfolding kind_named
 kind_named_is text k e =
@@ -44,64 +45,74 @@ kind_named_is text k e =
     (first_is text (codes "tick") kind.Tick None k (λ found. text ≡ kind_name found) (λ same. same)
     (λ none. absurd (none-some k none))))) e
 
+-- a field that is read as a kind is its name
 pub kind_is : (text : List ℕ) (k : Kind) → kind_of text ≡ Ok k → text ≡ kind_name k
 unfolding kind_of
 kind_is [] k e = no_fault FieldNotForKind k e
 kind_is (b ∷ bs) k e = kind_named_is (b ∷ bs) k (ok_some (kind_named (b ∷ bs)) BadKind k e)
 
+-- the name of a kind names it
 of_kind_name : (k : Kind) → kind_of (kind_name k) ≡ Ok k
 unfolding kind_of kind_named
 of_kind_name kind.Call = refl
 of_kind_name _ = refl
 
+-- a field that is the name of a kind is read as it
 pub is_kind : (text : List ℕ) (k : Kind) → text ≡ kind_name k → kind_of text ≡ Ok k
 is_kind text k e = ap kind_of e ∙ of_kind_name k
 
--- services
+-- a text that names a service among some is its name
 service_among_is : (services : List Service) (text : List ℕ) (s : Service) → service_among services text ≡ Some s → text ≡ ServiceName.name_of s
 unfolding service_among
 service_among_is [] text s e = absurd (none-some s e)
 service_among_is (first ∷ others) text s e =
     first_is (ServiceName.name_of first) text first (service_among others text) s (λ found. text ≡ ServiceName.name_of found) sym (service_among_is others text s) e
 
+-- a field that is read as a service is its name
 pub service_is : (text : List ℕ) (s : Service) → service_of text ≡ Ok s → text ≡ ServiceName.name_of s
 unfolding service_of service_named
 service_is [] s e = no_fault FieldNotForKind s e
 service_is (b ∷ bs) s e = service_among_is all_services (b ∷ bs) s (ok_some (service_named (b ∷ bs)) BadService s e)
 
+-- the name of a service names it, and no service before it
 of_service_name : (s : Service) → service_of (ServiceName.name_of s) ≡ Ok s
 unfolding service_of service_named service_among
 of_service_name service.CreateProcess = refl
 of_service_name _ = refl
 
+-- a field that is the name of a service is read as it
 pub is_service : (text : List ℕ) (s : Service) → text ≡ ServiceName.name_of s → service_of text ≡ Ok s
 is_service text s e = ap service_of e ∙ of_service_name s
 
--- codes
+-- a text that names a code among some is its name
 code_among_is : (cs : List Code) (text : List ℕ) (c : Code) → code_among cs text ≡ Some c → text ≡ CodeName.name_of c
 unfolding code_among
 code_among_is [] text c e = absurd (none-some c e)
 code_among_is (first ∷ others) text c e =
     first_is (CodeName.name_of first) text first (code_among others text) c (λ found. text ≡ CodeName.name_of found) sym (code_among_is others text c) e
 
+-- a field that is read as a code is its name
 pub code_is : (text : List ℕ) (c : Code) → code_of text ≡ Ok c → text ≡ CodeName.name_of c
 unfolding code_of
 code_is [] c e = no_fault FieldNotForKind c e
 code_is (b ∷ bs) c e = code_among_is all_codes (b ∷ bs) c (ok_some (code_named (b ∷ bs)) BadOut c e)
 
+-- the name of a code names it, and no code before it
 of_code_name : (c : Code) → code_of (CodeName.name_of c) ≡ Ok c
 unfolding code_of code_among
 of_code_name code.NoError = refl
 of_code_name _ = refl
 
+-- a field that is the name of a code is read as it
 pub is_code : (text : List ℕ) (c : Code) → text ≡ CodeName.name_of c → code_of text ≡ Ok c
 is_code text c e = ap code_of e ∙ of_code_name c
 
--- outcomes
+-- a text that names a code holds that code as its outcome
 answer_is : (text : List ℕ) (o : Out) (found : Option Code) → code_named text ≡ found → option_map out.Answer found ≡ Some o → HoldsOutcome text o
 answer_is text o None none e = absurd (none-some o e)
 answer_is text o (Some c) is e = subst (HoldsOutcome text) (same_Some (out.Answer c) o e) (code_among_is all_codes text c is)
 
+-- a text that names an outcome holds it
 out_named_is : (text : List ℕ) (o : Out) → out_named text ≡ Some o → HoldsOutcome text o
 unfolding out_named
 out_named_is text o e =
@@ -109,24 +120,29 @@ out_named_is text o e =
     (first_is text (codes "none") out.Never (option_map out.Answer (code_named text)) o (HoldsOutcome text) (λ same. same)
     (answer_is text o (code_named text) refl)) e
 
+-- a field that is read as an outcome holds it
 pub outcome_is : (text : List ℕ) (o : Out) → out_of text ≡ Ok o → HoldsOutcome text o
 unfolding out_of
 outcome_is [] o e = no_fault FieldNotForKind o e
 outcome_is (b ∷ bs) o e = out_named_is (b ∷ bs) o (ok_some (out_named (b ∷ bs)) BadOut o e)
 
+-- the name of a code is the outcome with that code
 of_code_outcome : (c : Code) → out_of (CodeName.name_of c) ≡ Ok (out.Answer c)
 unfolding out_of out_named code_among
 of_code_outcome code.NoError = refl
 of_code_outcome _ = refl
 
+-- `wait` is the outcome of a caller that waits
 waits_is : out_of (codes "wait") ≡ Ok out.Waits
 unfolding out_of out_named
 waits_is = refl
 
+-- `none` is the outcome of a call that does not return
 never_is : out_of (codes "none") ≡ Ok out.Never
 unfolding out_of out_named
 never_is = refl
 
+-- a field that holds an outcome is read as it
 pub is_outcome : (text : List ℕ) (o : Out) → HoldsOutcome text o → out_of text ≡ Ok o
 is_outcome text out.Waits e = ap out_of e ∙ waits_is
 is_outcome text out.Never e = ap out_of e ∙ never_is

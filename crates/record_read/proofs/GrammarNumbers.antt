@@ -65,7 +65,7 @@ leads_alone b bs none zero_first =
     let is : nat_lt 0 (length bs) ≡ false = subst (λ led. (led && nat_lt 0 (length bs)) ≡ false) (eq-eqb b 48 zero_first) none in
     omega (arith, ltb-false 0 (length bs) is)
 
--- a number that was read is written so
+-- a text that is read as a number is what is written for it, and the number is at most the greatest one
 pub number_written : (greatest : ℕ) (text : List ℕ) (n : ℕ) → greatest < 2 ^ 64 → decimal_read greatest text ≡ Some n → (text ≡ decimal n) × (n ≤ greatest)
 unfolding decimal_read
 number_written greatest [] n room e = absurd (none-some n e)
@@ -102,7 +102,7 @@ number_read greatest n (b ∷ bs) room fits written =
     let value : digits_value 10 (b ∷ bs) ≡ n = ap (digits_value 10) written ∙ numeral.1 in
     rw (no_zero_leads n b bs (omega arith) written) (are_digits greatest 0 (b ∷ bs) all (omega (arith, value)) ∙ ap Some value)
 
--- a number of 64 bits with a sign
+-- a text that is read as a number with a sign is what is written for it, and the number fits 64 bits
 pub signed_written : (text : List ℕ) (z : ℤ) → signed_read text ≡ Some z → (text ≡ signed_decimal z) × FitsSigned w64 z
 unfolding signed_read
 signed_written [] z e = absurd (none-some z e)
@@ -140,6 +140,7 @@ no_minus_leads n b bs room written =
     let low : 48 ≤ b = range.0 in
     ne_eqb b 45 (λ same. let e : b ≡ 45 = same in omega arith)
 
+-- what is written for a number of 64 bits with a sign is read
 pub signed_read_back : (text : List ℕ) (z : ℤ) → text ≡ signed_decimal z → FitsSigned w64 z → signed_read text ≡ Some z
 unfolding signed_read
 signed_read_back [] (negsuc n) written fits = let e : ◌≡◌ {A = List ℕ} [] (45 ∷ decimal (suc n)) = written in cc

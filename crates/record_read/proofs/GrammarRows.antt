@@ -32,6 +32,7 @@ abbrev pub texts_from : Fields → ℕ → ℕ → List (List ℕ)
 texts_from fields place zero = []
 texts_from fields place (suc n) = text_at fields place ∷ texts_from fields (suc place) n
 
+-- fields without a fault that must be empty are empty
 all_are_empty : (fields : Fields) (place count : ℕ) → all_empty fields place count ≡ Ok tt → AreEmpty (texts_from fields place count)
 unfolding all_empty
 all_are_empty fields place zero e = tt
@@ -39,25 +40,28 @@ all_are_empty fields place (suc n) e =
     let s = step_ok (empty (text_at fields place)) (λ u. all_empty fields (suc place) n) tt e in
     (empty_is (text_at fields place) s.1, all_are_empty fields (suc place) n s.2)
 
+-- empty fields have no fault where they must be empty
 are_all_empty : (fields : Fields) (place count : ℕ) → AreEmpty (texts_from fields place count) → all_empty fields place count ≡ Ok tt
 unfolding all_empty
 are_all_empty fields place zero h = refl
 are_all_empty fields place (suc n) h = rw h.0 (are_all_empty fields (suc place) n h.1)
 
--- empty fields behind others
+-- empty fields behind empty ones
 both_empty : (front back : List (List ℕ)) → AreEmpty front → AreEmpty back → AreEmpty (front ++ back)
 both_empty [] back h k = k
 both_empty (text ∷ texts) back h k = (h.0, both_empty texts back h.1 k)
 
+-- the first of empty fields are empty
 front_empty : (front back : List (List ℕ)) → AreEmpty (front ++ back) → AreEmpty front
 front_empty [] back h = tt
 front_empty (text ∷ texts) back h = (h.0, front_empty texts back h.1)
 
+-- and so are the others
 back_empty : (front back : List (List ℕ)) → AreEmpty (front ++ back) → AreEmpty back
 back_empty [] back h = h
 back_empty (text ∷ texts) back h = back_empty texts back h.1
 
--- the process of a call or a return
+-- a process that is read is the one that the row names
 who_is : (fields : Fields) (who : Who) → who_in fields ≡ Ok who → NamesProcess (columns_of fields) who
 unfolding who_in
 who_is fields who e =
@@ -68,11 +72,12 @@ who_is fields who e =
       proc = number_holds greatest_number (text_at fields 3) proc.0 (omega arith) proc.1;
     })
 
+-- a process that the row names is read
 is_who : (fields : Fields) (who : Who) → NamesProcess (columns_of fields) who → who_in fields ≡ Ok who
 unfolding who_in
 is_who fields who h = rw (holds_number greatest_partition (text_at fields 2) who.part (omega arith) h.part, holds_number greatest_number (text_at fields 3) who.proc (omega arith) h.proc) refl
 
--- the request of a call
+-- a request that is read is what the row holds
 request_is : (fields : Fields) (request : Request) → request_in fields ≡ Ok request → HoldsRequest (columns_of fields) request
 unfolding request_in
 request_is fields request e =
@@ -99,6 +104,7 @@ request_is fields request e =
       has_message = message_holds takes.message n2.0 (text_at fields 9) message.0 message.1;
     }
 
+-- a request that the row holds is read
 is_request : (fields : Fields) (request : Request) → HoldsRequest (columns_of fields) request → request_in fields ≡ Ok request
 unfolding request_in
 is_request fields request h =
@@ -112,7 +118,7 @@ is_request fields request h =
       holds_message takes.message h.n2 (text_at fields 9) h.message h.has_message,
     ) (ap Ok (sym h.is))
 
--- what a call claims
+-- a claim that is read is what the row holds
 claim_is : (fields : Fields) (claim : Claim) → claim_in fields ≡ Ok claim → HoldsClaim (columns_of fields) claim
 unfolding claim_in
 claim_is fields claim e =
@@ -132,6 +138,7 @@ claim_is fields claim e =
       woken = processes_hold (text_at fields 15) woken.0 woken.1;
     })
 
+-- a claim that the row holds is read
 is_claim : (fields : Fields) (claim : Claim) → HoldsClaim (columns_of fields) claim → claim_in fields ≡ Ok claim
 unfolding claim_in
 is_claim fields claim h =
@@ -144,7 +151,7 @@ is_claim fields claim h =
       hold_processes (text_at fields 15) claim.woken h.woken,
     ) refl
 
--- a call
+-- a row of this kind that is read as a call is its row
 call_is : (fields : Fields) (call : Call) → text_at fields 1 ≡ codes "call" → call_in fields ≡ Ok call → IsRowOfCall (columns_of fields) call
 unfolding call_in
 call_is fields call named e =
@@ -158,11 +165,12 @@ call_is fields call named e =
       claim = claim_is fields claim.0 claim.1;
     })
 
+-- the row of a call is read as the call
 is_call : (fields : Fields) (call : Call) → IsRowOfCall (columns_of fields) call → call_in fields ≡ Ok call
 unfolding call_in
 is_call fields call h = rw (is_who fields call.who h.who, is_request fields call.request h.request, is_claim fields call.claim h.claim) refl
 
--- a return
+-- a row of this kind that is read as a return is its row
 return_is : (fields : Fields) (ret : Return) → text_at fields 1 ≡ codes "ret" → return_in fields ≡ Ok ret → IsRowOfReturn (columns_of fields) ret
 unfolding return_in
 return_is fields ret named e =
@@ -184,6 +192,7 @@ return_is fields ret named e =
       empty = both_empty (texts_from fields 5 6) (texts_from fields 14 2) (all_are_empty fields 5 6 unused.1) (all_are_empty fields 14 2 unused_too.1);
     })
 
+-- the row of a return is read as the return
 is_return : (fields : Fields) (ret : Return) → IsRowOfReturn (columns_of fields) ret → return_in fields ≡ Ok ret
 unfolding return_in
 is_return fields ret h =
@@ -197,7 +206,7 @@ is_return fields ret h =
       are_all_empty fields 14 2 (back_empty (texts_from fields 5 6) (texts_from fields 14 2) h.empty),
     ) refl
 
--- a dispatch
+-- a process of a dispatch that is read, or none, is what the row names
 proc_is : (fields : Fields) (part : Option ℕ) (who : Option Who) → maybe_number greatest_partition (text_at fields 2) ≡ Ok part → proc_of part (text_at fields 3) ≡ Ok who
     → Dispatches (columns_of fields) who
 unfolding proc_of
@@ -210,6 +219,7 @@ proc_is fields (Some part) who p e =
     subst (Dispatches (columns_of fields)) (same_ok (Some (record { part = part; proc = proc.0 })) who proc.2)
     (record { part = maybe_number_holds greatest_partition (text_at fields 2) (Some part) (omega arith) p; proc = number_holds greatest_number (text_at fields 3) proc.0 (omega arith) proc.1 })
 
+-- a row of this kind that is read as a dispatch is its row
 dispatch_is : (fields : Fields) (who : Option Who) → text_at fields 1 ≡ codes "disp" → dispatch_in fields ≡ Ok who → IsRowOfDispatch (columns_of fields) who
 unfolding dispatch_in
 dispatch_is fields who named e =
@@ -222,6 +232,7 @@ dispatch_is fields who named e =
       empty = all_are_empty fields 4 12 unused.1;
     })
 
+-- the row of a dispatch is read as the dispatch
 is_dispatch : (fields : Fields) (who : Option Who) → IsRowOfDispatch (columns_of fields) who → dispatch_in fields ≡ Ok who
 unfolding dispatch_in proc_of
 is_dispatch fields None h =
@@ -233,18 +244,19 @@ is_dispatch fields (Some who) h =
       are_all_empty fields 4 12 h.empty,
     ) refl
 
--- a tick
+-- a row of this kind that is read as a tick is its row
 tick_is : (fields : Fields) (named : List Who) → text_at fields 1 ≡ codes "tick" → tick_in fields ≡ Ok named → IsRowOfTick (columns_of fields) named
 unfolding tick_in
 tick_is fields named is e =
     let unused = step_ok _ _ named e in
     record { kind = is; woken = processes_hold (text_at fields 15) named unused.2; empty = all_are_empty fields 2 13 unused.1 }
 
+-- the row of a tick is read as the tick
 is_tick : (fields : Fields) (named : List Who) → IsRowOfTick (columns_of fields) named → tick_in fields ≡ Ok named
 unfolding tick_in
 is_tick fields named h = rw (are_all_empty fields 2 13 h.empty) (hold_processes (text_at fields 15) named h.woken)
 
--- what a row of a kind records
+-- a row of a kind that is read as something recorded is its row
 body_is : (fields : Fields) (k : Kind) (b : Body) → text_at fields 1 ≡ kind_name k → body_in k fields ≡ Ok b → IsRowOf (columns_of fields) b
 unfolding body_in
 body_is fields kind.Call b named e =
@@ -256,6 +268,7 @@ body_is fields kind.Disp b named e =
 body_is fields kind.Tick b named e =
     let woken = step_ok _ _ b e in subst (IsRowOf (columns_of fields)) (same_ok (body.Tick woken.0) b woken.2) (tick_is fields woken.0 named woken.1)
 
+-- the row of something recorded has a kind, and is read as a row of that kind
 is_body : (fields : Fields) (b : Body) → IsRowOf (columns_of fields) b → (k : Kind) × (text_at fields 1 ≡ kind_name k) × (body_in k fields ≡ Ok b)
 unfolding body_in
 is_body fields (body.Call call) h = (kind.Call, h.kind, rw (is_call fields call h) refl)
@@ -268,7 +281,7 @@ test_then : {A : Type 0} (test : Bool) (fault : RowFault) (read : Result A RowFa
 test_then true fault read y e = (refl, e)
 test_then false fault read y e = no_fault fault y e
 
--- sixteen fields
+-- sixteen fields that are read as a record are its row
 fields_are : (next : ℕ) (fields : Fields) (rec : Record) → length fields ≡ 16 → fields_read next fields ≡ Ok rec → IsRow next fields rec
 unfolding fields_read seq_in
 fields_are next fields rec count e =
@@ -288,6 +301,7 @@ fields_are next fields rec count e =
       body = body_is fields k.0 found.0 (kind_is (text_at fields 1) k.0 k.1) found.1;
     })
 
+-- the sixteen fields of the row of a record are read as the record
 are_fields : (next : ℕ) (fields : Fields) (rec : Record) → IsRow next fields rec → fields_read next fields ≡ Ok rec
 unfolding fields_read seq_in
 are_fields next fields rec h =
@@ -301,7 +315,7 @@ are_fields next fields rec h =
       b.2,
     ) refl
 
--- a row is read as a record exactly where it is the record's row
+-- a row that is read as a record is its row
 row_is : (next : ℕ) (fields : Fields) (rec : Record) → record_of next fields ≡ Ok rec → IsRow next fields rec
 unfolding record_of
 row_is next fields rec e =
@@ -309,6 +323,7 @@ row_is next fields rec e =
     let count = test_then (length fields == 16) FieldCount (fields_read next fields) rec room.1 in
     fields_are next fields rec (eqb-true (length fields) 16 count.0) count.1
 
+-- the row of a record is read as the record
 is_row : (next : ℕ) (fields : Fields) (rec : Record) → IsRow next fields rec → record_of next fields ≡ Ok rec
 unfolding record_of
 is_row next fields rec h =
@@ -316,6 +331,7 @@ is_row next fields rec h =
     let room : nat_lt next most_records ≡ true = lt-ltb next most_records bound in
     rw (room, eq-eqb (length fields) 16 h.count) (are_fields next fields rec h)
 
+-- a row is read as a record exactly where it is the record's row
 pub rows_are_the_grammar : RowsAreTheGrammar
 rows_are_the_grammar next fields rec = (row_is next fields rec, is_row next fields rec)
 

@@ -14,7 +14,7 @@ use Rattle.record_read.specs.Grammar.{GoesWith, HoldsData, HoldsIf, HoldsMessage
 use Rattle.record_read.specs.Payload.{from_hex, goes_with, is_printable, maybe_message, message_in, message_of, name_in, name_of}
 use Rattle.record_read.proofs.GrammarFields.{is_unused, no_fault, step_ok, test_ok, unused_is}
 
--- a name that is filled
+-- a filled field that is read as a name holds it
 name_is : (text name : List ℕ) → text ≢ [] → name_of text ≡ Ok name → HoldsName text name
 unfolding name_of
 name_is text name filled e =
@@ -27,24 +27,26 @@ name_is text name filled e =
       printable = AllPass-from_list_all is_printable text parts.1;
     }
 
+-- a name that the field holds is read
 is_name : (text name : List ℕ) → HoldsName text name → name_of text ≡ Ok name
 unfolding name_of
 is_name text name h = rw (le-leb (length text) longest_name h.short, list_all-from_AllPass is_printable text h.printable, h.is) refl
 
--- the name of a service that takes one, and else none
+-- a name that is read is what the field holds, or stands for the empty field
 pub name_holds : (taken : Bool) (text name : List ℕ) → name_in taken text ≡ Ok name → HoldsIf taken [] HoldsName text name
 unfolding name_in
 name_holds true [] name e = no_fault FieldNotForKind name e
 name_holds true (b ∷ bs) name e = name_is (b ∷ bs) name (λ none. cc) e
 name_holds false text name e = unused_is text [] name e
 
+-- a name that the field holds, or that stands for the empty field, is read
 pub holds_name : (taken : Bool) (text name : List ℕ) → HoldsIf taken [] HoldsName text name → name_in taken text ≡ Ok name
 unfolding name_in
 holds_name true [] name h = absurd (h.filled refl)
 holds_name true (b ∷ bs) name h = is_name (b ∷ bs) name h
 holds_name false text name h = is_unused text [] name h
 
--- bytes in hexadecimal
+-- bytes that are read without a fault are those of the digits
 hex_is : (read : Result (List ℕ) FromHexError) (bytes : List ℕ) → from_hex read ≡ Ok bytes → read ≡ Ok bytes
 hex_is (Ok found) bytes e = let f : ◌≡◌ {A = Result (List ℕ) RowFault} (Ok found) (Ok bytes) = e in cc
 hex_is (Err error) bytes e = no_fault BadHex bytes e
@@ -75,7 +77,7 @@ length_decides (pos (suc n)) count = by (nat_le (suc n) longest_message) refl
         let over : longest_message < suc n = leb-false (suc n) longest_message long in
         none_goes (pos (suc n)) count (λ h. let short : suc n ≤ longest_message = h.1 in absurd (omega arith))
 
--- a message that a service takes, and else none
+-- a message that is read is what the field holds, or stands for the empty field
 pub message_holds : (taken : Bool) (len : ℤ) (text bytes : List ℕ) → message_in taken len text ≡ Ok bytes → HoldsIf taken [] (HoldsMessage len) text bytes
 unfolding message_in message_of
 message_holds true len text bytes e =
@@ -85,12 +87,13 @@ message_holds true len text bytes e =
     record { digits = digits; count = subst (λ given. GoesWith len (length given)) t.1 ((length_decides len (length s.0)).0 t.0) }
 message_holds false len text bytes e = unused_is text [] bytes e
 
+-- a message that the field holds, or that stands for the empty field, is read
 pub holds_message : (taken : Bool) (len : ℤ) (text bytes : List ℕ) → HoldsIf taken [] (HoldsMessage len) text bytes → message_in taken len text ≡ Ok bytes
 unfolding message_in message_of
 holds_message true len text bytes h = rw (h.digits, (length_decides len (length bytes)).1 h.count) refl
 holds_message false len text bytes h = is_unused text [] bytes h
 
--- a message that a service gives
+-- a message that a service gives and that is read is what the field holds
 pub data_holds : (text bytes : List ℕ) → maybe_message text ≡ Ok bytes → HoldsData text bytes
 unfolding maybe_message
 data_holds text bytes e =
@@ -99,6 +102,7 @@ data_holds text bytes e =
     let digits : decode_of text ≡ Ok bytes = hex_is (decode_of text) s.0 s.1 ∙ ap Ok t.1 in
     record { digits = digits; count = subst (λ given. length given ≤ longest_message) t.1 (leb-true (length s.0) longest_message t.0) }
 
+-- a message that a service gives and that the field holds is read
 pub holds_data : (text bytes : List ℕ) → HoldsData text bytes → maybe_message text ≡ Ok bytes
 unfolding maybe_message
 holds_data text bytes h = rw (h.digits, le-leb (length bytes) longest_message h.count) refl

@@ -1,10 +1,10 @@
 pub mod Empty
 pub mod GrammarFields
 pub mod GrammarLists
-pub mod GrammarTexts
 pub mod GrammarNames
 pub mod GrammarNumbers
 pub mod GrammarRows
+pub mod GrammarTexts
 pub mod Hexadecimal
 pub mod Lengths
 pub mod Memory

@@ -216,8 +216,7 @@ IsRowOf row (body.Ret ret) = IsRowOfReturn row ret
 IsRowOf row (body.Disp who) = IsRowOfDispatch row who
 IsRowOf row (body.Tick woken) = IsRowOfTick row woken
 
--- sixteen fields are the row of a record: the first is the record's number, which is the row's own, and the others are the row of
--- what it records
+-- sixteen fields are the row of a record: the first holds its number, which is the row's, and the others are the row of what it records
 pub record IsRow (next : ℕ) (fields : Fields) (rec : Record) : Type 0 where
   pub count : length fields ≡ 16
   pub number : rec.seq ≡ next
