@@ -1,15 +1,16 @@
 -- Lists of processes: the reader's walk over the pieces of a text gives processes exactly where the text is the joining of their texts.
-use Rattle.std.proofs.Common.{◌≡◌, ◌<◌, ◌^◌, ◌∙◌, ◌≤◌, ◌+◌, ◌*◌, ◌-◌, ℕ, List, [], ◌∷◌, ◌++◌, Bool, true, false, Option, Some, None, Ok, length, refl, sym, ap, map, subst, nat_le, nat_lt, nat_eq, append_assoc, arith, true≢false, if◌then◌else◌, ◌==◌, ◌&&◌}
+use Rattle.std.proofs.Common.{◌≡◌, ◌<◌, ◌^◌, ◌∙◌, ◌≤◌, ℕ, List, [], ◌∷◌, ◌++◌, Bool, true, false, Option, Some, None, Ok, refl, sym, ap, map, subst, nat_eq, append_assoc, arith, if◌then◌else◌}
 use Rattle.std.specs.Prelude.{◌≢◌, codes, option_and_then, option_map}
-use Rattle.std.specs.Char.{is_ascii_digit}
 use Rattle.std.specs.Fmt.{decimal as written}
 use Rattle.std.specs.List.{All, join_by, join_with_byte}
 use Rattle.std.specs.Option.{ok_or}
-use Rattle.std.proofs.lemmas.Bool.{and_parts, eqb-true, eq-eqb, eqb-false}
+use Rattle.std.specs.Str.Parse.{AllDigits}
+use Rattle.std.proofs.lemmas.Bool.{eq-eqb, eqb-false, eqb-true, ne_eqb}
+use Rattle.std.proofs.lemmas.Fmt.{decimal_is_IsNumeral}
 use Rattle.std.proofs.lemmas.List.{append-nil}
 use Rattle.std.proofs.lemmas.List.Elements.{All-cons, All-head, All-nil, All-tail}
 use Rattle.std.proofs.lemmas.Option.{none-some, same_Some}
-use Rattle.csv_rows.specs.Decimal.{decimal, digits_from}
+use Rattle.std.proofs.lemmas.Str.Parse.{digit_from_value}
 use Rattle.apex_types.specs.Bounds.{greatest_number, greatest_partition}
 use Rattle.apex_types.specs.declared.record.Who.{Who}
 use Rattle.apex_types.specs.Rising.{RisesFrom}
@@ -61,45 +62,17 @@ joined_at separator (b ∷ bs) rest e = by (nat_eq b separator) refl e (joined_a
     by true here e more = rw (eqb-true b separator here, same_Some bs rest e) refl
     by false here e more = ap (λ found. b ∷ found) (more e)
 
--- a text without the byte is its front
-whole_front : (separator : ℕ) (text : List ℕ) → rest_of separator text ≡ None → text ≡ front_of separator text
-whole_front separator [] e = refl
-whole_front separator (b ∷ bs) e = by (nat_eq b separator) e (whole_front separator bs)
-  where
-    by : (here : Bool) → (if here then Some bs else rest_of separator bs) ≡ None → (rest_of separator bs ≡ None → bs ≡ front_of separator bs)
-        → b ∷ bs ≡ (if here then [] else b ∷ front_of separator bs)
-    by true e more = absurd (none-some bs (sym e))
-    by false e more = ap (λ found. b ∷ found) (more e)
+-- a byte behind the digits doesn't stand in digits
+digits_lack : (separator : ℕ) (text : List ℕ) → 57 < separator → AllDigits 10 text → Lacks separator text
+digits_lack separator [] behind all = tt
+digits_lack separator (b ∷ bs) behind all =
+    let range = digit_from_value b all.0 in
+    let high : b ≤ 57 = range.1 in
+    (ne_eqb b separator (λ same. let e : b ≡ separator = same in omega arith), digits_lack separator bs behind all.1)
 
--- a digit is another byte than one that is no digit
-no_digit : (b separator : ℕ) → is_ascii_digit separator ≡ false → is_ascii_digit b ≡ true → nat_eq b separator ≡ false
-no_digit b separator none digit = by (nat_eq b separator) refl
-  where
-    by : (same : Bool) → nat_eq b separator ≡ same → same ≡ false
-    by true same = absurd (true≢false (sym digit ∙ ap is_ascii_digit (eqb-true b separator same) ∙ none))
-    by false same = refl
-
--- a byte that is no digit doesn't stand in digits that were read
-digits_lack : (separator greatest value : ℕ) (text : List ℕ) (n : ℕ) → is_ascii_digit separator ≡ false → digits_from greatest value text ≡ Some n → Lacks separator text
-unfolding digits_from
-digits_lack separator greatest value [] n none e = tt
-digits_lack separator greatest value (b ∷ bs) n none e =
-    by (is_ascii_digit b && nat_le (value * 10 + (b - 48)) greatest) refl e (digits_lack separator greatest (value * 10 + (b - 48)) bs n none)
-  where
-    by : (fits : Bool) → (is_ascii_digit b && nat_le (value * 10 + (b - 48)) greatest) ≡ fits → (if fits then digits_from greatest (value * 10 + (b - 48)) bs else None) ≡ Some n
-        → (digits_from greatest (value * 10 + (b - 48)) bs ≡ Some n → Lacks separator bs) → Lacks separator (b ∷ bs)
-    by true fits e more = (no_digit b separator none (and_parts (is_ascii_digit b) (nat_le (value * 10 + (b - 48)) greatest) fits).0, more e)
-    by false fits e more = absurd (none-some n e)
-
--- nor in a number that was read
-number_lacks : (separator greatest : ℕ) (text : List ℕ) (n : ℕ) → is_ascii_digit separator ≡ false → decimal greatest text ≡ Some n → Lacks separator text
-unfolding decimal
-number_lacks separator greatest [] n none h = tt
-number_lacks separator greatest (b ∷ bs) n none h = by ((b == 48) && nat_lt 0 (length bs)) h
-  where
-    by : (led : Bool) → (if led then None else digits_from greatest 0 (b ∷ bs)) ≡ Some n → Lacks separator (b ∷ bs)
-    by true e = absurd (none-some n e)
-    by false e = digits_lack separator greatest 0 (b ∷ bs) n none e
+-- nor in what is written for a number
+written_lacks : (separator n : ℕ) → 57 < separator → n < 2 ^ 64 → Lacks separator (written n)
+written_lacks separator n behind room = digits_lack separator (written n) behind (decimal_is_IsNumeral n room).0.1
 
 -- what the first of two finds gives, and the second behind it
 found_first : {A B : Type 0} (more : A → Option B) (first : Option A) (y : B) → option_and_then more first ≡ Some y → (x : A) × (first ≡ Some x) × (more x ≡ Some y)
@@ -156,27 +129,21 @@ is_process who created = by (nat_eq who.proc 0) refl
     by true is = let none : who.proc ≡ 0 = eqb-true who.proc 0 is in absurd (omega (arith, none, created))
     by false is = refl
 
--- a byte that is no digit doesn't stand in a partition's number
-part_lacks : (separator : ℕ) (who : Who) → is_ascii_digit separator ≡ false → IsNameable who → Lacks separator (written who.part)
-part_lacks separator who none h =
-    number_lacks separator greatest_partition (written who.part) who.part none (number_read greatest_partition who.part (written who.part) (omega arith) h.part refl)
-
--- nor in a process's number
-proc_lacks : (separator : ℕ) (who : Who) → is_ascii_digit separator ≡ false → IsNameable who → Lacks separator (written who.proc)
-proc_lacks separator who none h =
-    number_lacks separator greatest_number (written who.proc) who.proc none (number_read greatest_number who.proc (written who.proc) (omega arith) h.proc refl)
-
--- so no `;` stands in the text of a process
+-- no `;` stands in the text of a process
 process_lacks : (who : Who) → IsNameable who → Lacks 59 (process_text who)
 process_lacks who h =
-    rw append_assoc (lacks_both 59 (written who.part) (58 ∷ written who.proc) (part_lacks 59 who refl h) (refl, proc_lacks 59 who refl h))
+    let part : who.part ≤ greatest_partition = h.part in
+    let proc : who.proc ≤ greatest_number = h.proc in
+    rw append_assoc (lacks_both 59 (written who.part) (58 ∷ written who.proc) (written_lacks 59 who.part (omega arith) (omega arith))
+    (refl, written_lacks 59 who.proc (omega arith) (omega arith)))
 
 -- a process that a list can name is read from its text
 holds_process : (who : Who) → IsNameable who → process_of (process_text who) ≡ Some who
 unfolding process_of
 holds_process who h =
     let joined : process_text who ≡ written who.part ++ 58 ∷ written who.proc = append_assoc (written who.part) (codes ":") (written who.proc) in
-    let lacks : Lacks 58 (written who.part) = part_lacks 58 who refl h in
+    let fits : who.part ≤ greatest_partition = h.part in
+    let lacks : Lacks 58 (written who.part) = written_lacks 58 who.part (omega arith) (omega arith) in
     let rest : rest_of 58 (process_text who) ≡ Some (written who.proc) = ap (rest_of 58) joined ∙ rest_joined 58 (written who.part) (written who.proc) lacks in
     let front : front_of 58 (process_text who) ≡ written who.part = ap (front_of 58) joined ∙ front_joined 58 (written who.part) (written who.proc) lacks in
     let part = number_read greatest_partition who.part (written who.part) (omega arith) h.part refl in
