@@ -21,6 +21,11 @@ pub cannot_hold : (test : Bool) → (test ≡ true → ⊥) → test ≡ false
 cannot_hold true cannot = absurd (cannot refl)
 cannot_hold false cannot = refl
 
+-- a test that cannot fail holds
+pub holds_if : (test : Bool) → (test ≡ false → ⊥) → test ≡ true
+holds_if true cannot = refl
+holds_if false cannot = absurd (cannot refl)
+
 -- where neither test holds the second doesn't
 pub neither_later : (one other : Bool) → (one || other) ≡ false → other ≡ false
 neither_later true other neither = absurd (true≢false neither)

@@ -28,34 +28,34 @@ use Rattle.apex_laws.proofs.Tables.{distinct_each, distinct_push, some_at_each}
 -- a new number
 
 -- what is nothing
-nothing : (found : Option Process) → is_none found ≡ true → found ≡ None
+nothing : {Item : Type 0} (found : Option Item) → is_none found ≡ true → found ≡ None
 nothing None none = refl
-nothing (Some process) none = cc
+nothing (Some item) none = cc
 
--- a claimed number that is new: 1 to 2,147,483,647, and of no process
-pub record IsNew (table : Table) (claimed : Option ℤ) : Type 0 where
+-- a claimed number that is new: 1 to 2,147,483,647, and of no process or object of the kind
+pub record IsNew {Item : Type 0} (items : List (ℕ × Item)) (claimed : Option ℤ) : Type 0 where
   pub number : ℕ
   pub is : claimed ≡ Some (pos number)
   pub within : (1 ≤ number) × (number ≤ greatest_number)
-  pub none : item_at table number ≡ None
+  pub none : item_at items number ≡ None
 
 -- the test says so
-pub new_is : (table : Table) (claimed : Option ℤ) → is_new (is_free table) claimed ≡ true → IsNew table claimed
-new_is table None new = cc
-new_is table (Some (negsuc n)) new = cc
-new_is table (Some (pos n)) new =
-    let first = and_parts (nat_lt 0 n) (nat_le n greatest_number && is_none (item_at table n)) new in
-    let second = and_parts (nat_le n greatest_number) (is_none (item_at table n)) first.1 in
-    record { number = n; is = refl; within = (ltb-true 0 n first.0, leb-true n greatest_number second.0); none = nothing (item_at table n) second.1 }
+pub new_is : {Item : Type 0} (items : List (ℕ × Item)) (claimed : Option ℤ) → is_new (is_free items) claimed ≡ true → IsNew items claimed
+new_is items None new = cc
+new_is items (Some (negsuc n)) new = cc
+new_is items (Some (pos n)) new =
+    let first = and_parts (nat_lt 0 n) (nat_le n greatest_number && is_none (item_at items n)) new in
+    let second = and_parts (nat_le n greatest_number) (is_none (item_at items n)) first.1 in
+    record { number = n; is = refl; within = (ltb-true 0 n first.0, leb-true n greatest_number second.0); none = nothing (item_at items n) second.1 }
 
 -- a table with each process changed, and a process under a number that was new
-distinct_numbered : (change : ℕ → Process → Process) (table : Table) (claimed : Option ℤ) (process : Process) → are_distinct table ≡ true
-    → is_new (is_free table) claimed ≡ true → are_distinct (each_item change table ++ numbered claimed process) ≡ true
-distinct_numbered change table claimed process distinct new =
-    let is = new_is table claimed new in
-    subst (λ one. are_distinct (each_item change table ++ numbered one process) ≡ true) (sym is.is)
-    (distinct_push (each_item change table) is.number process (distinct_each change table ∙ distinct)
-    (some_at_each change table is.number ∙ ap (λ found. is_some found) is.none))
+distinct_numbered : {Item : Type 0} (change : ℕ → Item → Item) (items : List (ℕ × Item)) (claimed : Option ℤ) (item : Item) → are_distinct items ≡ true
+    → is_new (is_free items) claimed ≡ true → are_distinct (each_item change items ++ numbered claimed item) ≡ true
+distinct_numbered change items claimed item distinct new =
+    let is = new_is items claimed new in
+    subst (λ one. are_distinct (each_item change items ++ numbered one item) ≡ true) (sym is.is)
+    (distinct_push (each_item change items) is.number item (distinct_each change items ∙ distinct)
+    (some_at_each change items is.number ∙ ap (λ found. is_some found) is.none))
 
 -- a table with each process changed, and nobody created
 distinct_alone : (change : ℕ → Process → Process) (table : Table) → are_distinct table ≡ true → are_distinct (each_item change table ++ []) ≡ true

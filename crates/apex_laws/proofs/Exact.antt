@@ -35,7 +35,8 @@ use Rattle.apex_laws.proofs.Objects.{each_set_holds, objects_have, stands_at}
 use Rattle.apex_laws.proofs.Tables.{at_each}
 use Rattle.apex_laws.proofs.Ends.{first_empty}
 use Rattle.apex_laws.proofs.Standing.{Entering, who_waits}
-use Rattle.apex_laws.proofs.Stays.{called_sets, same_sets, step_tied}
+use Rattle.apex_laws.proofs.SetsAfter.{called_sets, same_sets}
+use Rattle.apex_laws.proofs.Stays.{step_tied}
 use Rattle.apex_laws.proofs.WaitSets.{found_set}
 use Rattle.apex_laws.proofs.Whos.{same_is, same_itself}
 use Rattle.apex_laws.proofs.Woken.{found}
@@ -201,7 +202,7 @@ own_takes judged configuration state place core call law wanted not_sending not_
     let there : stands_at objects wanted ≡ true = rw done
     (waits_there configuration call.who call.claim.val call.request call.claim.chan partition wanted not_sending not_receiving
     (found_set wanted (set_of call.request call.claim.chan) parts.1) none) in
-    rw (is_itself call.who.part) (subst (λ entries. stands_in call.who entries ≡ true) (sym (called_sets configuration state place core call partition wanted))
+    rw (is_itself call.who.part) (subst (λ entries. stands_in call.who entries ≡ true) (sym (called_sets configuration state.cores place core call partition wanted))
     (each_stands call.who (set_after place (Call call)) objects wanted there (set_takes place call wanted (entries_at objects wanted) here)))
 
 -- who waits in a set of a partition after a record stands there
@@ -243,7 +244,7 @@ partition_stands judged configuration state place core (Call call) tied law who 
           let foreign : ℕ → Process → Process = λ other process. roused place call (record { part = who.part; proc = other }) process in
           elim (nat_eq call.who.part who.part) as (λ own. stands_in who (entries_at (cond own (partition_called configuration state.cores place core call partition)
           (record partition { table = each_item foreign partition.table })) wanted) ≡ true) [
-            | true ↦ subst (λ entries. stands_in who entries ≡ true) (sym (called_sets configuration state place core call partition wanted))
+            | true ↦ subst (λ entries. stands_in who entries ≡ true) (sym (called_sets configuration state.cores place core call partition wanted))
                 (each_stands who (set_after place (Call call)) objects wanted (standing_there who objects wanted used) (set_keeps place (Call call) who wanted (entries_at objects wanted) goes.0 used))
             | false ↦ subst (λ entries. stands_in who entries ≡ true) (sym (same_sets partition (each_item foreign partition.table) wanted)) (before goes.1)
           ]

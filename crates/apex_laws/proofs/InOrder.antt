@@ -1,29 +1,28 @@
 -- The entries of every waiting set stay in order.
-use Rattle.std.proofs.Common.{◌≡◌, ℕ, suc, ◌<◌, List, [], ◌∷◌, ◌++◌, Bool, true, false, cond, nat_eq, IsTrue, sym, subst, ◌∙◌, inl, inr, arith, true≢false}
+use Rattle.std.proofs.Common.{◌≡◌, ℕ, suc, ◌<◌, List, [], ◌∷◌, ◌++◌, Bool, true, false, cond, IsTrue, sym, subst, ◌∙◌, inl, inr, arith, true≢false}
 use Rattle.std.proofs.lemmas.Bool.{cases_Bool}
 use Rattle.apex_types.specs.declared.record.Body.{Body}
 use Rattle.apex_types.specs.declared.record.Body.TheVariants.{Call, Ret, Disp, Tick}
-use Rattle.apex_types.specs.declared.record.Call.{Call as CallRecord}
 use Rattle.apex_types.specs.declared.record.Ordered.{Ordered}
 use Rattle.apex_types.specs.declared.record.Who.{Who}
 use Rattle.apex_types.specs.declared.service.Service.{Service}
+use Rattle.apex_machine.specs.declared.state.CoreState.{CoreState}
 use Rattle.apex_machine.specs.declared.state.Entry.{Entry}
-use Rattle.apex_machine.specs.declared.state.Process.{Process}
 use Rattle.apex_machine.specs.declared.state.WaitingSet.{WaitingSet}
 use Rattle.apex_machine.specs.declared.state.WaitingSet.TheVariants as set
-use Rattle.apex_machine.specs.After.{each_set, is_done, objects_by, partition_by, partition_called, returned, roused, ticked}
+use Rattle.apex_machine.specs.After.{partition_by}
 use Rattle.apex_machine.specs.Channels.{is_receiver, is_sender}
 use Rattle.apex_machine.specs.Configuration.{Configuration}
 use Rattle.apex_machine.specs.Demands.{stands_in}
-use Rattle.apex_machine.specs.State.{Partition, State, cold_state, each_item, is_named, is_same}
+use Rattle.apex_machine.specs.State.{Partition, State, cold_state, is_named, is_same}
 use Rattle.apex_machine.specs.Step.{IsLawfulBody, RunJudging, StepJudging}
 use Rattle.apex_machine.specs.Waiting.{ends_wait, enters, entry_of, set_after, without}
 use Rattle.apex_laws.specs.Laws.{AllEntries, AllPairs, SetsAreInOrder, AreTied, IsEarlier, IsInOrder, IsTied, StaysInOrder, entries_at}
 use Rattle.apex_laws.specs.ObjectLaws.{AreApart, OrderIsApart}
 use Rattle.apex_laws.proofs.Booleans.{neither_first, neither_later}
 use Rattle.apex_laws.proofs.Demanded.{caller_stands_not}
-use Rattle.apex_laws.proofs.Objects.{each_set_has, objects_have}
-use Rattle.apex_laws.proofs.Stays.{called_sets, same_sets, step_tied}
+use Rattle.apex_laws.proofs.SetsAfter.{IsElsewhere, one_set_after}
+use Rattle.apex_laws.proofs.Stays.{step_tied}
 use Rattle.apex_laws.proofs.Waiters.{all_push, all_weaker, all_without}
 use Rattle.apex_laws.proofs.Whos.{same_is, same_itself}
 
@@ -120,50 +119,15 @@ new_here judged configuration state core (Disp who) tied law Home wanted entries
 new_here judged configuration state core (Tick woken) tied law Home wanted entries all = tt
 new_here judged configuration state core (Ret ret) tied law Home wanted entries all = tt
 
--- the sets of the objects that a call used, or created
-used_in_order : (count : ℕ) (configuration : Configuration) (call : CallRecord) (partition : Partition) (wanted : WaitingSet)
-    → (IsInOrder count (entries_at partition wanted) × (stands_in call.who (entries_at partition wanted) ≡ false))
-    → (IsInOrder count (entries_at (cond (is_done call.claim.out) (objects_by configuration call.who call.claim.val call.request partition) partition) wanted)
-    × (stands_in call.who (entries_at (cond (is_done call.claim.out) (objects_by configuration call.who call.claim.val call.request partition) partition) wanted) ≡ false))
-used_in_order count configuration call partition wanted both =
-    elim (is_done call.claim.out) as (λ done. IsInOrder count (entries_at (cond done (objects_by configuration call.who call.claim.val call.request partition) partition) wanted)
-    × (stands_in call.who (entries_at (cond done (objects_by configuration call.who call.claim.val call.request partition) partition) wanted) ≡ false)) [
-      | true ↦ objects_have (λ entries. IsInOrder count entries × (stands_in call.who entries ≡ false)) configuration call.who call.claim.val call.request partition wanted both
-      | false ↦ both
-    ]
-
--- the sets of a partition after a record
-partition_in_order : (judged : Service → Bool) (configuration : Configuration) (state : State) (place core : ℕ) (body : Body) → place ≡ state.count → AreTied configuration state
-    → IsLawfulBody judged configuration state core body → SetsAreInOrder state → (number : ℕ) (wanted : WaitingSet)
-    → IsInOrder (suc state.count) (entries_at (partition_by configuration state.cores place core number body (state.partitions number)) wanted)
-partition_in_order judged configuration state place core (Disp who) at tied law order number wanted = order_later state.count (entries_at (state.partitions number) wanted) (order.objects number wanted)
-partition_in_order judged configuration state place core (Ret ret) at tied law order number wanted =
-    let later = order_later state.count (entries_at (state.partitions number) wanted) (order.objects number wanted) in
-    elim (nat_eq ret.who.part number) as (λ own. IsInOrder (suc state.count) (entries_at (cond own
-    (record (state.partitions number) { table = each_item (returned ret.who.proc) (state.partitions number).table }) (state.partitions number)) wanted)) [
-      | true ↦ subst (IsInOrder (suc state.count)) (sym (same_sets (state.partitions number) (each_item (returned ret.who.proc) (state.partitions number).table) wanted)) later
-      | false ↦ later
-    ]
-partition_in_order judged configuration state place core (Tick woken) at tied law order number wanted =
-    subst (IsInOrder (suc state.count)) (sym (same_sets (each_set (set_after place (Tick woken)) (state.partitions number)) (each_item (ticked place number woken) (state.partitions number).table) wanted))
-    (each_set_has (IsInOrder (suc state.count)) (none_in_order (suc state.count)) (set_after place (Tick woken)) (state.partitions number) wanted
-    (set_in_order state.count place (Tick woken) wanted (entries_at (state.partitions number) wanted) at tt (order.objects number wanted)))
-partition_in_order judged configuration state place core (Call call) at tied law order number wanted =
-    let foreign : ℕ → Process → Process = λ other process. roused place call (record { part = number; proc = other }) process in
-    elim (nat_eq call.who.part number) as (λ own. IsInOrder (suc state.count) (entries_at (cond own
-    (partition_called configuration state.cores place core call (state.partitions number))
-    (record (state.partitions number) { table = each_item foreign (state.partitions number).table })) wanted)) [
-      | true ↦
-          let objects : Partition = cond (is_done call.claim.out) (objects_by configuration call.who call.claim.val call.request (state.partitions number)) (state.partitions number) in
-          let used = used_in_order state.count configuration call (state.partitions number) wanted
-          (order.objects number wanted, caller_stands_not judged configuration state core call tied law (λ home. home ≡ number) wanted (entries_at (state.partitions number) wanted) (tied.objects number wanted)) in
-          subst (IsInOrder (suc state.count)) (sym (called_sets configuration state place core call (state.partitions number) wanted))
-          (each_set_has (IsInOrder (suc state.count)) (none_in_order (suc state.count)) (set_after place (Call call)) objects wanted
-          (set_in_order state.count place (Call call) wanted (entries_at objects wanted) at used.1 used.0))
-      | false ↦
-          subst (IsInOrder (suc state.count)) (sym (same_sets (state.partitions number) (each_item foreign (state.partitions number).table) wanted))
-          (order_later state.count (entries_at (state.partitions number) wanted) (order.objects number wanted))
-    ]
+-- a set of a partition after a record, if its own caller stands in it not yet
+pub set_stays_in_order : (configuration : Configuration) (cores : List CoreState) (count place core number : ℕ) (body : Body) (partition : Partition) (wanted : WaitingSet) → place ≡ count
+    → ((IsElsewhere number body → ⊥) → EntersNew body (entries_at partition wanted)) → IsInOrder count (entries_at partition wanted)
+    → IsInOrder (suc count) (entries_at (partition_by configuration cores place core number body partition) wanted)
+set_stays_in_order configuration cores count place core number body partition wanted at new order =
+    one_set_after (λ entries. IsInOrder count entries × ((IsElsewhere number body → ⊥) → EntersNew body entries)) (IsInOrder (suc count))
+    configuration cores place core number body partition wanted (none_in_order (suc count))
+    (λ own entries before. set_in_order count place body wanted entries at (before.1 own) before.0)
+    (λ elsewhere before. order_later count (entries_at partition wanted) before.0) (order, new)
 
 -- the whole state
 
@@ -176,7 +140,9 @@ step_in_order judged configuration state ordered next tied order step =
     let law = step.0.claims in
     let at = step.0.placed in
     subst SetsAreInOrder (sym step.1) (record {
-      objects = λ number wanted. partition_in_order judged configuration state place core body at tied law order number wanted;
+      objects = λ number wanted. set_stays_in_order configuration state.cores state.count place core number body (state.partitions number) wanted at
+          (λ own. new_here judged configuration state core body tied law (λ home. home ≡ number) wanted (entries_at (state.partitions number) wanted) (tied.objects number wanted))
+          (order.objects number wanted);
       senders = λ number. set_in_order state.count place body (set.ChannelSenders number) (state.channels number).senders at
           (new_here judged configuration state core body tied law (λ home. IsTrue (is_sender configuration number home)) (set.ChannelSenders number) (state.channels number).senders (tied.senders number))
           (order.senders number);

@@ -1,4 +1,4 @@
--- A process that a lawful record doesn't wake or stop goes on waiting where it waits.
+-- A process that a record doesn't wake or stop goes on waiting where it waits, if the record's own calls are of ready callers.
 use Rattle.std.proofs.Common.{◌≡◌, ℕ, zero, suc, List, [], ◌∷◌, ◌++◌, Bool, true, false, cond, nat_eq, ℤ, pos, negsuc, Option, Some, None, option_map, refl, sym, ap, subst, ◌∙◌, inl, inr, true≢false}
 use Rattle.std.proofs.lemmas.Bool.{and_from, and_parts, cases_Bool, eqb-true}
 use Rattle.apex_types.specs.declared.code.Code.TheVariants as code
@@ -31,8 +31,8 @@ use Rattle.apex_machine.specs.Step.{IsLawfulBody, IsLawfulCall, channel_answer}
 use Rattle.apex_machine.specs.Waiting.{ends_wait, enters, is_in, is_the_set, is_waiting, set_of, stops, waits_at}
 use Rattle.apex_machine.specs.Demands.{window_now}
 use Rattle.apex_laws.specs.Laws.{AreTied}
-use Rattle.apex_laws.proofs.Booleans.{is_itself, neither_first, neither_later}
-use Rattle.apex_laws.proofs.Callers.{chosen_stands, ready_waits_not}
+use Rattle.apex_laws.proofs.Booleans.{cannot_hold, is_itself, neither_first, neither_later}
+use Rattle.apex_laws.proofs.Callers.{StandsReady, chosen_stands, ready_waits_not}
 use Rattle.apex_laws.proofs.Codes.{are_errors, done_is_lawful}
 use Rattle.apex_laws.proofs.Ends.{no_condition}
 use Rattle.apex_laws.proofs.Tables.{at_each}
@@ -159,23 +159,45 @@ not_started configuration who partition _ number x at alive none = tt
 
 -- after a call
 
--- what a lawful call sets leaves a waiting process alive and waiting
-pub adjusted_waits : (judged : Service → Bool) (configuration : Configuration) (state : State) (place period core : ℕ) (call : CallRecord) → IsLawfulCall judged configuration state core call
-    → (number : ℕ) (x : Process) (wanted : WaitingSet) → item_at (state.partitions call.who.part).table number ≡ Some x → x.alive ≡ true → is_in wanted x.wait ≡ true
-    → ((adjusted place period state.cores (state.partitions call.who.part) call number x).alive ≡ true)
-    × (is_in wanted (adjusted place period state.cores (state.partitions call.who.part) call number x).wait ≡ true)
-adjusted_waits judged configuration state place period core call law number x wanted at alive waits =
+-- a call of one of a partition's own processes: its caller is ready, and where it is done no error condition holds
+pub record IsReadyCall (configuration : Configuration) (partition : Partition) (core : ℕ) (call : CallRecord) : Type 0 where
+  pub ready : StandsReady core (item_at partition.table call.who.proc)
+  pub none : is_done call.claim.out ≡ true → condition_codes configuration call.who partition call.request ≡ []
+
+-- a record is such a call, where it is a call of one of this partition's processes
+abbrev pub CallsReady : Configuration → ℕ → ℕ → Body → Partition → Type 0
+CallsReady configuration core number (Call call) partition = nat_eq call.who.part number ≡ true → IsReadyCall configuration partition core call
+CallsReady configuration core number _ partition = Unit {0}
+
+-- a lawful call is one
+pub ready_call : (judged : Service → Bool) (configuration : Configuration) (state : State) (core : ℕ) (call : CallRecord) → AreTied configuration state
+    → IsLawfulCall judged configuration state core call → IsReadyCall configuration (state.partitions call.who.part) core call
+ready_call judged configuration state core call tied law = record {
+  ready = chosen_stands (window_now configuration state.cores core) state.partitions core call.who (tied.distinct call.who.part) law.choice;
+  none = λ done. done_is_lawful (condition_codes configuration call.who (state.partitions call.who.part) call.request) (channel_of (state.partitions call.who.part) call.request)
+      (answer_of (time_of state.cores core) call.who (state.partitions call.who.part) call.request) (λ number. suits_use (use_of call.request) (state.channels number))
+      (channel_answer configuration (time_of state.cores core) call.request state.channels) call.claim
+      (are_errors configuration call.who (state.partitions call.who.part) call.request) law.outcome done;
+}
+
+pub calls_ready : (judged : Service → Bool) (configuration : Configuration) (state : State) (core : ℕ) (body : Body) → AreTied configuration state
+    → IsLawfulBody judged configuration state core body → (number : ℕ) → CallsReady configuration core number body (state.partitions number)
+calls_ready judged configuration state core (Call call) tied law number =
+    λ own. subst (λ part. IsReadyCall configuration (state.partitions part) core call) (eqb-true call.who.part number own) (ready_call judged configuration state core call tied law)
+calls_ready judged configuration state core _ tied law number = tt
+
+-- what such a call sets leaves a waiting process alive and waiting
+adjusted_waits : (configuration : Configuration) (cores : List CoreState) (partition : Partition) (place period core : ℕ) (call : CallRecord) → IsReadyCall configuration partition core call
+    → (number : ℕ) (x : Process) (wanted : WaitingSet) → item_at partition.table number ≡ Some x → x.alive ≡ true → is_in wanted x.wait ≡ true
+    → ((adjusted place period cores partition call number x).alive ≡ true) × (is_in wanted (adjusted place period cores partition call number x).wait ≡ true)
+adjusted_waits configuration cores partition place period core call ready number x wanted at alive waits =
     elim (is_done call.claim.out) as (λ done. is_done call.claim.out ≡ done
-    → ((cond done (set_by place period state.cores (state.partitions call.who.part) call.who.proc call.request number x) x).alive ≡ true)
-    × (is_in wanted (cond done (set_by place period state.cores (state.partitions call.who.part) call.who.proc call.request number x) x).wait ≡ true)) [
+    → ((cond done (set_by place period cores partition call.who.proc call.request number x) x).alive ≡ true)
+    × (is_in wanted (cond done (set_by place period cores partition call.who.proc call.request number x) x).wait ≡ true)) [
       | true ↦ λ done.
-          let none = done_is_lawful (condition_codes configuration call.who (state.partitions call.who.part) call.request) (channel_of (state.partitions call.who.part) call.request)
-          (answer_of (time_of state.cores core) call.who (state.partitions call.who.part) call.request) (λ number. suits_use (use_of call.request) (state.channels number))
-          (channel_answer configuration (time_of state.cores core) call.request state.channels) call.claim
-          (are_errors configuration call.who (state.partitions call.who.part) call.request) law.outcome done in
-          let starts = not_started configuration call.who (state.partitions call.who.part) call.request number x at alive none in (
-            set_by_alive place period state.cores (state.partitions call.who.part) call.who.proc call.request number x alive,
-            ap (is_in wanted) (set_by_wait place period state.cores (state.partitions call.who.part) call.who.proc call.request number x starts (not_for_normal wanted x.wait waits)) ∙ waits,
+          let starts = not_started configuration call.who partition call.request number x at alive (ready.none done) in (
+            set_by_alive place period cores partition call.who.proc call.request number x alive,
+            ap (is_in wanted) (set_by_wait place period cores partition call.who.proc call.request number x starts (not_for_normal wanted x.wait waits)) ∙ waits,
           )
       | false ↦ λ not_done. (alive, waits)
     ] refl
@@ -203,15 +225,15 @@ leaves (Tick woken) one = is_named one woken
 leaves (Call call) one = ends_wait call one
 
 -- a process of the caller's partition that the call doesn't wake or stop, and that isn't the caller
-called_waits : (judged : Service → Bool) (configuration : Configuration) (state : State) (place now core : ℕ) (call : CallRecord) → IsLawfulCall judged configuration state core call
-    → (number : ℕ) (x : Process) (wanted : WaitingSet) → item_at (state.partitions call.who.part).table number ≡ Some x → x.alive ≡ true → is_in wanted x.wait ≡ true
+called_waits : (configuration : Configuration) (cores : List CoreState) (partition : Partition) (place now core : ℕ) (call : CallRecord) → IsReadyCall configuration partition core call
+    → (number : ℕ) (x : Process) (wanted : WaitingSet) → item_at partition.table number ≡ Some x → x.alive ≡ true → is_in wanted x.wait ≡ true
     → nat_eq number call.who.proc ≡ false → ends_wait call (record { part = call.who.part; proc = number }) ≡ false
-    → let new = called place now (period_of configuration call.who.part) state.cores (state.partitions call.who.part) call number x in
+    → let new = called place now (period_of configuration call.who.part) cores partition call number x in
     (new.alive ≡ true) × (is_in wanted new.wait ≡ true)
-called_waits judged configuration state place now core call law number x wanted at alive waits other stays =
+called_waits configuration cores partition place now core call ready number x wanted at alive waits other stays =
     let named = neither_first (is_named (record { part = call.who.part; proc = number }) call.claim.woken) (stops call (record { part = call.who.part; proc = number })) stays in
     let stopped = neither_later (is_named (record { part = call.who.part; proc = number }) call.claim.woken) (stops call (record { part = call.who.part; proc = number })) stays in
-    rw (other, stopped, named) (adjusted_waits judged configuration state place (period_of configuration call.who.part) core call law number x wanted at alive waits)
+    rw (other, stopped, named) (adjusted_waits configuration cores partition place (period_of configuration call.who.part) core call ready number x wanted at alive waits)
 
 -- a tick and a return
 
@@ -220,22 +242,21 @@ returned_waits : (wanted : WaitingSet) (own : Bool) (x : Process) → x.alive �
 returned_waits wanted true x alive waits = (alive, waits)
 returned_waits wanted false x alive waits = (alive, waits)
 
--- a process goes on waiting at a lawful record that doesn't end its wait
-pub keeps_waiting : (judged : Service → Bool) (configuration : Configuration) (state : State) (place core : ℕ) (body : Body) → AreTied configuration state
-    → IsLawfulBody judged configuration state core body → (who : Who) (wanted : WaitingSet) → leaves body who ≡ false → waits_at wanted (found state.partitions who) ≡ true
-    → waits_at wanted (item_at (partition_by configuration state.cores place core who.part body (state.partitions who.part)).table who.proc) ≡ true
-keeps_waiting judged configuration state place core (Disp one) tied law who wanted stays waits = waits
-keeps_waiting judged configuration state place core (Tick woken) tied law who wanted stays waits =
-    let old = waits_stands wanted (found state.partitions who) waits in
-    let table = (state.partitions who.part).table in
-    let is : item_at (each_item (ticked place who.part woken) table) who.proc ≡ Some (ticked place who.part woken who.proc old.process) =
-    at_each (ticked place who.part woken) table who.proc ∙ ap (option_map (ticked place who.part woken who.proc)) old.stands in
+-- a process goes on waiting at a record that doesn't end its wait
+pub keeps_waiting : (configuration : Configuration) (cores : List CoreState) (place core : ℕ) (body : Body) (partition : Partition) (who : Who) (wanted : WaitingSet)
+    → CallsReady configuration core who.part body partition → leaves body who ≡ false → waits_at wanted (item_at partition.table who.proc) ≡ true
+    → waits_at wanted (item_at (partition_by configuration cores place core who.part body partition).table who.proc) ≡ true
+keeps_waiting configuration cores place core (Disp one) partition who wanted ready stays waits = waits
+keeps_waiting configuration cores place core (Tick woken) partition who wanted ready stays waits =
+    let old = waits_stands wanted (item_at partition.table who.proc) waits in
+    let is : item_at (each_item (ticked place who.part woken) partition.table) who.proc ≡ Some (ticked place who.part woken who.proc old.process) =
+    at_each (ticked place who.part woken) partition.table who.proc ∙ ap (option_map (ticked place who.part woken who.proc)) old.stands in
     let same : ticked place who.part woken who.proc old.process ≡ old.process = rw stays refl in
-    goes_on wanted (item_at (each_item (ticked place who.part woken) table) who.proc) old.process (is ∙ ap Some same) old.alive old.waits
-keeps_waiting judged configuration state place core (Ret ret) tied law who wanted stays waits =
-    let old = waits_stands wanted (found state.partitions who) waits in
-    let table = (state.partitions who.part).table in
-    elim (nat_eq ret.who.part who.part) as (λ own. waits_at wanted (item_at (cond own (record (state.partitions who.part) { table = each_item (returned ret.who.proc) table }) (state.partitions who.part)).table who.proc) ≡ true) [
+    goes_on wanted (item_at (each_item (ticked place who.part woken) partition.table) who.proc) old.process (is ∙ ap Some same) old.alive old.waits
+keeps_waiting configuration cores place core (Ret ret) partition who wanted ready stays waits =
+    let old = waits_stands wanted (item_at partition.table who.proc) waits in
+    let table = partition.table in
+    elim (nat_eq ret.who.part who.part) as (λ own. waits_at wanted (item_at (cond own (record partition { table = each_item (returned ret.who.proc) table }) partition).table who.proc) ≡ true) [
       | true ↦
           let is : item_at (each_item (returned ret.who.proc) table) who.proc ≡ Some (returned ret.who.proc who.proc old.process) =
           at_each (returned ret.who.proc) table who.proc ∙ ap (option_map (returned ret.who.proc who.proc)) old.stands in
@@ -243,29 +264,24 @@ keeps_waiting judged configuration state place core (Ret ret) tied law who wante
           goes_on wanted (item_at (each_item (returned ret.who.proc) table) who.proc) (returned ret.who.proc who.proc old.process) is new.0 new.1
       | false ↦ waits
     ]
-keeps_waiting judged configuration state place core (Call call) tied law who wanted stays waits =
-    let old = waits_stands wanted (found state.partitions who) waits in
+keeps_waiting configuration cores place core (Call call) partition who wanted ready stays waits =
+    let old = waits_stands wanted (item_at partition.table who.proc) waits in
+    let table = partition.table in
     elim (cases_Bool (nat_eq call.who.part who.part)) [
       | inl own ↦
           let here : call.who.part ≡ who.part = eqb-true call.who.part who.part own in
           let same : who ≡ record { part = call.who.part; proc = who.proc } = same_who who (record { part = call.who.part; proc = who.proc }) (sym here) refl in
-          let at : item_at (state.partitions call.who.part).table who.proc ≡ Some old.process = subst (λ part. item_at (state.partitions part).table who.proc ≡ Some old.process) (sym here) old.stands in
-          let ready = chosen_stands (window_now configuration state.cores core) state.partitions core call.who (tied.distinct call.who.part) law.choice in
-          let other : nat_eq who.proc call.who.proc ≡ false = elim (cases_Bool (nat_eq who.proc call.who.proc)) [
-            | inl caller ↦ absurd (ready_waits_not core (found state.partitions call.who) wanted ready
-                (subst (λ one. waits_at wanted (found state.partitions one) ≡ true) (same_who who call.who (sym here) (eqb-true who.proc call.who.proc caller)) waits))
-            | inr differs ↦ differs
-          ] in
-          let new = called_waits judged configuration state place (time_of state.cores core) core call law who.proc old.process wanted at old.alive old.waits other
+          let caller = ready own in
+          let other : nat_eq who.proc call.who.proc ≡ false = cannot_hold (nat_eq who.proc call.who.proc) (λ caller_waits.
+          ready_waits_not core (item_at table call.who.proc) wanted caller.ready
+          (subst (λ number. waits_at wanted (item_at table number) ≡ true) (eqb-true who.proc call.who.proc caller_waits) waits)) in
+          let new = called_waits configuration cores partition place (time_of cores core) core call caller who.proc old.process wanted old.stands old.alive old.waits other
           (subst (λ one. ends_wait call one ≡ false) same stays) in
-          let change = called place (time_of state.cores core) (period_of configuration call.who.part) state.cores (state.partitions call.who.part) call in
-          let is = found_changed change (state.partitions call.who.part).table (created_by (first_core configuration call.who.part) call call.request) who.proc old.process at in
-          subst (λ part. waits_at wanted (item_at (partition_by configuration state.cores place core part (Call call) (state.partitions part)).table who.proc) ≡ true) here
-          (rw (is_itself call.who.part) (goes_on wanted
-          (item_at (each_item change (state.partitions call.who.part).table ++ created_by (first_core configuration call.who.part) call call.request) who.proc)
-          (change who.proc old.process) is new.0 new.1))
+          let change = called place (time_of cores core) (period_of configuration call.who.part) cores partition call in
+          let is = found_changed change table (created_by (first_core configuration call.who.part) call call.request) who.proc old.process old.stands in
+          rw own (goes_on wanted (item_at (each_item change table ++ created_by (first_core configuration call.who.part) call call.request) who.proc)
+          (change who.proc old.process) is new.0 new.1)
       | inr foreign ↦
-          let table = (state.partitions who.part).table in
           let change : ℕ → Process → Process = λ number process. roused place call (record { part = who.part; proc = number }) process in
           let named : is_named who call.claim.woken ≡ false = neither_first (is_named who call.claim.woken) (stops call who) stays in
           let is : item_at (each_item change table) who.proc ≡ Some (change who.proc old.process) = at_each change table who.proc ∙ ap (option_map (change who.proc)) old.stands in
@@ -294,20 +310,19 @@ waiting_caller : (place now : ℕ) (call : CallRecord) (x : Process) (wanted : W
 waiting_caller place now call x wanted out.Waits given waits alive is = rw given (alive, waits_in wanted call.request call.claim.chan now x is)
 waiting_caller place now call x wanted _ given waits alive is = absurd (true≢false (sym waits))
 
-pub entered_waits : (judged : Service → Bool) (configuration : Configuration) (state : State) (place core : ℕ) (call : CallRecord) → AreTied configuration state
-    → IsLawfulCall judged configuration state core call → (wanted : WaitingSet) → enters call wanted ≡ true
-    → waits_at wanted (item_at (partition_by configuration state.cores place core call.who.part (Call call) (state.partitions call.who.part)).table call.who.proc) ≡ true
-entered_waits judged configuration state place core call tied law wanted enters =
-    let partition = state.partitions call.who.part in
-    let ready = chosen_stands (window_now configuration state.cores core) state.partitions core call.who (tied.distinct call.who.part) law.choice in
+pub entered_waits : (configuration : Configuration) (cores : List CoreState) (place core : ℕ) (call : CallRecord) (partition : Partition) → IsReadyCall configuration partition core call
+    → (wanted : WaitingSet) → enters call wanted ≡ true
+    → waits_at wanted (item_at (partition_by configuration cores place core call.who.part (Call call) partition).table call.who.proc) ≡ true
+entered_waits configuration cores place core call partition caller wanted enters =
+    let ready = caller.ready in
     let parts = and_parts (is_waiting call.claim.out) (is_the_set wanted (set_of call.request call.claim.chan)) enters in
     let period = period_of configuration call.who.part in
-    let changed = adjusted place period state.cores partition call call.who.proc ready.process in
-    let alive : changed.alive ≡ true = one_alive (is_done call.claim.out) (set_by place period state.cores partition call.who.proc call.request call.who.proc ready.process) ready.process
-    ready.ready.alive (set_by_alive place period state.cores partition call.who.proc call.request call.who.proc ready.process ready.ready.alive) in
-    let new = waiting_caller place (time_of state.cores core) call changed wanted call.claim.out refl parts.0 alive parts.1 in
-    let change = called place (time_of state.cores core) period state.cores partition call in
+    let changed = adjusted place period cores partition call call.who.proc ready.process in
+    let alive : changed.alive ≡ true = one_alive (is_done call.claim.out) (set_by place period cores partition call.who.proc call.request call.who.proc ready.process) ready.process
+    ready.ready.alive (set_by_alive place period cores partition call.who.proc call.request call.who.proc ready.process ready.ready.alive) in
+    let new = waiting_caller place (time_of cores core) call changed wanted call.claim.out refl parts.0 alive parts.1 in
+    let change = called place (time_of cores core) period cores partition call in
     let is = found_changed change partition.table (created_by (first_core configuration call.who.part) call call.request) call.who.proc ready.process ready.stands in
-    let caller : change call.who.proc ready.process ≡ caller_after place (time_of state.cores core) call changed = rw (is_itself call.who.proc) refl in
+    let caller : change call.who.proc ready.process ≡ caller_after place (time_of cores core) call changed = rw (is_itself call.who.proc) refl in
     rw (is_itself call.who.part) (goes_on wanted (item_at (each_item change partition.table ++ created_by (first_core configuration call.who.part) call call.request) call.who.proc)
-    (caller_after place (time_of state.cores core) call changed) (is ∙ ap Some caller) new.0 new.1)
+    (caller_after place (time_of cores core) call changed) (is ∙ ap Some caller) new.0 new.1)

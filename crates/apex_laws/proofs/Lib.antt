@@ -23,6 +23,7 @@ pub mod Objects
 pub mod PortEnds
 pub mod Keeps
 pub mod Distinct
+pub mod SetsAfter
 pub mod Stays
 pub mod Runs
 pub mod Refusals

@@ -23,7 +23,7 @@ use Rattle.apex_laws.proofs.Cores.{count_stays, occupant_changes, occupants_stay
 use Rattle.apex_laws.proofs.Emptied.{emptied_same}
 use Rattle.apex_laws.proofs.Kept.{keeps_only}
 use Rattle.apex_laws.proofs.ProcessRules.{due_is_the_sentence, release_is_the_sentence}
-use Rattle.apex_laws.proofs.Stays.{same_sets}
+use Rattle.apex_laws.proofs.SetsAfter.{same_sets}
 use Rattle.apex_laws.proofs.Steps.{lawful_body, next_channel, next_cores, next_partition}
 use Rattle.apex_laws.proofs.Tables.{at_each}
 use Rattle.apex_laws.proofs.Whos.{due_stands, same_is, same_who}

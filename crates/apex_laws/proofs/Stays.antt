@@ -1,5 +1,5 @@
 -- A step keeps a state tied, and so does a run.
-use Rattle.std.proofs.Common.{◌≡◌, ℕ, List, [], ◌∷◌, ◌++◌, Bool, true, false, cond, nat_eq, Option, Some, None, IsTrue, refl, sym, subst, ◌∙◌, true≢false, ◌&&◌}
+use Rattle.std.proofs.Common.{◌≡◌, ℕ, List, [], ◌∷◌, Bool, true, false, cond, nat_eq, Option, Some, None, IsTrue, refl, sym, subst, ◌∙◌, true≢false, ◌&&◌}
 use Rattle.std.proofs.lemmas.Bool.{and_parts, eqb-true, eq-eqb}
 use Rattle.apex_types.specs.declared.code.Code.{Code}
 use Rattle.apex_types.specs.declared.record.Body.{Body}
@@ -14,25 +14,25 @@ use Rattle.apex_machine.specs.declared.state.Entry.{Entry}
 use Rattle.apex_machine.specs.declared.state.Process.{Process}
 use Rattle.apex_machine.specs.declared.state.WaitingSet.{WaitingSet}
 use Rattle.apex_machine.specs.declared.state.WaitingSet.TheVariants as set
-use Rattle.apex_machine.specs.After.{each_set, is_done, objects_by, objects_called, partition_by, partition_called, returned, roused, ticked}
+use Rattle.apex_machine.specs.After.{is_done, objects_by, partition_by, partition_called, returned, roused}
 use Rattle.apex_machine.specs.Arguments.{natural_of}
 use Rattle.apex_machine.specs.Channels.{is_receiver, is_sender}
 use Rattle.apex_machine.specs.Configuration.{Configuration}
 use Rattle.apex_machine.specs.Ports.{channel_of, suits_use, use_of}
 use Rattle.apex_machine.specs.ServiceConditions.{condition_codes}
 use Rattle.apex_machine.specs.Services.{answer_of}
-use Rattle.apex_machine.specs.State.{Partition, State, Table, cold_state, each_item, is_named, time_of}
+use Rattle.apex_machine.specs.State.{Partition, State, cold_state, each_item, is_named, time_of}
 use Rattle.apex_machine.specs.Step.{HasOutcome, IsLawfulBody, IsLawfulCall, RunJudging, StepJudging, channel_answer}
-use Rattle.apex_machine.specs.Waiting.{ends_wait, enters, entry_of, is_no_error, is_target, is_the_set, is_waiting, set_after, set_of, stop_of, stops, waits_at, without}
+use Rattle.apex_machine.specs.Waiting.{ends_wait, enters, is_no_error, is_target, is_the_set, is_waiting, set_after, set_of, stop_of, stops, waits_at}
 use Rattle.apex_laws.specs.Laws.{AllEntries, AllPorts, AreTied, IsAtEnd, IsTied, StaysTied, entries_at}
-use Rattle.apex_laws.proofs.Booleans.{cannot_hold, neither, not_first, not_second}
+use Rattle.apex_laws.proofs.Booleans.{cannot_hold, holds_if, neither, not_first, not_second}
 use Rattle.apex_laws.proofs.Demanded.{WaitsAcross, across}
 use Rattle.apex_laws.proofs.Distinct.{distinct_by}
 use Rattle.apex_laws.proofs.Ends.{StandsAtEnd, port_is_at_end}
-use Rattle.apex_laws.proofs.Keeps.{entered_waits, keeps_waiting, leaves}
-use Rattle.apex_laws.proofs.Objects.{each_set_has, objects_have}
+use Rattle.apex_laws.proofs.Keeps.{calls_ready, entered_waits, keeps_waiting, leaves, ready_call}
 use Rattle.apex_laws.proofs.PortEnds.{ports_after}
-use Rattle.apex_laws.proofs.Waiters.{all_push, all_weaker, all_without}
+use Rattle.apex_laws.proofs.SetsAfter.{EntersWith, IsElsewhere, each_entry, of_objects, one_set_after}
+use Rattle.apex_laws.proofs.Waiters.{all_weaker}
 use Rattle.apex_laws.proofs.WaitSets.{found_set, one_set}
 use Rattle.apex_laws.proofs.Wakes.{nobody}
 use Rattle.apex_laws.proofs.Woken.{found, woken}
@@ -48,66 +48,30 @@ tied_after : (judged : Service → Bool) (configuration : Configuration) (state 
     → IsLawfulBody judged configuration state core body → (Home : ℕ → Type 0) (wanted : WaitingSet) (entry : Entry) → leaves body entry.who ≡ false
     → IsTied Home wanted state.partitions entry → IsTied Home wanted (Next configuration state place core body) entry
 tied_after judged configuration state place core body tied law Home wanted entry stays is =
-    (is.0, keeps_waiting judged configuration state place core body tied law entry.who wanted stays is.1)
+    (is.0, keeps_waiting configuration state.cores place core body (state.partitions entry.who.part) entry.who wanted
+    (calls_ready judged configuration state core body tied law entry.who.part) stays is.1)
 
 -- a caller that enters is at home there
 abbrev EntersAtHome : Body → (ℕ → Type 0) → WaitingSet → Type 0
 EntersAtHome (Call call) Home wanted = enters call wanted ≡ true → Home call.who.part
 EntersAtHome _ Home wanted = Unit {0}
 
+-- it waits there
+enters_tied : (judged : Service → Bool) (configuration : Configuration) (state : State) (place core : ℕ) (body : Body) → AreTied configuration state
+    → IsLawfulBody judged configuration state core body → (Home : ℕ → Type 0) (wanted : WaitingSet) → EntersAtHome body Home wanted
+    → EntersWith place body wanted (IsTied Home wanted (Next configuration state place core body))
+enters_tied judged configuration state place core (Call call) tied law Home wanted home =
+    λ here. (home here, entered_waits configuration state.cores place core call (state.partitions call.who.part) (ready_call judged configuration state core call tied law) wanted here)
+enters_tied judged configuration state place core _ tied law Home wanted home = tt
+
 -- those who stand in a set after a record are tied
-pub set_tied : (judged : Service → Bool) (configuration : Configuration) (state : State) (place core : ℕ) (body : Body) → AreTied configuration state
+set_tied : (judged : Service → Bool) (configuration : Configuration) (state : State) (place core : ℕ) (body : Body) → AreTied configuration state
     → IsLawfulBody judged configuration state core body → (Home : ℕ → Type 0) (wanted : WaitingSet) → EntersAtHome body Home wanted
     → (entries : List Entry) → AllEntries (IsTied Home wanted state.partitions) entries
     → AllEntries (IsTied Home wanted (Next configuration state place core body)) (set_after place body wanted entries)
-set_tied judged configuration state place core (Disp who) tied law Home wanted home entries all =
-    all_weaker _ _ (λ entry is. tied_after judged configuration state place core (Disp who) tied law Home wanted entry refl is) entries all
-set_tied judged configuration state place core (Ret ret) tied law Home wanted home entries all =
-    all_weaker _ _ (λ entry is. tied_after judged configuration state place core (Ret ret) tied law Home wanted entry refl is) entries all
-set_tied judged configuration state place core (Tick woken) tied law Home wanted home entries all =
-    all_without (IsTied Home wanted state.partitions) (IsTied Home wanted (Next configuration state place core (Tick woken))) (λ who. is_named who woken)
-    (λ entry stays is. tied_after judged configuration state place core (Tick woken) tied law Home wanted entry stays is) entries all
-set_tied judged configuration state place core (Call call) tied law Home wanted home entries all =
-    let Then : Entry → Type 0 = IsTied Home wanted (Next configuration state place core (Call call)) in
-    let rest : AllEntries Then (without (ends_wait call) entries) = all_without (IsTied Home wanted state.partitions) Then (ends_wait call)
-    (λ entry stays is. tied_after judged configuration state place core (Call call) tied law Home wanted entry stays is) entries all in
-    elim (enters call wanted) as (λ here. enters call wanted ≡ here → AllEntries Then (cond here (without (ends_wait call) entries ++ entry_of place call ∷ []) (without (ends_wait call) entries))) [
-      | true ↦ λ here. all_push Then (without (ends_wait call) entries) (entry_of place call) rest (home here, entered_waits judged configuration state place core call tied law wanted here)
-      | false ↦ λ elsewhere. rest
-    ] refl
-
--- the sets of a partition
-
--- the objects of the caller's partition, before their sets change
-objects_tied : (Fact : Entry → Type 0) (configuration : Configuration) (call : CallRecord) (partition : Partition) (wanted : WaitingSet) → AllEntries Fact (entries_at partition wanted)
-    → AllEntries Fact (entries_at (cond (is_done call.claim.out) (objects_by configuration call.who call.claim.val call.request partition) partition) wanted)
-objects_tied Fact configuration call partition wanted all =
-    elim (is_done call.claim.out) as (λ done. AllEntries Fact (entries_at (cond done (objects_by configuration call.who call.claim.val call.request partition) partition) wanted)) [
-      | true ↦ objects_have (AllEntries Fact) configuration call.who call.claim.val call.request partition wanted all
-      | false ↦ all
-    ]
-
--- a partition's table and mode say nothing of its sets
-pub same_sets : (partition : Partition) (table : Table) (wanted : WaitingSet) → entries_at (record partition { table = table }) wanted ≡ entries_at partition wanted
-same_sets partition table (set.BufferSenders number) = refl
-same_sets partition table (set.BufferReceivers number) = refl
-same_sets partition table (set.BlackboardReaders number) = refl
-same_sets partition table (set.SemaphoreWaiters number) = refl
-same_sets partition table (set.EventWaiters number) = refl
-same_sets partition table (set.MutexWaiters number) = refl
-same_sets partition table (set.ChannelSenders number) = refl
-same_sets partition table (set.ChannelReceivers number) = refl
-
-pub called_sets : (configuration : Configuration) (state : State) (place core : ℕ) (call : CallRecord) (partition : Partition) (wanted : WaitingSet)
-    → entries_at (partition_called configuration state.cores place core call partition) wanted ≡ entries_at (objects_called configuration place call partition) wanted
-called_sets configuration state place core call partition (set.BufferSenders number) = refl
-called_sets configuration state place core call partition (set.BufferReceivers number) = refl
-called_sets configuration state place core call partition (set.BlackboardReaders number) = refl
-called_sets configuration state place core call partition (set.SemaphoreWaiters number) = refl
-called_sets configuration state place core call partition (set.EventWaiters number) = refl
-called_sets configuration state place core call partition (set.MutexWaiters number) = refl
-called_sets configuration state place core call partition (set.ChannelSenders number) = refl
-called_sets configuration state place core call partition (set.ChannelReceivers number) = refl
+set_tied judged configuration state place core body tied law Home wanted home entries all =
+    each_entry (IsTied Home wanted state.partitions) (IsTied Home wanted (Next configuration state place core body)) place body wanted
+    (tied_after judged configuration state place core body tied law Home wanted) (enters_tied judged configuration state place core body tied law Home wanted home) entries all
 
 -- a call of another partition ends no wait in a set of this one
 
@@ -151,76 +115,32 @@ stays_here judged configuration state core call tied law number elsewhere wanted
     (cannot_hold (nat_eq entry.who.part call.who.part) (λ same.
     true≢false (sym (eq-eqb call.who.part number (sym (eqb-true entry.who.part call.who.part same) ∙ is.0)) ∙ elsewhere)))))
 
-one_foreign_set : (judged : Service → Bool) (configuration : Configuration) (state : State) (place core : ℕ) (call : CallRecord) → AreTied configuration state
-    → IsLawfulCall judged configuration state core call → (number : ℕ) → nat_eq call.who.part number ≡ false
-    → (wanted : WaitingSet) → ((other : ℕ) → ¬ (wanted ≡ set.ChannelSenders other)) → ((other : ℕ) → ¬ (wanted ≡ set.ChannelReceivers other))
-    → (entries : List Entry) → AllEntries (IsTied (λ home. home ≡ number) wanted state.partitions) entries
-    → AllEntries (IsTied (λ home. home ≡ number) wanted (Next configuration state place core (Call call))) entries
-one_foreign_set judged configuration state place core call tied law number elsewhere wanted not_sending not_receiving entries all =
-    all_weaker (IsTied (λ home. home ≡ number) wanted state.partitions) (IsTied (λ home. home ≡ number) wanted (Next configuration state place core (Call call)))
+foreign_set : (judged : Service → Bool) (configuration : Configuration) (state : State) (place core : ℕ) (body : Body) → AreTied configuration state
+    → IsLawfulBody judged configuration state core body → (number : ℕ) → IsElsewhere number body → (wanted : WaitingSet)
+    → AllEntries (IsTied (λ home. home ≡ number) wanted state.partitions) (entries_at (state.partitions number) wanted)
+    → AllEntries (IsTied (λ home. home ≡ number) wanted (Next configuration state place core body)) (entries_at (state.partitions number) wanted)
+foreign_set judged configuration state place core (Call call) tied law number elsewhere wanted all =
+    let Then : Entry → Type 0 = IsTied (λ home. home ≡ number) wanted (Next configuration state place core (Call call)) in
+    of_objects Then (state.partitions number) wanted (λ not_sending not_receiving.
+    all_weaker (IsTied (λ home. home ≡ number) wanted state.partitions) Then
     (λ entry is. tied_after judged configuration state place core (Call call) tied law (λ home. home ≡ number) wanted entry
-    (stays_here judged configuration state core call tied law number elsewhere wanted not_sending not_receiving entry is) is) entries all
+    (stays_here judged configuration state core call tied law number elsewhere wanted not_sending not_receiving entry is) is) (entries_at (state.partitions number) wanted) all)
+foreign_set judged configuration state place core _ tied law number elsewhere wanted all = absurd elsewhere
 
-foreign_sets : (judged : Service → Bool) (configuration : Configuration) (state : State) (place core : ℕ) (call : CallRecord) → AreTied configuration state
-    → IsLawfulCall judged configuration state core call → (number : ℕ) → nat_eq call.who.part number ≡ false → (wanted : WaitingSet)
-    → AllEntries (IsTied (λ home. home ≡ number) wanted (Next configuration state place core (Call call))) (entries_at (state.partitions number) wanted)
-foreign_sets judged configuration state place core call tied law number elsewhere (set.ChannelSenders channel) = tt
-foreign_sets judged configuration state place core call tied law number elsewhere (set.ChannelReceivers channel) = tt
-foreign_sets judged configuration state place core call tied law number elsewhere (set.BufferSenders object) =
-    one_foreign_set judged configuration state place core call tied law number elsewhere (set.BufferSenders object) (λ other. λ e. cc) (λ other. λ e. cc)
-    (entries_at (state.partitions number) (set.BufferSenders object)) (tied.objects number (set.BufferSenders object))
-foreign_sets judged configuration state place core call tied law number elsewhere (set.BufferReceivers object) =
-    one_foreign_set judged configuration state place core call tied law number elsewhere (set.BufferReceivers object) (λ other. λ e. cc) (λ other. λ e. cc)
-    (entries_at (state.partitions number) (set.BufferReceivers object)) (tied.objects number (set.BufferReceivers object))
-foreign_sets judged configuration state place core call tied law number elsewhere (set.BlackboardReaders object) =
-    one_foreign_set judged configuration state place core call tied law number elsewhere (set.BlackboardReaders object) (λ other. λ e. cc) (λ other. λ e. cc)
-    (entries_at (state.partitions number) (set.BlackboardReaders object)) (tied.objects number (set.BlackboardReaders object))
-foreign_sets judged configuration state place core call tied law number elsewhere (set.SemaphoreWaiters object) =
-    one_foreign_set judged configuration state place core call tied law number elsewhere (set.SemaphoreWaiters object) (λ other. λ e. cc) (λ other. λ e. cc)
-    (entries_at (state.partitions number) (set.SemaphoreWaiters object)) (tied.objects number (set.SemaphoreWaiters object))
-foreign_sets judged configuration state place core call tied law number elsewhere (set.EventWaiters object) =
-    one_foreign_set judged configuration state place core call tied law number elsewhere (set.EventWaiters object) (λ other. λ e. cc) (λ other. λ e. cc)
-    (entries_at (state.partitions number) (set.EventWaiters object)) (tied.objects number (set.EventWaiters object))
-foreign_sets judged configuration state place core call tied law number elsewhere (set.MutexWaiters object) =
-    one_foreign_set judged configuration state place core call tied law number elsewhere (set.MutexWaiters object) (λ other. λ e. cc) (λ other. λ e. cc)
-    (entries_at (state.partitions number) (set.MutexWaiters object)) (tied.objects number (set.MutexWaiters object))
+-- a caller that enters a set of its partition is at home there
+at_home : (body : Body) (number : ℕ) (wanted : WaitingSet) → (IsElsewhere number body → ⊥) → EntersAtHome body (λ home. home ≡ number) wanted
+at_home (Call call) number wanted own = λ here. eqb-true call.who.part number (holds_if (nat_eq call.who.part number) own)
+at_home _ number wanted own = tt
 
 -- who stands in a set of a partition after a record
-own_sets : (judged : Service → Bool) (configuration : Configuration) (state : State) (place core : ℕ) (body : Body) → AreTied configuration state
+own_set : (judged : Service → Bool) (configuration : Configuration) (state : State) (place core : ℕ) (body : Body) → AreTied configuration state
     → IsLawfulBody judged configuration state core body → (number : ℕ) (wanted : WaitingSet)
     → AllEntries (IsTied (λ home. home ≡ number) wanted (Next configuration state place core body)) (entries_at (Next configuration state place core body number) wanted)
-own_sets judged configuration state place core (Disp who) tied law number wanted =
-    set_tied judged configuration state place core (Disp who) tied law (λ home. home ≡ number) wanted tt (entries_at (state.partitions number) wanted) (tied.objects number wanted)
-own_sets judged configuration state place core (Ret ret) tied law number wanted =
-    let Then : Entry → Type 0 = IsTied (λ home. home ≡ number) wanted (Next configuration state place core (Ret ret)) in
-    let all : AllEntries Then (entries_at (state.partitions number) wanted) =
-    set_tied judged configuration state place core (Ret ret) tied law (λ home. home ≡ number) wanted tt (entries_at (state.partitions number) wanted) (tied.objects number wanted) in
-    elim (nat_eq ret.who.part number) as (λ own. AllEntries Then (entries_at (cond own
-    (record (state.partitions number) { table = each_item (returned ret.who.proc) (state.partitions number).table }) (state.partitions number)) wanted)) [
-      | true ↦ subst (AllEntries Then) (sym (same_sets (state.partitions number) (each_item (returned ret.who.proc) (state.partitions number).table) wanted)) all
-      | false ↦ all
-    ]
-own_sets judged configuration state place core (Tick woken) tied law number wanted =
-    let Then : Entry → Type 0 = IsTied (λ home. home ≡ number) wanted (Next configuration state place core (Tick woken)) in
-    subst (AllEntries Then) (sym (same_sets (each_set (set_after place (Tick woken)) (state.partitions number)) (each_item (ticked place number woken) (state.partitions number).table) wanted))
-    (each_set_has (AllEntries Then) tt (set_after place (Tick woken)) (state.partitions number) wanted
-    (set_tied judged configuration state place core (Tick woken) tied law (λ home. home ≡ number) wanted tt (entries_at (state.partitions number) wanted) (tied.objects number wanted)))
-own_sets judged configuration state place core (Call call) tied law number wanted =
-    let Then : Entry → Type 0 = IsTied (λ home. home ≡ number) wanted (Next configuration state place core (Call call)) in
-    let foreign : ℕ → Process → Process = λ other process. roused place call (record { part = number; proc = other }) process in
-    elim (nat_eq call.who.part number) as (λ own. nat_eq call.who.part number ≡ own → AllEntries Then (entries_at (cond own
-    (partition_called configuration state.cores place core call (state.partitions number))
-    (record (state.partitions number) { table = each_item foreign (state.partitions number).table })) wanted)) [
-      | true ↦ λ own.
-          let objects : Partition = cond (is_done call.claim.out) (objects_by configuration call.who call.claim.val call.request (state.partitions number)) (state.partitions number) in
-          subst (AllEntries Then) (sym (called_sets configuration state place core call (state.partitions number) wanted))
-          (each_set_has (AllEntries Then) tt (set_after place (Call call)) objects wanted
-          (set_tied judged configuration state place core (Call call) tied law (λ home. home ≡ number) wanted (λ here. eqb-true call.who.part number own) (entries_at objects wanted)
-          (objects_tied (IsTied (λ home. home ≡ number) wanted state.partitions) configuration call (state.partitions number) wanted (tied.objects number wanted))))
-      | false ↦ λ elsewhere.
-          subst (AllEntries Then) (sym (same_sets (state.partitions number) (each_item foreign (state.partitions number).table) wanted))
-          (foreign_sets judged configuration state place core call tied law number elsewhere wanted)
-    ] refl
+own_set judged configuration state place core body tied law number wanted =
+    one_set_after (AllEntries (IsTied (λ home. home ≡ number) wanted state.partitions)) (AllEntries (IsTied (λ home. home ≡ number) wanted (Next configuration state place core body)))
+    configuration state.cores place core number body (state.partitions number) wanted tt
+    (λ own entries all. set_tied judged configuration state place core body tied law (λ home. home ≡ number) wanted (at_home body number wanted own) entries all)
+    (λ elsewhere all. foreign_set judged configuration state place core body tied law number elsewhere wanted all) (tied.objects number wanted)
 
 -- the sets of a channel
 
@@ -340,7 +260,7 @@ step_tied judged configuration state ordered next tied step =
     let law = step.0.claims in
     subst (AreTied configuration) (sym step.1) (record {
       distinct = λ number. distinct_by judged configuration state place core body law number (tied.distinct number);
-      objects = λ number wanted. own_sets judged configuration state place core body tied law number wanted;
+      objects = λ number wanted. own_set judged configuration state place core body tied law number wanted;
       senders = λ number. set_tied judged configuration state place core body tied law (λ home. IsTrue (is_sender configuration number home)) (set.ChannelSenders number)
           (enters_at_source judged configuration state core body tied law number) (state.channels number).senders (tied.senders number);
       receivers = λ number. set_tied judged configuration state place core body tied law (λ home. IsTrue (is_receiver configuration number home)) (set.ChannelReceivers number)

@@ -2,7 +2,7 @@
 use Rattle.std.proofs.Common.{◌≡◌, ℕ, List, [], ◌∷◌, ◌++◌, true, false, cond, not, nat_eq, Option, Some, None, is_some, option_map, refl, sym, ap, ◌∙◌, inl, inr, true≢false, ◌&&◌}
 use Rattle.std.proofs.lemmas.Bool.{and_from, and_parts, cases_Bool, eqb-true, ne_eqb, eqb-false}
 use Rattle.apex_machine.specs.declared.state.Process.{Process}
-use Rattle.apex_machine.specs.State.{Table, each_item, item_at}
+use Rattle.apex_machine.specs.State.{each_item, item_at}
 use Rattle.apex_laws.specs.Laws.{are_distinct}
 use Rattle.apex_laws.proofs.Booleans.{is_itself}
 
@@ -23,16 +23,16 @@ unchanged change None leaves = refl
 unchanged change (Some process) leaves = ap Some (leaves process refl)
 
 -- whether some process has a number stays
-some_mapped : (change : Process → Process) (found : Option Process) → is_some (option_map change found) ≡ is_some found
+some_mapped : {Item : Type 0} (change : Item → Item) (found : Option Item) → is_some (option_map change found) ≡ is_some found
 some_mapped change None = refl
-some_mapped change (Some process) = refl
+some_mapped change (Some item) = refl
 
-pub some_at_each : (change : ℕ → Process → Process) (table : Table) (number : ℕ)
-    → is_some (item_at (each_item change table) number) ≡ is_some (item_at table number)
-some_at_each change table number = ap (λ found. is_some found) (at_each change table number) ∙ some_mapped (change number) (item_at table number)
+pub some_at_each : {Item : Type 0} (change : ℕ → Item → Item) (items : List (ℕ × Item)) (number : ℕ)
+    → is_some (item_at (each_item change items) number) ≡ is_some (item_at items number)
+some_at_each change items number = ap (λ found. is_some found) (at_each change items number) ∙ some_mapped (change number) (item_at items number)
 
 -- so distinct numbers stay distinct
-pub distinct_each : (change : ℕ → Process → Process) (table : Table) → are_distinct (each_item change table) ≡ are_distinct table
+pub distinct_each : {Item : Type 0} (change : ℕ → Item → Item) (items : List (ℕ × Item)) → are_distinct (each_item change items) ≡ are_distinct items
 distinct_each change [] = refl
 distinct_each change (entry ∷ entries) =
     λ i. not (some_at_each change entries entry.0 i) && distinct_each change entries i
@@ -60,7 +60,7 @@ at_pushed {Item} (entry ∷ entries) number new none =
     ] none
 
 -- a number that none of a list has differs from the first, and none of the rest has it
-new_number : (entry : ℕ × Process) (entries : Table) (number : ℕ) → is_some (item_at (entry ∷ entries) number) ≡ false
+new_number : {Item : Type 0} (entry : ℕ × Item) (entries : List (ℕ × Item)) (number : ℕ) → is_some (item_at (entry ∷ entries) number) ≡ false
     → (nat_eq entry.0 number ≡ false) × (is_some (item_at entries number) ≡ false)
 new_number entry entries number new =
     elim (cases_Bool (nat_eq number entry.0)) [
@@ -69,11 +69,11 @@ new_number entry entries number new =
     ]
 
 -- the numbers stay distinct
-pub distinct_push : (table : Table) (number : ℕ) (process : Process) → are_distinct table ≡ true → is_some (item_at table number) ≡ false
-    → are_distinct (table ++ (number, process) ∷ []) ≡ true
-distinct_push [] number process distinct new = refl
-distinct_push (entry ∷ entries) number process distinct new =
+pub distinct_push : {Item : Type 0} (items : List (ℕ × Item)) (number : ℕ) (item : Item) → are_distinct items ≡ true → is_some (item_at items number) ≡ false
+    → are_distinct (items ++ (number, item) ∷ []) ≡ true
+distinct_push [] number item distinct new = refl
+distinct_push (entry ∷ entries) number item distinct new =
     let parts = and_parts (not (is_some (item_at entries entry.0))) (are_distinct entries) distinct in
     let others = new_number entry entries number new in
-    and_from _ _ (ap (λ found. not (is_some found)) (at_others entries number entry.0 process others.0) ∙ parts.0)
-    (distinct_push entries number process parts.1 others.1)
+    and_from _ _ (ap (λ found. not (is_some found)) (at_others entries number entry.0 item others.0) ∙ parts.0)
+    (distinct_push entries number item parts.1 others.1)

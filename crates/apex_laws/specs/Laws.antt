@@ -25,8 +25,8 @@ use Rattle.apex_machine.specs.Waiting.{waits_at}
 
 -- the tie of the states that a run reaches
 
--- the numbers of a table are distinct
-abbrev pub are_distinct : Table → Bool
+-- the numbers of processes, or of the objects of a kind, are distinct
+abbrev pub are_distinct : {Item : Type 0} → List (ℕ × Item) → Bool
 are_distinct [] = true
 are_distinct (entry ∷ entries) = not (is_some (item_at entries entry.0)) && are_distinct entries
 
