@@ -11,16 +11,17 @@ use Rattle.apex_types.specs.declared.record.Claim.{Claim}
 use Rattle.apex_types.specs.declared.request.Request.{Request}
 use Rattle.apex_types.specs.declared.request.Request.TheVariants as request
 use Rattle.apex_types.specs.declared.service.Service.{Service}
+use Rattle.apex_machine.specs.declared.state.CoreState.{CoreState}
 use Rattle.apex_machine.specs.declared.state.Process.{Process}
 use Rattle.apex_machine.specs.After.{called, created_by, is_done, numbered, partition_by, partition_called, returned, roused, ticked}
-use Rattle.apex_machine.specs.Answer.{is_new}
+use Rattle.apex_machine.specs.Answer.{HasValue, is_new}
 use Rattle.apex_machine.specs.Configuration.{Configuration, first_core, period_of}
 use Rattle.apex_machine.specs.Ports.{channel_of, suits_use, use_of}
 use Rattle.apex_machine.specs.Processes.{new_process}
 use Rattle.apex_machine.specs.ServiceConditions.{condition_codes}
 use Rattle.apex_machine.specs.Services.{Answer, answer_of}
 use Rattle.apex_machine.specs.State.{Partition, State, Table, each_item, is_free, item_at, time_of}
-use Rattle.apex_machine.specs.Step.{HasOutcome, IsAnswered, IsLawfulBody, channel_answer}
+use Rattle.apex_machine.specs.Step.{HasOutcome, IsAnswered, IsLawfulBody, IsLawfulCall, channel_answer}
 use Rattle.apex_laws.specs.Laws.{are_distinct}
 use Rattle.apex_laws.proofs.Codes.{are_errors, done_is_lawful}
 use Rattle.apex_laws.proofs.Tables.{distinct_each, distinct_push, some_at_each}
@@ -48,63 +49,87 @@ new_is items (Some (pos n)) new =
     let second = and_parts (nat_le n greatest_number) (is_none (item_at items n)) first.1 in
     record { number = n; is = refl; within = (ltb-true 0 n first.0, leb-true n greatest_number second.0); none = nothing (item_at items n) second.1 }
 
--- a table with each process changed, and a process under a number that was new
-distinct_numbered : {Item : Type 0} (change : ℕ → Item → Item) (items : List (ℕ × Item)) (claimed : Option ℤ) (item : Item) → are_distinct items ≡ true
-    → is_new (is_free items) claimed ≡ true → are_distinct (each_item change items ++ numbered claimed item) ≡ true
-distinct_numbered change items claimed item distinct new =
+-- one more under a number that was new
+pub distinct_new : {Item : Type 0} (items : List (ℕ × Item)) (claimed : Option ℤ) (item : Item) → are_distinct items ≡ true
+    → is_new (is_free items) claimed ≡ true → are_distinct (items ++ numbered claimed item) ≡ true
+distinct_new items claimed item distinct new =
     let is = new_is items claimed new in
-    subst (λ one. are_distinct (each_item change items ++ numbered one item) ≡ true) (sym is.is)
-    (distinct_push (each_item change items) is.number item (distinct_each change items ∙ distinct)
-    (some_at_each change items is.number ∙ ap (λ found. is_some found) is.none))
+    subst (λ one. are_distinct (items ++ numbered one item) ≡ true) (sym is.is) (distinct_push items is.number item distinct (ap (λ found. is_some found) is.none))
+
+-- a table with each process changed, and a process under a number that was new
+distinct_numbered : (change : ℕ → Process → Process) (table : Table) (claimed : Option ℤ) (process : Process) → are_distinct table ≡ true
+    → is_new (is_free table) claimed ≡ true → are_distinct (each_item change table ++ numbered claimed process) ≡ true
+distinct_numbered change table claimed process distinct new =
+    let is = new_is table claimed new in
+    subst (λ one. are_distinct (each_item change table ++ numbered one process) ≡ true) (sym is.is)
+    (distinct_push (each_item change table) is.number process (distinct_each change table ∙ distinct)
+    (some_at_each change table is.number ∙ ap (λ found. is_some found) is.none))
 
 -- a table with each process changed, and nobody created
 distinct_alone : (change : ℕ → Process → Process) (table : Table) → are_distinct table ≡ true → are_distinct (each_item change table ++ []) ≡ true
 distinct_alone change table distinct = ap are_distinct (append-nil (each_item change table)) ∙ distinct_each change table ∙ distinct
 
--- where no condition holds and no channel is used, the outcome is the service's
-answered : (codes : List Code) (answer : Answer) (suited : ℕ → Bool) (through : ℕ → Answer) (claim : Claim) → codes ≡ []
-    → HasOutcome codes None answer suited through claim → IsAnswered answer claim
-answered [] answer suited through claim none has = has
-answered (code ∷ codes) answer suited through claim none has = cc
+-- a call that is done and goes through no channel claims the value of its service
+abbrev pub ClaimsValue : Partition → ℕ → CallRecord → Request → Type 0
+ClaimsValue partition now call asked = is_done call.claim.out ≡ true → channel_of partition asked ≡ None → HasValue (answer_of now call.who partition asked).val call.claim.val
 
 -- the table of the caller's partition
-distinct_called : (configuration : Configuration) (partition : Partition) (now core : ℕ) (call : CallRecord) (asked : Request) (change : ℕ → Process → Process) (suited : ℕ → Bool) (through : ℕ → Answer)
-    → HasOutcome (condition_codes configuration call.who partition asked) (channel_of partition asked) (answer_of now call.who partition asked) suited through call.claim
+distinct_called : (partition : Partition) (now core : ℕ) (call : CallRecord) (asked : Request) (change : ℕ → Process → Process) → ClaimsValue partition now call asked
     → are_distinct partition.table ≡ true → are_distinct (each_item change partition.table ++ created_by core call asked) ≡ true
-distinct_called configuration partition now core call (request.CreateProcess name priority period) change suited through has distinct =
+distinct_called partition now core call (request.CreateProcess name priority period) change claims distinct =
     elim (is_done call.claim.out) as (λ done. is_done call.claim.out ≡ done → are_distinct (each_item change partition.table
     ++ cond done (numbered call.claim.val (new_process core name priority period)) []) ≡ true) [
-      | true ↦ λ done.
-          let asked : Request = request.CreateProcess name priority period in
-          let codes : List Code = condition_codes configuration call.who partition asked in
-          let none = done_is_lawful codes None (answer_of now call.who partition asked) suited through call.claim (are_errors configuration call.who partition asked) has done in
-          let is = answered codes (answer_of now call.who partition asked) suited through call.claim none has in
-          distinct_numbered change partition.table call.claim.val (new_process core name priority period) distinct is.val
+      | true ↦ λ done. distinct_numbered change partition.table call.claim.val (new_process core name priority period) distinct (claims done refl)
       | false ↦ λ not_done. distinct_alone change partition.table distinct
     ] refl
-distinct_called configuration partition now core call _ change suited through has distinct = distinct_alone change partition.table distinct
+distinct_called partition now core call _ change claims distinct = distinct_alone change partition.table distinct
 
--- the table of each partition after a lawful record
-pub distinct_by : (judged : Service → Bool) (configuration : Configuration) (state : State) (place core : ℕ) (body : Body) → IsLawfulBody judged configuration state core body
-    → (number : ℕ) → are_distinct (state.partitions number).table ≡ true
-    → are_distinct (partition_by configuration state.cores place core number body (state.partitions number)).table ≡ true
-distinct_by judged configuration state place core (Disp who) law number distinct = distinct
-distinct_by judged configuration state place core (Tick woken) law number distinct = distinct_each (ticked place number woken) (state.partitions number).table ∙ distinct
-distinct_by judged configuration state place core (Ret ret) law number distinct =
-    elim (nat_eq ret.who.part number) as (λ own. are_distinct (cond own
-    (record (state.partitions number) { table = each_item (returned ret.who.proc) (state.partitions number).table }) (state.partitions number)).table ≡ true) [
-      | true ↦ distinct_each (returned ret.who.proc) (state.partitions number).table ∙ distinct
+-- a record's own calls claim their values
+abbrev pub CallsClaimValues : ℕ → ℕ → Body → Partition → Type 0
+CallsClaimValues number now (Call call) partition = nat_eq call.who.part number ≡ true → ClaimsValue partition now call call.request
+CallsClaimValues number now _ partition = Unit {0}
+
+-- the table of a partition after a record
+pub distinct_by : (configuration : Configuration) (cores : List CoreState) (place core number : ℕ) (body : Body) (partition : Partition) → CallsClaimValues number (time_of cores core) body partition
+    → are_distinct partition.table ≡ true → are_distinct (partition_by configuration cores place core number body partition).table ≡ true
+distinct_by configuration cores place core number (Disp who) partition claims distinct = distinct
+distinct_by configuration cores place core number (Tick woken) partition claims distinct = distinct_each (ticked place number woken) partition.table ∙ distinct
+distinct_by configuration cores place core number (Ret ret) partition claims distinct =
+    elim (nat_eq ret.who.part number) as (λ own. are_distinct (cond own (record partition { table = each_item (returned ret.who.proc) partition.table }) partition).table ≡ true) [
+      | true ↦ distinct_each (returned ret.who.proc) partition.table ∙ distinct
       | false ↦ distinct
     ]
-distinct_by judged configuration state place core (Call call) law number distinct =
+distinct_by configuration cores place core number (Call call) partition claims distinct =
     let foreign : ℕ → Process → Process = λ other process. roused place call (record { part = number; proc = other }) process in
     elim (nat_eq call.who.part number) as (λ own. nat_eq call.who.part number ≡ own → are_distinct (cond own
-    (partition_called configuration state.cores place core call (state.partitions number)) (record (state.partitions number) { table = each_item foreign (state.partitions number).table })).table ≡ true) [
-      | true ↦ λ own.
-          let here = eqb-true call.who.part number own in
-          subst (λ of. are_distinct (state.partitions of).table ≡ true → are_distinct (partition_called configuration state.cores place core call (state.partitions of)).table ≡ true) here
-          (λ distinct. distinct_called configuration (state.partitions call.who.part) (time_of state.cores core) (first_core configuration call.who.part) call call.request
-          (called place (time_of state.cores core) (period_of configuration call.who.part) state.cores (state.partitions call.who.part) call)
-          (λ number. suits_use (use_of call.request) (state.channels number)) (channel_answer configuration (time_of state.cores core) call.request state.channels) law.outcome distinct) distinct
-      | false ↦ λ elsewhere. distinct_each foreign (state.partitions number).table ∙ distinct
+    (partition_called configuration cores place core call partition) (record partition { table = each_item foreign partition.table })).table ≡ true) [
+      | true ↦ λ own. distinct_called partition (time_of cores core) (first_core configuration call.who.part) call call.request
+          (called place (time_of cores core) (period_of configuration call.who.part) cores partition call) (claims own) distinct
+      | false ↦ λ elsewhere. distinct_each foreign partition.table ∙ distinct
     ] refl
+
+-- where no condition holds and no channel is used, the outcome is the service's
+answered : (codes : List Code) (channel : Option ℕ) (answer : Answer) (suited : ℕ → Bool) (through : ℕ → Answer) (claim : Claim) → codes ≡ [] → channel ≡ None
+    → HasOutcome codes channel answer suited through claim → IsAnswered answer claim
+answered [] None answer suited through claim none off has = has
+answered [] (Some channel) answer suited through claim none off has = let no : ◌≡◌ {A = Option ℕ} (Some channel) None = off in cc
+answered (code ∷ codes) channel answer suited through claim none off has = cc
+
+-- a lawful call claims the value of its service
+lawful_value : (judged : Service → Bool) (configuration : Configuration) (state : State) (core : ℕ) (call : CallRecord) → IsLawfulCall judged configuration state core call
+    → ClaimsValue (state.partitions call.who.part) (time_of state.cores core) call call.request
+lawful_value judged configuration state core call law done off =
+    let partition = state.partitions call.who.part in
+    let codes : List Code = condition_codes configuration call.who partition call.request in
+    let answer = answer_of (time_of state.cores core) call.who partition call.request in
+    let suited : ℕ → Bool = λ number. suits_use (use_of call.request) (state.channels number) in
+    let through = channel_answer configuration (time_of state.cores core) call.request state.channels in
+    let none = done_is_lawful codes (channel_of partition call.request) answer suited through call.claim (are_errors configuration call.who partition call.request) law.outcome done in
+    (answered codes (channel_of partition call.request) answer suited through call.claim none off law.outcome).val
+
+pub lawful_values : (judged : Service → Bool) (configuration : Configuration) (state : State) (core : ℕ) (body : Body) → IsLawfulBody judged configuration state core body
+    → (number : ℕ) → CallsClaimValues number (time_of state.cores core) body (state.partitions number)
+lawful_values judged configuration state core (Call call) law number =
+    λ own. subst (λ part. ClaimsValue (state.partitions part) (time_of state.cores core) call call.request) (eqb-true call.who.part number own)
+    (lawful_value judged configuration state core call law)
+lawful_values judged configuration state core _ law number = tt

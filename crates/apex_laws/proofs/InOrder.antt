@@ -70,7 +70,7 @@ order_without count leaves entries order = record {
 }
 
 -- one record later
-order_later : (count : ℕ) (entries : List Entry) → IsInOrder count entries → IsInOrder (suc count) entries
+pub order_later : (count : ℕ) (entries : List Entry) → IsInOrder count entries → IsInOrder (suc count) entries
 order_later count entries order = record {
   pairs = order.pairs;
   below = all_weaker (λ entry. entry.place < count) (λ entry. entry.place < suc count) (λ entry below. omega (arith, below)) entries order.below;
@@ -85,7 +85,7 @@ order_push count entry entries at order differ = record {
 }
 
 -- a caller that enters stands there not yet
-abbrev EntersNew : Body → List Entry → Type 0
+abbrev pub EntersNew : Body → List Entry → Type 0
 EntersNew (Call call) entries = stands_in call.who entries ≡ false
 EntersNew _ entries = Unit {0}
 
@@ -105,7 +105,7 @@ set_in_order count place (Call call) wanted entries at new order =
     ]
 
 -- the empty set
-none_in_order : (count : ℕ) → IsInOrder count []
+pub none_in_order : (count : ℕ) → IsInOrder count []
 none_in_order count = record { pairs = tt; below = tt }
 
 -- every set

@@ -53,3 +53,4 @@ pub mod Profile
 pub mod Numbers
 pub mod Waits
 pub mod WorkedRun
+pub mod SoundParts

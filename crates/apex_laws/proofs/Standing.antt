@@ -186,7 +186,7 @@ longer_back Fact change table more number wanted fact added waits = by (item_at 
     by (Some x) at = fact x at (subst (λ one. waits_at wanted one ≡ true) (found_changed change table more number x at) waits)
 
 -- a call stops nobody of another partition
-not_stopped : (call : CallRecord) (who : Who) → nat_eq call.who.part who.part ≡ false → stops call who ≡ false
+pub not_stopped : (call : CallRecord) (who : Who) → nat_eq call.who.part who.part ≡ false → stops call who ≡ false
 not_stopped call who elsewhere =
     not_second (is_no_error call.claim.out) (nat_eq who.part call.who.part && is_target (stop_of call.request) who.proc)
     (not_first (nat_eq who.part call.who.part) (is_target (stop_of call.request) who.proc)

@@ -27,7 +27,7 @@ use Rattle.apex_machine.specs.Waiting.{ends_wait, enters, is_no_error, is_target
 use Rattle.apex_laws.specs.Laws.{AllEntries, AllPorts, AreTied, IsAtEnd, IsTied, StaysTied, entries_at}
 use Rattle.apex_laws.proofs.Booleans.{cannot_hold, holds_if, neither, not_first, not_second}
 use Rattle.apex_laws.proofs.Demanded.{WaitsAcross, across}
-use Rattle.apex_laws.proofs.Distinct.{distinct_by}
+use Rattle.apex_laws.proofs.Distinct.{distinct_by, lawful_values}
 use Rattle.apex_laws.proofs.Ends.{StandsAtEnd, port_is_at_end}
 use Rattle.apex_laws.proofs.Keeps.{calls_ready, entered_waits, keeps_waiting, leaves, ready_call}
 use Rattle.apex_laws.proofs.PortEnds.{ports_after}
@@ -47,9 +47,11 @@ Next configuration state place core body number = partition_by configuration sta
 tied_after : (judged : Service → Bool) (configuration : Configuration) (state : State) (place core : ℕ) (body : Body) → AreTied configuration state
     → IsLawfulBody judged configuration state core body → (Home : ℕ → Type 0) (wanted : WaitingSet) (entry : Entry) → leaves body entry.who ≡ false
     → IsTied Home wanted state.partitions entry → IsTied Home wanted (Next configuration state place core body) entry
-tied_after judged configuration state place core body tied law Home wanted entry stays is =
-    (is.0, keeps_waiting configuration state.cores place core body (state.partitions entry.who.part) entry.who wanted
-    (calls_ready judged configuration state core body tied law entry.who.part) stays is.1)
+tied_after judged configuration state place core body tied law Home wanted entry stays is = (
+  is.0,
+  keeps_waiting configuration state.cores place core body (state.partitions entry.who.part) entry.who wanted
+      (calls_ready judged configuration state core body tied law entry.who.part) stays is.1,
+)
 
 -- a caller that enters is at home there
 abbrev EntersAtHome : Body → (ℕ → Type 0) → WaitingSet → Type 0
@@ -259,7 +261,7 @@ step_tied judged configuration state ordered next tied step =
     let body = ordered.rec.body in
     let law = step.0.claims in
     subst (AreTied configuration) (sym step.1) (record {
-      distinct = λ number. distinct_by judged configuration state place core body law number (tied.distinct number);
+      distinct = λ number. distinct_by configuration state.cores place core number body (state.partitions number) (lawful_values judged configuration state core body law number) (tied.distinct number);
       objects = λ number wanted. own_set judged configuration state place core body tied law number wanted;
       senders = λ number. set_tied judged configuration state place core body tied law (λ home. IsTrue (is_sender configuration number home)) (set.ChannelSenders number)
           (enters_at_source judged configuration state core body tied law number) (state.channels number).senders (tied.senders number);

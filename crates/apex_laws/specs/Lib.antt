@@ -1,4 +1,5 @@
 pub mod Laws
+pub mod PartLaws
 pub mod JoinLaws
 pub mod ObjectSentences
 pub mod CallSentences

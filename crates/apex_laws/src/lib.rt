@@ -6,6 +6,7 @@
 #![tactic(auto)]
 
 ghost use Rattle.apex_laws.specs.Laws.{AtMostOneNextState, ChoiceIsTheSentence, OneFirstRefusal, OneRun, PiecesCompose, PiecesFollow, RunOfEach, StaysInOrder, StaysTied, ViewIsOfTheRun, WhoWaitsStands};
+ghost use Rattle.apex_laws.specs.PartLaws.{CallerStandsNowhere, PartStaysSound};
 ghost use Rattle.apex_laws.specs.JoinLaws.{FindingsJoin, FoundIsRefused, NothingFoundIsARun, RunsJoin};
 ghost use Rattle.apex_laws.specs.ObjectLaws.{BlackboardIsTheSentence, ChannelIsTheSentence, EventIsTheSentence, FirstIsTheSentence, MutexIsTheSentence, ObjectCallIsTheSentence, OrderIsApart, QueueIsTheSentence, SamplingIsTheSentence, SemaphoreIsTheSentence};
 ghost use Rattle.apex_laws.specs.RecordLaws.{CallIsTheSentence, DispatchIsTheSentence, RefusalIsTheSentence, ReturnIsTheSentence, SetIsTheSentence, TickIsTheSentence};
@@ -52,6 +53,17 @@ pub fn stays_in_order()
 /// stands there.
 pub fn who_waits_stands()
     ensures { WhoWaitsStands }
+{}
+
+/// By a partition's own demands alone, its waiting sets stay sound: numbers are distinct, who stands in a set of the partition
+/// is a process of it that waits there, and every set is in order.
+pub fn part_stays_sound()
+    ensures { PartStaysSound }
+{}
+
+/// The caller of a call of a sound partition stands in no waiting set of it, and all places in them are below the call's.
+pub fn caller_stands_nowhere()
+    ensures { CallerStandsNowhere }
 {}
 
 /// The entries of a waiting set that is in order stand at places of their own.

@@ -1,0 +1,437 @@
+-- A partition stays sound, by its own demands.
+use Rattle.std.proofs.Common.{◌≡◌, ℕ, suc, ◌+◌, ◌<◌, ◌≤◌, List, [], ◌∷◌, ◌++◌, Bool, true, false, cond, nat_eq, ℤ, Option, Some, None, IsTrue, refl, sym, ap, subst, ◌∙◌, inl, inr, arith, true≢false}
+use Rattle.std.proofs.lemmas.Bool.{cases_Bool, eqb-true}
+use Rattle.std.proofs.lemmas.List.{append-nil}
+use Rattle.apex_types.specs.declared.code.Code.{Code}
+use Rattle.apex_types.specs.declared.record.Body.{Body}
+use Rattle.apex_types.specs.declared.record.Body.TheVariants.{Call, Ret, Disp, Tick}
+use Rattle.apex_types.specs.declared.record.Call.{Call as CallRecord}
+use Rattle.apex_types.specs.declared.record.Claim.{Claim}
+use Rattle.apex_types.specs.declared.record.Who.{Who}
+use Rattle.apex_types.specs.declared.request.Request.{Request}
+use Rattle.apex_types.specs.declared.request.Request.TheVariants as request
+use Rattle.apex_types.specs.declared.service.Service.{Service}
+use Rattle.apex_machine.specs.declared.state.CoreState.{CoreState}
+use Rattle.apex_machine.specs.declared.state.Entry.{Entry}
+use Rattle.apex_machine.specs.declared.state.Mode.{Mode}
+use Rattle.apex_machine.specs.declared.state.Process.{Process}
+use Rattle.apex_machine.specs.declared.state.WaitingSet.{WaitingSet}
+use Rattle.apex_machine.specs.declared.state.WaitingSet.TheVariants as set
+use Rattle.apex_machine.specs.After.{each_set, is_done, new_blackboard, new_buffer, new_event, new_mutex, new_queuing_port, new_sampling_port, new_semaphore, objects_by, objects_called, partition_by, partition_called, returned, roused, ticked}
+use Rattle.apex_machine.specs.Answer.{Answer, HasValue, is_new}
+use Rattle.apex_machine.specs.Channels.{QueuingPort, SamplingPort, queuing_port, sampling_port}
+use Rattle.apex_machine.specs.Configuration.{Configuration}
+use Rattle.apex_machine.specs.Demands.{AllHold, AllWaitAt, WakesHere, call_demands, outcome_demands, own_call_demands, partition_demands, stands_in}
+use Rattle.apex_machine.specs.Ports.{channel_of}
+use Rattle.apex_machine.specs.ServiceConditions.{condition_codes}
+use Rattle.apex_machine.specs.Services.{answer_of}
+use Rattle.apex_machine.specs.State.{Blackboard, Buffer, Event, Mutex, Partition, Port, Semaphore, Table, cold_partition, each_item, is_free, is_named, is_same, item_at, time_of}
+use Rattle.apex_machine.specs.Waiting.{ends_wait, set_after, stops, waits_at}
+use Rattle.apex_laws.specs.Laws.{AllEntries, IsInOrder, are_distinct, entries_at}
+use Rattle.apex_laws.specs.PartLaws.{CallerStandsNowhere, HasDistinctObjects, IsSoundPart, PartStaysSound}
+use Rattle.apex_laws.proofs.Booleans.{cannot_hold, holds_if, neither, other_holds}
+use Rattle.apex_laws.proofs.Callers.{StandsReady, choice_stands, ready_waits_not}
+use Rattle.apex_laws.proofs.Codes.{AreErrors, are_errors, not_done}
+use Rattle.apex_laws.proofs.Distinct.{CallsClaimValues, distinct_by, distinct_new}
+use Rattle.apex_laws.proofs.InOrder.{EntersNew, none_in_order, set_stays_in_order}
+use Rattle.apex_laws.proofs.Keeps.{CallsReady, IsReadyCall, entered_waits, keeps_waiting, leaves}
+use Rattle.apex_laws.proofs.SetsAfter.{EntersWith, IsElsewhere, each_entry, of_objects, one_set_after}
+use Rattle.apex_laws.proofs.Standing.{not_stopped}
+use Rattle.apex_laws.proofs.Tables.{distinct_each}
+use Rattle.apex_laws.proofs.Waiters.{all_weaker, stands_not}
+use Rattle.apex_laws.proofs.WaitSets.{one_set}
+use Rattle.apex_laws.proofs.Whos.{same_is}
+
+-- own calls, by their demands
+
+-- a call that is done meets no error condition
+demands_none : (codes : List Code) (channel : Option ℕ) (number : ℕ) (asked : Request) (answer : Answer) (claim : Claim) → AreErrors codes
+    → AllHold (outcome_demands codes channel number asked answer claim) → is_done claim.out ≡ true → codes ≡ []
+demands_none [] channel number asked answer claim errors hold done = refl
+demands_none (code ∷ codes) channel number asked answer claim errors hold done = absurd (true≢false (sym done ∙ not_done (code ∷ codes) claim.out errors hold.1.0))
+
+-- where it goes through no channel, it claims the value of its service
+demands_value : (codes : List Code) (channel : Option ℕ) (number : ℕ) (asked : Request) (answer : Answer) (claim : Claim) → codes ≡ [] → channel ≡ None
+    → AllHold (outcome_demands codes channel number asked answer claim) → HasValue answer.val claim.val
+demands_value [] None number asked answer claim none off hold = hold.1.1.0
+demands_value [] (Some channel) number asked answer claim none off hold = let no : ◌≡◌ {A = Option ℕ} (Some channel) None = off in cc
+demands_value (code ∷ codes) channel number asked answer claim none off hold = cc
+
+-- so the caller is ready, and where the call is done no error condition holds
+pub own_ready : (judged : Service → Bool) (configuration : Configuration) (number core : ℕ) (cores : List CoreState) (partition : Partition) (call : CallRecord)
+    → are_distinct partition.table ≡ true → AllHold (own_call_demands judged configuration number cores partition core call) → IsReadyCall configuration partition core call
+own_ready judged configuration number core cores partition call distinct hold = record {
+  ready = choice_stands number core partition.table call.who distinct hold.1.0.1;
+  none = λ done. demands_none (condition_codes configuration call.who partition call.request) (channel_of partition call.request) number call.request
+      (answer_of (time_of cores core) call.who partition call.request) call.claim (are_errors configuration call.who partition call.request) hold.1.1.1.1.1 done;
+}
+
+-- and the value is the service's
+own_value : (judged : Service → Bool) (configuration : Configuration) (number core : ℕ) (cores : List CoreState) (partition : Partition) (call : CallRecord)
+    → AllHold (own_call_demands judged configuration number cores partition core call) → is_done call.claim.out ≡ true → channel_of partition call.request ≡ None
+    → HasValue (answer_of (time_of cores core) call.who partition call.request).val call.claim.val
+own_value judged configuration number core cores partition call hold done off =
+    let codes = condition_codes configuration call.who partition call.request in
+    let answer = answer_of (time_of cores core) call.who partition call.request in
+    demands_value codes (channel_of partition call.request) number call.request answer call.claim
+    (demands_none codes (channel_of partition call.request) number call.request answer call.claim (are_errors configuration call.who partition call.request) hold.1.1.1.1.1 done)
+    off hold.1.1.1.1.1
+
+-- the demands of a call of one of these processes
+own_holds : (judged : Service → Bool) (configuration : Configuration) (number core : ℕ) (cores : List CoreState) (partition : Partition) (call : CallRecord) → nat_eq call.who.part number ≡ true
+    → AllHold (partition_demands judged configuration number cores partition core (Call call)) → AllHold (own_call_demands judged configuration number cores partition core call)
+own_holds judged configuration number core cores partition call own hold = subst (λ one. AllHold (call_demands one judged configuration number cores partition core call)) own hold
+
+-- a record's own calls are of ready callers
+calls_ready : (judged : Service → Bool) (configuration : Configuration) (number core : ℕ) (cores : List CoreState) (partition : Partition) (body : Body) → are_distinct partition.table ≡ true
+    → AllHold (partition_demands judged configuration number cores partition core body) → CallsReady configuration core number body partition
+calls_ready judged configuration number core cores partition (Call call) distinct hold =
+    λ own. own_ready judged configuration number core cores partition call distinct (own_holds judged configuration number core cores partition call own hold)
+calls_ready judged configuration number core cores partition _ distinct hold = tt
+
+-- calls of other partitions, by their demands
+
+-- each process of this partition that is named waits in the set
+named_wait : (wanted : WaitingSet) (number : ℕ) (table : Table) (others : List Who) → AllWaitAt wanted number table others → (who : Who) → who.part ≡ number → is_named who others ≡ true
+    → waits_at wanted (item_at table who.proc) ≡ true
+named_wait wanted number table [] all who here named = absurd (true≢false (sym named))
+named_wait wanted number table (other ∷ others) all who here named =
+    elim (cases_Bool (is_same who other)) [
+      | inl same ↦
+          let is : who ≡ other = same_is who other same in
+          subst (λ one. waits_at wanted (item_at table one.proc) ≡ true) (sym is) (all.0 (ap (λ one. one.part) (sym is) ∙ here))
+      | inr differs ↦ named_wait wanted number table others all.1 who here (other_holds _ _ named differs)
+    ]
+
+-- so none of those who wait in an object's set is named
+wakes_at_channel : (asked : Request) (chan : Option ℕ) (number : ℕ) (table : Table) (others : List Who) → WakesHere asked chan number table others → (who : Who) → who.part ≡ number
+    → is_named who others ≡ true → (wanted : WaitingSet) → waits_at wanted (item_at table who.proc) ≡ true
+    → ((other : ℕ) → ¬ (wanted ≡ set.ChannelSenders other)) → ((other : ℕ) → ¬ (wanted ≡ set.ChannelReceivers other)) → ⊥
+wakes_at_channel (request.SendQueuingMessage port length time_out message) (Some channel) number table others wakes who here named wanted waits not_sending not_receiving =
+    not_receiving channel (one_set wanted (set.ChannelReceivers channel) (item_at table who.proc) waits (named_wait (set.ChannelReceivers channel) number table others wakes who here named))
+wakes_at_channel (request.ReceiveQueuingMessage port time_out) (Some channel) number table others wakes who here named wanted waits not_sending not_receiving =
+    not_sending channel (one_set wanted (set.ChannelSenders channel) (item_at table who.proc) waits (named_wait (set.ChannelSenders channel) number table others wakes who here named))
+wakes_at_channel _ chan number table others wakes who here named wanted waits not_sending not_receiving = absurd wakes
+
+-- so a call of another partition ends none of their waits
+foreign_stays : (judged : Service → Bool) (configuration : Configuration) (number core : ℕ) (cores : List CoreState) (partition : Partition) (call : CallRecord) → nat_eq call.who.part number ≡ false
+    → AllHold (partition_demands judged configuration number cores partition core (Call call)) → (wanted : WaitingSet)
+    → ((other : ℕ) → ¬ (wanted ≡ set.ChannelSenders other)) → ((other : ℕ) → ¬ (wanted ≡ set.ChannelReceivers other))
+    → (who : Who) → who.part ≡ number → waits_at wanted (item_at partition.table who.proc) ≡ true → ends_wait call who ≡ false
+foreign_stays judged configuration number core cores partition call elsewhere hold wanted not_sending not_receiving who here waits =
+    let foreign = subst (λ one. AllHold (call_demands one judged configuration number cores partition core call)) elsewhere hold in
+    neither (is_named who call.claim.woken) (stops call who)
+    (cannot_hold (is_named who call.claim.woken) (λ named.
+    wakes_at_channel call.request call.claim.chan number partition.table call.claim.woken foreign.1.0 who here named wanted waits not_sending not_receiving))
+    (not_stopped call who (ap (nat_eq call.who.part) here ∙ elsewhere))
+
+-- numbers
+
+-- a partition with other processes, another mode, or other objects of one kind
+with_table : (partition : Partition) (mode : Mode) (table : Table) → HasDistinctObjects partition → HasDistinctObjects (record partition { mode = mode; table = table })
+with_table partition mode table has = record {
+  buffers = has.buffers;
+  blackboards = has.blackboards;
+  semaphores = has.semaphores;
+  events = has.events;
+  mutexes = has.mutexes;
+  sampling_ports = has.sampling_ports;
+  queuing_ports = has.queuing_ports;
+}
+
+with_buffers : (partition : Partition) (buffers : List (ℕ × Buffer)) → HasDistinctObjects partition → are_distinct buffers ≡ true → HasDistinctObjects (record partition { buffers = buffers })
+with_buffers partition buffers has distinct = record {
+  buffers = distinct;
+  blackboards = has.blackboards;
+  semaphores = has.semaphores;
+  events = has.events;
+  mutexes = has.mutexes;
+  sampling_ports = has.sampling_ports;
+  queuing_ports = has.queuing_ports;
+}
+
+with_blackboards : (partition : Partition) (blackboards : List (ℕ × Blackboard)) → HasDistinctObjects partition → are_distinct blackboards ≡ true
+    → HasDistinctObjects (record partition { blackboards = blackboards })
+with_blackboards partition blackboards has distinct = record {
+  buffers = has.buffers;
+  blackboards = distinct;
+  semaphores = has.semaphores;
+  events = has.events;
+  mutexes = has.mutexes;
+  sampling_ports = has.sampling_ports;
+  queuing_ports = has.queuing_ports;
+}
+
+with_semaphores : (partition : Partition) (semaphores : List (ℕ × Semaphore)) → HasDistinctObjects partition → are_distinct semaphores ≡ true
+    → HasDistinctObjects (record partition { semaphores = semaphores })
+with_semaphores partition semaphores has distinct = record {
+  buffers = has.buffers;
+  blackboards = has.blackboards;
+  semaphores = distinct;
+  events = has.events;
+  mutexes = has.mutexes;
+  sampling_ports = has.sampling_ports;
+  queuing_ports = has.queuing_ports;
+}
+
+with_events : (partition : Partition) (events : List (ℕ × Event)) → HasDistinctObjects partition → are_distinct events ≡ true → HasDistinctObjects (record partition { events = events })
+with_events partition events has distinct = record {
+  buffers = has.buffers;
+  blackboards = has.blackboards;
+  semaphores = has.semaphores;
+  events = distinct;
+  mutexes = has.mutexes;
+  sampling_ports = has.sampling_ports;
+  queuing_ports = has.queuing_ports;
+}
+
+with_mutexes : (partition : Partition) (mutexes : List (ℕ × Mutex)) → HasDistinctObjects partition → are_distinct mutexes ≡ true → HasDistinctObjects (record partition { mutexes = mutexes })
+with_mutexes partition mutexes has distinct = record {
+  buffers = has.buffers;
+  blackboards = has.blackboards;
+  semaphores = has.semaphores;
+  events = has.events;
+  mutexes = distinct;
+  sampling_ports = has.sampling_ports;
+  queuing_ports = has.queuing_ports;
+}
+
+with_sampling_ports : (partition : Partition) (ports : List (ℕ × Port)) → HasDistinctObjects partition → are_distinct ports ≡ true → HasDistinctObjects (record partition { sampling_ports = ports })
+with_sampling_ports partition ports has distinct = record {
+  buffers = has.buffers;
+  blackboards = has.blackboards;
+  semaphores = has.semaphores;
+  events = has.events;
+  mutexes = has.mutexes;
+  sampling_ports = distinct;
+  queuing_ports = has.queuing_ports;
+}
+
+with_queuing_ports : (partition : Partition) (ports : List (ℕ × Port)) → HasDistinctObjects partition → are_distinct ports ≡ true → HasDistinctObjects (record partition { queuing_ports = ports })
+with_queuing_ports partition ports has distinct = record {
+  buffers = has.buffers;
+  blackboards = has.blackboards;
+  semaphores = has.semaphores;
+  events = has.events;
+  mutexes = has.mutexes;
+  sampling_ports = has.sampling_ports;
+  queuing_ports = distinct;
+}
+
+-- a created port has a new number
+sampling_port_new : (ports : List (ℕ × Port)) (name : List ℕ) (claimed : Option ℤ) (found : Option SamplingPort) → are_distinct ports ≡ true → is_new (is_free ports) claimed ≡ true
+    → are_distinct (ports ++ new_sampling_port name claimed found) ≡ true
+sampling_port_new ports name claimed None distinct new = ap are_distinct (append-nil ports) ∙ distinct
+sampling_port_new ports name claimed (Some port) distinct new = distinct_new ports claimed (record { name = name; size = port.size; direction = port.direction; channel = port.channel }) distinct new
+
+queuing_port_new : (ports : List (ℕ × Port)) (name : List ℕ) (claimed : Option ℤ) (found : Option QueuingPort) → are_distinct ports ≡ true → is_new (is_free ports) claimed ≡ true
+    → are_distinct (ports ++ new_queuing_port name claimed found) ≡ true
+queuing_port_new ports name claimed None distinct new = ap are_distinct (append-nil ports) ∙ distinct
+queuing_port_new ports name claimed (Some port) distinct new = distinct_new ports claimed (record { name = name; size = port.size; direction = port.direction; channel = port.channel }) distinct new
+
+-- what is created has a new number, and what is used keeps its own
+used_distinct : (configuration : Configuration) (now : ℕ) (who : Who) (claimed : Option ℤ) (asked : Request) (partition : Partition) → HasDistinctObjects partition
+    → (channel_of partition asked ≡ None → HasValue (answer_of now who partition asked).val claimed) → HasDistinctObjects (objects_by configuration who claimed asked partition)
+used_distinct configuration now who claimed (request.CreateBuffer name size capacity discipline) partition has value =
+    with_buffers partition _ has (distinct_new partition.buffers claimed (new_buffer name size capacity discipline) has.buffers (value refl))
+used_distinct configuration now who claimed (request.SendBuffer buffer length time_out message) partition has value =
+    with_buffers partition _ has (distinct_each _ partition.buffers ∙ has.buffers)
+used_distinct configuration now who claimed (request.ReceiveBuffer buffer time_out) partition has value =
+    with_buffers partition _ has (distinct_each _ partition.buffers ∙ has.buffers)
+used_distinct configuration now who claimed (request.CreateBlackboard name size) partition has value =
+    with_blackboards partition _ has (distinct_new partition.blackboards claimed (new_blackboard name size) has.blackboards (value refl))
+used_distinct configuration now who claimed (request.DisplayBlackboard blackboard length message) partition has value =
+    with_blackboards partition _ has (distinct_each _ partition.blackboards ∙ has.blackboards)
+used_distinct configuration now who claimed (request.ClearBlackboard blackboard) partition has value =
+    with_blackboards partition _ has (distinct_each _ partition.blackboards ∙ has.blackboards)
+used_distinct configuration now who claimed (request.CreateSemaphore name initial maximum discipline) partition has value =
+    with_semaphores partition _ has (distinct_new partition.semaphores claimed (new_semaphore name initial maximum discipline) has.semaphores (value refl))
+used_distinct configuration now who claimed (request.WaitSemaphore semaphore time_out) partition has value =
+    with_semaphores partition _ has (distinct_each _ partition.semaphores ∙ has.semaphores)
+used_distinct configuration now who claimed (request.SignalSemaphore semaphore) partition has value =
+    with_semaphores partition _ has (distinct_each _ partition.semaphores ∙ has.semaphores)
+used_distinct configuration now who claimed (request.CreateEvent name) partition has value =
+    with_events partition _ has (distinct_new partition.events claimed (new_event name) has.events (value refl))
+used_distinct configuration now who claimed (request.SetEvent event) partition has value = with_events partition _ has (distinct_each _ partition.events ∙ has.events)
+used_distinct configuration now who claimed (request.ResetEvent event) partition has value = with_events partition _ has (distinct_each _ partition.events ∙ has.events)
+used_distinct configuration now who claimed (request.CreateMutex name priority discipline) partition has value =
+    with_mutexes partition _ has (distinct_new partition.mutexes claimed (new_mutex name priority discipline) has.mutexes (value refl))
+used_distinct configuration now who claimed (request.AcquireMutex mutex time_out) partition has value = with_mutexes partition _ has (distinct_each _ partition.mutexes ∙ has.mutexes)
+used_distinct configuration now who claimed (request.ReleaseMutex mutex) partition has value = with_mutexes partition _ has (distinct_each _ partition.mutexes ∙ has.mutexes)
+used_distinct configuration now who claimed (request.CreateSamplingPort name size direction refresh) partition has value =
+    with_sampling_ports partition _ has (sampling_port_new partition.sampling_ports name claimed (sampling_port configuration who.part name) has.sampling_ports (value refl))
+used_distinct configuration now who claimed (request.CreateQueuingPort name size capacity both) partition has value =
+    with_queuing_ports partition _ has (queuing_port_new partition.queuing_ports name claimed (queuing_port configuration who.part name) has.queuing_ports (value refl))
+used_distinct configuration now who claimed _ partition has value = has
+
+-- a change of each set leaves the numbers
+sets_distinct : (change : WaitingSet → List Entry → List Entry) (partition : Partition) → HasDistinctObjects partition → HasDistinctObjects (each_set change partition)
+sets_distinct change partition has = record {
+  buffers = distinct_each _ partition.buffers ∙ has.buffers;
+  blackboards = distinct_each _ partition.blackboards ∙ has.blackboards;
+  semaphores = distinct_each _ partition.semaphores ∙ has.semaphores;
+  events = distinct_each _ partition.events ∙ has.events;
+  mutexes = distinct_each _ partition.mutexes ∙ has.mutexes;
+  sampling_ports = has.sampling_ports;
+  queuing_ports = has.queuing_ports;
+}
+
+-- the objects of a partition after a record
+objects_distinct : (configuration : Configuration) (cores : List CoreState) (place core number : ℕ) (body : Body) (partition : Partition)
+    → CallsClaimValues number (time_of cores core) body partition → HasDistinctObjects partition → HasDistinctObjects (partition_by configuration cores place core number body partition)
+objects_distinct configuration cores place core number (Disp who) partition claims has = has
+objects_distinct configuration cores place core number (Tick woken) partition claims has =
+    with_table (each_set (set_after place (Tick woken)) partition) partition.mode (each_item (ticked place number woken) partition.table) (sets_distinct (set_after place (Tick woken)) partition has)
+objects_distinct configuration cores place core number (Ret ret) partition claims has =
+    elim (nat_eq ret.who.part number) as (λ own. HasDistinctObjects (cond own (record partition { table = each_item (returned ret.who.proc) partition.table }) partition)) [
+      | true ↦ with_table partition partition.mode (each_item (returned ret.who.proc) partition.table) has
+      | false ↦ has
+    ]
+objects_distinct configuration cores place core number (Call call) partition claims has =
+    let foreign : ℕ → Process → Process = λ other process. roused place call (record { part = number; proc = other }) process in
+    let now = time_of cores core in
+    elim (nat_eq call.who.part number) as (λ own. nat_eq call.who.part number ≡ own → HasDistinctObjects (cond own
+    (partition_called configuration cores place core call partition) (record partition { table = each_item foreign partition.table }))) [
+      | true ↦ λ own. with_table (objects_called configuration place call partition) _ _ (sets_distinct (set_after place (Call call)) _
+          (elim (is_done call.claim.out) as (λ done. is_done call.claim.out ≡ done
+          → HasDistinctObjects (cond done (objects_by configuration call.who call.claim.val call.request partition) partition)) [
+            | true ↦ λ done. used_distinct configuration now call.who call.claim.val call.request partition has (claims own done)
+            | false ↦ λ not_done. has
+          ] refl))
+      | false ↦ λ elsewhere. with_table partition partition.mode (each_item foreign partition.table) has
+    ] refl
+
+-- the sets
+
+-- who stands in a set of a partition
+abbrev Stands : ℕ → WaitingSet → Partition → Entry → Type 0
+Stands number wanted partition entry = (entry.who.part ≡ number) × IsTrue (waits_at wanted (item_at partition.table entry.who.proc))
+
+-- an entry whose wait goes on
+stays_standing : (configuration : Configuration) (cores : List CoreState) (place core number : ℕ) (body : Body) (partition : Partition) (wanted : WaitingSet) → CallsReady configuration core number body partition
+    → (entry : Entry) → leaves body entry.who ≡ false → Stands number wanted partition entry
+    → Stands number wanted (partition_by configuration cores place core number body partition) entry
+stays_standing configuration cores place core number body partition wanted ready entry stays is = (
+  is.0,
+  subst (λ part. waits_at wanted (item_at (partition_by configuration cores place core part body partition).table entry.who.proc) ≡ true) is.0
+      (keeps_waiting configuration cores place core body partition entry.who wanted (subst (λ part. CallsReady configuration core part body partition) (sym is.0) ready) stays is.1),
+)
+
+-- a caller that enters
+enters_standing : (configuration : Configuration) (cores : List CoreState) (place core number : ℕ) (body : Body) (partition : Partition) (wanted : WaitingSet) → CallsReady configuration core number body partition
+    → (IsElsewhere number body → ⊥) → EntersWith place body wanted (Stands number wanted (partition_by configuration cores place core number body partition))
+enters_standing configuration cores place core number (Call call) partition wanted ready own =
+    let here = holds_if (nat_eq call.who.part number) own in
+    let same : call.who.part ≡ number = eqb-true call.who.part number here in
+    λ enters. (
+      same,
+      subst (λ part. waits_at wanted (item_at (partition_by configuration cores place core part (Call call) partition).table call.who.proc) ≡ true) same
+          (entered_waits configuration cores place core call partition (ready here) wanted enters),
+    )
+enters_standing configuration cores place core number _ partition wanted ready own = tt
+
+-- an entry at a call of another partition
+foreign_standing : (judged : Service → Bool) (configuration : Configuration) (cores : List CoreState) (place core number : ℕ) (body : Body) (partition : Partition) (wanted : WaitingSet)
+    → CallsReady configuration core number body partition → AllHold (partition_demands judged configuration number cores partition core body) → IsElsewhere number body
+    → AllEntries (Stands number wanted partition) (entries_at partition wanted)
+    → AllEntries (Stands number wanted (partition_by configuration cores place core number body partition)) (entries_at partition wanted)
+foreign_standing judged configuration cores place core number (Call call) partition wanted ready hold elsewhere all =
+    let Then : Entry → Type 0 = Stands number wanted (partition_by configuration cores place core number (Call call) partition) in
+    of_objects Then partition wanted (λ not_sending not_receiving. all_weaker (Stands number wanted partition) Then
+    (λ entry is. stays_standing configuration cores place core number (Call call) partition wanted ready entry
+    (foreign_stays judged configuration number core cores partition call elsewhere hold wanted not_sending not_receiving entry.who is.0 is.1) is) (entries_at partition wanted) all)
+foreign_standing judged configuration cores place core number _ partition wanted ready hold elsewhere all = absurd elsewhere
+
+-- who is ready stands in no set
+pub stands_nowhere : (number place core : ℕ) (partition : Partition) (who : Who) → IsSoundPart number place partition → StandsReady core (item_at partition.table who.proc)
+    → (wanted : WaitingSet) → stands_in who (entries_at partition wanted) ≡ false
+stands_nowhere number place core partition who sound ready wanted =
+    stands_not (λ one. (one.part ≡ number) × IsTrue (waits_at wanted (item_at partition.table one.proc))) who
+    (λ is. ready_waits_not core (item_at partition.table who.proc) wanted ready is.1) (entries_at partition wanted) (sound.stands wanted)
+
+own_caller_new : (configuration : Configuration) (number place core : ℕ) (body : Body) (partition : Partition) → IsSoundPart number place partition → CallsReady configuration core number body partition
+    → (wanted : WaitingSet) → (IsElsewhere number body → ⊥) → EntersNew body (entries_at partition wanted)
+own_caller_new configuration number place core (Call call) partition sound ready wanted own =
+    stands_nowhere number place core partition call.who sound (ready (holds_if (nat_eq call.who.part number) own)).ready wanted
+own_caller_new configuration number place core _ partition sound ready wanted own = tt
+
+-- the whole partition
+
+-- a record's own calls claim their values
+calls_claim : (judged : Service → Bool) (configuration : Configuration) (number core : ℕ) (cores : List CoreState) (partition : Partition) (body : Body)
+    → AllHold (partition_demands judged configuration number cores partition core body) → CallsClaimValues number (time_of cores core) body partition
+calls_claim judged configuration number core cores partition (Call call) hold =
+    λ own done off. own_value judged configuration number core cores partition call (own_holds judged configuration number core cores partition call own hold) done off
+calls_claim judged configuration number core cores partition _ hold = tt
+
+-- one place later
+next_place : (place : ℕ) → suc place ≡ place + 1
+next_place place = omega arith
+
+sound_after : (judged : Service → Bool) (configuration : Configuration) (number : ℕ) (cores : List CoreState) (partition : Partition) (place core : ℕ) (body : Body)
+    → IsSoundPart number place partition → AllHold (partition_demands judged configuration number cores partition core body)
+    → IsSoundPart number (place + 1) (partition_by configuration cores place core number body partition)
+sound_after judged configuration number cores partition place core body sound hold =
+    let ready = calls_ready judged configuration number core cores partition body sound.distinct hold in
+    let claims = calls_claim judged configuration number core cores partition body hold in
+    let next = partition_by configuration cores place core number body partition in record {
+      distinct = distinct_by configuration cores place core number body partition claims sound.distinct;
+      objects = objects_distinct configuration cores place core number body partition claims sound.objects;
+      stands = λ wanted. one_set_after (AllEntries (Stands number wanted partition)) (AllEntries (Stands number wanted next)) configuration cores place core number body partition wanted tt
+          (λ own entries all. each_entry (Stands number wanted partition) (Stands number wanted next) place body wanted
+          (stays_standing configuration cores place core number body partition wanted ready)
+          (enters_standing configuration cores place core number body partition wanted ready own) entries all)
+          (λ elsewhere all. foreign_standing judged configuration cores place core number body partition wanted ready hold elsewhere all) (sound.stands wanted);
+      order = λ wanted. subst (λ count. IsInOrder count (entries_at next wanted)) (next_place place)
+          (set_stays_in_order configuration cores place place core number body partition wanted refl
+          (own_caller_new configuration number place core body partition sound ready wanted) (sound.order wanted));
+    }
+
+-- the places of a set are below every later place too
+order_before : (place later : ℕ) (entries : List Entry) → place ≤ later → IsInOrder place entries → IsInOrder later entries
+order_before place later entries most order = record {
+  pairs = order.pairs;
+  below = all_weaker (λ entry. entry.place < place) (λ entry. entry.place < later) (λ entry below. omega (arith, below, most)) entries order.below;
+}
+
+sound_later : (number place later : ℕ) (partition : Partition) → place ≤ later → IsSoundPart number place partition → IsSoundPart number later partition
+sound_later number place later partition most sound = record {
+  distinct = sound.distinct;
+  objects = sound.objects;
+  stands = sound.stands;
+  order = λ wanted. order_before place later (entries_at partition wanted) most (sound.order wanted);
+}
+
+-- the sets of a cold partition are empty
+cold_set : (configuration : Configuration) (number : ℕ) (wanted : WaitingSet) → entries_at (cold_partition configuration number) wanted ≡ []
+cold_set configuration number (set.BufferSenders object) = refl
+cold_set configuration number (set.BufferReceivers object) = refl
+cold_set configuration number (set.BlackboardReaders object) = refl
+cold_set configuration number (set.SemaphoreWaiters object) = refl
+cold_set configuration number (set.EventWaiters object) = refl
+cold_set configuration number (set.MutexWaiters object) = refl
+cold_set configuration number (set.ChannelSenders channel) = refl
+cold_set configuration number (set.ChannelReceivers channel) = refl
+
+cold_sound : (configuration : Configuration) (number place : ℕ) → IsSoundPart number place (cold_partition configuration number)
+cold_sound configuration number place = record {
+  distinct = refl;
+  objects = record { buffers = refl; blackboards = refl; semaphores = refl; events = refl; mutexes = refl; sampling_ports = refl; queuing_ports = refl };
+  stands = λ wanted. subst (AllEntries (Stands number wanted (cold_partition configuration number))) (sym (cold_set configuration number wanted)) tt;
+  order = λ wanted. subst (IsInOrder place) (sym (cold_set configuration number wanted)) (none_in_order place);
+}
+
+pub part_stays_sound : PartStaysSound
+part_stays_sound = (
+  cold_sound,
+  λ judged configuration number cores partition ordered sound hold. sound_after judged configuration number cores partition ordered.pos ordered.core ordered.rec.body sound hold,
+  sound_later,
+)
+
+-- the caller of an own call
+
+pub caller_stands_nowhere : CallerStandsNowhere
+caller_stands_nowhere judged configuration number place core cores partition call is wanted = (
+  stands_nowhere number place core partition call.who is.sound (own_ready judged configuration number core cores partition call is.sound.distinct is.demands).ready wanted,
+  (is.sound.order wanted).below,
+)

@@ -1,0 +1,60 @@
+-- The laws on one partition alone, for the piece that holds it: from its own demands, whatever the other pieces do. Each is the
+-- contract of a function in `src/lib.rt`.
+use Rattle.std.specs.Prelude.{◌≡◌, ◌≤◌, ◌<◌, ℕ, ◌+◌, List, Bool, IsTrue, IsFalse}
+use Rattle.apex_types.specs.declared.record.Call.{Call as CallRecord}
+use Rattle.apex_types.specs.declared.record.Ordered.{Ordered}
+use Rattle.apex_types.specs.declared.service.Service.{Service}
+use Rattle.apex_machine.specs.declared.state.CoreState.{CoreState}
+use Rattle.apex_machine.specs.declared.state.WaitingSet.{WaitingSet}
+use Rattle.apex_machine.specs.After.{partition_after}
+use Rattle.apex_machine.specs.Configuration.{Configuration}
+use Rattle.apex_machine.specs.Demands.{AllHold, own_call_demands, partition_demands, stands_in}
+use Rattle.apex_machine.specs.State.{Partition, cold_partition, item_at}
+use Rattle.apex_machine.specs.Waiting.{waits_at}
+use Rattle.apex_laws.specs.Laws.{AllEntries, IsInOrder, are_distinct, entries_at}
+
+-- a sound partition
+
+-- no two objects or ports of a kind have one number
+pub record HasDistinctObjects (partition : Partition) : Type 0 where
+  pub buffers : IsTrue (are_distinct partition.buffers)
+  pub blackboards : IsTrue (are_distinct partition.blackboards)
+  pub semaphores : IsTrue (are_distinct partition.semaphores)
+  pub events : IsTrue (are_distinct partition.events)
+  pub mutexes : IsTrue (are_distinct partition.mutexes)
+  pub sampling_ports : IsTrue (are_distinct partition.sampling_ports)
+  pub queuing_ports : IsTrue (are_distinct partition.queuing_ports)
+
+-- a partition's waiting sets are sound before this place: numbers are distinct; who stands in one of its sets is a process of
+-- it that waits there; and every set is in order
+pub record IsSoundPart (number place : ℕ) (partition : Partition) : Type 0 where
+  pub distinct : IsTrue (are_distinct partition.table)
+  pub objects : HasDistinctObjects partition
+  pub stands : (wanted : WaitingSet)
+      → AllEntries (λ entry. (entry.who.part ≡ number) × IsTrue (waits_at wanted (item_at partition.table entry.who.proc))) (entries_at partition wanted)
+  pub order : (wanted : WaitingSet) → IsInOrder place (entries_at partition wanted)
+
+-- the cold partition is sound; a record whose demands hold keeps a partition sound; and a sound partition is sound before every
+-- later place
+abbrev pub PartStaysSound : Type 0
+PartStaysSound =
+    ((configuration : Configuration) (number place : ℕ) → IsSoundPart number place (cold_partition configuration number))
+    × ((judged : Service → Bool) (configuration : Configuration) (number : ℕ) (cores : List CoreState) (partition : Partition) (ordered : Ordered)
+    → IsSoundPart number ordered.pos partition → AllHold (partition_demands judged configuration number cores partition ordered.core ordered.rec.body)
+    → IsSoundPart number (ordered.pos + 1) (partition_after configuration cores number ordered partition))
+    × ((number place later : ℕ) (partition : Partition) → place ≤ later → IsSoundPart number place partition → IsSoundPart number later partition)
+
+-- own calls
+
+-- a call of one of a sound partition's own processes, all of whose demands hold
+pub record IsOwnCall (judged : Service → Bool) (configuration : Configuration) (number place core : ℕ) (cores : List CoreState) (partition : Partition) (call : CallRecord) : Type 0 where
+  pub sound : IsSoundPart number place partition
+  pub own : call.who.part ≡ number
+  pub demands : AllHold (own_call_demands judged configuration number cores partition core call)
+
+-- the caller of an own call stands in no waiting set of the partition, and all places in them are below the call's
+abbrev pub CallerStandsNowhere : Type 0
+CallerStandsNowhere =
+    (judged : Service → Bool) (configuration : Configuration) (number place core : ℕ) (cores : List CoreState) (partition : Partition) (call : CallRecord)
+    → IsOwnCall judged configuration number place core cores partition call
+    → (wanted : WaitingSet) → IsFalse (stands_in call.who (entries_at partition wanted)) × AllEntries (λ entry. entry.place < place) (entries_at partition wanted)
