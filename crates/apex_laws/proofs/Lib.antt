@@ -54,3 +54,4 @@ pub mod Numbers
 pub mod Waits
 pub mod WorkedRun
 pub mod SoundParts
+pub mod OtherSets

@@ -304,7 +304,7 @@ objects_distinct configuration cores place core number (Call call) partition cla
 -- the sets
 
 -- who stands in a set of a partition
-abbrev Stands : ℕ → WaitingSet → Partition → Entry → Type 0
+abbrev pub Stands : ℕ → WaitingSet → Partition → Entry → Type 0
 Stands number wanted partition entry = (entry.who.part ≡ number) × IsTrue (waits_at wanted (item_at partition.table entry.who.proc))
 
 -- an entry whose wait goes on

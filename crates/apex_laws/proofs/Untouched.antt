@@ -113,7 +113,7 @@ not_woken configuration state core call judged tied law number off who through =
     ]
 
 -- a set that a call doesn't enter and nobody of which it ends stays
-set_stays : (Fact : Entry → Type 0) (place : ℕ) (call : CallRecord) (wanted : WaitingSet) (entries : List Entry) → AllEntries Fact entries
+pub set_stays : (Fact : Entry → Type 0) (place : ℕ) (call : CallRecord) (wanted : WaitingSet) (entries : List Entry) → AllEntries Fact entries
     → enters call wanted ≡ false → ((entry : Entry) → Fact entry → ends_wait call entry.who ≡ false) → set_after place (Call call) wanted entries ≡ entries
 set_stays Fact place call wanted entries all off stays = rw off (none_leaves Fact (ends_wait call) stays entries all)
 

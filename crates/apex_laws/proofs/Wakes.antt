@@ -20,6 +20,8 @@ use Rattle.apex_machine.specs.Services.{answer_by, answer_of, fellow, resuming}
 use Rattle.apex_machine.specs.State.{Blackboard, Buffer, Channel, Content, Event, Mutex, Partition, Queued, Sampled, Semaphore, Stamped, created, given_object, is_named, item_at}
 use Rattle.apex_machine.specs.Waiting.{first_waiter}
 use Rattle.apex_laws.specs.Laws.{AllEntries, entries_at, entries_in}
+use Rattle.apex_laws.specs.PartLaws.{is_set_used}
+use Rattle.apex_laws.proofs.Booleans.{first_holds, is_itself}
 use Rattle.apex_laws.proofs.Waiters.{all_named, first_has, only_named}
 
 -- nobody is named by the empty list
@@ -118,27 +120,27 @@ resume_wakes Fact target (Some process) has one named =
       | false ↦ λ not_suspended named. nobody one [] refl named
     ] refl named
 
--- a service that uses no channel wakes those who stand in a waiting set of its caller's partition, or suspended themselves
+-- a service that uses no channel wakes those who stand in a waiting set that it uses, or suspended themselves
 pub answer_wakes : (Fact : Who → Type 0) (now : ℕ) (who : Who) (partition : Partition) (asked : Request)
-    → ((wanted : WaitingSet) → AllEntries (λ entry. Fact entry.who) (entries_at partition wanted))
+    → ((wanted : WaitingSet) → is_set_used asked wanted ≡ true → AllEntries (λ entry. Fact entry.who) (entries_at partition wanted))
     → ((process : ℤ) (target : Process) → created partition.table process ≡ Some target → is_suspension target.wait ≡ true → Fact (fellow who process))
     → (one : Who) → is_named one (answer_of now who partition asked).woken ≡ true → Fact one
 answer_wakes Fact now who partition (request.SendBuffer (pos buffer) length time_out message) all suspended one named =
     by_object (Fact one) one (item_at partition.buffers buffer) (λ found. (buffer_sent message time_out found).answer)
     (λ found is named. sent_wakes Fact found.capacity message time_out (first_waiter found.discipline found.receivers) found.messages
     (λ entry first. first_has (λ entry. Fact entry.who) found.discipline found.receivers entry
-    (entries_found (λ entry. Fact entry.who) (λ (found : Buffer). found.receivers) (item_at partition.buffers buffer) found is (all (set.BufferReceivers buffer))) first) one named) named
+    (entries_found (λ entry. Fact entry.who) (λ (found : Buffer). found.receivers) (item_at partition.buffers buffer) found is (all (set.BufferReceivers buffer) (is_itself buffer))) first) one named) named
 answer_wakes Fact now who partition (request.SendBuffer (negsuc buffer) length time_out message) all suspended one named = nobody one [] refl named
 answer_wakes Fact now who partition (request.ReceiveBuffer (pos buffer) time_out) all suspended one named =
     by_object (Fact one) one (item_at partition.buffers buffer) (λ found. (buffer_received time_out found).answer)
     (λ found is named. received_wakes Fact time_out (first_waiter found.discipline found.senders) found.messages
     (λ entry first. first_has (λ entry. Fact entry.who) found.discipline found.senders entry
-    (entries_found (λ entry. Fact entry.who) (λ (found : Buffer). found.senders) (item_at partition.buffers buffer) found is (all (set.BufferSenders buffer))) first) one named) named
+    (entries_found (λ entry. Fact entry.who) (λ (found : Buffer). found.senders) (item_at partition.buffers buffer) found is (all (set.BufferSenders buffer) (first_holds _ _ (is_itself buffer)))) first) one named) named
 answer_wakes Fact now who partition (request.ReceiveBuffer (negsuc buffer) time_out) all suspended one named = nobody one [] refl named
 answer_wakes Fact now who partition (request.DisplayBlackboard (pos blackboard) length message) all suspended one named =
     by_object (Fact one) one (item_at partition.blackboards blackboard) (λ found. (displayed message found.readers).answer)
     (λ found is named. all_named Fact found.readers
-    (entries_found (λ entry. Fact entry.who) (λ (found : Blackboard). found.readers) (item_at partition.blackboards blackboard) found is (all (set.BlackboardReaders blackboard))) one named) named
+    (entries_found (λ entry. Fact entry.who) (λ (found : Blackboard). found.readers) (item_at partition.blackboards blackboard) found is (all (set.BlackboardReaders blackboard) (is_itself blackboard))) one named) named
 answer_wakes Fact now who partition (request.DisplayBlackboard (negsuc blackboard) length message) all suspended one named = nobody one [] refl named
 answer_wakes Fact now who partition (request.ReadBlackboard blackboard time_out) all suspended one named =
     by_object (Fact one) one (given_object partition.blackboards blackboard) (λ found. (board_read time_out found.message).answer)
@@ -151,12 +153,12 @@ answer_wakes Fact now who partition (request.SignalSemaphore (pos semaphore)) al
     (λ found. (signalled found.maximum (first_waiter found.discipline found.waiters) found.value).answer)
     (λ found is named. signal_wakes Fact found.maximum (first_waiter found.discipline found.waiters) found.value
     (λ entry first. first_has (λ entry. Fact entry.who) found.discipline found.waiters entry
-    (entries_found (λ entry. Fact entry.who) (λ (found : Semaphore). found.waiters) (item_at partition.semaphores semaphore) found is (all (set.SemaphoreWaiters semaphore))) first) one named) named
+    (entries_found (λ entry. Fact entry.who) (λ (found : Semaphore). found.waiters) (item_at partition.semaphores semaphore) found is (all (set.SemaphoreWaiters semaphore) (is_itself semaphore))) first) one named) named
 answer_wakes Fact now who partition (request.SignalSemaphore (negsuc semaphore)) all suspended one named = nobody one [] refl named
 answer_wakes Fact now who partition (request.SetEvent (pos event)) all suspended one named =
     by_object (Fact one) one (item_at partition.events event) (λ found. (event_set found.waiters).answer)
     (λ found is named. all_named Fact found.waiters
-    (entries_found (λ entry. Fact entry.who) (λ (found : Event). found.waiters) (item_at partition.events event) found is (all (set.EventWaiters event))) one named) named
+    (entries_found (λ entry. Fact entry.who) (λ (found : Event). found.waiters) (item_at partition.events event) found is (all (set.EventWaiters event) (is_itself event))) one named) named
 answer_wakes Fact now who partition (request.SetEvent (negsuc event)) all suspended one named = nobody one [] refl named
 answer_wakes Fact now who partition (request.WaitEvent event time_out) all suspended one named =
     by_object (Fact one) one (given_object partition.events event) (λ found. (event_waited time_out found.up).answer)
@@ -168,7 +170,7 @@ answer_wakes Fact now who partition (request.ReleaseMutex (pos mutex)) all suspe
     by_object (Fact one) one (item_at partition.mutexes mutex) (λ found. (mutex_released (first_waiter found.discipline found.waiters) found).answer)
     (λ found is named. release_wakes Fact (first_waiter found.discipline found.waiters) found
     (λ entry first. first_has (λ entry. Fact entry.who) found.discipline found.waiters entry
-    (entries_found (λ entry. Fact entry.who) (λ (found : Mutex). found.waiters) (item_at partition.mutexes mutex) found is (all (set.MutexWaiters mutex))) first) one named) named
+    (entries_found (λ entry. Fact entry.who) (λ (found : Mutex). found.waiters) (item_at partition.mutexes mutex) found is (all (set.MutexWaiters mutex) (is_itself mutex))) first) one named) named
 answer_wakes Fact now who partition (request.ReleaseMutex (negsuc mutex)) all suspended one named = nobody one [] refl named
 answer_wakes Fact now who partition (request.Resume process) all suspended one named =
     resume_wakes Fact (fellow who process) (created partition.table process) (λ target found suspends. suspended process target found suspends) one named

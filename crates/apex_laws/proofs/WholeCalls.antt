@@ -225,7 +225,7 @@ named_waits : (configuration : Configuration) (state : State) (now : ℕ) (who :
 named_waits configuration state now who asked claim tied (code ∷ codes) channel has one named = nobody one claim.woken has.woken named
 named_waits configuration state now who asked claim tied [] None has one named =
     answer_wakes (OtherAwaited state.partitions) now who (state.partitions who.part) asked
-    (λ wanted. tied_waits (λ home. home ≡ who.part) wanted state.partitions (entries_at (state.partitions who.part) wanted) (tied.objects who.part wanted))
+    (λ wanted used. tied_waits (λ home. home ≡ who.part) wanted state.partitions (entries_at (state.partitions who.part) wanted) (tied.objects who.part wanted))
     (λ process target is suspends. fellow_waits state.partitions who process target is suspends)
     one (sym (has.woken one) ∙ named)
 named_waits configuration state now who asked claim tied [] (Some channel) has one named =

@@ -69,7 +69,7 @@ created_is table (pos (suc number)) target is = (suc number, refl, is)
 created_is table (negsuc n) target is = cc
 
 -- who suspended itself waits in no set
-suspended_waits_not : (wanted : WaitingSet) (one : Wait) → is_suspension one ≡ true → is_in wanted one ≡ true → ⊥
+pub suspended_waits_not : (wanted : WaitingSet) (one : Wait) → is_suspension one ≡ true → is_in wanted one ≡ true → ⊥
 suspended_waits_not wanted (wait.Suspended due) suspends waits = true≢false (sym waits)
 suspended_waits_not wanted _ suspends waits = true≢false (sym suspends)
 
@@ -108,7 +108,7 @@ pub woken : (configuration : Configuration) (state : State) (now : ℕ) (who : W
 woken configuration state now who asked claim tied (code ∷ codes) channel has one named = nobody one claim.woken has.woken named
 woken configuration state now who asked claim tied [] None has one named =
     answer_wakes (IsWokenBy state.partitions who.part claim.chan) now who (state.partitions who.part) asked
-    (λ wanted. own_waiter state.partitions who.part wanted claim.chan (entries_at (state.partitions who.part) wanted) refl (tied.objects who.part wanted))
+    (λ wanted used. own_waiter state.partitions who.part wanted claim.chan (entries_at (state.partitions who.part) wanted) refl (tied.objects who.part wanted))
     (λ process target is suspends. suspended_fellow state.partitions who claim.chan process target is suspends)
     one (sym (has.woken one) ∙ named)
 woken configuration state now who asked claim tied [] (Some channel) has one named =

@@ -1,16 +1,21 @@
 -- The laws on one partition alone, for the piece that holds it: from its own demands, whatever the other pieces do. Each is the
 -- contract of a function in `src/lib.rt`.
-use Rattle.std.specs.Prelude.{◌≡◌, ◌≤◌, ◌<◌, ℕ, ◌+◌, List, Bool, IsTrue, IsFalse}
+use Rattle.std.specs.Prelude.{◌≡◌, ◌≤◌, ◌<◌, ℕ, ◌+◌, List, Bool, true, false, IsTrue, IsFalse, is_some, ◌&&◌, ◌||◌}
+use Rattle.apex_types.specs.declared.record.Body.TheVariants.{Call}
 use Rattle.apex_types.specs.declared.record.Call.{Call as CallRecord}
 use Rattle.apex_types.specs.declared.record.Ordered.{Ordered}
+use Rattle.apex_types.specs.declared.request.Request.{Request}
+use Rattle.apex_types.specs.declared.request.Request.TheVariants as request
 use Rattle.apex_types.specs.declared.service.Service.{Service}
 use Rattle.apex_machine.specs.declared.state.CoreState.{CoreState}
 use Rattle.apex_machine.specs.declared.state.WaitingSet.{WaitingSet}
+use Rattle.apex_machine.specs.declared.state.WaitingSet.TheVariants as set
 use Rattle.apex_machine.specs.After.{partition_after}
+use Rattle.apex_machine.specs.Arguments.{natural_of}
 use Rattle.apex_machine.specs.Configuration.{Configuration}
 use Rattle.apex_machine.specs.Demands.{AllHold, own_call_demands, partition_demands, stands_in}
 use Rattle.apex_machine.specs.State.{Partition, cold_partition, item_at}
-use Rattle.apex_machine.specs.Waiting.{waits_at}
+use Rattle.apex_machine.specs.Waiting.{is_no_error, is_same_set, set_after, stop_of, waits_at}
 use Rattle.apex_laws.specs.Laws.{AllEntries, IsInOrder, are_distinct, entries_at}
 
 -- a sound partition
@@ -58,3 +63,41 @@ CallerStandsNowhere =
     (judged : Service → Bool) (configuration : Configuration) (number place core : ℕ) (cores : List CoreState) (partition : Partition) (call : CallRecord)
     → IsOwnCall judged configuration number place core cores partition call
     → (wanted : WaitingSet) → IsFalse (stands_in call.who (entries_at partition wanted)) × AllEntries (λ entry. entry.place < place) (entries_at partition wanted)
+
+-- whether a waiting set is one of the two of a buffer
+abbrev pub is_of_buffer : ℕ → WaitingSet → Bool
+is_of_buffer number wanted = is_same_set (set.BufferSenders number) wanted || is_same_set (set.BufferReceivers number) wanted
+
+-- whether a waiting set is a channel's
+abbrev pub is_of_channel : WaitingSet → Bool
+is_of_channel (set.ChannelSenders channel) = true
+is_of_channel (set.ChannelReceivers channel) = true
+is_of_channel _ = false
+
+-- whether a request uses a waiting set: one of the object that it names; CLEAR_BLACKBOARD and RESET_EVENT use none, and the sets
+-- that the services of queuing ports use are channels', which no partition holds
+abbrev pub is_set_used : Request → WaitingSet → Bool
+is_set_used (request.SendBuffer buffer length time_out message) wanted = is_of_buffer (natural_of buffer) wanted
+is_set_used (request.ReceiveBuffer buffer time_out) wanted = is_of_buffer (natural_of buffer) wanted
+is_set_used (request.DisplayBlackboard blackboard length message) wanted = is_same_set (set.BlackboardReaders (natural_of blackboard)) wanted
+is_set_used (request.ReadBlackboard blackboard time_out) wanted = is_same_set (set.BlackboardReaders (natural_of blackboard)) wanted
+is_set_used (request.WaitSemaphore semaphore time_out) wanted = is_same_set (set.SemaphoreWaiters (natural_of semaphore)) wanted
+is_set_used (request.SignalSemaphore semaphore) wanted = is_same_set (set.SemaphoreWaiters (natural_of semaphore)) wanted
+is_set_used (request.SetEvent event) wanted = is_same_set (set.EventWaiters (natural_of event)) wanted
+is_set_used (request.WaitEvent event time_out) wanted = is_same_set (set.EventWaiters (natural_of event)) wanted
+is_set_used (request.AcquireMutex mutex time_out) wanted = is_same_set (set.MutexWaiters (natural_of mutex)) wanted
+is_set_used (request.ReleaseMutex mutex) wanted = is_same_set (set.MutexWaiters (natural_of mutex)) wanted
+is_set_used (request.SendQueuingMessage port length time_out message) wanted = is_of_channel wanted
+is_set_used (request.ReceiveQueuingMessage port time_out) wanted = is_of_channel wanted
+is_set_used _ wanted = false
+
+-- whether a call is a STOP that is done
+abbrev pub is_stop_done : CallRecord → Bool
+is_stop_done call = is_some (stop_of call.request) && is_no_error call.claim.out
+
+-- an own call that is no STOP, or one that is refused, leaves every waiting set that its request doesn't use
+abbrev pub OtherSetsStay : Type 0
+OtherSetsStay =
+    (judged : Service → Bool) (configuration : Configuration) (number place core : ℕ) (cores : List CoreState) (partition : Partition) (call : CallRecord)
+    → IsOwnCall judged configuration number place core cores partition call → IsFalse (is_stop_done call)
+    → (wanted : WaitingSet) → IsFalse (is_set_used call.request wanted) → set_after place (Call call) wanted (entries_at partition wanted) ≡ entries_at partition wanted

@@ -6,7 +6,7 @@
 #![tactic(auto)]
 
 ghost use Rattle.apex_laws.specs.Laws.{AtMostOneNextState, ChoiceIsTheSentence, OneFirstRefusal, OneRun, PiecesCompose, PiecesFollow, RunOfEach, StaysInOrder, StaysTied, ViewIsOfTheRun, WhoWaitsStands};
-ghost use Rattle.apex_laws.specs.PartLaws.{CallerStandsNowhere, PartStaysSound};
+ghost use Rattle.apex_laws.specs.PartLaws.{CallerStandsNowhere, OtherSetsStay, PartStaysSound};
 ghost use Rattle.apex_laws.specs.JoinLaws.{FindingsJoin, FoundIsRefused, NothingFoundIsARun, RunsJoin};
 ghost use Rattle.apex_laws.specs.ObjectLaws.{BlackboardIsTheSentence, ChannelIsTheSentence, EventIsTheSentence, FirstIsTheSentence, MutexIsTheSentence, ObjectCallIsTheSentence, OrderIsApart, QueueIsTheSentence, SamplingIsTheSentence, SemaphoreIsTheSentence};
 ghost use Rattle.apex_laws.specs.RecordLaws.{CallIsTheSentence, DispatchIsTheSentence, RefusalIsTheSentence, ReturnIsTheSentence, SetIsTheSentence, TickIsTheSentence};
@@ -64,6 +64,12 @@ pub fn part_stays_sound()
 /// The caller of a call of a sound partition stands in no waiting set of it, and all places in them are below the call's.
 pub fn caller_stands_nowhere()
     ensures { CallerStandsNowhere }
+{}
+
+/// A call of a sound partition that is no STOP that is done leaves every waiting set of the partition that isn't one of the
+/// object that it names.
+pub fn other_sets_stay()
+    ensures { OtherSetsStay }
 {}
 
 /// The entries of a waiting set that is in order stand at places of their own.

@@ -1,0 +1,97 @@
+-- An own call leaves the waiting sets that its request doesn't use.
+use Rattle.std.proofs.Common.{◌≡◌, ℕ, List, [], ◌∷◌, Bool, true, false, nat_eq, ℤ, Option, Some, None, is_some, refl, sym, ap, subst, ◌∙◌, true≢false, ◌&&◌}
+use Rattle.std.proofs.lemmas.Bool.{and_parts}
+use Rattle.apex_types.specs.declared.code.Code.{Code}
+use Rattle.apex_types.specs.declared.record.Call.{Call as CallRecord}
+use Rattle.apex_types.specs.declared.record.Claim.{Claim}
+use Rattle.apex_types.specs.declared.record.Who.{Who}
+use Rattle.apex_types.specs.declared.request.Request.{Request}
+use Rattle.apex_types.specs.declared.request.Request.TheVariants as request
+use Rattle.apex_machine.specs.declared.state.Process.{Process}
+use Rattle.apex_machine.specs.declared.state.WaitingSet.{WaitingSet}
+use Rattle.apex_machine.specs.declared.state.WaitingSet.TheVariants as set
+use Rattle.apex_machine.specs.Arguments.{natural_of}
+use Rattle.apex_machine.specs.Demands.{AllHold, outcome_demands}
+use Rattle.apex_machine.specs.DueTimes.{is_suspension}
+use Rattle.apex_machine.specs.Ports.{channel_of}
+use Rattle.apex_machine.specs.ServiceConditions.{condition_codes}
+use Rattle.apex_machine.specs.Services.{answer_of}
+use Rattle.apex_machine.specs.State.{Partition, created, is_named, item_at, names_one_of, time_of}
+use Rattle.apex_machine.specs.Waiting.{enters, is_no_error, is_target, is_the_set, is_waiting, set_of, stop_of, stops, waits_at}
+use Rattle.apex_laws.specs.Laws.{entries_at}
+use Rattle.apex_laws.specs.PartLaws.{IsSoundPart, OtherSetsStay, is_of_channel, is_set_used}
+use Rattle.apex_laws.proofs.Booleans.{cannot_hold, first_holds, later_holds, neither, not_second}
+use Rattle.apex_laws.proofs.SoundParts.{Stands}
+use Rattle.apex_laws.proofs.Untouched.{set_stays}
+use Rattle.apex_laws.proofs.Waiters.{all_weaker}
+use Rattle.apex_laws.proofs.Wakes.{answer_wakes, nobody}
+use Rattle.apex_laws.proofs.WaitSets.{one_set, same_set_is}
+use Rattle.apex_laws.proofs.Whos.{not_named}
+use Rattle.apex_laws.proofs.Woken.{created_is, suspended_waits_not}
+
+-- who enters
+
+-- a caller enters only a set that its request uses
+entered_is_used : (asked : Request) (chan : Option ℕ) (wanted : WaitingSet) → is_the_set wanted (set_of asked chan) ≡ true → is_set_used asked wanted ≡ true
+entered_is_used (request.SendBuffer buffer length time_out message) chan wanted is = first_holds _ _ is
+entered_is_used (request.ReceiveBuffer buffer time_out) chan wanted is = later_holds _ _ is
+entered_is_used (request.ReadBlackboard blackboard time_out) chan wanted is = is
+entered_is_used (request.WaitSemaphore semaphore time_out) chan wanted is = is
+entered_is_used (request.WaitEvent event time_out) chan wanted is = is
+entered_is_used (request.AcquireMutex mutex time_out) chan wanted is = is
+entered_is_used (request.SendQueuingMessage port length time_out message) (Some channel) wanted is =
+    subst (λ one. is_of_channel one ≡ true) (same_set_is (set.ChannelSenders channel) wanted is) refl
+entered_is_used (request.SendQueuingMessage port length time_out message) None wanted is = absurd (true≢false (sym is))
+entered_is_used (request.ReceiveQueuingMessage port time_out) (Some channel) wanted is =
+    subst (λ one. is_of_channel one ≡ true) (same_set_is (set.ChannelReceivers channel) wanted is) refl
+entered_is_used (request.ReceiveQueuingMessage port time_out) None wanted is = absurd (true≢false (sym is))
+entered_is_used _ chan wanted is = absurd (true≢false (sym is))
+
+pub enters_no_other : (call : CallRecord) (wanted : WaitingSet) → is_set_used call.request wanted ≡ false → enters call wanted ≡ false
+enters_no_other call wanted unused =
+    cannot_hold (enters call wanted) (λ here.
+    true≢false (sym (entered_is_used call.request call.claim.chan wanted (and_parts (is_waiting call.claim.out) (is_the_set wanted (set_of call.request call.claim.chan)) here).1) ∙ unused))
+
+-- who leaves
+
+-- a call that is no STOP, or not done, stops nobody
+not_stopping : (stopping : Option ℤ) (no_error here : Bool) (number : ℕ) → (is_some stopping && no_error) ≡ false → (no_error && (here && is_target stopping number)) ≡ false
+not_stopping None no_error here number none = not_second no_error (here && false) (not_second here false refl)
+not_stopping (Some target) true here number none = absurd (true≢false none)
+not_stopping (Some target) false here number none = refl
+
+pub stops_nobody : (call : CallRecord) (who : Who) → (is_some (stop_of call.request) && is_no_error call.claim.out) ≡ false → stops call who ≡ false
+stops_nobody call who none = not_stopping (stop_of call.request) (is_no_error call.claim.out) (nat_eq who.part call.who.part) who.proc none
+
+-- who suspended itself waits in no set
+suspended_elsewhere : (partition : Partition) (who : Who) (process : ℤ) (target : Process) (wanted : WaitingSet) → created partition.table process ≡ Some target → is_suspension target.wait ≡ true
+    → waits_at wanted (item_at partition.table (natural_of process)) ≡ true → ⊥
+suspended_elsewhere partition who process target wanted is suspends waits =
+    let at = created_is partition.table process target is in
+    let number : natural_of process ≡ at.0 = ap natural_of at.1 in
+    let here : waits_at wanted (Some target) ≡ true =
+    subst (λ one. waits_at wanted one ≡ true) at.2 (subst (λ one. waits_at wanted (item_at partition.table one) ≡ true) number waits) in
+    suspended_waits_not wanted target.wait suspends (and_parts target.alive _ here).1
+
+-- whom an own call names waits in no set that the request doesn't use
+named_uses : (number place now : ℕ) (partition : Partition) (caller : Who) (asked : Request) (claim : Claim) → IsSoundPart number place partition
+    → (codes : List Code) (channel : Option ℕ) → AllHold (outcome_demands codes channel number asked (answer_of now caller partition asked) claim)
+    → (wanted : WaitingSet) → is_set_used asked wanted ≡ false → (who : Who) → who.part ≡ number → waits_at wanted (item_at partition.table who.proc) ≡ true → is_named who claim.woken ≡ true → ⊥
+named_uses number place now partition caller asked claim sound (code ∷ codes) channel hold wanted unused who here waits named = nobody who claim.woken hold.1.1.1.1.0 named
+named_uses number place now partition caller asked claim sound [] (Some channel) hold wanted unused who here waits named =
+    true≢false (sym named ∙ not_named who claim.woken (subst (λ part. names_one_of part claim.woken ≡ false) (sym here) hold.1.1.0))
+named_uses number place now partition caller asked claim sound [] None hold wanted unused who here waits named =
+    answer_wakes (λ one. waits_at wanted (item_at partition.table one.proc) ≡ true → ⊥) now caller partition asked
+    (λ other used. all_weaker (Stands number other partition) (λ entry. waits_at wanted (item_at partition.table entry.who.proc) ≡ true → ⊥)
+    (λ entry is also. true≢false (sym used ∙ ap (is_set_used asked) (one_set other wanted (item_at partition.table entry.who.proc) is.1 also) ∙ unused))
+    (entries_at partition other) (sound.stands other))
+    (λ process target is suspends waits. suspended_elsewhere partition caller process target wanted is suspends waits)
+    who (sym (hold.1.1.1.1.0 who) ∙ named) waits
+
+pub other_sets_stay : OtherSetsStay
+other_sets_stay judged configuration number place core cores partition call is not_stop wanted unused =
+    set_stays (Stands number wanted partition) place call wanted (entries_at partition wanted) (is.sound.stands wanted) (enters_no_other call wanted unused)
+    (λ entry stands. neither (is_named entry.who call.claim.woken) (stops call entry.who)
+    (cannot_hold (is_named entry.who call.claim.woken) (λ named. named_uses number place (time_of cores core) partition call.who call.request call.claim is.sound
+    (condition_codes configuration call.who partition call.request) (channel_of partition call.request) is.demands.1.1.1.1.1 wanted unused entry.who stands.0 stands.1 named))
+    (stops_nobody call entry.who not_stop))
