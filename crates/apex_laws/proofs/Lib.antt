@@ -55,3 +55,4 @@ pub mod Waits
 pub mod WorkedRun
 pub mod SoundParts
 pub mod OtherSets
+pub mod PartObjects

@@ -107,7 +107,7 @@ one_created Holds entries_of claimed object number none (entry ∷ entries) all 
     ] all
 
 -- the rules of a mutex leave its waiters
-acquire_keeps : (caller : ℕ) (time_out : ℤ) (owner : Option ℕ) (mutex : Mutex) → (acquired_from owner caller time_out mutex).next.waiters ≡ mutex.waiters
+pub acquire_keeps : (caller : ℕ) (time_out : ℤ) (owner : Option ℕ) (mutex : Mutex) → (acquired_from owner caller time_out mutex).next.waiters ≡ mutex.waiters
 acquire_keeps caller time_out None mutex = refl
 acquire_keeps caller time_out (Some owner) mutex =
     elim (nat_eq owner caller) as (λ own. (cond own (acquired_again mutex) (not_acquired time_out mutex)).next.waiters ≡ mutex.waiters) [ true ↦ refl | false ↦ refl ]
@@ -116,7 +116,7 @@ hand_on_keeps : (first : Option Entry) (mutex : Mutex) → (handed_on first mute
 hand_on_keeps None mutex = refl
 hand_on_keeps (Some entry) mutex = refl
 
-release_keeps : (first : Option Entry) (mutex : Mutex) → (mutex_released first mutex).next.waiters ≡ mutex.waiters
+pub release_keeps : (first : Option Entry) (mutex : Mutex) → (mutex_released first mutex).next.waiters ≡ mutex.waiters
 release_keeps first mutex =
     elim (nat_lt 1 mutex.count) as (λ more. (cond more (released_once mutex) (handed_on first mutex)).next.waiters ≡ mutex.waiters) [ true ↦ refl | false ↦ hand_on_keeps first mutex ]
 

@@ -1,5 +1,6 @@
 pub mod Laws
 pub mod PartLaws
+pub mod PartObjects
 pub mod JoinLaws
 pub mod ObjectSentences
 pub mod CallSentences

@@ -7,6 +7,7 @@
 
 ghost use Rattle.apex_laws.specs.Laws.{AtMostOneNextState, ChoiceIsTheSentence, OneFirstRefusal, OneRun, PiecesCompose, PiecesFollow, RunOfEach, StaysInOrder, StaysTied, ViewIsOfTheRun, WhoWaitsStands};
 ghost use Rattle.apex_laws.specs.PartLaws.{CallerStandsNowhere, OtherSetsStay, PartStaysSound};
+ghost use Rattle.apex_laws.specs.PartObjects.{OneObjectChanges};
 ghost use Rattle.apex_laws.specs.JoinLaws.{FindingsJoin, FoundIsRefused, NothingFoundIsARun, RunsJoin};
 ghost use Rattle.apex_laws.specs.ObjectLaws.{BlackboardIsTheSentence, ChannelIsTheSentence, EventIsTheSentence, FirstIsTheSentence, MutexIsTheSentence, ObjectCallIsTheSentence, OrderIsApart, QueueIsTheSentence, SamplingIsTheSentence, SemaphoreIsTheSentence};
 ghost use Rattle.apex_laws.specs.RecordLaws.{CallIsTheSentence, DispatchIsTheSentence, RefusalIsTheSentence, ReturnIsTheSentence, SetIsTheSentence, TickIsTheSentence};
@@ -70,6 +71,12 @@ pub fn caller_stands_nowhere()
 /// object that it names.
 pub fn other_sets_stay()
     ensures { OtherSetsStay }
+{}
+
+/// A call of a sound partition that is no STOP that is done changes the one object that it names, with its waiting sets, and
+/// leaves all other objects and ports of the partition.
+pub fn one_object_changes()
+    ensures { OneObjectChanges }
 {}
 
 /// The entries of a waiting set that is in order stand at places of their own.

@@ -1,0 +1,94 @@
+-- What a call makes of the objects of its caller's partition: the one object that it names changes, with its waiting sets, and all
+-- others stay as they are.
+use Rattle.std.specs.Prelude.{◌≡◌, ℕ, Bool, IsFalse, List, if◌then◌else◌}
+use Rattle.apex_types.specs.declared.record.Body.TheVariants.{Call}
+use Rattle.apex_types.specs.declared.record.Call.{Call as CallRecord}
+use Rattle.apex_types.specs.declared.request.Request.{Request}
+use Rattle.apex_types.specs.declared.request.Request.TheVariants as request
+use Rattle.apex_types.specs.declared.service.Service.{Service}
+use Rattle.apex_machine.specs.declared.state.CoreState.{CoreState}
+use Rattle.apex_machine.specs.declared.state.WaitingSet.TheVariants as set
+use Rattle.apex_machine.specs.After.{is_done, objects_by, objects_called}
+use Rattle.apex_machine.specs.Arguments.{natural_of}
+use Rattle.apex_machine.specs.Configuration.{Configuration}
+use Rattle.apex_machine.specs.Objects.{acquired, buffer_received, buffer_sent, cleared, displayed, event_reset, event_set, mutex_released, semaphore_waited, signalled}
+use Rattle.apex_machine.specs.State.{Partition, change_at}
+use Rattle.apex_machine.specs.Waiting.{first_waiter, set_after}
+use Rattle.apex_laws.specs.PartLaws.{IsOwnCall, is_stop_done}
+
+-- the partition with the one object that a request names changed: what it holds as its rule leaves it, where the call is done, and
+-- its waiting sets by whom the call lets go on and who enters; any other request changes what is created alone
+abbrev pub objects_changed : Configuration → ℕ → CallRecord → Request → Partition → Partition
+objects_changed configuration place call (request.SendBuffer buffer length time_out message) partition = record partition {
+  buffers = change_at (natural_of buffer) (λ found. record found {
+    messages = if is_done call.claim.out then (buffer_sent message time_out found).next else found.messages;
+    senders = set_after place (Call call) (set.BufferSenders (natural_of buffer)) found.senders;
+    receivers = set_after place (Call call) (set.BufferReceivers (natural_of buffer)) found.receivers;
+  }) partition.buffers;
+}
+objects_changed configuration place call (request.ReceiveBuffer buffer time_out) partition = record partition {
+  buffers = change_at (natural_of buffer) (λ found. record found {
+    messages = if is_done call.claim.out then (buffer_received time_out found).next else found.messages;
+    senders = set_after place (Call call) (set.BufferSenders (natural_of buffer)) found.senders;
+    receivers = set_after place (Call call) (set.BufferReceivers (natural_of buffer)) found.receivers;
+  }) partition.buffers;
+}
+objects_changed configuration place call (request.DisplayBlackboard blackboard length message) partition = record partition {
+  blackboards = change_at (natural_of blackboard) (λ found. record found {
+    message = if is_done call.claim.out then (displayed message found.readers).next else found.message;
+    readers = set_after place (Call call) (set.BlackboardReaders (natural_of blackboard)) found.readers;
+  }) partition.blackboards;
+}
+objects_changed configuration place call (request.ReadBlackboard blackboard time_out) partition = record partition {
+  blackboards = change_at (natural_of blackboard)
+      (λ found. record found { readers = set_after place (Call call) (set.BlackboardReaders (natural_of blackboard)) found.readers }) partition.blackboards;
+}
+objects_changed configuration place call (request.ClearBlackboard blackboard) partition = record partition {
+  blackboards = change_at (natural_of blackboard)
+      (λ found. record found { message = if is_done call.claim.out then cleared.next else found.message }) partition.blackboards;
+}
+objects_changed configuration place call (request.WaitSemaphore semaphore time_out) partition = record partition {
+  semaphores = change_at (natural_of semaphore) (λ found. record found {
+    value = if is_done call.claim.out then (semaphore_waited time_out found.value).next else found.value;
+    waiters = set_after place (Call call) (set.SemaphoreWaiters (natural_of semaphore)) found.waiters;
+  }) partition.semaphores;
+}
+objects_changed configuration place call (request.SignalSemaphore semaphore) partition = record partition {
+  semaphores = change_at (natural_of semaphore) (λ found. record found {
+    value = if is_done call.claim.out then (signalled found.maximum (first_waiter found.discipline found.waiters) found.value).next else found.value;
+    waiters = set_after place (Call call) (set.SemaphoreWaiters (natural_of semaphore)) found.waiters;
+  }) partition.semaphores;
+}
+objects_changed configuration place call (request.SetEvent event) partition = record partition {
+  events = change_at (natural_of event) (λ found. record found {
+    up = if is_done call.claim.out then (event_set found.waiters).next else found.up;
+    waiters = set_after place (Call call) (set.EventWaiters (natural_of event)) found.waiters;
+  }) partition.events;
+}
+objects_changed configuration place call (request.ResetEvent event) partition = record partition {
+  events = change_at (natural_of event) (λ found. record found { up = if is_done call.claim.out then event_reset.next else found.up }) partition.events;
+}
+objects_changed configuration place call (request.WaitEvent event time_out) partition = record partition {
+  events = change_at (natural_of event) (λ found. record found { waiters = set_after place (Call call) (set.EventWaiters (natural_of event)) found.waiters })
+      partition.events;
+}
+objects_changed configuration place call (request.AcquireMutex mutex time_out) partition = record partition {
+  mutexes = change_at (natural_of mutex) (λ found. record (if is_done call.claim.out then (acquired call.who.proc time_out found).next else found) {
+    waiters = set_after place (Call call) (set.MutexWaiters (natural_of mutex)) found.waiters;
+  }) partition.mutexes;
+}
+objects_changed configuration place call (request.ReleaseMutex mutex) partition = record partition {
+  mutexes = change_at (natural_of mutex)
+      (λ found. record (if is_done call.claim.out then (mutex_released (first_waiter found.discipline found.waiters) found).next else found) {
+        waiters = set_after place (Call call) (set.MutexWaiters (natural_of mutex)) found.waiters;
+      }) partition.mutexes;
+}
+objects_changed configuration place call asked partition =
+    if is_done call.claim.out then objects_by configuration call.who call.claim.val asked partition else partition
+
+-- an own call that is no STOP, or one that is refused, changes the one object that it names, and leaves all other objects and ports
+abbrev pub OneObjectChanges : Type 0
+OneObjectChanges =
+    (judged : Service → Bool) (configuration : Configuration) (number place core : ℕ) (cores : List CoreState) (partition : Partition) (call : CallRecord)
+    → IsOwnCall judged configuration number place core cores partition call → IsFalse (is_stop_done call)
+    → (asked : Request) → call.request ≡ asked → objects_called configuration place call partition ≡ objects_changed configuration place call asked partition
