@@ -56,3 +56,4 @@ pub mod WorkedRun
 pub mod SoundParts
 pub mod OtherSets
 pub mod PartObjects
+pub mod LeavingSets

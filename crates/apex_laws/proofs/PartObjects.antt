@@ -120,10 +120,16 @@ put_if false put new old object is = sym is
 abbrev pub Leaves : (WaitingSet → List Entry → List Entry) → Partition → WaitingSet → Type 0
 Leaves change partition wanted = change wanted (entries_at partition wanted) ≡ entries_at partition wanted
 
--- so it leaves the entries of the object that is found
-leaves_found : {Object : Type 0} (entries_of : Object → List Entry) (change : List Entry → List Entry) (found : Option Object) (object : Object) → found ≡ Some object
+-- what a change makes of a set it makes of the entries of the object that is found
+pub becomes_found : {Object : Type 0} (entries_of : Object → List Entry) (change through : List Entry → List Entry) (found : Option Object) (object : Object) → found ≡ Some object
+    → change (entries_in entries_of found) ≡ through (entries_in entries_of found) → change (entries_of object) ≡ through (entries_of object)
+becomes_found {Object} entries_of change through found object at becomes =
+    subst (λ (one : Option Object). change (entries_in entries_of one) ≡ through (entries_in entries_of one)) at becomes
+
+-- so it leaves those entries
+pub leaves_found : {Object : Type 0} (entries_of : Object → List Entry) (change : List Entry → List Entry) (found : Option Object) (object : Object) → found ≡ Some object
     → change (entries_in entries_of found) ≡ entries_in entries_of found → change (entries_of object) ≡ entries_of object
-leaves_found {Object} entries_of change found object at leaves = subst (λ (one : Option Object). change (entries_in entries_of one) ≡ entries_in entries_of one) at leaves
+leaves_found entries_of change found object at leaves = becomes_found entries_of change (λ entries. entries) found object at leaves
 
 -- the sets of one object changed
 abbrev of_buffer : (WaitingSet → List Entry → List Entry) → ℕ → Buffer → Buffer
@@ -287,7 +293,7 @@ apart : (one other : ℕ) → nat_eq one other ≡ false → nat_eq other one �
 apart one other differs = cannot_hold (nat_eq other one) (λ same. true≢false (sym (eq-eqb one other (sym (eqb-true other one same))) ∙ differs))
 
 -- the change of one object of a kind, where every set but its own is left
-buffer_changes : (change : WaitingSet → List Entry → List Entry) (partition : Partition) (done : Bool) (number : ℕ) (rule new : Buffer → Buffer) → HasDistinctObjects partition
+pub buffer_changes : (change : WaitingSet → List Entry → List Entry) (partition : Partition) (done : Bool) (number : ℕ) (rule new : Buffer → Buffer) → HasDistinctObjects partition
     → ((found : Buffer) → item_at partition.buffers number ≡ Some found → of_buffer change number (cond done (rule found) found) ≡ new found)
     → ((wanted : WaitingSet) → is_of_buffer number wanted ≡ false → Leaves change partition wanted)
     → each_set change (cond done (record partition { buffers = change_at number rule partition.buffers }) partition) ≡ record partition { buffers = change_at number new partition.buffers }
@@ -298,7 +304,7 @@ buffer_changes change partition done number rule new has becomes leaves =
     (λ other found differs at. buffer_stays change partition other found at
     (leaves (set.BufferSenders other) (neither _ _ (apart other number differs) refl)) (leaves (set.BufferReceivers other) (apart other number differs))))
 
-blackboard_changes : (change : WaitingSet → List Entry → List Entry) (partition : Partition) (done : Bool) (number : ℕ) (rule new : Blackboard → Blackboard) → HasDistinctObjects partition
+pub blackboard_changes : (change : WaitingSet → List Entry → List Entry) (partition : Partition) (done : Bool) (number : ℕ) (rule new : Blackboard → Blackboard) → HasDistinctObjects partition
     → ((found : Blackboard) → item_at partition.blackboards number ≡ Some found → of_blackboard change number (cond done (rule found) found) ≡ new found)
     → ((wanted : WaitingSet) → is_same_set (set.BlackboardReaders number) wanted ≡ false → Leaves change partition wanted)
     → each_set change (cond done (record partition { blackboards = change_at number rule partition.blackboards }) partition) ≡ record partition { blackboards = change_at number new partition.blackboards }
@@ -309,7 +315,7 @@ blackboard_changes change partition done number rule new has becomes leaves =
     (one_changes done rule new (of_blackboard change) number partition.blackboards has.blackboards becomes
     (λ other found differs at. blackboard_stays change partition other found at (leaves (set.BlackboardReaders other) (apart other number differs))))
 
-semaphore_changes : (change : WaitingSet → List Entry → List Entry) (partition : Partition) (done : Bool) (number : ℕ) (rule new : Semaphore → Semaphore) → HasDistinctObjects partition
+pub semaphore_changes : (change : WaitingSet → List Entry → List Entry) (partition : Partition) (done : Bool) (number : ℕ) (rule new : Semaphore → Semaphore) → HasDistinctObjects partition
     → ((found : Semaphore) → item_at partition.semaphores number ≡ Some found → of_semaphore change number (cond done (rule found) found) ≡ new found)
     → ((wanted : WaitingSet) → is_same_set (set.SemaphoreWaiters number) wanted ≡ false → Leaves change partition wanted)
     → each_set change (cond done (record partition { semaphores = change_at number rule partition.semaphores }) partition) ≡ record partition { semaphores = change_at number new partition.semaphores }
@@ -320,7 +326,7 @@ semaphore_changes change partition done number rule new has becomes leaves =
     (one_changes done rule new (of_semaphore change) number partition.semaphores has.semaphores becomes
     (λ other found differs at. semaphore_stays change partition other found at (leaves (set.SemaphoreWaiters other) (apart other number differs))))
 
-event_changes : (change : WaitingSet → List Entry → List Entry) (partition : Partition) (done : Bool) (number : ℕ) (rule new : Event → Event) → HasDistinctObjects partition
+pub event_changes : (change : WaitingSet → List Entry → List Entry) (partition : Partition) (done : Bool) (number : ℕ) (rule new : Event → Event) → HasDistinctObjects partition
     → ((found : Event) → item_at partition.events number ≡ Some found → of_event change number (cond done (rule found) found) ≡ new found)
     → ((wanted : WaitingSet) → is_same_set (set.EventWaiters number) wanted ≡ false → Leaves change partition wanted)
     → each_set change (cond done (record partition { events = change_at number rule partition.events }) partition) ≡ record partition { events = change_at number new partition.events }
@@ -331,7 +337,7 @@ event_changes change partition done number rule new has becomes leaves =
     (one_changes done rule new (of_event change) number partition.events has.events becomes
     (λ other found differs at. event_stays change partition other found at (leaves (set.EventWaiters other) (apart other number differs))))
 
-mutex_changes : (change : WaitingSet → List Entry → List Entry) (partition : Partition) (done : Bool) (number : ℕ) (rule new : Mutex → Mutex) → HasDistinctObjects partition
+pub mutex_changes : (change : WaitingSet → List Entry → List Entry) (partition : Partition) (done : Bool) (number : ℕ) (rule new : Mutex → Mutex) → HasDistinctObjects partition
     → ((found : Mutex) → item_at partition.mutexes number ≡ Some found → of_mutex change number (cond done (rule found) found) ≡ new found)
     → ((wanted : WaitingSet) → is_same_set (set.MutexWaiters number) wanted ≡ false → Leaves change partition wanted)
     → each_set change (cond done (record partition { mutexes = change_at number rule partition.mutexes }) partition) ≡ record partition { mutexes = change_at number new partition.mutexes }
@@ -349,7 +355,7 @@ mutex_becomes change true ruled found same = ap (λ waiters. record ruled { wait
 mutex_becomes change false ruled found same = refl
 
 -- either way the same
-same_if : {Value : Type 0} (test : Bool) (value : Value) → cond test value value ≡ value
+pub same_if : {Value : Type 0} (test : Bool) (value : Value) → cond test value value ≡ value
 same_if true value = refl
 same_if false value = refl
 

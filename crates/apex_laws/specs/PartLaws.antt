@@ -1,20 +1,22 @@
 -- The laws on one partition alone, for the piece that holds it: from its own demands, whatever the other pieces do. Each is the
 -- contract of a function in `src/lib.rt`.
-use Rattle.std.specs.Prelude.{◌≡◌, ◌≤◌, ◌<◌, ℕ, ◌+◌, List, Bool, true, false, IsTrue, IsFalse, is_some, ◌&&◌, ◌||◌}
-use Rattle.apex_types.specs.declared.record.Body.TheVariants.{Call}
+use Rattle.std.specs.Prelude.{◌≡◌, ◌≤◌, ◌<◌, ℕ, ◌+◌, List, Option, Bool, true, false, IsTrue, IsFalse, is_some, ◌&&◌, ◌||◌}
+use Rattle.apex_types.specs.declared.record.Body.TheVariants.{Call, Disp, Ret, Tick}
 use Rattle.apex_types.specs.declared.record.Call.{Call as CallRecord}
 use Rattle.apex_types.specs.declared.record.Ordered.{Ordered}
+use Rattle.apex_types.specs.declared.record.Return.{Return}
+use Rattle.apex_types.specs.declared.record.Who.{Who}
 use Rattle.apex_types.specs.declared.request.Request.{Request}
 use Rattle.apex_types.specs.declared.request.Request.TheVariants as request
 use Rattle.apex_types.specs.declared.service.Service.{Service}
 use Rattle.apex_machine.specs.declared.state.CoreState.{CoreState}
 use Rattle.apex_machine.specs.declared.state.WaitingSet.{WaitingSet}
 use Rattle.apex_machine.specs.declared.state.WaitingSet.TheVariants as set
-use Rattle.apex_machine.specs.After.{partition_after}
+use Rattle.apex_machine.specs.After.{partition_after, partition_by}
 use Rattle.apex_machine.specs.Arguments.{natural_of}
 use Rattle.apex_machine.specs.Configuration.{Configuration}
 use Rattle.apex_machine.specs.Demands.{AllHold, own_call_demands, partition_demands, stands_in}
-use Rattle.apex_machine.specs.State.{Partition, cold_partition, item_at}
+use Rattle.apex_machine.specs.State.{Partition, cold_partition, is_named, item_at}
 use Rattle.apex_machine.specs.Waiting.{is_no_error, is_same_set, set_after, stop_of, waits_at}
 use Rattle.apex_laws.specs.Laws.{AllEntries, IsInOrder, are_distinct, entries_at}
 
@@ -101,3 +103,28 @@ OtherSetsStay =
     (judged : Service → Bool) (configuration : Configuration) (number place core : ℕ) (cores : List CoreState) (partition : Partition) (call : CallRecord)
     → IsOwnCall judged configuration number place core cores partition call → IsFalse (is_stop_done call)
     → (wanted : WaitingSet) → IsFalse (is_set_used call.request wanted) → set_after place (Call call) wanted (entries_at partition wanted) ≡ entries_at partition wanted
+
+-- ticks
+
+-- at a tick a waiting set stays in which no process waits that is named; so it is enough that each process that is named leaves the
+-- set that its wait names
+abbrev pub DueLeave : Type 0
+DueLeave =
+    (number place : ℕ) (partition : Partition) (woken : List Who) → IsSoundPart number place partition
+    → (wanted : WaitingSet)
+    → ((process : ℕ) → IsTrue (is_named (record { part = number; proc = process }) woken) → IsFalse (waits_at wanted (item_at partition.table process)))
+    → set_after place (Tick woken) wanted (entries_at partition wanted) ≡ entries_at partition wanted
+
+-- other records
+
+-- a partition is as before but for its processes: its mode, its objects with their waiting sets, and its ports stay
+abbrev pub OnlyProcessesChange : Partition → Partition → Type 0
+OnlyProcessesChange before after = after ≡ record before { table = after.table }
+
+-- calls of other partitions, returns and dispatches leave a partition's objects, waiting sets and ports; a dispatch leaves all
+abbrev pub ForeignCallsLeaveSets : Type 0
+ForeignCallsLeaveSets =
+    (configuration : Configuration) (cores : List CoreState) (place core number : ℕ) (partition : Partition)
+    → ((call : CallRecord) → ¬ (call.who.part ≡ number) → OnlyProcessesChange partition (partition_by configuration cores place core number (Call call) partition))
+    × ((ret : Return) → OnlyProcessesChange partition (partition_by configuration cores place core number (Ret ret) partition))
+    × ((who : Option Who) → partition_by configuration cores place core number (Disp who) partition ≡ partition)

@@ -1,19 +1,27 @@
 -- What a call makes of the objects of its caller's partition: the one object that it names changes, with its waiting sets, and all
 -- others stay as they are.
-use Rattle.std.specs.Prelude.{◌≡◌, ℕ, Bool, IsFalse, List, if◌then◌else◌}
+use Rattle.std.specs.Prelude.{◌≡◌, ℕ, ℤ, Bool, IsFalse, IsTrue, List, Some, if◌then◌else◌}
 use Rattle.apex_types.specs.declared.record.Body.TheVariants.{Call}
 use Rattle.apex_types.specs.declared.record.Call.{Call as CallRecord}
+use Rattle.apex_types.specs.declared.record.Who.{Who}
 use Rattle.apex_types.specs.declared.request.Request.{Request}
 use Rattle.apex_types.specs.declared.request.Request.TheVariants as request
 use Rattle.apex_types.specs.declared.service.Service.{Service}
 use Rattle.apex_machine.specs.declared.state.CoreState.{CoreState}
+use Rattle.apex_machine.specs.declared.state.Entry.{Entry}
+use Rattle.apex_machine.specs.declared.state.Process.{Process}
+use Rattle.apex_machine.specs.declared.state.Wait.{Wait}
+use Rattle.apex_machine.specs.declared.state.Wait.TheVariants as wait
+use Rattle.apex_machine.specs.declared.state.WaitingSet.{WaitingSet}
 use Rattle.apex_machine.specs.declared.state.WaitingSet.TheVariants as set
 use Rattle.apex_machine.specs.After.{is_done, objects_by, objects_called}
 use Rattle.apex_machine.specs.Arguments.{natural_of}
 use Rattle.apex_machine.specs.Configuration.{Configuration}
 use Rattle.apex_machine.specs.Objects.{acquired, buffer_received, buffer_sent, cleared, displayed, event_reset, event_set, mutex_released, semaphore_waited, signalled}
-use Rattle.apex_machine.specs.State.{Partition, change_at}
-use Rattle.apex_machine.specs.Waiting.{first_waiter, set_after}
+use Rattle.apex_machine.specs.Services.{fellow}
+use Rattle.apex_machine.specs.State.{Partition, change_at, created, is_same}
+use Rattle.apex_machine.specs.Waiting.{first_waiter, is_in, is_no_error, set_after, without}
+use Rattle.apex_laws.specs.Laws.{entries_at}
 use Rattle.apex_laws.specs.PartLaws.{IsOwnCall, is_stop_done}
 
 -- the partition with the one object that a request names changed: what it holds as its rule leaves it, where the call is done, and
@@ -92,3 +100,42 @@ OneObjectChanges =
     (judged : Service → Bool) (configuration : Configuration) (number place core : ℕ) (cores : List CoreState) (partition : Partition) (call : CallRecord)
     → IsOwnCall judged configuration number place core cores partition call → IsFalse (is_stop_done call)
     → (asked : Request) → call.request ≡ asked → objects_called configuration place call partition ≡ objects_changed configuration place call asked partition
+
+-- a STOP that is done
+
+-- the partition with one waiting set of its objects changed; a channel's is no partition's
+abbrev pub with_set : WaitingSet → (List Entry → List Entry) → Partition → Partition
+with_set (set.BufferSenders number) change partition =
+    record partition { buffers = change_at number (λ found. record found { senders = change found.senders }) partition.buffers }
+with_set (set.BufferReceivers number) change partition =
+    record partition { buffers = change_at number (λ found. record found { receivers = change found.receivers }) partition.buffers }
+with_set (set.BlackboardReaders number) change partition =
+    record partition { blackboards = change_at number (λ found. record found { readers = change found.readers }) partition.blackboards }
+with_set (set.SemaphoreWaiters number) change partition =
+    record partition { semaphores = change_at number (λ found. record found { waiters = change found.waiters }) partition.semaphores }
+with_set (set.EventWaiters number) change partition =
+    record partition { events = change_at number (λ found. record found { waiters = change found.waiters }) partition.events }
+with_set (set.MutexWaiters number) change partition =
+    record partition { mutexes = change_at number (λ found. record found { waiters = change found.waiters }) partition.mutexes }
+with_set (set.ChannelSenders channel) change partition = partition
+with_set (set.ChannelReceivers channel) change partition = partition
+
+-- a waiting set without this process
+abbrev pub without_one : Who → List Entry → List Entry
+without_one who entries = without (λ other. is_same other who) entries
+
+-- the partition whose process leaves the waiting set that its wait names, if it names one
+abbrev pub left_by : Who → Wait → Partition → Partition
+left_by who (wait.At wanted due) partition = with_set wanted (without_one who) partition
+left_by who _ partition = partition
+
+-- a STOP that is done takes its target out of the one waiting set that its wait names: nobody else leaves or enters, and all other
+-- sets, objects and ports stay
+abbrev pub StoppedLeaves : Type 0
+StoppedLeaves =
+    (judged : Service → Bool) (configuration : Configuration) (number place core : ℕ) (cores : List CoreState) (partition : Partition) (call : CallRecord)
+    → IsOwnCall judged configuration number place core cores partition call → (process : ℤ) → call.request ≡ request.Stop process → IsTrue (is_no_error call.claim.out)
+    → (target : Process) → created partition.table process ≡ Some target
+    → ((wanted : WaitingSet) → set_after place (Call call) wanted (entries_at partition wanted) ≡ without_one (fellow call.who process) (entries_at partition wanted))
+    × ((wanted : WaitingSet) → IsFalse (is_in wanted target.wait) → set_after place (Call call) wanted (entries_at partition wanted) ≡ entries_at partition wanted)
+    × (objects_called configuration place call partition ≡ left_by (fellow call.who process) target.wait partition)

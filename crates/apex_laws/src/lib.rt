@@ -6,8 +6,8 @@
 #![tactic(auto)]
 
 ghost use Rattle.apex_laws.specs.Laws.{AtMostOneNextState, ChoiceIsTheSentence, OneFirstRefusal, OneRun, PiecesCompose, PiecesFollow, RunOfEach, StaysInOrder, StaysTied, ViewIsOfTheRun, WhoWaitsStands};
-ghost use Rattle.apex_laws.specs.PartLaws.{CallerStandsNowhere, OtherSetsStay, PartStaysSound};
-ghost use Rattle.apex_laws.specs.PartObjects.{OneObjectChanges};
+ghost use Rattle.apex_laws.specs.PartLaws.{CallerStandsNowhere, DueLeave, ForeignCallsLeaveSets, OtherSetsStay, PartStaysSound};
+ghost use Rattle.apex_laws.specs.PartObjects.{OneObjectChanges, StoppedLeaves};
 ghost use Rattle.apex_laws.specs.JoinLaws.{FindingsJoin, FoundIsRefused, NothingFoundIsARun, RunsJoin};
 ghost use Rattle.apex_laws.specs.ObjectLaws.{BlackboardIsTheSentence, ChannelIsTheSentence, EventIsTheSentence, FirstIsTheSentence, MutexIsTheSentence, ObjectCallIsTheSentence, OrderIsApart, QueueIsTheSentence, SamplingIsTheSentence, SemaphoreIsTheSentence};
 ghost use Rattle.apex_laws.specs.RecordLaws.{CallIsTheSentence, DispatchIsTheSentence, RefusalIsTheSentence, ReturnIsTheSentence, SetIsTheSentence, TickIsTheSentence};
@@ -77,6 +77,22 @@ pub fn other_sets_stay()
 /// leaves all other objects and ports of the partition.
 pub fn one_object_changes()
     ensures { OneObjectChanges }
+{}
+
+/// A STOP that is done takes its target out of the one waiting set that its wait names: nobody else leaves, nobody enters, and all
+/// other sets, objects and ports of the partition stay.
+pub fn stopped_leaves()
+    ensures { StoppedLeaves }
+{}
+
+/// At a tick a waiting set of a sound partition stays in which no process waits that is named.
+pub fn due_leave()
+    ensures { DueLeave }
+{}
+
+/// Calls of other partitions, returns and dispatches leave a partition's objects, waiting sets and ports.
+pub fn foreign_calls_leave_sets()
+    ensures { ForeignCallsLeaveSets }
 {}
 
 /// The entries of a waiting set that is in order stand at places of their own.

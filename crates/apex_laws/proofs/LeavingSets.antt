@@ -1,0 +1,171 @@
+-- Who leaves the waiting sets of a partition: the target of a STOP, those named at a tick, and nobody at another partition's record.
+use Rattle.std.proofs.Common.{◌≡◌, ℕ, List, [], ◌∷◌, Bool, true, false, cond, nat_eq, ℤ, pos, Some, None, refl, sym, ap, subst, ◌∙◌, true≢false, ◌&&◌, ◌||◌}
+use Rattle.std.proofs.lemmas.Bool.{and_parts, eqb-true}
+use Rattle.apex_types.specs.declared.code.Code.{Code}
+use Rattle.apex_types.specs.declared.record.Body.TheVariants.{Call, Ret}
+use Rattle.apex_types.specs.declared.record.Call.{Call as CallRecord}
+use Rattle.apex_types.specs.declared.record.Claim.{Claim}
+use Rattle.apex_types.specs.declared.record.Return.{Return}
+use Rattle.apex_types.specs.declared.record.Who.{Who}
+use Rattle.apex_types.specs.declared.request.Request.{Request}
+use Rattle.apex_types.specs.declared.request.Request.TheVariants as request
+use Rattle.apex_machine.specs.declared.state.Entry.{Entry}
+use Rattle.apex_machine.specs.declared.state.Process.{Process}
+use Rattle.apex_machine.specs.declared.state.Wait.{Wait}
+use Rattle.apex_machine.specs.declared.state.Wait.TheVariants as wait
+use Rattle.apex_machine.specs.declared.state.WaitingSet.{WaitingSet}
+use Rattle.apex_machine.specs.declared.state.WaitingSet.TheVariants as set
+use Rattle.apex_machine.specs.After.{each_set, is_done, objects_by, partition_by, returned}
+use Rattle.apex_machine.specs.Answer.{done}
+use Rattle.apex_machine.specs.Arguments.{natural_of}
+use Rattle.apex_machine.specs.Demands.{AllHold, outcome_demands}
+use Rattle.apex_machine.specs.Ports.{channel_of}
+use Rattle.apex_machine.specs.ServiceConditions.{condition_codes}
+use Rattle.apex_machine.specs.Services.{answer_of, fellow}
+use Rattle.apex_machine.specs.State.{Blackboard, Buffer, Event, Mutex, Partition, Semaphore, each_item, is_named, is_same, item_at, time_of}
+use Rattle.apex_machine.specs.Waiting.{ends_wait, is_in, is_no_error, is_same_set, is_target, set_after, stop_of, waits_at, without}
+use Rattle.apex_laws.specs.Laws.{AllEntries, entries_at}
+use Rattle.apex_laws.specs.PartLaws.{DueLeave, ForeignCallsLeaveSets, HasDistinctObjects, OnlyProcessesChange, is_of_channel, is_set_used}
+use Rattle.apex_laws.specs.PartObjects.{StoppedLeaves, left_by, with_set, without_one}
+use Rattle.apex_laws.proofs.Booleans.{cannot_hold, neither_first, neither_later}
+use Rattle.apex_laws.proofs.OtherSets.{enters_no_other}
+use Rattle.apex_laws.proofs.PartObjects.{Leaves, becomes_found, blackboard_changes, buffer_changes, event_changes, leaves_found, mutex_changes, same_if, semaphore_changes, sets_stay}
+use Rattle.apex_laws.proofs.SoundParts.{Stands}
+use Rattle.apex_laws.proofs.Waiters.{none_leaves}
+use Rattle.apex_laws.proofs.Whos.{same_is}
+use Rattle.apex_laws.proofs.Woken.{created_is}
+
+-- ticks
+
+pub due_leave : DueLeave
+due_leave number place partition woken sound wanted none =
+    none_leaves (Stands number wanted partition) (λ who. is_named who woken)
+    (λ entry stands. cannot_hold (is_named entry.who woken) (λ named.
+    true≢false (sym stands.1 ∙ none entry.who.proc (subst (λ part. is_named (record { part = part; proc = entry.who.proc }) woken ≡ true) stands.0 named))))
+    (entries_at partition wanted) (sound.stands wanted)
+
+-- other records
+
+pub foreign_calls_leave_sets : ForeignCallsLeaveSets
+foreign_calls_leave_sets configuration cores place core number partition = (called, given_back, λ who. refl)
+  where
+    called : (call : CallRecord) → ¬ (call.who.part ≡ number) → OnlyProcessesChange partition (partition_by configuration cores place core number (Call call) partition)
+    called call elsewhere =
+        let off : nat_eq call.who.part number ≡ false = cannot_hold (nat_eq call.who.part number) (λ own. elsewhere (eqb-true call.who.part number own)) in
+        rw off refl
+
+    given_back : (ret : Return) → OnlyProcessesChange partition (partition_by configuration cores place core number (Ret ret) partition)
+    given_back ret =
+        elim (nat_eq ret.who.part number) as (λ own. OnlyProcessesChange partition (cond own (record partition { table = each_item (returned ret.who.proc) partition.table }) partition)) [
+          | true ↦ refl
+          | false ↦ refl
+        ]
+
+-- one set changes
+
+-- a change that leaves every set but one is a change of that set
+pub one_set_alone : (change : WaitingSet → List Entry → List Entry) (through : List Entry → List Entry) (partition : Partition) (wanted : WaitingSet) → HasDistinctObjects partition
+    → change wanted (entries_at partition wanted) ≡ through (entries_at partition wanted) → ((other : WaitingSet) → is_same_set wanted other ≡ false → Leaves change partition other)
+    → each_set change partition ≡ with_set wanted through partition
+one_set_alone change through partition (set.BufferSenders number) has becomes leaves =
+    buffer_changes change partition false number (λ found. found) _ has
+    (λ found at. (let senders : change (set.BufferSenders number) found.senders ≡ through found.senders =
+    becomes_found (λ (one : Buffer). one.senders) (change (set.BufferSenders number)) through (item_at partition.buffers number) found at becomes in
+    let receivers : change (set.BufferReceivers number) found.receivers ≡ found.receivers =
+    leaves_found (λ (one : Buffer). one.receivers) (change (set.BufferReceivers number)) (item_at partition.buffers number) found at (leaves (set.BufferReceivers number) refl) in
+    λ i. record found { senders = senders i; receivers = receivers i }))
+    (λ other off. leaves other (neither_first _ _ off))
+one_set_alone change through partition (set.BufferReceivers number) has becomes leaves =
+    buffer_changes change partition false number (λ found. found) _ has
+    (λ found at. (let senders : change (set.BufferSenders number) found.senders ≡ found.senders =
+    leaves_found (λ (one : Buffer). one.senders) (change (set.BufferSenders number)) (item_at partition.buffers number) found at (leaves (set.BufferSenders number) refl) in
+    let receivers : change (set.BufferReceivers number) found.receivers ≡ through found.receivers =
+    becomes_found (λ (one : Buffer). one.receivers) (change (set.BufferReceivers number)) through (item_at partition.buffers number) found at becomes in
+    λ i. record found { senders = senders i; receivers = receivers i }))
+    (λ other off. leaves other (neither_later _ _ off))
+one_set_alone change through partition (set.BlackboardReaders number) has becomes leaves =
+    blackboard_changes change partition false number (λ found. found) _ has
+    (λ found at. ap (λ readers. record found { readers = readers })
+    (becomes_found (λ (one : Blackboard). one.readers) (change (set.BlackboardReaders number)) through (item_at partition.blackboards number) found at becomes)) leaves
+one_set_alone change through partition (set.SemaphoreWaiters number) has becomes leaves =
+    semaphore_changes change partition false number (λ found. found) _ has
+    (λ found at. ap (λ waiters. record found { waiters = waiters })
+    (becomes_found (λ (one : Semaphore). one.waiters) (change (set.SemaphoreWaiters number)) through (item_at partition.semaphores number) found at becomes)) leaves
+one_set_alone change through partition (set.EventWaiters number) has becomes leaves =
+    event_changes change partition false number (λ found. found) _ has
+    (λ found at. ap (λ waiters. record found { waiters = waiters })
+    (becomes_found (λ (one : Event). one.waiters) (change (set.EventWaiters number)) through (item_at partition.events number) found at becomes)) leaves
+one_set_alone change through partition (set.MutexWaiters number) has becomes leaves =
+    mutex_changes change partition false number (λ found. found) _ has
+    (λ found at. ap (λ waiters. record found { waiters = waiters })
+    (becomes_found (λ (one : Mutex). one.waiters) (change (set.MutexWaiters number)) through (item_at partition.mutexes number) found at becomes)) leaves
+one_set_alone change through partition (set.ChannelSenders channel) has becomes leaves = sets_stay change partition has (λ other off. leaves other (off_channel channel other off))
+  where
+    off_channel : (channel : ℕ) (other : WaitingSet) → is_of_channel other ≡ false → is_same_set (set.ChannelSenders channel) other ≡ false
+    off_channel channel (set.ChannelSenders another) off = absurd (true≢false off)
+    off_channel channel _ off = refl
+one_set_alone change through partition (set.ChannelReceivers channel) has becomes leaves = sets_stay change partition has (λ other off. leaves other (off_channel channel other off))
+  where
+    off_channel : (channel : ℕ) (other : WaitingSet) → is_of_channel other ≡ false → is_same_set (set.ChannelReceivers channel) other ≡ false
+    off_channel channel (set.ChannelReceivers another) off = absurd (true≢false off)
+    off_channel channel _ off = refl
+
+-- a STOP that is done
+
+-- where the same leave, the same stay
+without_same : (leaves other : Who → Bool) → ((who : Who) → leaves who ≡ other who) → (entries : List Entry) → without leaves entries ≡ without other entries
+without_same leaves other same [] = refl
+without_same leaves other same (entry ∷ entries) =
+    let rest = without_same leaves other same entries in
+    λ i. cond (same entry.who i) (rest i) (entry ∷ rest i)
+
+-- it names nobody
+stop_names : (codes : List Code) (number : ℕ) (asked : Request) (claim : Claim) → AllHold (outcome_demands codes None number asked done claim) → (who : Who) → is_named who claim.woken ≡ false
+stop_names [] number asked claim hold who = hold.1.1.1.1.0 who
+stop_names (code ∷ codes) number asked claim hold who = ap (is_named who) hold.1.1.1.1.0
+
+-- it ends the wait of its target alone
+stop_ends : (call : CallRecord) (process : ℤ) (number : ℕ) (who : Who) → process ≡ pos number → call.request ≡ request.Stop process → is_no_error call.claim.out ≡ true
+    → is_named who call.claim.woken ≡ false → ends_wait call who ≡ is_same who (fellow call.who process)
+stop_ends call process number who at asked no_error not_named =
+    let stopped : (nat_eq who.part call.who.part && is_target (Some process) who.proc) ≡ is_same who (fellow call.who process) =
+    subst (λ one. (nat_eq who.part call.who.part && is_target (Some one) who.proc) ≡ is_same who (fellow call.who one)) (sym at) refl in
+    (λ i. not_named i || (no_error i && (nat_eq who.part call.who.part && is_target (stop_of (asked i)) who.proc))) ∙ stopped
+
+-- who leaves by its wait alone
+stays_without : (number : ℕ) (partition : Partition) (wanted : WaitingSet) (who : Who) (process : Process) → item_at partition.table who.proc ≡ Some process → is_in wanted process.wait ≡ false
+    → (entries : List Entry) → AllEntries (Stands number wanted partition) entries → without_one who entries ≡ entries
+stays_without number partition wanted who process at off entries all =
+    none_leaves (Stands number wanted partition) (λ other. is_same other who)
+    (λ entry stands. cannot_hold (is_same entry.who who) (λ same.
+    (let here : waits_at wanted (Some process) ≡ true =
+    subst (λ one. waits_at wanted one ≡ true) (ap (λ one. item_at partition.table one.proc) (same_is entry.who who same) ∙ at) stands.1 in
+    true≢false (sym (and_parts process.alive (is_in wanted process.wait) here).1 ∙ off)))) entries all
+
+-- the partition after one process left
+one_leaves : (change : WaitingSet → List Entry → List Entry) (partition : Partition) (who : Who) (one : Wait) → HasDistinctObjects partition
+    → ((wanted : WaitingSet) → change wanted (entries_at partition wanted) ≡ without_one who (entries_at partition wanted))
+    → ((wanted : WaitingSet) → is_in wanted one ≡ false → Leaves change partition wanted) → each_set change partition ≡ left_by who one partition
+one_leaves change partition who (wait.At wanted due) has becomes leaves = one_set_alone change (without_one who) partition wanted has (becomes wanted) leaves
+one_leaves change partition who _ has becomes leaves = sets_stay change partition has (λ wanted off. leaves wanted refl)
+
+pub stopped_leaves : StoppedLeaves
+stopped_leaves judged configuration number place core cores partition call is process asked no_error target found =
+    let change = set_after place (Call call) in
+    let who = fellow call.who process in
+    let at = created_is partition.table process target found in
+    let own = subst (λ one. AllHold (outcome_demands (condition_codes configuration call.who partition one) (channel_of partition one) number one
+    (answer_of (time_of cores core) call.who partition one) call.claim)) asked is.demands.1.1.1.1.1 in
+    let ends : (other : Who) → ends_wait call other ≡ is_same other who =
+    λ other. stop_ends call process at.0 other at.1 asked no_error (stop_names (condition_codes configuration call.who partition (request.Stop process)) number (request.Stop process) call.claim own other) in
+    let becomes : (wanted : WaitingSet) → change wanted (entries_at partition wanted) ≡ without_one who (entries_at partition wanted) =
+    λ wanted. (let off = enters_no_other call wanted (ap (λ one. is_set_used one wanted) asked) in
+    rw off (without_same (ends_wait call) (λ other. is_same other who) ends (entries_at partition wanted))) in
+    let there : item_at partition.table who.proc ≡ Some target = ap (λ one. item_at partition.table (natural_of one)) at.1 ∙ at.2 in
+    let leaves : (wanted : WaitingSet) → is_in wanted target.wait ≡ false → Leaves change partition wanted =
+    λ wanted off. becomes wanted ∙ stays_without number partition wanted who target there off (entries_at partition wanted) (is.sound.stands wanted) in (
+      becomes,
+      leaves,
+      ap (λ one. each_set change (cond (is_done call.claim.out) (objects_by configuration call.who call.claim.val one partition) partition)) asked
+          ∙ ap (each_set change) (same_if (is_done call.claim.out) partition) ∙ one_leaves change partition who target.wait is.sound.objects becomes leaves,
+    )
