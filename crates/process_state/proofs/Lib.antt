@@ -3,7 +3,10 @@ pub mod Tables
 pub mod Numbers
 pub mod Searches
 pub mod Due
-pub mod Ranks
+pub mod Orders
+pub mod Kept
+pub mod Firsts
+pub mod Counts
 pub mod Below
 pub mod Rising
 pub mod Ticks

@@ -1,11 +1,11 @@
 -- Lists of processes that rise name none twice.
-use Rattle.std.proofs.Common.{◌≡◌, ℕ, zero, suc, ◌<◌, Bool, true, false, ◌||◌, ◌&&◌, nat_eq, nat_lt, List, [], ◌∷◌, length, take, get_or, refl, sym, arith}
+use Rattle.std.proofs.Common.{◌≡◌, ℕ, zero, suc, ◌<◌, true, false, List, [], ◌∷◌, length, take, get_or, refl, arith}
 use Rattle.std.proofs.lemmas.Bool.Decides.{nat_tests}
 use Rattle.apex_types.specs.declared.record.Who.{Who}
 use Rattle.apex_types.specs.Rising.{IsRising, RisesFrom, is_behind}
 use Rattle.apex_machine.specs.State.{is_named, is_same}
 
-behind-trans : (a b c : Who) → is_behind a b ≡ true → is_behind b c ≡ true → is_behind a c ≡ true
+pub behind-trans : (a b c : Who) → is_behind a b ≡ true → is_behind b c ≡ true → is_behind a c ≡ true
 behind-trans a b c h k = grind (arith, nat_tests)
 
 behind-apart : (a b : Who) → is_behind a b ≡ true → is_same b a ≡ false
@@ -19,7 +19,7 @@ behind_all last (first ∷ named) zero who rises within is = rw is rises.0
 behind_all last (first ∷ named) (suc place) who rises within is =
     behind-trans last first who rises.0 (behind_all first named place who rises.1 (omega arith) is)
 
-rising_rest : (last : Who) (named : List Who) → RisesFrom last named → IsRising named
+pub rising_rest : (last : Who) (named : List Who) → RisesFrom last named → IsRising named
 rising_rest last [] rises = tt
 rising_rest last (first ∷ named) rises = rises.1
 

@@ -87,10 +87,6 @@ only-written number change old written (entry ∷ entries) distinct found is =
 
 -- numbers that fit stay so
 
-pub NumbersFit-each : (f : ℕ → Process → Process) (entries : Table) → NumbersFit entries → NumbersFit (each_item f entries)
-NumbersFit-each f [] fit = tt
-NumbersFit-each f (entry ∷ entries) fit = (fit.0, NumbersFit-each f entries fit.1)
-
 pub NumbersFit-push : (entries : Table) (number : ℕ) (process : Process) → NumbersFit entries → number < 2 ^ 32 → NumbersFit (entries ++ (number, process) ∷ [])
 NumbersFit-push [] number process fit bound = (bound, tt)
 NumbersFit-push (entry ∷ entries) number process fit bound = (fit.0, NumbersFit-push entries number process fit.1 bound)
@@ -134,6 +130,3 @@ NumbersFit-set test written (entry ∷ entries) fit = by (test entry.0) (Numbers
 
 pub NumbersFit-written : (test : ℕ → Bool) (entries next : Table) (written : Process) → NumbersFit entries → next ≡ set_value test entries written → NumbersFit next
 NumbersFit-written test entries next written fit is = rw is (NumbersFit-set test written entries fit)
-
-pub NumbersFit-kept : (entries next : Table) → NumbersFit entries → next ≡ entries → NumbersFit next
-NumbersFit-kept entries next fit is = rw is fit

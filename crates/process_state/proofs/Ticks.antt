@@ -1,12 +1,11 @@
 -- The processes whose waits end at a tick or by a call, one after another.
-use Rattle.std.proofs.Common.{◌≡◌, ℕ, Bool, true, false, ◌||◌, ◌&&◌, not, nat_eq, List, [], ◌∷◌, ◌++◌, if◌then◌else◌, refl, sym, ap, ◌∙◌, arith}
+use Rattle.std.proofs.Common.{◌≡◌, ℕ, Bool, true, false, ◌||◌, nat_eq, List, [], ◌∷◌, ◌++◌, if◌then◌else◌, refl, sym, ap, ◌∙◌, arith}
 use Rattle.std.proofs.lemmas.Bool.Decides.{nat_tests}
 use Rattle.apex_types.specs.declared.record.Who.{Who}
 use Rattle.apex_machine.specs.declared.state.Process.{Process}
 use Rattle.apex_machine.specs.State.{is_named, is_same}
 use Rattle.process_state.specs.Changes.{only, with_each}
 use Rattle.process_state.specs.Processes.{Processes}
-use Rattle.process_state.proofs.Booleans.{both-left, both-right}
 use Rattle.process_state.proofs.Tables.{each_item-congr, each_item-same, each_item-twice, with_table}
 
 either-grouped : (a b c : Bool) → (a || b) || c ≡ a || (b || c)

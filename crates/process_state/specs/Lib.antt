@@ -7,3 +7,6 @@ pub mod Sound
 pub mod Timely
 pub mod Ranks
 pub mod Gifts
+pub mod Orders
+pub mod Firsts
+pub mod Kept

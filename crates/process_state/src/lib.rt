@@ -11,6 +11,7 @@ mod moment;
 mod number;
 mod order;
 mod process;
+mod sorted;
 mod table;
 mod wait;
 

@@ -1,21 +1,125 @@
-// Which processes are ready, fall due or are named, and which goes before another.
+// Which processes are ready or fall due, and in which order.
 
-ghost use Rattle.std.specs.Prelude.{◌≡◌, ℕ, Some, MatchOption, if◌then◌else◌, nat_eq};
-ghost use Rattle.apex_machine.specs.declared.state.Process.{Process as ProcessValue};
+ghost use Rattle.std.specs.Prelude.{◌≡◌, Some, nat_eq};
 ghost use Rattle.apex_machine.specs.Choice as choice;
-ghost use Rattle.apex_machine.specs.State as state;
 ghost use Rattle.apex_machine.specs.DueTimes as due_times;
-ghost use Rattle.process_state.specs.Ranks.{rank_of};
+ghost use Rattle.process_state.specs.Due as due;
+ghost use Rattle.process_state.specs.Firsts as firsts;
+ghost use Rattle.process_state.specs.Orders.{IsInOrder};
+ghost use Rattle.process_state.specs.Ranks as ranks;
+ghost use Rattle.process_state.specs.Ranks.{due_before, due_laws, rank_before, rank_laws};
 
+use crate::sorted::Key;
 use crate::wait;
 use apex_machine::Process;
 use apex_types::{CoreId, PartId, ProcId, Who};
 
-/// Whether the process is ready on this core: it is neither dormant nor suspended, waits for nothing and runs there.
-pub fn is_ready(process: &Process, core: CoreId) -> bool
-    ensures { result ≡ choice.is_ready core process.now }
+/// By what ready processes are put in their order: the core, and on it the priority, the ready position and the number.
+#[derive(Clone, Copy)]
+pub struct Rank {
+    core: CoreId,
+    priority: u8,
+    position: u64,
+    number: ProcId,
+}
+
+impl Rank {
+    /// The rank of this process, where it is ready.
+    pub fn of(number: ProcId, process: &Process) -> Option<Rank>
+        ensures { result ≡ ranks.rank_of number process.now }
+    {
+        if is_ready(process) {
+            Some(Rank {
+                core: process.affinity,
+                priority: process.current_priority,
+                position: process.ready_position,
+                number,
+            })
+        } else {
+            None
+        }
+    }
+}
+
+impl Key for Rank {
+    ghost before = { rank_before };
+
+    fn goes_before(&self, other: &Rank) -> bool {
+        self.core < other.core
+            || self.core == other.core
+                && (self.priority > other.priority
+                    || self.priority == other.priority
+                        && (self.position < other.position
+                            || self.position == other.position && self.number < other.number))
+    }
+
+    ghost is_order = { rank_laws };
+}
+
+/// By what those are put in order whose wait time ends: the core, and on it the due time, in ticks, and the number.
+#[derive(Clone, Copy)]
+pub struct DueTime {
+    core: CoreId,
+    time: u64,
+    number: ProcId,
+}
+
+impl DueTime {
+    /// The due time of this process, if its wait has one.
+    pub fn of(number: ProcId, process: &Process) -> Option<DueTime>
+        ensures { result ≡ ranks.due_time_of number process.now }
+    {
+        match wait::time_due(process.wait) {
+            Some(time) => Some(DueTime {
+                core: process.affinity,
+                time,
+                number,
+            }),
+            None => None,
+        }
+    }
+}
+
+impl Key for DueTime {
+    ghost before = { due_before };
+
+    fn goes_before(&self, other: &DueTime) -> bool {
+        self.core < other.core
+            || self.core == other.core
+                && (self.time < other.time || self.time == other.time && self.number < other.number)
+    }
+
+    ghost is_order = { due_laws };
+}
+
+/// The process of the first of these ranks that is of this core, if one is.
+pub fn first_on(ranks: &[Rank], core: CoreId) -> Option<ProcId>
+    requires { IsInOrder rank_before ranks.now }
+    ensures { result ≡ firsts.first_on core ranks.now }
 {
-    process.alive && !process.suspended && wait::is_none(process.wait) && process.affinity == core
+    let place = ranks.partition_point(|rank| rank.core < core);
+    match ranks.get(place) {
+        Some(rank) if rank.core == core => Some(rank.number),
+        _ => None,
+    }
+}
+
+/// How many of these due times are of this core and not above this time, in ticks.
+pub fn due_count(due_times: &[DueTime], core: CoreId, time: u64) -> usize
+    requires { IsInOrder due_before due_times.now }
+    ensures { result ≡ firsts.due_count core time due_times.now }
+{
+    let earlier = due_times.partition_point(|due| due.core < core);
+    let reached = due_times.partition_point(|due| due.core < core
+        || due.core == core && due.time <= time);
+    reached - earlier
+}
+
+/// Whether the process is ready on its own core: it is neither dormant nor suspended, and waits for nothing.
+fn is_ready(process: &Process) -> bool
+    ensures { result ≡ ranks.is_ready_there process.now }
+{
+    process.alive && !process.suspended && wait::is_none(process.wait)
 }
 
 /// Whether the process's wait is over once its core, this one, comes to this time, in ticks.
@@ -25,63 +129,22 @@ pub fn falls_due(process: &Process, core: CoreId, time: u64) -> bool
     process.affinity == core && wait::is_due(process.wait, time)
 }
 
-/// By what ready processes are put in their order: the priority, the ready position and the number of one of them.
-#[derive(Drop)]
-pub struct Rank {
-    pub number: ProcId,
-    priority: u8,
-    position: u64,
-}
-
-impl Rank {
-    /// The rank of the process of this number.
-    pub fn new(number: ProcId, process: &Process) -> Rank
-        ensures { result ≡ rank_of (number, process.now) }
-    {
-        Rank {
-            number,
-            priority: process.current_priority,
-            position: process.ready_position,
-        }
-    }
-
-    /// Whether a process of this rank goes before one of the other rank.
-    fn goes_before(&self, other: &Rank) -> bool
-        ensures { (a b : ℕ × ProcessValue) → self.now ≡ rank_of a → other.now ≡ rank_of b → result ≡ choice.goes_before a b }
-    {
-        self.priority > other.priority
-            || self.priority == other.priority
-                && (self.position < other.position
-                    || self.position == other.position && self.number < other.number)
-    }
-}
-
-/// The one that goes first of the first rank so far, if there is one, and the next rank.
-pub fn first_of(first: Option<Rank>, next: Rank) -> Rank
-    ensures { MatchOption first (result ≡ next) (λ rival. (a b : ℕ × ProcessValue) → next ≡ rank_of a → rival ≡ rank_of b → result ≡ (if choice.goes_before a b then next else rival)) }
-{
-    match first {
-        Some(rival) => {
-            if next.goes_before(&rival) {
-                next
-            } else {
-                rival
-            }
-        }
-        None => next,
-    }
-}
-
-/// Whether the list names this process.
-pub fn is_named(who: Who, named: &[Who]) -> bool
-    ensures { result ≡ state.is_named who named.now }
-{
-    named.iter().any(|other| who == *other)
-}
-
 /// Whether this process is of this partition.
 pub fn is_of(who: Who, part: PartId) -> bool
     ensures { result ≡ nat_eq who.part part }
 {
     who.part == part
+}
+
+/// How many of these processes are of this partition.
+pub fn count_of(part: PartId, named: &[Who]) -> usize
+    ensures { result ≡ due.count_of part named.now }
+{
+    let mut count = 0;
+    for who in named {
+        if is_of(*who, part) {
+            count += 1;
+        }
+    }
+    count
 }

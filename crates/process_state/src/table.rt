@@ -2,6 +2,7 @@
 
 ghost use Rattle.std.specs.Prelude.{◌≡◌, ◌∷◌, ◌↔◌, [], IfOk, IsTrue};
 ghost use Rattle.std.specs.Option.{option_copied};
+ghost use Rattle.apex_types.specs.Rising.{IsRising};
 ghost use Rattle.apex_machine.specs.declared.state.Process.{Process as ProcessValue};
 ghost use Rattle.apex_machine.specs.State.{created, initialising_process, is_free, item_at};
 ghost use Rattle.apex_machine.specs.Choice.{choice_in};
@@ -18,8 +19,9 @@ mod changes;
 mod records;
 
 use crate::number::process_number;
-use crate::order::{Rank, falls_due, first_of, is_named, is_ready};
+use crate::order::{DueTime, Rank, count_of, due_count, falls_due, first_on};
 use crate::process::initialising;
+use crate::sorted::Sorted;
 use crate::wait;
 use apex_machine::{Mode, Process, WaitingSet};
 use apex_types::{CoreId, Name, PartId, ProcId, Who, Woken};
@@ -32,21 +34,26 @@ const GREATEST_NUMBER: i64 = 2_147_483_647;
 
 /// The processes of one partition, in the order of their creation, and the partition's mode. What it promises holds for
 /// any partition that has this mode and these processes. Process number 0 is the initialising process.
+///
+/// Beside them stand the ranks of those that are ready and the due times of those that wait, each in its order, with room
+/// for one of each process: so only a process that is created takes memory for them.
 #[derive(Drop)]
 pub struct ProcTable {
     mode: Mode,
     processes: IndexMap<ProcId, Process>,
+    ready: Sorted<Rank>,
+    due: Sorted<DueTime>,
 }
 
 impl Model for ProcTable {
-    ghost use Rattle.process_state.specs.Numbers.{NumbersFit};
+    ghost use Rattle.process_state.specs.Kept.{IsKept};
     ghost use Rattle.process_state.specs.Processes.{Processes, processes_in};
 
     ghost Value = { Processes };
 
     ghost view = { λ table. processes_in table.mode table.processes.entries };
 
-    ghost invariant = { λ table. NumbersFit table.processes.entries };
+    ghost invariant = { λ table. IsKept table.processes.entries table.ready table.due };
 }
 
 impl ProcTable {
@@ -56,11 +63,19 @@ impl ProcTable {
     pub fn new(alloc: Global, first_core: CoreId) -> Result<ProcTable, AllocError>
         ensures { IfOk result (λ table. table ≡ processes_in Mode.ColdStart ((0, initialising_process first_core) ∷ [])) }
     {
+        let (number, process) = (ProcId::new(0), initialising(alloc, first_core));
+        let mut ready = Sorted::new(alloc);
+        ready.reserve(1)?;
+        ready.put_in(Rank::of(number, &process));
+        let mut due = Sorted::new(alloc);
+        due.reserve(1)?;
         let mut processes = IndexMap::new(alloc);
-        processes.insert(ProcId::new(0), initialising(alloc, first_core))?;
+        processes.insert(number, process)?;
         Ok(ProcTable {
             mode: Mode::ColdStart,
             processes,
+            ready,
+            due,
         })
     }
 
@@ -111,17 +126,8 @@ impl ProcTable {
     pub fn ready_on(&self, part: PartId, core: CoreId) -> Option<Who>
         ensures { result ≡ choice_in part core self.now.table }
     {
-        let mut first: Option<Rank> = None;
-        for (number, process) in self.processes.iter() {
-            if is_ready(process, core) {
-                first = Some(first_of(first, Rank::new(*number, process)));
-            }
-        }
-        match first {
-            Some(rank) => Some(Who {
-                part,
-                proc: rank.number,
-            }),
+        match first_on(self.ready.as_slice(), core) {
+            Some(proc) => Some(Who { part, proc }),
             None => None,
         }
     }
@@ -175,20 +181,16 @@ impl ProcTable {
         woken.iter().all(|who| who.part != part || self.is_due(who.proc, core, time))
     }
 
-    // Whether the list names each process of this partition that falls due.
+    // Whether the list names each process of this partition that falls due, where it names none twice and only such that do:
+    // as many as fall due.
     fn due_are_named(&self, part: PartId, core: CoreId, time: u64, woken: &[Who]) -> bool
+        requires rising { IsRising woken.now }
+        requires each { NamedFallDue part core time self.now.table woken.now }
         ensures { IsTrue result ↔ DueAreNamed part core time self.now.table woken.now }
     {
-        self.processes.iter().all(|(number, process)| {
-            !falls_due(process, core, time)
-                || is_named(
-                    Who {
-                        part,
-                        proc: *number,
-                    },
-                    woken,
-                )
-        })
+        // That no number stands twice in the map is known where the map is used.
+        let _ = self.processes.len();
+        count_of(part, woken) == due_count(self.due.as_slice(), core, time)
     }
 
     // Whether there is a process of this number on this core whose wait is over once the core comes to this time.

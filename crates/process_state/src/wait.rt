@@ -6,6 +6,7 @@ ghost use Rattle.apex_machine.specs.Choice as choice;
 ghost use Rattle.apex_machine.specs.Processes as processes;
 ghost use Rattle.apex_machine.specs.DueTimes as due_times;
 ghost use Rattle.apex_machine.specs.Waiting as waiting;
+ghost use Rattle.process_state.specs.Ranks as ranks;
 
 use apex_machine::{Wait, WaitingSet};
 use apex_types::{Code, Service};
@@ -37,6 +38,17 @@ pub fn is_for_normal(wait: Wait) -> bool
         | Wait::PeriodicRelease(_)
         | Wait::Suspended(_)
         | Wait::At(..) => false,
+    }
+}
+
+/// When a wait is over, in ticks of its core, if time ends it.
+pub fn time_due(wait: Wait) -> Option<u64>
+    ensures { result ≡ ranks.time_due wait }
+{
+    match wait {
+        Wait::FirstRelease(due) | Wait::Until(due) | Wait::PeriodicRelease(due) => Some(due),
+        Wait::Suspended(due) | Wait::At(_, due) => due,
+        Wait::Nothing | Wait::NormalMode => None,
     }
 }
 

@@ -14,6 +14,7 @@ ghost use Rattle.process_state.specs.Timely.{IsTimely, TimesFit};
 use super::ProcTable;
 use crate::moment::Moment;
 use crate::number::process_number;
+use crate::order::{DueTime, Rank};
 use crate::process;
 use apex_machine::{CoreState, Mode, Outcome, Process, Wait};
 use apex_types::{CoreId, Message, Name, Place, ProcId};
@@ -38,6 +39,9 @@ impl ProcTable {
     {
         let alloc = *self.processes.allocator();
         let created = process::created(alloc, first_core, name, priority, period)?;
+        let count = self.processes.len().saturating_add(1);
+        self.ready.reserve(count)?;
+        self.due.reserve(count)?;
         self.processes.insert(number, created)?;
         Ok(())
     }
@@ -95,10 +99,15 @@ impl ProcTable {
         } }
     {
         self.mode = Mode::Normal;
+        let (place, cores) = (moment.place, moment.cores);
         for index in 0..self.processes.len() {
-            let process = &mut self.processes[index];
-            let now = time_at(moment.cores, process.affinity);
-            process::enter_normal(process, moment.place, period, now);
+            if let Some((number, _)) = self.processes.get_index(index) {
+                let number = *number;
+                self.change(number, |process| {
+                    let now = time_at(cores, process.affinity);
+                    process::enter_normal(process, place, period, now);
+                });
+            }
         }
     }
 
@@ -154,7 +163,13 @@ impl ProcTable {
         ensures { (becomes : ProcessValue → ProcessValue) → ((old new : ProcessValue) → FnOnceReturnsAtMut F.FnOnce change old tt new → new ≡ becomes old) → self.new ≡ with_each (only number becomes) self.old }
     {
         if let Some(process) = self.processes.get_mut(&number) {
+            let (old_rank, old_due) = (Rank::of(number, process), DueTime::of(number, process));
             change(process);
+            let (rank, due) = (Rank::of(number, process), DueTime::of(number, process));
+            self.ready.take_out(old_rank);
+            self.ready.put_in(rank);
+            self.due.take_out(old_due);
+            self.due.put_in(due);
         }
     }
 }

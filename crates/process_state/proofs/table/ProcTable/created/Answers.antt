@@ -8,7 +8,7 @@ pub returns-in_err-process : goal.returns-in_err-process
 returns-in_err-process c =
     let fits = c.ranges.number in
     let none = simp to_z-of_z at (sym c.process_number.ensures ∙ c.in_err-process.was) in
-    rw (← c.self.view_is, c.from_residual.ensures) (sym (created-none _ c.args.number c.self.invariant none))
+    rw (← c.self.view_is, c.from_residual.ensures) (sym (created-none _ c.args.number c.self.invariant.numbers none))
 
 pub returns : goal.returns
 returns c =

@@ -1,19 +1,19 @@
-use Rattle.std.proofs.Common.{sym, ◌∙◌, refl}
-use Rattle.process_state.proofs.Ranks.{choice-led, ready-step}
+-- The first rank of the core is that of the choice.
+use Rattle.std.proofs.Common.{◌≡◌, Some, None, ap, sym, refl, ◌∙◌}
+use Rattle.process_state.specs.Firsts.{first_on}
+use Rattle.process_state.specs.Orders.{keys_in}
+use Rattle.process_state.specs.Ranks.{rank_before, rank_of}
+use Rattle.process_state.proofs.Firsts.{choice-first}
 use Rattle.process_state.proofs.table.ProcTable.ready_on.Goals as goal
 
-pub loop-number-preserved-then-is_ready : goal.loop-number-preserved-then-is_ready
-loop-number-preserved-then-is_ready c =
-    let so_far = rw c.in-Some.ensures.steps at c.loop-number.invariant in
-    ready-step c.args.core c.loop-number.first (c.in-Some.number.now, c.in-Some.process.now) c.next.new.self c.new.result c.first_of.result _
-    (sym c.is_ready.ensures ∙ c.if-is_ready.true) c.new.ensures c.first_of.ensures so_far
+pub returns-in-Some : goal.returns-in-Some
+returns-in-Some c =
+    let first : first_on c.args.core (keys_in rank_before rank_of c.self.inside.processes.entries) ≡ Some c.in-Some.proc
+    = ap (first_on c.args.core) (sym (c.as_slice.ensures.keys ∙ c.self.invariant.ranks)) ∙ sym c.first_on.ensures ∙ c.in-Some.is in
+    rw (← c.self.view_is, choice-first c.args.part c.args.core c.self.inside.processes.entries, first) refl
 
-pub returns-in-Some-first : goal.returns-in-Some-first
-returns-in-Some-first c =
-    let whole = rw (c.in-None.ensures.steps.0, c.in-Some-first.is) at c.loop-number.invariant in
-    rw (choice-led c.args.part c.args.core c.args.self.now.table, ← whole) refl
-
-pub returns-in-None-first : goal.returns-in-None-first
-returns-in-None-first c =
-    let whole = rw (c.in-None.ensures.steps.0, c.in-None-first.is) at c.loop-number.invariant in
-    rw (choice-led c.args.part c.args.core c.args.self.now.table, ← whole) refl
+pub returns-in-None : goal.returns-in-None
+returns-in-None c =
+    let first : first_on c.args.core (keys_in rank_before rank_of c.self.inside.processes.entries) ≡ None
+    = ap (first_on c.args.core) (sym (c.as_slice.ensures.keys ∙ c.self.invariant.ranks)) ∙ sym c.first_on.ensures ∙ c.in-None.is in
+    rw (← c.self.view_is, choice-first c.args.part c.args.core c.self.inside.processes.entries, first) refl

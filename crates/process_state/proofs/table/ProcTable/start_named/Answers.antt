@@ -10,4 +10,4 @@ pub returns-in_default : goal.returns-in_default
 returns-in_default c =
     let fits = c.ranges.given in
     let none = simp to_z-of_z at (sym c.process_number.ensures ∙ c.in_default.is) in
-    rw (← c.self.view_is) (named-none (λ (found : Process). started c.args.moment.now.place c.args.period (time_of c.args.moment.now.cores.now found.affinity) c.self.inside.mode found) c.args.given _ none c.self.invariant)
+    rw (← c.self.view_is) (named-none (λ (found : Process). started c.args.moment.now.place c.args.period (time_of c.args.moment.now.cores.now found.affinity) c.self.inside.mode found) c.args.given _ none c.self.invariant.numbers)

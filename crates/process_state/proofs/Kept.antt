@@ -1,0 +1,198 @@
+-- What a table keeps beside its processes, as one of them changes or is added.
+use Rattle.std.proofs.Common.{◌≡◌, ℕ, suc, ◌+◌, ◌<◌, ◌≤◌, Bool, true, false, nat_eq, List, [], ◌∷◌, ◌++◌, length, Option, Some, None, if◌then◌else◌, cond, refl, sym, ap, ◌∙◌, arith, length-append}
+use Rattle.std.proofs.lemmas.Bool.Decides.{nat_tests}
+use Rattle.std.specs.Map.{lookup, set_value}
+use Rattle.apex_machine.specs.declared.state.Process.{Process}
+use Rattle.apex_machine.specs.State.{Table, item_at}
+use Rattle.process_state.specs.declared.order.DueTime.{DueTime}
+use Rattle.process_state.specs.declared.order.Rank.{Rank}
+use Rattle.process_state.specs.Kept.{IsKept}
+use Rattle.process_state.specs.Orders.{IsInOrder, IsStrictOrder, Sequence, inserted, keys_in, with_key, without_key}
+use Rattle.process_state.specs.Ranks.{due_before, due_laws, due_time_of, rank_before, rank_laws, rank_of}
+use Rattle.process_state.proofs.Orders.{IsInOrder-inserted, inserted-twice, without-with}
+use Rattle.process_state.proofs.Tables.{NumbersFit-push, NumbersFit-written, lookup-item_at}
+
+-- a table without the process of a number
+abbrev pub table_without : ℕ → Table → Table
+table_without number [] = []
+table_without number (entry ∷ entries) = if nat_eq number entry.0 then entries else entry ∷ table_without number entries
+
+length-table_without : (number : ℕ) (old : Process) (entries : Table) → item_at entries number ≡ Some old
+    → length (table_without number entries) + 1 ≡ length entries
+length-table_without number old [] found = cc
+length-table_without number old (entry ∷ entries) found = by (nat_eq number entry.0) refl (length-table_without number old entries)
+  where
+    by : (b : Bool) → nat_eq number entry.0 ≡ b → (item_at entries number ≡ Some old → length (table_without number entries) + 1 ≡ length entries)
+        → length (if b then entries else entry ∷ table_without number entries) + 1 ≡ length (entry ∷ entries)
+    by true e rest = omega arith
+    by false e rest = let found_rest : item_at entries number ≡ Some old = rw e at found in let shorter = rest found_rest in omega (arith, shorter)
+
+item_at-written : (number : ℕ) (old written : Process) (entries : Table) → item_at entries number ≡ Some old
+    → item_at (set_value (nat_eq number) entries written) number ≡ Some written
+item_at-written number old written [] found = cc
+item_at-written number old written (entry ∷ entries) found = by (nat_eq number entry.0) refl (item_at-written number old written entries)
+  where
+    by : (b : Bool) → nat_eq number entry.0 ≡ b
+        → (item_at entries number ≡ Some old → item_at (set_value (nat_eq number) entries written) number ≡ Some written)
+        → item_at (cond b ((entry.0, written) ∷ entries) (entry ∷ set_value (nat_eq number) entries written)) number ≡ Some written
+    by true e rest = rw e refl
+    by false e rest = let found_rest : item_at entries number ≡ Some old = rw e at found in rw e (rest found_rest)
+
+without-written : (number : ℕ) (written : Process) (entries : Table)
+    → table_without number (set_value (nat_eq number) entries written) ≡ table_without number entries
+without-written number written [] = refl
+without-written number written (entry ∷ entries) = by (nat_eq number entry.0) refl (without-written number written entries)
+  where
+    by : (b : Bool) → nat_eq number entry.0 ≡ b
+        → table_without number (set_value (nat_eq number) entries written) ≡ table_without number entries
+        → table_without number (cond b ((entry.0, written) ∷ entries) (entry ∷ set_value (nat_eq number) entries written))
+        ≡ (if b then entries else entry ∷ table_without number entries)
+    by true e rest = rw e refl
+    by false e rest = rw (e, rest) refl
+
+length-set_value : (test : ℕ → Bool) (written : Process) (entries : Table) → length (set_value test entries written) ≡ length entries
+length-set_value test written [] = refl
+length-set_value test written (entry ∷ entries) = by (test entry.0) (length-set_value test written entries)
+  where
+    by : (b : Bool) → length (set_value test entries written) ≡ length entries
+        → length (cond b ((entry.0, written) ∷ entries) (entry ∷ set_value test entries written)) ≡ length (entry ∷ entries)
+    by true rest = refl
+    by false rest = ap suc rest
+
+module _ {Key : Type 0} (before : Key → Key → Bool) (order : IsStrictOrder before) (key_of : ℕ → Process → Option Key) where
+  with_key-twice : (a b : Option Key) (keys : List Key) → with_key before a (with_key before b keys) ≡ with_key before b (with_key before a keys)
+  with_key-twice None b keys = refl
+  with_key-twice (Some a) None keys = refl
+  with_key-twice (Some a) (Some b) keys = inserted-twice before order a b keys
+
+  -- the key of one process, and those of the others
+  pub keys_in-found : (number : ℕ) (old : Process) (entries : Table) → item_at entries number ≡ Some old
+      → keys_in before key_of entries ≡ with_key before (key_of number old) (keys_in before key_of (table_without number entries))
+  keys_in-found number old [] found = cc
+  keys_in-found number old (entry ∷ entries) found = by (nat_eq number entry.0) refl (keys_in-found number old entries)
+    where
+      by : (b : Bool) → nat_eq number entry.0 ≡ b
+          → (item_at entries number ≡ Some old
+          → keys_in before key_of entries ≡ with_key before (key_of number old) (keys_in before key_of (table_without number entries)))
+          → with_key before (key_of entry.0 entry.1) (keys_in before key_of entries)
+          ≡ with_key before (key_of number old) (keys_in before key_of (if b then entries else entry ∷ table_without number entries))
+      by true e rest =
+          let same : number ≡ entry.0 = grind (arith, nat_tests) in
+          let found_here = rw e at found in
+          let old_is : old ≡ entry.1 = cc in
+          rw (same, old_is) refl
+      by false e rest =
+          let found_rest : item_at entries number ≡ Some old = rw e at found in
+          rw (rest found_rest) (with_key-twice (key_of entry.0 entry.1) (key_of number old) (keys_in before key_of (table_without number entries)))
+
+  -- the keys once a process is written at its number
+  keys_in-written : (number : ℕ) (old written : Process) (entries : Table) → item_at entries number ≡ Some old
+      → keys_in before key_of (set_value (nat_eq number) entries written)
+      ≡ with_key before (key_of number written) (keys_in before key_of (table_without number entries))
+  keys_in-written number old written entries found =
+      keys_in-found number written (set_value (nat_eq number) entries written) (item_at-written number old written entries found)
+      ∙ ap (λ rest. with_key before (key_of number written) (keys_in before key_of rest)) (without-written number written entries)
+
+  length-with_key : (key : Option Key) (keys : List Key) → length (with_key before key keys) ≤ length keys + 1
+  length-with_key None keys = omega arith
+  length-with_key (Some key) [] = omega arith
+  length-with_key (Some key) (other ∷ others) = by (before other key) (length-with_key (Some key) others)
+    where
+      by : (b : Bool) → length (inserted before key others) ≤ length others + 1
+          → length (if b then other ∷ inserted before key others else key ∷ other ∷ others) ≤ length (other ∷ others) + 1
+      by true rest = omega arith
+      by false rest = omega arith
+
+  length-keys_in : (entries : Table) → length (keys_in before key_of entries) ≤ length entries
+  length-keys_in [] = omega arith
+  length-keys_in (entry ∷ entries) = omega (arith, length-with_key (key_of entry.0 entry.1) (keys_in before key_of entries), length-keys_in entries)
+
+  -- with the key of a process taken out, those of the others are left
+  taken_out : (number : ℕ) (old : Process) (entries : Table) (keys taken : List Key) → item_at entries number ≡ Some old
+      → keys ≡ keys_in before key_of entries → taken ≡ without_key before (key_of number old) keys
+      → taken ≡ keys_in before key_of (table_without number entries)
+  taken_out number old entries keys taken found kept is =
+      is ∙ ap (without_key before (key_of number old)) (kept ∙ keys_in-found number old entries found)
+      ∙ without-with before order (key_of number old) (keys_in before key_of (table_without number entries))
+
+  -- so that there is room for one more
+  room_left : (number : ℕ) (old : Process) (entries : Table) (keys taken : List Key) (room : ℕ) → item_at entries number ≡ Some old
+      → keys ≡ keys_in before key_of entries → taken ≡ without_key before (key_of number old) keys → length entries ≤ room
+      → length taken < room
+  room_left number old entries keys taken room found kept is fits =
+      let left : length taken ≡ length (keys_in before key_of (table_without number entries)) = ap length (taken_out number old entries keys taken found kept is) in
+      omega (arith, left, length-keys_in (table_without number entries), length-table_without number old entries found, fits)
+
+  -- and with the key of the changed process put in, they are those of the changed table
+  put_back : (number : ℕ) (old written : Process) (entries : Table) (keys taken new : List Key) → item_at entries number ≡ Some old
+      → keys ≡ keys_in before key_of entries → taken ≡ without_key before (key_of number old) keys
+      → new ≡ with_key before (key_of number written) taken → new ≡ keys_in before key_of (set_value (nat_eq number) entries written)
+  put_back number old written entries keys taken new found kept is is_new =
+      is_new ∙ ap (with_key before (key_of number written)) (taken_out number old entries keys taken found kept is)
+      ∙ sym (keys_in-written number old written entries found)
+
+  keys_in-push : (entries : Table) (number : ℕ) (process : Process) → key_of number process ≡ None
+      → keys_in before key_of (entries ++ (number, process) ∷ []) ≡ keys_in before key_of entries
+  keys_in-push [] number process none = rw none refl
+  keys_in-push (entry ∷ entries) number process none = rw (keys_in-push entries number process none) refl
+
+  -- the keys of a table are in order
+  pub IsInOrder-keys_in : (entries : Table) → IsInOrder before (keys_in before key_of entries)
+  IsInOrder-keys_in [] = tt
+  IsInOrder-keys_in (entry ∷ entries) = by (key_of entry.0 entry.1) (IsInOrder-keys_in entries)
+    where
+      by : (key : Option Key) → IsInOrder before (keys_in before key_of entries) → IsInOrder before (with_key before key (keys_in before key_of entries))
+      by None rest = rest
+      by (Some key) rest = IsInOrder-inserted before order key (keys_in before key_of entries) rest
+
+found_there : (number : ℕ) (old : Process) (entries : Table) → Some old ≡ lookup (nat_eq number) entries → item_at entries number ≡ Some old
+found_there number old entries found = sym (found ∙ lookup-item_at number entries)
+
+-- there is room for the rank and the due time of a process whose own were taken out
+
+pub ready_room_left : (number : ℕ) (old : Process) (entries : Table) (ready taken : Sequence Rank) (due : Sequence DueTime) → IsKept entries ready due
+    → Some old ≡ lookup (nat_eq number) entries → taken.keys ≡ without_key rank_before (rank_of number old) ready.keys → taken.room ≡ ready.room
+    → length taken.keys < taken.room
+ready_room_left number old entries ready taken due kept found is room =
+    room_left rank_before rank_laws rank_of number old entries ready.keys taken.keys taken.room (found_there number old entries found) kept.ranks is (omega (arith, kept.ready_room, room))
+
+pub due_room_left : (number : ℕ) (old : Process) (entries : Table) (ready : Sequence Rank) (due taken : Sequence DueTime) → IsKept entries ready due
+    → Some old ≡ lookup (nat_eq number) entries → taken.keys ≡ without_key due_before (due_time_of number old) due.keys → taken.room ≡ due.room
+    → length taken.keys < taken.room
+due_room_left number old entries ready due taken kept found is room =
+    room_left due_before due_laws due_time_of number old entries due.keys taken.keys taken.room (found_there number old entries found) kept.due_times is (omega (arith, kept.due_room, room))
+
+-- what is kept once a process has changed
+pub IsKept-written : (number : ℕ) (old written : Process) (entries next : Table) (ready ready_taken ready_new : Sequence Rank) (due due_taken due_new : Sequence DueTime)
+    → IsKept entries ready due → Some old ≡ lookup (nat_eq number) entries → next ≡ set_value (nat_eq number) entries written
+    → ready_taken.keys ≡ without_key rank_before (rank_of number old) ready.keys → ready_taken.room ≡ ready.room
+    → ready_new.keys ≡ with_key rank_before (rank_of number written) ready_taken.keys → ready_taken.room ≤ ready_new.room
+    → due_taken.keys ≡ without_key due_before (due_time_of number old) due.keys → due_taken.room ≡ due.room
+    → due_new.keys ≡ with_key due_before (due_time_of number written) due_taken.keys → due_taken.room ≤ due_new.room
+    → IsKept next ready_new due_new
+IsKept-written number old written entries next ready ready_taken ready_new due due_taken due_new kept found is r_taken r_same r_put r_grows d_taken d_same d_put d_grows =
+    let there = found_there number old entries found in
+    let long : length next ≡ length entries = ap length is ∙ length-set_value (nat_eq number) written entries in
+    record {
+      numbers = NumbersFit-written (nat_eq number) entries next written kept.numbers is;
+      ranks = rw is (put_back rank_before rank_laws rank_of number old written entries ready.keys ready_taken.keys ready_new.keys there kept.ranks r_taken r_put);
+      due_times = rw is (put_back due_before due_laws due_time_of number old written entries due.keys due_taken.keys due_new.keys there kept.due_times d_taken d_put);
+      ready_room = omega (arith, long, kept.ready_room, r_same, r_grows);
+      due_room = omega (arith, long, kept.due_room, d_same, d_grows);
+    }
+
+-- what is kept once a process without a rank and a due time is added, with room made for it
+pub IsKept-push : (number : ℕ) (process : Process) (entries next : Table) (ready ready_new : Sequence Rank) (due due_new : Sequence DueTime)
+    → IsKept entries ready due → number < 4294967296 → next ≡ entries ++ (number, process) ∷ []
+    → rank_of number process ≡ None → due_time_of number process ≡ None
+    → ready_new.keys ≡ ready.keys → length entries + 1 ≤ ready_new.room → due_new.keys ≡ due.keys → length entries + 1 ≤ due_new.room
+    → IsKept next ready_new due_new
+IsKept-push number process entries next ready ready_new due due_new kept fits is no_rank no_due r_same r_room d_same d_room =
+    let long : length next ≡ length entries + 1 = ap length is ∙ length-append entries ((number, process) ∷ []) in
+    record {
+      numbers = rw is (NumbersFit-push entries number process kept.numbers fits);
+      ranks = rw is (r_same ∙ kept.ranks ∙ sym (keys_in-push rank_before rank_laws rank_of entries number process no_rank));
+      due_times = rw is (d_same ∙ kept.due_times ∙ sym (keys_in-push due_before due_laws due_time_of entries number process no_due));
+      ready_room = omega (arith, long, r_room);
+      due_room = omega (arith, long, d_room);
+    }

@@ -1,0 +1,17 @@
+-- What a table keeps.
+use Rattle.std.specs.Prelude.{◌≡◌, ◌≤◌, length}
+use Rattle.apex_machine.specs.State.{Table}
+use Rattle.process_state.specs.Numbers.{NumbersFit}
+use Rattle.process_state.specs.Orders.{Sequence, keys_in}
+use Rattle.process_state.specs.Ranks.{due_before, due_time_of, rank_before, rank_of}
+use Rattle.process_state.specs.declared.order.DueTime.{DueTime}
+use Rattle.process_state.specs.declared.order.Rank.{Rank}
+
+-- beside its processes a table keeps the ranks of those that are ready and the due times of those that wait, in order, with
+-- room for one of each process
+pub record IsKept (table : Table) (ready : Sequence Rank) (due : Sequence DueTime) : Type 0 where
+  pub numbers : NumbersFit table
+  pub ranks : ready.keys ≡ keys_in rank_before rank_of table
+  pub due_times : due.keys ≡ keys_in due_before due_time_of table
+  pub ready_room : length table ≤ ready.room
+  pub due_room : length table ≤ due.room
