@@ -1,0 +1,2 @@
+pub mod Semaphores
+pub mod Events

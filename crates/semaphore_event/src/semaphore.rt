@@ -1,0 +1,122 @@
+// Counting semaphores.
+
+ghost use Rattle.std.specs.Prelude.{◌≡◌, ◌↔◌, [], IfErr, IfOk, IsTrue, OnErr, OnOk};
+ghost use Rattle.apex_types.specs.declared.record.Out.TheVariants as out;
+ghost use Rattle.apex_machine.specs.Demands.{AllHold, answer_demands};
+ghost use Rattle.apex_machine.specs.Objects.{semaphore_waited};
+ghost use Rattle.wait_set.specs.Actors.{Refuses, entry_with};
+ghost use Rattle.wait_set.specs.Sets.{IsNew};
+ghost use Rattle.semaphore_event.specs.Semaphores as rules;
+
+use apex_types::{Claim, Code, Discipline, Name, Request, Who};
+use std::alloc::Global;
+use std::marker::Model;
+use wait_set::{Actor, ApexObject, Effect, Given, ObjFault, WaitSet};
+
+/// A counting semaphore: its value, its maximum, and those that wait.
+#[derive(Drop)]
+pub struct Semaphore {
+    name: Name,
+    maximum: u16,
+    value: u16,
+    waiters: WaitSet,
+}
+
+impl Model for Semaphore {
+    ghost use Rattle.apex_machine.specs.State.{Semaphore as Seen};
+
+    ghost Value = { Seen };
+
+    ghost view = { λ semaphore. record { name = semaphore.name; maximum = semaphore.maximum; discipline = semaphore.waiters.discipline; value = semaphore.value; waiters = semaphore.waiters.entries } };
+}
+
+impl Semaphore {
+    /// The semaphore of this value, at which nobody waits. Takes no memory.
+    pub fn new(alloc: Global, name: Name, value: u16, maximum: u16, discipline: Discipline) -> Semaphore
+        ensures { result ≡ record { name = name; maximum = maximum; discipline = discipline; value = value; waiters = [] } }
+    {
+        Semaphore {
+            name,
+            maximum,
+            value,
+            waiters: WaitSet::new(alloc, discipline),
+        }
+    }
+
+    /// Its name.
+    pub fn name(&self) -> &Name
+        ensures { result.now ≡ self.now.name }
+    {
+        &self.name
+    }
+
+    /// Its value.
+    pub fn value(&self) -> u16
+        ensures { result ≡ self.now.value }
+    {
+        self.value
+    }
+
+    // WAIT_SEMAPHORE: one is taken of a value above 0; else the caller waits.
+    fn wait(&mut self, actor: Actor, time_out: i64, claim: &Claim) -> Result<Effect, ObjFault>
+        requires new { IsNew (entry_with actor []) self.old.waiters }
+        ensures ok { OnOk result (AllHold (answer_demands (semaphore_waited time_out self.old.value).answer claim.now)) }
+        ensures after { OnOk result (self.new ≡ rules.after_wait actor time_out claim.now self.old) }
+        ensures waits { IfOk result (λ effect. IsTrue effect.waits ↔ (claim.now.out ≡ out.Waits)) }
+        ensures refused { IfErr result (Refuses (answer_demands (semaphore_waited time_out self.old.value).answer claim.now)) }
+        ensures unchanged { OnErr result (self.new ≡ self.old) }
+    {
+        let given = if self.value > 0 { Given::done() } else { Given::unmet(time_out) };
+        given.judge(claim).map_err(ObjFault::Unlawful)?;
+        self.waiters.settle(actor, claim, &[]).map_err(|_| ObjFault::Memory)?;
+        self.value = self.value.saturating_sub(1);
+        Ok(Effect::of(claim))
+    }
+
+    // SIGNAL_SEMAPHORE: the first who waits goes on; else one is added; at the maximum nothing is done.
+    fn signal(&mut self, claim: &Claim) -> Result<Effect, ObjFault>
+        ensures ok { OnOk result (AllHold (answer_demands (rules.signal self.old).answer claim.now)) }
+        ensures after { OnOk result (self.new ≡ rules.after_signal claim.now self.old) }
+        ensures waits { IfOk result (λ effect. IsTrue effect.waits ↔ (claim.now.out ≡ out.Waits)) }
+        ensures refused { IfErr result (Refuses (answer_demands (rules.signal self.old).answer claim.now)) }
+        ensures unchanged { OnErr result (self.new ≡ self.old) }
+    {
+        let first = self.waiters.first().map(|entry| entry.who);
+        let is_raised = first.is_none() && self.value < self.maximum;
+        let given = if first.is_some() || is_raised {
+            Given::waking(first)
+        } else {
+            Given::answering(Code::NoAction)
+        };
+        given.judge(claim).map_err(ObjFault::Unlawful)?;
+        self.waiters.release(claim.woken.as_slice());
+        if is_raised {
+            self.value += 1;
+        }
+        Ok(Effect::of(claim))
+    }
+}
+
+impl ApexObject for Semaphore {
+    ghost serves = { rules.serves };
+
+    ghost answer = { rules.answer };
+
+    ghost after = { rules.after };
+
+    ghost sets = { rules.sets };
+
+    ghost without_one = { rules.without_one };
+
+    fn apply(&mut self, actor: Actor, request: &Request, claim: &Claim) -> Result<Effect, ObjFault> {
+        match request {
+            Request::WaitSemaphore { time_out, .. } => self.wait(actor, *time_out, claim),
+            Request::SignalSemaphore { .. } => self.signal(claim),
+            _ => unreachable!(),
+        }
+    }
+
+    fn leave(&mut self, who: Who) -> bool {
+        self.waiters.leave(who)
+    }
+}

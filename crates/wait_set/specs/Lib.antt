@@ -1,0 +1,5 @@
+pub mod Sets
+pub mod Kept
+pub mod Actors
+pub mod Givens
+pub mod Ranks

@@ -1,0 +1,71 @@
+-- Waiting sets: a discipline and the entries; who enters, who leaves, and which list names those who wait.
+use Rattle.std.specs.Prelude.{◌≡◌, ◌≢◌, List, [], ◌∷◌, Option, Some, None, Bool, false, ◌||◌, nat_lt, if◌then◌else◌, IsFalse, All}
+use Rattle.apex_types.specs.declared.discipline.Discipline.{Discipline}
+use Rattle.apex_types.specs.declared.record.Who.{Who}
+use Rattle.apex_machine.specs.declared.state.Entry.{Entry}
+use Rattle.apex_machine.specs.Answer.{NamesExactly, whos}
+use Rattle.apex_machine.specs.Demands.{stands_in}
+use Rattle.apex_machine.specs.State.{is_named, is_same}
+use Rattle.apex_machine.specs.Waiting.{first_waiter, without}
+
+-- a waiting set: its discipline, and its entries in the order of their places   (QUEUING_DISCIPLINE, section 3)
+pub record Waiters : Type 0 where
+  pub discipline : Discipline
+  pub entries : List Entry
+
+-- who enters
+
+-- the entries with one more at its place: behind those of smaller places, before the others
+abbrev pub entered : Entry → List Entry → List Entry
+entered entry [] = entry ∷ []
+entered entry (other ∷ others) = if nat_lt other.place entry.place then other ∷ entered entry others else entry ∷ other ∷ others
+
+-- a new entry: its process does not stand in the set, and no entry has its place
+abbrev pub IsNew : Entry → List Entry → Type 0
+IsNew entry entries = IsFalse (stands_in entry.who entries) × All (λ (other : Entry). other.place ≢ entry.place) entries
+
+-- the entry of a process, if it waits
+abbrev pub entry_of : Who → List Entry → Option Entry
+entry_of who [] = None
+entry_of who (entry ∷ entries) = if is_same who entry.who then Some entry else entry_of who entries
+
+-- who leaves
+
+-- the entries of all but this process
+abbrev pub without_one : Who → List Entry → List Entry
+without_one who entries = without (λ other. is_same other who) entries
+
+-- the entries of all but the process of this one, if it is one
+abbrev pub without_found : Option Entry → List Entry → List Entry
+without_found None entries = entries
+without_found (Some entry) entries = without_one entry.who entries
+
+-- the entries of all but the process that goes on first
+abbrev pub without_first : Discipline → List Entry → List Entry
+without_first discipline entries = without_found (first_waiter discipline entries) entries
+
+-- the entries of all whom a list does not name
+abbrev pub without_named : List Who → List Entry → List Entry
+without_named named entries = without (λ who. is_named who named) entries
+
+-- who is named
+
+-- no process stands twice in a list
+abbrev pub NobodyTwice : List Who → Type 0
+NobodyTwice [] = Unit {0}
+NobodyTwice (who ∷ others) = IsFalse (is_named who others) × NobodyTwice others
+
+-- a list names exactly those who wait, each once
+abbrev pub IsRollOf : List Entry → List Who → Type 0
+IsRollOf entries named = NamesExactly (whos entries) named × NobodyTwice named
+
+-- several sets
+
+-- whether a process stands in one of these sets
+abbrev pub stands_in_one : Who → List (List Entry) → Bool
+stands_in_one who [] = false
+stands_in_one who (entries ∷ sets) = stands_in who entries || stands_in_one who sets
+
+-- an entry that is new in each of these sets
+abbrev pub IsNewInEach : Entry → List (List Entry) → Type 0
+IsNewInEach entry sets = All (IsNew entry) sets

@@ -1,0 +1,87 @@
+// What all objects share: who makes a call, what an operation says, and the operations themselves.
+
+ghost use Rattle.std.specs.Prelude.{◌≡◌, ◌↔◌, Bool, List, [], IfErr, IfOk, IsTrue, OnErr, OnOk};
+ghost use Rattle.apex_types.specs.declared.record.Claim.{Claim as ClaimValue};
+ghost use Rattle.apex_types.specs.declared.record.Out.TheVariants as out;
+ghost use Rattle.apex_types.specs.declared.record.Who.{Who as WhoValue};
+ghost use Rattle.apex_types.specs.declared.request.Request.{Request as RequestValue};
+ghost use Rattle.apex_machine.specs.declared.state.Entry.{Entry};
+ghost use Rattle.apex_machine.specs.Answer.{Answer};
+ghost use Rattle.apex_machine.specs.Demands.{AllHold, answer_demands};
+ghost use Rattle.wait_set.specs.declared.object.Actor.{Actor as ActorValue};
+ghost use Rattle.wait_set.specs.Actors.{Refuses, entry_with};
+ghost use Rattle.wait_set.specs.Sets.{IsNewInEach, stands_in_one};
+
+use apex_types::{Cause, Claim, Out, Place, Request, Who};
+use thiserror::Error;
+
+/// Who makes a call: the process, its current priority, and the place of the call.
+#[derive(Clone, Copy, Debug, PartialEq, Eq)]
+pub struct Actor {
+    pub who: Who,
+    pub priority: u8,
+    pub place: Place,
+}
+
+/// What an operation that was accepted says: whether its caller waits.
+#[derive(Clone, Copy, Debug, PartialEq, Eq)]
+pub struct Effect {
+    pub waits: bool,
+}
+
+impl Effect {
+    /// What an operation says whose claim is what it gives.
+    pub fn of(claim: &Claim) -> Effect
+        ensures { IsTrue result.waits ↔ (claim.now.out ≡ out.Waits) }
+    {
+        Effect {
+            waits: claim.out == Out::Waits,
+        }
+    }
+}
+
+/// Why an operation is refused.
+#[derive(Clone, Copy, Debug, PartialEq, Eq, Error)]
+pub enum ObjFault {
+    /// The claim is not what the operation gives. The cause is that of the first demand that fails.
+    #[error("the claim is not what the operation gives")]
+    Unlawful(Cause),
+    /// Memory was refused.
+    #[error("out of memory")]
+    Memory,
+}
+
+/// An object of a partition. Its operations are the requests for it. That no error condition holds is judged before.
+pub trait ApexObject {
+    // The requests that are operations on it.
+    ghost serves: { RequestValue → Bool };
+
+    // What an operation gives its caller. It has no value.
+    ghost answer: { ActorValue → RequestValue → Self → Answer };
+
+    // The object after an operation that was accepted, its waiting sets too.
+    ghost after: { ActorValue → RequestValue → ClaimValue → Self → Self };
+
+    // Its waiting sets.
+    ghost sets: { Self → List (List Entry) };
+
+    // The object with all but this process in its waiting sets.
+    ghost without_one: { WhoValue → Self → Self };
+
+    /// Carries out an operation, where the claim is what it gives its caller.
+    ///
+    /// Refused, with nothing changed, where the claim is another, or where memory is refused.
+    fn apply(&mut self, actor: Actor, request: &Request, claim: &Claim) -> Result<Effect, ObjFault>
+        requires served { IsTrue (serves request.now) }
+        requires new { IsNewInEach (entry_with actor []) (sets self.old) }
+        ensures ok { OnOk result (AllHold (answer_demands (answer actor request.now self.old) claim.now)) }
+        ensures after { OnOk result (self.new ≡ after actor request.now claim.now self.old) }
+        ensures waits { IfOk result (λ effect. IsTrue effect.waits ↔ (claim.now.out ≡ out.Waits)) }
+        ensures refused { IfErr result (Refuses (answer_demands (answer actor request.now self.old) claim.now)) }
+        ensures unchanged { OnErr result (self.new ≡ self.old) };
+
+    /// Takes a process out of the waiting sets, and says whether it stood in one. Takes no memory.
+    fn leave(&mut self, who: Who) -> bool
+        ensures stood { result ≡ stands_in_one who (sets self.old) }
+        ensures left { self.new ≡ without_one who self.old };
+}

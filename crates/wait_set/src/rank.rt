@@ -1,0 +1,31 @@
+// In which order those who wait go on.
+
+ghost use Rattle.std.specs.Prelude.{◌≡◌};
+ghost use Rattle.wait_set.specs.Ranks.{rank_of};
+
+use apex_machine::Entry;
+use apex_types::{Discipline, Place};
+
+/// The rank of an entry in its set: of two entries, that of the smaller rank goes on before.
+#[derive(Clone, Copy, Debug, PartialEq, Eq, PartialOrd, Ord)]
+pub(crate) struct Rank {
+    /// Smaller for a greater priority; 0 for all in a set that is first in, first out.
+    pub(crate) class: u8,
+    pub(crate) place: Place,
+}
+
+impl Rank {
+    /// The rank of an entry under this discipline.
+    pub(crate) fn new(discipline: Discipline, entry: &Entry) -> Rank
+        ensures { result ≡ rank_of discipline entry.now }
+    {
+        let class = match discipline {
+            Discipline::Fifo => 0,
+            Discipline::Priority => u8::MAX - entry.priority,
+        };
+        Rank {
+            class,
+            place: entry.place,
+        }
+    }
+}

@@ -1,0 +1,197 @@
+// A waiting set.
+
+ghost use Rattle.std.specs.Prelude.{◌≡◌, ◌↔◌, [], IfErr, IfOk, IsTrue, OnErr, OnOk};
+ghost use Rattle.std.specs.Option.{option_copied};
+ghost use Rattle.apex_machine.specs.Demands.{stands_in};
+ghost use Rattle.apex_machine.specs.Waiting.{first_waiter, is_waiting};
+ghost use Rattle.wait_set.specs.Actors.{entry_with, joined_by};
+ghost use Rattle.wait_set.specs.Sets as sets;
+ghost use Rattle.wait_set.specs.Sets.{IsNew, IsRollOf, entered, without_first, without_named, without_one};
+
+use crate::object::Actor;
+use crate::rank::Rank;
+use apex_machine::Entry;
+use apex_types::{Claim, Discipline, Message, Out, Place, Who};
+use std::alloc::{AllocError, Global};
+use std::collections::{BTreeMap, BTreeSet};
+use std::marker::Model;
+use thiserror::Error;
+
+/// An entry that could not be taken in, since memory was refused.
+#[derive(Debug, Drop, Error)]
+#[error("out of memory")]
+pub struct Refused {
+    pub entry: Entry,
+}
+
+/// A waiting set: its discipline, and who waits in it.
+#[derive(Drop)]
+pub struct WaitSet {
+    alloc: Global,
+    discipline: Discipline,
+    entries: BTreeMap<Place, Entry>,
+    places: BTreeMap<Who, Place>,
+    ranks: BTreeSet<Rank>,
+}
+
+impl Model for WaitSet {
+    ghost use Rattle.std.specs.Map.{values_of};
+    ghost use Rattle.wait_set.specs.Sets.{Waiters};
+    ghost use Rattle.wait_set.specs.Kept.{IsKept};
+
+    ghost Value = { Waiters };
+
+    ghost view = { λ set. record { discipline = set.discipline; entries = values_of set.entries.entries } };
+
+    ghost invariant = { λ set. IsKept set.discipline set.entries.entries set.places.entries set.ranks.keys };
+}
+
+impl WaitSet {
+    /// The empty set of this discipline. Takes no memory.
+    pub fn new(alloc: Global, discipline: Discipline) -> WaitSet
+        ensures { result ≡ record { discipline = discipline; entries = [] } }
+    {
+        WaitSet {
+            alloc,
+            discipline,
+            entries: BTreeMap::new(alloc),
+            places: BTreeMap::new(alloc),
+            ranks: BTreeSet::new(alloc),
+        }
+    }
+
+    /// The set with one entry more, which is new in it.
+    ///
+    /// Refused where memory is: the entry comes back, and nothing is changed.
+    pub fn enter(&mut self, entry: Entry) -> Result<(), Refused>
+        requires new { IsNew entry self.old.entries }
+        ensures ok { OnOk result (self.new ≡ record self.old { entries = entered entry self.old.entries }) }
+        ensures back { IfErr result (λ refused. refused.entry ≡ entry) }
+        ensures unchanged { OnErr result (self.new ≡ self.old) }
+    {
+        let who = entry.who;
+        let place = entry.place;
+        let rank = Rank::new(self.discipline, &entry);
+        if self.places.insert(who, place).is_err() {
+            return Err(Refused { entry });
+        }
+        if self.ranks.insert(rank).is_err() {
+            self.places.remove(&who);
+            return Err(Refused { entry });
+        }
+        match self.entries.insert(place, entry) {
+            Ok(_) => Ok(()),
+            Err(refused) => {
+                let (_, entry) = refused.value;
+                self.places.remove(&who);
+                self.ranks.remove(&rank);
+                Err(Refused { entry })
+            }
+        }
+    }
+
+    /// Whether a process waits in the set. Takes no memory.
+    pub fn has(&self, who: Who) -> bool
+        ensures { result ≡ stands_in who self.now.entries }
+    {
+        self.places.contains_key(&who)
+    }
+
+    /// The entry that goes on first, or None where nobody waits. Takes no memory.
+    pub fn first(&self) -> Option<&Entry>
+        ensures { option_copied result ≡ first_waiter self.now.discipline self.now.entries }
+    {
+        let rank = self.ranks.first()?;
+        self.entries.get(&rank.place)
+    }
+
+    /// Takes out the entry that goes on first, or None where nobody waits. Takes no memory.
+    pub fn take_first(&mut self) -> Option<Entry>
+        ensures first { result ≡ first_waiter self.old.discipline self.old.entries }
+        ensures taken { self.new ≡ record self.old { entries = without_first self.old.discipline self.old.entries } }
+    {
+        let who = self.first()?.who;
+        self.take(who)
+    }
+
+    /// Takes a process out of the set, and says whether it stood there. Takes no memory.
+    pub fn leave(&mut self, who: Who) -> bool
+        ensures stood { result ≡ stands_in who self.old.entries }
+        ensures left { self.new ≡ record self.old { entries = without_one who self.old.entries } }
+    {
+        self.take(who).is_some()
+    }
+
+    // Takes out the entry of a process, or None where it does not wait here.
+    fn take(&mut self, who: Who) -> Option<Entry>
+        ensures taken { result ≡ sets.entry_of who self.old.entries }
+        ensures left { self.new ≡ record self.old { entries = without_one who self.old.entries } }
+    {
+        let place = self.places.remove(&who)?;
+        let Some(entry) = self.entries.remove(&place) else {
+            unreachable!()
+        };
+        let rank = Rank::new(self.discipline, &entry);
+        self.ranks.remove(&rank);
+        Some(entry)
+    }
+
+    /// Takes out all whom a list names. Takes no memory.
+    pub fn release(&mut self, named: &[Who])
+        ensures { self.new ≡ record self.old { entries = without_named named.now self.old.entries } }
+    {
+        for who in named {
+            self.leave(*who);
+        }
+    }
+
+    /// Whether a list names exactly those who wait here, each once. Takes no memory.
+    pub fn is_exactly(&self, named: &[Who]) -> bool
+        ensures { IsTrue result ↔ IsRollOf self.now.entries named.now }
+    {
+        named.len() == self.entries.len() && named.iter().all(|who| self.has(*who))
+    }
+
+    /// Takes out all. Takes no memory.
+    pub fn clear(&mut self)
+        ensures { self.new ≡ record self.old { entries = [] } }
+    {
+        self.entries.clear();
+        self.places.clear();
+        self.ranks.clear();
+    }
+
+    /// Whether nobody waits here.
+    pub fn is_empty(&self) -> bool
+        ensures { IsTrue result ↔ (self.now.entries ≡ []) }
+    {
+        self.entries.is_empty()
+    }
+
+    /// The set after a call that may wait here: whose wait the claim ends leaves, and a caller that waits enters with this
+    /// message. A caller that waits ends no wait.
+    ///
+    /// AllocError where memory is refused to a caller that waits; nothing is changed then.
+    pub fn settle(&mut self, actor: Actor, claim: &Claim, message: &[u8]) -> Result<(), AllocError>
+        requires new { IsNew (entry_with actor message.now) self.old.entries }
+        requires alone { IsTrue (is_waiting claim.now.out) → claim.now.woken ≡ [] }
+        ensures ok { OnOk result (self.new ≡ record self.old { entries = joined_by actor claim.now message.now self.old.entries }) }
+        ensures unchanged { OnErr result (self.new ≡ self.old) }
+        ensures memory { OnErr result (IsTrue (is_waiting claim.now.out)) }
+    {
+        let Out::Waits = claim.out else {
+            self.release(claim.woken.as_slice());
+            return Ok(());
+        };
+        let entry = Entry {
+            who: actor.who,
+            priority: actor.priority,
+            place: actor.place,
+            message: Message::new(Vec::from_slice(self.alloc, message)?),
+        };
+        match self.enter(entry) {
+            Ok(()) => Ok(()),
+            Err(_) => Err(AllocError),
+        }
+    }
+}
