@@ -1,5 +1,5 @@
 -- Waiting sets: a discipline and the entries; who enters, who leaves, and which list names those who wait.
-use Rattle.std.specs.Prelude.{◌≡◌, ◌≢◌, List, [], ◌∷◌, Option, Some, None, Bool, false, ◌||◌, nat_lt, if◌then◌else◌, IsFalse, All}
+use Rattle.std.specs.Prelude.{◌<◌, ℕ, List, [], ◌∷◌, Option, Some, None, Bool, false, ◌||◌, nat_eq, nat_lt, if◌then◌else◌, IsFalse}
 use Rattle.apex_types.specs.declared.discipline.Discipline.{Discipline}
 use Rattle.apex_types.specs.declared.record.Who.{Who}
 use Rattle.apex_machine.specs.declared.state.Entry.{Entry}
@@ -20,9 +20,24 @@ abbrev pub entered : Entry → List Entry → List Entry
 entered entry [] = entry ∷ []
 entered entry (other ∷ others) = if nat_lt other.place entry.place then other ∷ entered entry others else entry ∷ other ∷ others
 
+-- whether an entry of a set has this place
+abbrev pub has_place : ℕ → List Entry → Bool
+has_place place [] = false
+has_place place (entry ∷ entries) = nat_eq place entry.place || has_place place entries
+
 -- a new entry: its process does not stand in the set, and no entry has its place
 abbrev pub IsNew : Entry → List Entry → Type 0
-IsNew entry entries = IsFalse (stands_in entry.who entries) × All (λ (other : Entry). other.place ≢ entry.place) entries
+IsNew entry entries = IsFalse (stands_in entry.who entries) × IsFalse (has_place entry.place entries)
+
+-- all entries have places above this one
+abbrev pub StandBehind : ℕ → List Entry → Type 0
+StandBehind place [] = Unit {0}
+StandBehind place (entry ∷ entries) = (place < entry.place) × StandBehind place entries
+
+-- the places of a set rise
+abbrev pub PlacesRise : List Entry → Type 0
+PlacesRise [] = Unit {0}
+PlacesRise (entry ∷ entries) = StandBehind entry.place entries × PlacesRise entries
 
 -- the entry of a process, if it waits
 abbrev pub entry_of : Who → List Entry → Option Entry
@@ -68,4 +83,5 @@ stands_in_one who (entries ∷ sets) = stands_in who entries || stands_in_one wh
 
 -- an entry that is new in each of these sets
 abbrev pub IsNewInEach : Entry → List (List Entry) → Type 0
-IsNewInEach entry sets = All (IsNew entry) sets
+IsNewInEach entry [] = Unit {0}
+IsNewInEach entry (entries ∷ sets) = IsNew entry entries × IsNewInEach entry sets

@@ -5,12 +5,13 @@ ghost use Rattle.wait_set.specs.Ranks.{rank_of};
 
 use apex_machine::Entry;
 use apex_types::{Discipline, Place};
+use std::cmp::Reverse;
 
 /// The rank of an entry in its set: of two entries, that of the smaller rank goes on before.
 #[derive(Clone, Copy, Debug, PartialEq, Eq, PartialOrd, Ord)]
 pub(crate) struct Rank {
-    /// Smaller for a greater priority; 0 for all in a set that is first in, first out.
-    pub(crate) class: u8,
+    /// The priority, the greater first; 0 for all in a set that is first in, first out.
+    pub(crate) urgency: Reverse<u8>,
     pub(crate) place: Place,
 }
 
@@ -19,12 +20,12 @@ impl Rank {
     pub(crate) fn new(discipline: Discipline, entry: &Entry) -> Rank
         ensures { result ≡ rank_of discipline entry.now }
     {
-        let class = match discipline {
+        let urgency = match discipline {
             Discipline::Fifo => 0,
-            Discipline::Priority => u8::MAX - entry.priority,
+            Discipline::Priority => entry.priority,
         };
         Rank {
-            class,
+            urgency: Reverse(urgency),
             place: entry.place,
         }
     }

@@ -1,0 +1,185 @@
+-- What leaving does to entries in the order of their places.
+use Rattle.std.proofs.Common.{◌≡◌, ◌<◌, ℕ, List, [], ◌∷◌, Option, Some, None, Bool, true, false, ◌||◌, nat_eq, nat_lt, if◌then◌else◌, refl, sym, ap, ◌∙◌, arith, inl, inr, true≢false, cond}
+use Rattle.std.proofs.lemmas.Bool.{and_parts, cases_Bool, eqb-true, eq-eqb}
+use Rattle.std.proofs.lemmas.Bool.Decides.{nat_tests}
+use Rattle.std.specs.Option.{IsSome, is_some}
+use Rattle.apex_types.specs.declared.discipline.Discipline.{Discipline}
+use Rattle.apex_types.specs.declared.record.Who.{Who}
+use Rattle.apex_machine.specs.declared.state.Entry.{Entry}
+use Rattle.apex_machine.specs.Answer.{whos}
+use Rattle.apex_machine.specs.Demands.{stands_in}
+use Rattle.apex_machine.specs.State.{is_named, is_same}
+use Rattle.apex_machine.specs.Waiting.{without}
+use Rattle.wait_set.specs.declared.rank.Rank.{Rank}
+use Rattle.wait_set.specs.Kept.{has_rank, is_rank, place_of}
+use Rattle.wait_set.specs.Ranks.{rank_of}
+use Rattle.wait_set.specs.Sets.{NobodyTwice, PlacesRise, StandBehind, entry_of, has_place, without_one}
+use Rattle.wait_set.proofs.Orders.{number_swap}
+use Rattle.wait_set.proofs.Tests.{neither, neither_first, neither_later}
+use Rattle.wait_set.proofs.Whos.{same_is, same_itself, same_swap, stands-named}
+
+-- the place of a process, once those who leave have left
+pub place_of-without : (leaves : Who → Bool) (who : Who) (entries : List Entry)
+    → place_of who (without leaves entries) ≡ (if leaves who then None else place_of who entries)
+place_of-without leaves who [] = elim (cases_Bool (leaves who)) [ inl e ↦ rw e refl | inr e ↦ rw e refl ]
+place_of-without leaves who (entry ∷ entries) =
+    elim (cases_Bool (leaves entry.who)) [
+      | inl gone ↦ rw gone (place_of-without leaves who entries ∙ left gone (leaves who) refl)
+      | inr stays ↦ rw stays (kept stays (is_same who entry.who) refl (place_of-without leaves who entries))
+    ]
+  where
+    left : leaves entry.who ≡ true → (b : Bool) → leaves who ≡ b
+        → (if b then None else place_of who entries) ≡ (if b then None else place_of who (entry ∷ entries))
+    left gone true e = refl
+    left gone false e =
+        elim (cases_Bool (is_same who entry.who)) [
+          | inl same ↦ absurd (true≢false (sym gone ∙ ap leaves (sym (same_is who entry.who same)) ∙ e))
+          | inr differs ↦ rw differs refl
+        ]
+    kept : leaves entry.who ≡ false → (b : Bool) → is_same who entry.who ≡ b
+        → place_of who (without leaves entries) ≡ (if leaves who then None else place_of who entries)
+        → place_of who (entry ∷ without leaves entries) ≡ (if leaves who then None else place_of who (entry ∷ entries))
+    kept stays true same rest = rw (same, ap leaves (same_is who entry.who same) ∙ stays) refl
+    kept stays false differs rest = rw differs rest
+
+-- who does not wait does not wait once others have left
+pub unnamed-without : (leaves : Who → Bool) (who : Who) (entries : List Entry) → is_named who (whos entries) ≡ false
+    → is_named who (whos (without leaves entries)) ≡ false
+unnamed-without leaves who [] none = refl
+unnamed-without leaves who (entry ∷ entries) none =
+    elim (cases_Bool (leaves entry.who)) [
+      | inl gone ↦ rw gone (unnamed-without leaves who entries (neither_later _ _ none))
+      | inr stays ↦ rw stays (neither _ _ (neither_first _ _ none) (unnamed-without leaves who entries (neither_later _ _ none)))
+    ]
+
+-- who leaves makes nobody stand twice
+pub once-without : (leaves : Who → Bool) (entries : List Entry) → NobodyTwice (whos entries) → NobodyTwice (whos (without leaves entries))
+once-without leaves [] once = tt
+once-without leaves (entry ∷ entries) once =
+    elim (cases_Bool (leaves entry.who)) [
+      | inl gone ↦ rw gone (once-without leaves entries once.1)
+      | inr stays ↦ rw stays (unnamed-without leaves entry.who entries once.0, once-without leaves entries once.1)
+    ]
+
+-- who leaves keeps the others behind
+pub behind-without : (leaves : Who → Bool) (place : ℕ) (entries : List Entry) → StandBehind place entries
+    → StandBehind place (without leaves entries)
+behind-without leaves place [] behind = tt
+behind-without leaves place (entry ∷ entries) behind =
+    elim (cases_Bool (leaves entry.who)) [
+      | inl gone ↦ rw gone (behind-without leaves place entries behind.1)
+      | inr stays ↦ rw stays (behind.0, behind-without leaves place entries behind.1)
+    ]
+
+-- who leaves keeps the places rising
+pub rising-without : (leaves : Who → Bool) (entries : List Entry) → PlacesRise entries → PlacesRise (without leaves entries)
+rising-without leaves [] rising = tt
+rising-without leaves (entry ∷ entries) rising =
+    elim (cases_Bool (leaves entry.who)) [
+      | inl gone ↦ rw gone (rising-without leaves entries rising.1)
+      | inr stays ↦ rw stays (behind-without leaves entry.place entries rising.0, rising-without leaves entries rising.1)
+    ]
+
+-- one that does not wait leaves nothing changed
+pub without-absent : (who : Who) (entries : List Entry) → stands_in who entries ≡ false → without_one who entries ≡ entries
+without-absent who [] none = refl
+without-absent who (entry ∷ entries) none =
+    rw (same_swap entry.who who ∙ neither_first _ _ none) (ap (λ rest. entry ∷ rest) (without-absent who entries (neither_later _ _ none)))
+
+-- a process that has a place in a set has its entry there
+pub found-entry : (who : Who) (entries : List Entry) (place : ℕ) → place_of who entries ≡ Some place
+    → (entry : Entry) × (entry_of who entries ≡ Some entry) × (entry.place ≡ place)
+found-entry who [] place found = cc
+found-entry who (entry ∷ entries) place found =
+    elim (cases_Bool (is_same who entry.who)) [
+      | inl same ↦ rw same (entry, refl, (let here = rw same at found in cc))
+      | inr differs ↦ rw differs (found-entry who entries place (rw differs at found))
+    ]
+
+-- who does not wait has no entry
+pub entry_of-absent : (who : Who) (entries : List Entry) → place_of who entries ≡ None → entry_of who entries ≡ None
+entry_of-absent who [] none = refl
+entry_of-absent who (entry ∷ entries) none =
+    elim (cases_Bool (is_same who entry.who)) [
+      | inl same ↦ absurd (let some = rw same at none in cc)
+      | inr differs ↦ rw differs (entry_of-absent who entries (rw differs at none))
+    ]
+
+-- whether there is an entry of a process
+pub entry_of-stands : (who : Who) (entries : List Entry) → is_some (entry_of who entries) ≡ stands_in who entries
+entry_of-stands who [] = refl
+entry_of-stands who (entry ∷ entries) =
+    elim (cases_Bool (is_same who entry.who)) [ inl e ↦ rw e refl | inr e ↦ rw e (entry_of-stands who entries) ]
+
+-- an entry behind a place has a greater place
+pub found-behind : (who : Who) (place : ℕ) (entries : List Entry) (entry : Entry) → StandBehind place entries
+    → entry_of who entries ≡ Some entry → place < entry.place
+found-behind who place [] entry behind found = cc
+found-behind who place (other ∷ others) entry behind found =
+    elim (cases_Bool (is_same who other.who)) [
+      | inl same ↦
+          let here : Some other ≡ Some entry = rw same at found in
+          let is : other ≡ entry = cc in
+          let above : place < other.place = behind.0 in
+          rw (← is) above
+      | inr differs ↦ found-behind who place others entry behind.1 (rw differs at found)
+    ]
+
+-- ranks of two places are two
+pub differ : (one other : Rank) → one.place < other.place → is_rank one other ≡ false
+differ one other below =
+    elim (cases_Bool (is_rank one other)) [
+      | inl same ↦
+          let parts = and_parts (nat_eq one.urgency.0 other.urgency.0) (nat_eq one.place other.place) same in
+          let place : one.place ≡ other.place = eqb-true one.place other.place parts.1 in
+          absurd (omega arith)
+      | inr apart ↦ apart
+    ]
+
+-- a rank of a smaller place is none of those behind it
+pub unranked-behind : (discipline : Discipline) (rank : Rank) (place : ℕ) (entries : List Entry) → StandBehind place entries
+    → rank.place ≡ place → has_rank discipline rank entries ≡ false
+unranked-behind discipline rank place [] behind is = refl
+unranked-behind discipline rank place (entry ∷ entries) behind is =
+    neither _ _ (differ rank (rank_of discipline entry) (omega arith)) (unranked-behind discipline rank place entries behind.1 is)
+
+-- sameness of ranks goes both ways
+pub rank_swap : (one other : Rank) → is_rank one other ≡ is_rank other one
+rank_swap one other = rw (number_swap one.urgency.0 other.urgency.0, number_swap one.place other.place) refl
+
+-- the ranks of a set, once a process has left: all but that of its entry
+pub has_rank-without : (discipline : Discipline) (rank : Rank) (who : Who) (entry : Entry) (entries : List Entry) → PlacesRise entries
+    → NobodyTwice (whos entries) → entry_of who entries ≡ Some entry
+    → has_rank discipline rank (without_one who entries)
+    ≡ (if is_rank (rank_of discipline entry) rank then false else has_rank discipline rank entries)
+has_rank-without discipline rank who entry [] rising once found = cc
+has_rank-without discipline rank who entry (other ∷ others) rising once found =
+    elim (cases_Bool (is_same who other.who)) [
+      | inl same ↦
+          let here : Some other ≡ Some entry = rw same at found in
+          let is : other ≡ entry = cc in
+          let named : is_named who (whos others) ≡ false = ap (λ w. is_named w (whos others)) (same_is who other.who same) ∙ once.0 in
+          let absent : stands_in who others ≡ false = sym (stands-named who others) ∙ named in
+          rw (same_swap other.who who ∙ same, without-absent who others absent, ← is) (first (is_rank (rank_of discipline other) rank) refl)
+      | inr differs ↦
+          let later : entry_of who others ≡ Some entry = rw differs at found in
+          rw (same_swap other.who who ∙ differs)
+          (later_one (is_rank (rank_of discipline entry) rank) refl (found-behind who other.place others entry rising.0 later)
+          (has_rank-without discipline rank who entry others rising.1 once.1 later))
+    ]
+  where
+    first : (b : Bool) → is_rank (rank_of discipline other) rank ≡ b
+        → has_rank discipline rank others ≡ (if b then false else has_rank discipline rank (other ∷ others))
+    first true e =
+        let parts = and_parts (nat_eq (rank_of discipline other).urgency.0 rank.urgency.0) (nat_eq other.place rank.place) e in
+        let place : other.place ≡ rank.place = eqb-true other.place rank.place parts.1 in
+        unranked-behind discipline rank other.place others rising.0 (sym place)
+    first false e = rw (rank_swap rank (rank_of discipline other) ∙ e) refl
+    later_one : (b : Bool) → is_rank (rank_of discipline entry) rank ≡ b → other.place < entry.place
+        → has_rank discipline rank (without_one who others) ≡ (if b then false else has_rank discipline rank others)
+        → has_rank discipline rank (other ∷ without_one who others) ≡ (if b then false else has_rank discipline rank (other ∷ others))
+    later_one true e above rest =
+        let parts = and_parts (nat_eq (rank_of discipline entry).urgency.0 rank.urgency.0) (nat_eq entry.place rank.place) e in
+        let place : entry.place ≡ rank.place = eqb-true entry.place rank.place parts.1 in
+        neither _ _ (rank_swap rank (rank_of discipline other) ∙ differ (rank_of discipline other) rank (omega arith)) rest
+    later_one false e above rest = ap (λ more. is_rank rank (rank_of discipline other) || more) rest

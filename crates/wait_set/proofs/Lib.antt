@@ -1,0 +1,9 @@
+pub mod Tests
+pub mod Results
+pub mod Orders
+pub mod Whos
+pub mod Entries
+pub mod Leaving
+pub mod Maps
+pub mod Keeping
+pub mod Firsts
