@@ -1,5 +1,6 @@
 -- What leaving does to entries in the order of their places.
-use Rattle.std.proofs.Common.{◌≡◌, ◌<◌, ℕ, List, [], ◌∷◌, Option, Some, None, Bool, true, false, ◌||◌, nat_eq, nat_lt, if◌then◌else◌, refl, sym, ap, ◌∙◌, arith, inl, inr, true≢false, cond}
+use Rattle.std.proofs.Common.{◌≡◌, ◌<◌, ◌≤◌, ◌+◌, ℕ, suc, List, [], ◌∷◌, Option, Some, None, Bool, true, false, ◌||◌, nat_eq, nat_lt, if◌then◌else◌, length, get_or, drop, drop-cons, add-one, refl, sym, ap, ◌∙◌, arith, inl, inr, true≢false, cond}
+use Rattle.std.proofs.Math.ListN.{drop_of_length-le}
 use Rattle.std.proofs.lemmas.Bool.{and_parts, cases_Bool, eqb-true, eq-eqb}
 use Rattle.std.proofs.lemmas.Bool.Decides.{nat_tests}
 use Rattle.std.specs.Option.{IsSome, is_some}
@@ -11,9 +12,13 @@ use Rattle.apex_machine.specs.Demands.{stands_in}
 use Rattle.apex_machine.specs.State.{is_named, is_same}
 use Rattle.apex_machine.specs.Waiting.{without}
 use Rattle.wait_set.specs.declared.rank.Rank.{Rank}
+use Rattle.apex_types.specs.declared.record.Claim.{Claim}
+use Rattle.apex_types.specs.declared.record.Out.TheVariants as out
+use Rattle.wait_set.specs.declared.object.Actor.{Actor}
+use Rattle.wait_set.specs.Actors.{entry_with, joined_by}
 use Rattle.wait_set.specs.Kept.{has_rank, is_rank, place_of}
 use Rattle.wait_set.specs.Ranks.{rank_of}
-use Rattle.wait_set.specs.Sets.{NobodyTwice, PlacesRise, StandBehind, entry_of, has_place, without_one}
+use Rattle.wait_set.specs.Sets.{NobodyTwice, PlacesRise, StandBehind, entered, entry_of, has_place, without_named, without_one}
 use Rattle.wait_set.proofs.Orders.{number_swap}
 use Rattle.wait_set.proofs.Tests.{neither, neither_first, neither_later}
 use Rattle.wait_set.proofs.Whos.{same_is, same_itself, same_swap, stands-named}
@@ -183,3 +188,40 @@ has_rank-without discipline rank who entry (other ∷ others) rising once found 
         let place : entry.place ≡ rank.place = eqb-true entry.place rank.place parts.1 in
         neither _ _ (rank_swap rank (rank_of discipline other) ∙ differ (rank_of discipline other) rank (omega arith)) rest
     later_one false e above rest = ap (λ more. is_rank rank (rank_of discipline other) || more) rest
+
+-- who is named by nobody stays
+pub without-nobody : (entries : List Entry) → without_named [] entries ≡ entries
+without-nobody [] = refl
+without-nobody (entry ∷ entries) = ap (λ rest. entry ∷ rest) (without-nobody entries)
+
+-- those whom a list names leave one after the other
+pub without-next : (who : Who) (others : List Who) (entries : List Entry)
+    → without_named (who ∷ others) entries ≡ without_named others (without_one who entries)
+without-next who others [] = refl
+without-next who others (entry ∷ entries) =
+    elim (cases_Bool (is_same entry.who who)) [
+      | inl same ↦ rw same (without-next who others entries)
+      | inr differs ↦ rw differs (by (is_named entry.who others) refl (without-next who others entries))
+    ]
+  where
+    by : (b : Bool) → is_named entry.who others ≡ b
+        → without_named (who ∷ others) entries ≡ without_named others (without_one who entries)
+        → (if b then without_named (who ∷ others) entries else entry ∷ without_named (who ∷ others) entries)
+        ≡ without_named others (entry ∷ without_one who entries)
+    by true named rest = rw named rest
+    by false unnamed rest = rw unnamed (ap (λ more. entry ∷ more) rest)
+
+-- the next of those who are still to be named leaves
+pub without-at : (who : Who) (index : ℕ) (named : List Who) (entries : List Entry) → index < length named → who ≡ get_or named index who
+    → without_named (drop index named) entries ≡ without_named (drop (index + 1) named) (without_one who entries)
+without-at who index named entries within is =
+    rw (drop-cons named index who within, ← is, add-one) (without-next who (drop (suc index) named) entries)
+
+-- behind the last nobody is named
+pub without-end : (index : ℕ) (named : List Who) (entries : List Entry) → length named ≤ index → without_named (drop index named) entries ≡ entries
+without-end index named entries behind = rw (drop_of_length-le named behind) (without-nobody entries)
+
+-- a caller that waits, and ends no wait, enters
+pub joined-waiting : (actor : Actor) (claim : Claim) (message : List ℕ) (entries : List Entry) → claim.out ≡ out.Waits → claim.woken ≡ []
+    → joined_by actor claim message entries ≡ entered (entry_with actor message) entries
+joined-waiting actor claim message entries waits nobody = rw (waits, nobody, without-nobody entries) refl

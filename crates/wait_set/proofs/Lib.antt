@@ -7,3 +7,4 @@ pub mod Leaving
 pub mod Maps
 pub mod Keeping
 pub mod Firsts
+pub mod Rolls

@@ -1,6 +1,7 @@
 -- Processes by their partition and number, and lists of them.
 use Rattle.std.proofs.Common.{◌≡◌, ℕ, List, [], ◌∷◌, Bool, true, false, ◌||◌, nat_eq, refl, sym, ap, ◌∙◌, subst, inl, inr, true≢false}
 use Rattle.std.proofs.lemmas.Bool.{and_from, and_parts, cases_Bool, eqb-true, eq-eqb}
+use Rattle.std.specs.List.{list_any}
 use Rattle.apex_types.specs.declared.record.Who.{Who}
 use Rattle.apex_machine.specs.declared.state.Entry.{Entry}
 use Rattle.apex_machine.specs.Answer.{whos}
@@ -36,3 +37,8 @@ same_apart who one other differs same =
 pub stands-named : (who : Who) (entries : List Entry) → is_named who (whos entries) ≡ stands_in who entries
 stands-named who [] = refl
 stands-named who (entry ∷ entries) = ap (λ rest. is_same who entry.who || rest) (stands-named who entries)
+
+-- whether a list names a process, as a search
+pub is_named-any : (who : Who) (named : List Who) → is_named who named ≡ list_any (is_same who) named
+is_named-any who [] = refl
+is_named-any who (other ∷ others) = ap (λ rest. is_same who other || rest) (is_named-any who others)

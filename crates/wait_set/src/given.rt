@@ -1,12 +1,12 @@
 // What an operation gives its caller, and whether a claim is that.
 
-ghost use Rattle.std.specs.Prelude.{◌≡◌, ◌↔◌, [], IsTrue};
+ghost use Rattle.std.specs.Prelude.{◌≡◌, ◌↔◌, IsTrue};
 ghost use Rattle.apex_machine.specs.Answer as answer;
 ghost use Rattle.apex_machine.specs.Answer.{NamesExactly};
 ghost use Rattle.apex_machine.specs.Demands.{Judges, answer_demands};
 ghost use Rattle.wait_set.specs.Givens.{answer_given, listed, outcome_demands};
-ghost use Rattle.apex_types.specs.Rising.{IsRising};
 
+use crate::named::names_only;
 use crate::set::WaitSet;
 use apex_types::{Cause, Claim, Code, Out, Who};
 
@@ -92,7 +92,7 @@ pub fn judge_waking_all(set: &WaitSet, claim: &Claim) -> Result<(), Cause>
     ensures { Judges (answer_demands (answer.waking (answer.whos set.now.entries)) claim.now) result }
 {
     judge_outcome(Out::Answer(Code::NoError), &[], claim)?;
-    if !set.is_exactly(claim.woken.as_slice()) {
+    if !names_all(set, claim) {
         return Err(Cause::Woken);
     }
     Ok(())
@@ -114,16 +114,9 @@ fn judge_outcome(out: Out, bytes: &[u8], claim: &Claim) -> Result<(), Cause>
     Ok(())
 }
 
-// Whether a list in rising order names this process and no other, or where there is none nobody.
-fn names_only(woken: Option<Who>, named: &[Who]) -> bool
-    requires { IsRising named.now }
-    ensures { IsTrue result ↔ NamesExactly (listed woken) named.now }
+// Whether a claim names exactly those who wait in a set.
+fn names_all(set: &WaitSet, claim: &Claim) -> bool
+    ensures { IsTrue result ↔ NamesExactly (answer.whos set.now.entries) claim.now.woken }
 {
-    match woken {
-        Some(who) => match named {
-            [only] => *only == who,
-            _ => false,
-        },
-        None => named.is_empty(),
-    }
+    set.is_exactly(claim.woken.as_slice())
 }

@@ -2,6 +2,7 @@
 #![tactic(auto)]
 
 mod given;
+mod named;
 mod object;
 mod rank;
 mod set;

@@ -1,6 +1,7 @@
 // A waiting set.
 
-ghost use Rattle.std.specs.Prelude.{◌≡◌, ◌↔◌, [], IfErr, IfOk, IsTrue, OnErr, OnOk};
+ghost use Rattle.std.specs.Prelude.{◌≡◌, ◌↔◌, [], Some, IfErr, IfOk, IfSome, IsTrue, OnErr, OnOk};
+ghost use Rattle.std.specs.List.{list_all};
 ghost use Rattle.std.specs.Option.{option_copied};
 ghost use Rattle.apex_machine.specs.Demands.{stands_in};
 ghost use Rattle.apex_machine.specs.Waiting.{first_waiter, is_waiting};
@@ -8,6 +9,7 @@ ghost use Rattle.wait_set.specs.Actors.{entry_with, joined_by};
 ghost use Rattle.wait_set.specs.Sets as sets;
 ghost use Rattle.wait_set.specs.Sets.{IsNew, IsRollOf, entered, without_first, without_named, without_one};
 
+use crate::named::names_nobody_twice;
 use crate::object::Actor;
 use crate::rank::Rank;
 use apex_machine::Entry;
@@ -97,9 +99,10 @@ impl WaitSet {
         self.places.contains_key(&who)
     }
 
-    /// The entry that goes on first, or None where nobody waits. Takes no memory.
+    /// The entry that goes on first, or None where nobody waits. Its process has no other. Takes no memory.
     pub fn first(&self) -> Option<&Entry>
-        ensures { option_copied result ≡ first_waiter self.now.discipline self.now.entries }
+        ensures first { option_copied result ≡ first_waiter self.now.discipline self.now.entries }
+        ensures own { IfSome result (λ entry. sets.entry_of entry.now.who self.now.entries ≡ Some entry.now) }
     {
         let rank = self.ranks.first()?;
         self.entries.get(&rank.place)
@@ -149,7 +152,17 @@ impl WaitSet {
     pub fn is_exactly(&self, named: &[Who]) -> bool
         ensures { IsTrue result ↔ IsRollOf self.now.entries named.now }
     {
-        named.len() == self.entries.len() && named.iter().all(|who| self.has(*who))
+        if named.len() != self.entries.len() {
+            return false;
+        }
+        names_nobody_twice(named) && self.all_stand(named)
+    }
+
+    // Whether all whom a list names wait here.
+    fn all_stand(&self, named: &[Who]) -> bool
+        ensures { result ≡ list_all (λ who. stands_in who self.now.entries) named.now }
+    {
+        named.iter().all(|who| self.has(*who))
     }
 
     /// Takes out all. Takes no memory.
@@ -179,15 +192,27 @@ impl WaitSet {
         ensures unchanged { OnErr result (self.new ≡ self.old) }
         ensures memory { OnErr result (IsTrue (is_waiting claim.now.out)) }
     {
-        let Out::Waits = claim.out else {
-            self.release(claim.woken.as_slice());
-            return Ok(());
-        };
+        match claim.out {
+            Out::Waits => self.join(actor, message),
+            Out::Never | Out::Answer(_) => {
+                self.release(claim.woken.as_slice());
+                Ok(())
+            }
+        }
+    }
+
+    // The set with the caller of a call, which waits with a copy of this message.
+    fn join(&mut self, actor: Actor, message: &[u8]) -> Result<(), AllocError>
+        requires { IsNew (entry_with actor message.now) self.old.entries }
+        ensures ok { OnOk result (self.new ≡ record self.old { entries = entered (entry_with actor message.now) self.old.entries }) }
+        ensures unchanged { OnErr result (self.new ≡ self.old) }
+    {
+        let message = Message::new(Vec::from_slice(self.alloc, message)?);
         let entry = Entry {
             who: actor.who,
             priority: actor.priority,
             place: actor.place,
-            message: Message::new(Vec::from_slice(self.alloc, message)?),
+            message,
         };
         match self.enter(entry) {
             Ok(()) => Ok(()),
