@@ -7,7 +7,7 @@ use Rattle.std.specs.Option.{IsSome, is_some}
 use Rattle.apex_types.specs.declared.discipline.Discipline.{Discipline}
 use Rattle.apex_types.specs.declared.record.Who.{Who}
 use Rattle.apex_machine.specs.declared.state.Entry.{Entry}
-use Rattle.apex_machine.specs.Answer.{whos}
+use Rattle.apex_machine.specs.Answer.{NamesExactly, whos}
 use Rattle.apex_machine.specs.Demands.{stands_in}
 use Rattle.apex_machine.specs.State.{is_named, is_same}
 use Rattle.apex_machine.specs.Waiting.{without}
@@ -189,6 +189,11 @@ has_rank-without discipline rank who entry (other ∷ others) rising once found 
         neither _ _ (rank_swap rank (rank_of discipline other) ∙ differ (rank_of discipline other) rank (omega arith)) rest
     later_one false e above rest = ap (λ more. is_rank rank (rank_of discipline other) || more) rest
 
+-- a list that names nobody lets nobody go
+pub without-unnamed : (named : List Who) (entries : List Entry) → NamesExactly [] named → without_named named entries ≡ entries
+without-unnamed named [] exact = refl
+without-unnamed named (entry ∷ entries) exact = rw (exact entry.who) (ap (λ rest. entry ∷ rest) (without-unnamed named entries exact))
+
 -- who is named by nobody stays
 pub without-nobody : (entries : List Entry) → without_named [] entries ≡ entries
 without-nobody [] = refl
@@ -222,6 +227,6 @@ pub without-end : (index : ℕ) (named : List Who) (entries : List Entry) → le
 without-end index named entries behind = rw (drop_of_length-le named behind) (without-nobody entries)
 
 -- a caller that waits, and ends no wait, enters
-pub joined-waiting : (actor : Actor) (claim : Claim) (message : List ℕ) (entries : List Entry) → claim.out ≡ out.Waits → claim.woken ≡ []
+pub joined-waiting : (actor : Actor) (claim : Claim) (message : List ℕ) (entries : List Entry) → claim.out ≡ out.Waits → NamesExactly [] claim.woken
     → joined_by actor claim message entries ≡ entered (entry_with actor message) entries
-joined-waiting actor claim message entries waits nobody = rw (waits, nobody, without-nobody entries) refl
+joined-waiting actor claim message entries waits nobody = rw (waits, without-unnamed claim.woken entries nobody) refl

@@ -1,8 +1,11 @@
 -- Who makes a call on an object, and the object's waiting sets after it.
-use Rattle.std.specs.Prelude.{ℕ, List, if◌then◌else◌}
+use Rattle.std.specs.Prelude.{◌≡◌, ℕ, List, [], ◌∷◌, None, if◌then◌else◌, IsTrue}
 use Rattle.apex_types.specs.declared.cause.Cause.{Cause}
+use Rattle.apex_types.specs.declared.cause.Cause.TheVariants as cause
 use Rattle.apex_types.specs.declared.record.Claim.{Claim}
+use Rattle.apex_types.specs.declared.record.Out.{Out}
 use Rattle.apex_machine.specs.declared.state.Entry.{Entry}
+use Rattle.apex_machine.specs.Answer.{NamesExactly}
 use Rattle.apex_machine.specs.Demands.{AllHold, Demand, FirstFails}
 use Rattle.apex_machine.specs.Waiting.{is_waiting}
 use Rattle.wait_set.specs.declared.object.Actor.{Actor}
@@ -23,7 +26,18 @@ abbrev pub joined_by : Actor → Claim → List ℕ → List Entry → List Entr
 joined_by actor claim message entries =
     if is_waiting claim.out then entered (entry_with actor message) (left_by claim entries) else left_by claim entries
 
+-- a claim by which the caller waits ends no wait
+abbrev pub WaitsAlone : Claim → Type 0
+WaitsAlone claim = IsTrue (is_waiting claim.out) → NamesExactly [] claim.woken
+
 -- a refusal over demands: the cause of the first that fails; memory is wanted only where all of them hold
 abbrev pub Refuses : List {1} Demand → ObjFault → Type 0
 Refuses demands (Unlawful cause) = FirstFails demands cause
 Refuses demands Memory = AllHold demands
+
+-- what a call claims is this outcome, without a value, and with this message
+abbrev pub outcome_demands : Out → List ℕ → Claim → List {1} Demand
+outcome_demands out bytes claim =
+    record { cause = cause.Out; holds = claim.out ≡ out }
+    ∷ record { cause = cause.Val; holds = claim.val ≡ None }
+    ∷ record { cause = cause.Data; holds = claim.bytes ≡ bytes } ∷ []

@@ -1,10 +1,11 @@
 // What an operation gives its caller, and whether a claim is that.
 
-ghost use Rattle.std.specs.Prelude.{◌≡◌, ◌↔◌, IsTrue};
+ghost use Rattle.std.specs.Prelude.{◌≡◌, ◌↔◌, None, IsTrue, OnOk};
 ghost use Rattle.apex_machine.specs.Answer as answer;
 ghost use Rattle.apex_machine.specs.Answer.{NamesExactly};
 ghost use Rattle.apex_machine.specs.Demands.{Judges, answer_demands};
-ghost use Rattle.wait_set.specs.Givens.{answer_given, listed, outcome_demands};
+ghost use Rattle.apex_machine.specs.Waiting.{is_waiting};
+ghost use Rattle.wait_set.specs.Actors.{WaitsAlone, outcome_demands};
 
 use crate::named::names_only;
 use crate::set::WaitSet;
@@ -17,9 +18,13 @@ pub struct Given<'a> {
     pub out: Out,
     pub bytes: &'a [u8],
     pub woken: Option<Who>,
+    /// A caller that waits ends no wait.
+    pub ghost alone: { IsTrue (is_waiting out) → woken ≡ None },
 }
 
 impl<'a> Given<'a> {
+    ghost use Rattle.wait_set.specs.Givens.{answer_given, listed};
+
     /// The operation is done at once.
     pub fn done() -> Given<'a>
         ensures { answer_given result ≡ answer.done }
@@ -75,8 +80,11 @@ impl<'a> Given<'a> {
     }
 
     /// Judges a claim: it has to be what the operation gives. The cause is that of the first demand that fails.
+    ///
+    /// A claim that passes names nobody where its caller waits.
     pub fn judge(&self, claim: &Claim) -> Result<(), Cause>
-        ensures { Judges (answer_demands (answer_given self.now) claim.now) result }
+        ensures judged { Judges (answer_demands (answer_given self.now) claim.now) result }
+        ensures alone { OnOk result (WaitsAlone claim.now) }
     {
         judge_outcome(self.out, self.bytes, claim)?;
         if !names_only(self.woken, claim.woken.as_slice()) {

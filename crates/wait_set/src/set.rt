@@ -5,7 +5,7 @@ ghost use Rattle.std.specs.List.{list_all};
 ghost use Rattle.std.specs.Option.{option_copied};
 ghost use Rattle.apex_machine.specs.Demands.{stands_in};
 ghost use Rattle.apex_machine.specs.Waiting.{first_waiter, is_waiting};
-ghost use Rattle.wait_set.specs.Actors.{entry_with, joined_by};
+ghost use Rattle.wait_set.specs.Actors.{WaitsAlone, entry_with, joined_by};
 ghost use Rattle.wait_set.specs.Sets as sets;
 ghost use Rattle.wait_set.specs.Sets.{IsNew, IsRollOf, entered, without_first, without_named, without_one};
 
@@ -187,7 +187,7 @@ impl WaitSet {
     /// AllocError where memory is refused to a caller that waits; nothing is changed then.
     pub fn settle(&mut self, actor: Actor, claim: &Claim, message: &[u8]) -> Result<(), AllocError>
         requires new { IsNew (entry_with actor message.now) self.old.entries }
-        requires alone { IsTrue (is_waiting claim.now.out) → claim.now.woken ≡ [] }
+        requires alone { WaitsAlone claim.now }
         ensures ok { OnOk result (self.new ≡ record self.old { entries = joined_by actor claim.now message.now self.old.entries }) }
         ensures unchanged { OnErr result (self.new ≡ self.old) }
         ensures memory { OnErr result (IsTrue (is_waiting claim.now.out)) }
