@@ -18,7 +18,7 @@ use Rattle.wait_set.specs.declared.object.Actor.{Actor}
 use Rattle.wait_set.specs.Actors.{entry_with, joined_by}
 use Rattle.wait_set.specs.Kept.{has_rank, is_rank, place_of}
 use Rattle.wait_set.specs.Ranks.{rank_of}
-use Rattle.wait_set.specs.Sets.{NobodyTwice, PlacesRise, StandBehind, entered, entry_of, has_place, without_named, without_one}
+use Rattle.wait_set.specs.Sets.{NobodyTwice, PlacesRise, StandBehind, entered, entry_of, has_place, whos_of, without_found, without_named, without_one}
 use Rattle.wait_set.proofs.Orders.{number_swap}
 use Rattle.wait_set.proofs.Tests.{neither, neither_first, neither_later}
 use Rattle.wait_set.proofs.Whos.{same_is, same_itself, same_swap, stands-named}
@@ -230,3 +230,28 @@ without-end index named entries behind = rw (drop_of_length-le named behind) (wi
 pub joined-waiting : (actor : Actor) (claim : Claim) (message : List ℕ) (entries : List Entry) → claim.out ≡ out.Waits → NamesExactly [] claim.woken
     → joined_by actor claim message entries ≡ entered (entry_with actor message) entries
 joined-waiting actor claim message entries waits nobody = rw (waits, without-unnamed claim.woken entries nobody) refl
+
+-- once one who is named has left, those who are named leave what they leave otherwise
+pub without-named_one : (who : Who) (named : List Who) (entries : List Entry) → is_named who named ≡ true
+    → without_named named (without_one who entries) ≡ without_named named entries
+without-named_one who named [] is = refl
+without-named_one who named (entry ∷ entries) is =
+    elim (cases_Bool (is_same entry.who who)) [
+      | inl same ↦
+          let also : is_named entry.who named ≡ true = ap (λ w. is_named w named) (same_is entry.who who same) ∙ is in
+          rw (same, also) (without-named_one who named entries is)
+      | inr differs ↦ rw differs (by (is_named entry.who named) refl (without-named_one who named entries is))
+    ]
+  where
+    by : (b : Bool) → is_named entry.who named ≡ b → without_named named (without_one who entries) ≡ without_named named entries
+        → (if b then without_named named (without_one who entries) else entry ∷ without_named named (without_one who entries))
+        ≡ (if b then without_named named entries else entry ∷ without_named named entries)
+    by true e rest = rest
+    by false e rest = ap (λ more. entry ∷ more) rest
+
+-- once the first has left, whom a list names and no other, those who are named leave what they leave otherwise
+pub without-named_first : (found : Option Entry) (named : List Who) (entries : List Entry) → NamesExactly (whos_of found) named
+    → without_named named (without_found found entries) ≡ without_named named entries
+without-named_first None named entries exact = refl
+without-named_first (Some entry) named entries exact =
+    without-named_one entry.who named entries (exact entry.who ∙ rw (same_itself entry.who) refl)

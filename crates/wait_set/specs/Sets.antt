@@ -55,6 +55,11 @@ abbrev pub without_found : Option Entry → List Entry → List Entry
 without_found None entries = entries
 without_found (Some entry) entries = without_one entry.who entries
 
+-- the process of this one, if it is one
+abbrev pub whos_of : Option Entry → List Who
+whos_of None = []
+whos_of (Some entry) = entry.who ∷ []
+
 -- the entries of all but the process that goes on first
 abbrev pub without_first : Discipline → List Entry → List Entry
 without_first discipline entries = without_found (first_waiter discipline entries) entries

@@ -3,11 +3,12 @@
 ghost use Rattle.std.specs.Prelude.{◌≡◌, ◌↔◌, [], Some, IfErr, IfOk, IfSome, IsTrue, OnErr, OnOk};
 ghost use Rattle.std.specs.List.{list_all};
 ghost use Rattle.std.specs.Option.{option_copied};
+ghost use Rattle.apex_machine.specs.Answer.{NamesExactly};
 ghost use Rattle.apex_machine.specs.Demands.{stands_in};
 ghost use Rattle.apex_machine.specs.Waiting.{first_waiter, is_waiting};
 ghost use Rattle.wait_set.specs.Actors.{WaitsAlone, entry_with, joined_by};
 ghost use Rattle.wait_set.specs.Sets as sets;
-ghost use Rattle.wait_set.specs.Sets.{IsNew, IsRollOf, entered, without_first, without_named, without_one};
+ghost use Rattle.wait_set.specs.Sets.{IsNew, IsRollOf, entered, whos_of, without_first, without_named, without_one};
 
 use crate::named::names_nobody_twice;
 use crate::object::Actor;
@@ -146,6 +147,18 @@ impl WaitSet {
         for who in named {
             self.leave(*who);
         }
+    }
+
+    /// Takes out the entry that goes on first, where a list names its process and nobody else, or None where the list names
+    /// nobody and nobody waits. Takes no memory.
+    pub fn release_first(&mut self, named: &[Who]) -> Option<Entry>
+        requires { NamesExactly (whos_of (first_waiter self.old.discipline self.old.entries)) named.now }
+        ensures first { result ≡ first_waiter self.old.discipline self.old.entries }
+        ensures left { self.new ≡ record self.old { entries = without_named named.now self.old.entries } }
+    {
+        let first = self.take_first();
+        self.release(named);
+        first
     }
 
     /// Whether a list names exactly those who wait here, each once. Takes no memory.
