@@ -1,0 +1,140 @@
+// Blackboards.
+
+ghost use Rattle.std.specs.Prelude.{◌≡◌, ◌↔◌, [], None, IfErr, IfOk, IsTrue, OnErr, OnOk};
+ghost use Rattle.apex_types.specs.declared.record.Out.TheVariants as out;
+ghost use Rattle.apex_machine.specs.Demands.{AllHold, answer_demands};
+ghost use Rattle.apex_machine.specs.Objects.{board_read, cleared, displayed};
+ghost use Rattle.wait_set.specs.Actors.{Refuses, entry_with};
+ghost use Rattle.wait_set.specs.Givens.{answer_given};
+ghost use Rattle.wait_set.specs.Sets.{IsNew};
+ghost use Rattle.blackboard.specs.Blackboards as rules;
+
+use apex_types::{Claim, Discipline, Message, Name, Request, Who};
+use std::alloc::Global;
+use std::marker::Model;
+use wait_set::{Actor, ApexObject, Effect, Given, ObjFault, WaitSet, judge_waking_all};
+
+/// A blackboard: the greatest size of its messages, the message on it, if it isn't empty, and those that wait to read.
+#[derive(Drop)]
+pub struct Blackboard {
+    alloc: Global,
+    name: Name,
+    size: u16,
+    message: Option<Message>,
+    readers: WaitSet,
+}
+
+impl Model for Blackboard {
+    ghost use Rattle.apex_machine.specs.State.{Blackboard as Seen};
+
+    ghost Value = { Seen };
+
+    ghost view = { λ board. record { name = board.name; size = board.size; message = board.message; readers = board.readers.entries } };
+}
+
+impl Blackboard {
+    /// The empty blackboard, at which nobody waits. Its messages have at most `size` bytes. Takes no memory.
+    pub fn new(alloc: Global, name: Name, size: u16) -> Blackboard
+        ensures { result ≡ record { name = name; size = size; message = None; readers = [] } }
+    {
+        Blackboard {
+            alloc,
+            name,
+            size,
+            message: None,
+            readers: WaitSet::new(alloc, Discipline::Fifo),
+        }
+    }
+
+    /// Its name.
+    pub fn name(&self) -> &Name
+        ensures { result.now ≡ self.now.name }
+    {
+        &self.name
+    }
+
+    /// The greatest size of its messages, in bytes.
+    pub fn size(&self) -> u16
+        ensures { result ≡ self.now.size }
+    {
+        self.size
+    }
+
+    // DISPLAY_BLACKBOARD: the message is on the blackboard, and all who wait for one get it.
+    fn display(&mut self, message: &Message, claim: &Claim) -> Result<Effect, ObjFault>
+        ensures ok { OnOk result (AllHold (answer_demands (displayed message.now self.old.readers).answer claim.now)) }
+        ensures after { OnOk result (self.new ≡ rules.after_display message.now claim.now self.old) }
+        ensures waits { IfOk result (λ effect. IsTrue effect.waits ↔ (claim.now.out ≡ out.Waits)) }
+        ensures refused { IfErr result (Refuses (answer_demands (displayed message.now self.old.readers).answer claim.now)) }
+        ensures unchanged { OnErr result (self.new ≡ self.old) }
+    {
+        judge_waking_all(&self.readers, claim).map_err(ObjFault::Unlawful)?;
+        let bytes = Vec::from_slice(self.alloc, message.as_bytes()).map_err(|_| ObjFault::Memory)?;
+        self.readers.release(claim.woken.as_slice());
+        self.message = Some(Message::new(bytes));
+        Ok(Effect::of(claim))
+    }
+
+    // READ_BLACKBOARD: the message stays on the blackboard; where there is none the caller waits.
+    fn read(&mut self, actor: Actor, time_out: i64, claim: &Claim) -> Result<Effect, ObjFault>
+        requires new { IsNew (entry_with actor []) self.old.readers }
+        ensures ok { OnOk result (AllHold (answer_demands (board_read time_out self.old.message).answer claim.now)) }
+        ensures after { OnOk result (self.new ≡ rules.after_read actor time_out claim.now self.old) }
+        ensures waits { IfOk result (λ effect. IsTrue effect.waits ↔ (claim.now.out ≡ out.Waits)) }
+        ensures refused { IfErr result (Refuses (answer_demands (board_read time_out self.old.message).answer claim.now)) }
+        ensures unchanged { OnErr result (self.new ≡ self.old) }
+    {
+        self.given_to_reader(time_out).judge(claim).map_err(ObjFault::Unlawful)?;
+        self.readers.settle(actor, claim, &[]).map_err(|_| ObjFault::Memory)?;
+        Ok(Effect::of(claim))
+    }
+
+    // What READ_BLACKBOARD gives its caller.
+    fn given_to_reader(&self, time_out: i64) -> Given<'_>
+        ensures { answer_given result ≡ (board_read time_out self.now.message).answer }
+    {
+        match &self.message {
+            Some(message) => Given::giving(message.as_bytes(), None),
+            None => Given::unmet(time_out),
+        }
+    }
+
+    // CLEAR_BLACKBOARD: the blackboard is empty.
+    fn clear(&mut self, claim: &Claim) -> Result<Effect, ObjFault>
+        ensures ok { OnOk result (AllHold (answer_demands cleared.answer claim.now)) }
+        ensures after { OnOk result (self.new ≡ rules.after_clear claim.now self.old) }
+        ensures waits { IfOk result (λ effect. IsTrue effect.waits ↔ (claim.now.out ≡ out.Waits)) }
+        ensures refused { IfErr result (Refuses (answer_demands cleared.answer claim.now)) }
+        ensures unchanged { OnErr result (self.new ≡ self.old) }
+    {
+        Given::done().judge(claim).map_err(ObjFault::Unlawful)?;
+        self.readers.release(claim.woken.as_slice());
+        self.message = None;
+        Ok(Effect::of(claim))
+    }
+}
+
+impl ApexObject for Blackboard {
+    ghost serves = { rules.serves };
+
+    ghost answer = { rules.answer };
+
+    ghost after = { rules.after };
+
+    ghost sets = { rules.sets };
+
+    ghost without_one = { rules.without_one };
+
+    fn apply(&mut self, actor: Actor, request: &Request, claim: &Claim) -> Result<Effect, ObjFault> {
+        match request {
+            Request::DisplayBlackboard { message, .. } => self.display(message, claim),
+            Request::ReadBlackboard { time_out, .. } => self.read(actor, *time_out, claim),
+            Request::ClearBlackboard { .. } => self.clear(claim),
+            _ => unreachable!(),
+        }
+    }
+
+    fn leave(&mut self, who: Who) -> bool {
+        self.readers.leave(who)
+    }
+}

@@ -1,0 +1,6 @@
+//! Blackboards.
+#![tactic(auto)]
+
+mod board;
+
+pub use board::Blackboard;

@@ -1,0 +1,6 @@
+//! Buffers.
+#![tactic(auto)]
+
+mod buffer;
+
+pub use buffer::Buffer;
