@@ -2,5 +2,7 @@
 #![tactic(auto)]
 
 mod board;
+#[cfg(test)]
+mod tests;
 
 pub use board::Blackboard;
