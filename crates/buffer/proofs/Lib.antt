@@ -1,2 +1,2 @@
-pub mod Sending
+pub mod Judged
 pub mod Receiving

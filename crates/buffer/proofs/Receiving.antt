@@ -1,17 +1,19 @@
 -- The buffer after a message is received.
 use Rattle.std.proofs.Common.{◌≡◌, ℕ, ℤ, List, [], ◌∷◌, ◌++◌, ◌||◌, Option, Some, None, Bool, true, false, refl, sym, ap, ◌∙◌, subst, drop, slice_get, if◌then◌else◌}
 use Rattle.std.specs.Option.{is_some}
+use Rattle.apex_types.specs.declared.code.Code.TheVariants as code
 use Rattle.apex_types.specs.declared.record.Claim.{Claim}
 use Rattle.apex_types.specs.declared.record.Who.{Who}
 use Rattle.apex_machine.specs.declared.state.Entry.{Entry}
-use Rattle.apex_machine.specs.Answer.{NamesExactly}
+use Rattle.apex_machine.specs.Answer.{NamesExactly, answering, unmet, waiting}
+use Rattle.apex_machine.specs.Arguments.{is_over}
 use Rattle.apex_machine.specs.Queue.{Messages, received}
 use Rattle.apex_machine.specs.State.{Buffer, is_named, is_same}
 use Rattle.apex_machine.specs.Waiting.{without}
 use Rattle.wait_set.specs.Actors.{left_by}
 use Rattle.wait_set.specs.Sets.{without_named, without_one}
 use Rattle.buffer.specs.Buffers.{moved_up}
-use Rattle.buffer.proofs.Sending.{names_nobody, unmet_alone}
+use Rattle.wait_set.proofs.Leaving.{without-unnamed}
 
 -- two tests that agree take out the same entries
 same_without : (leaves goes : Who → Bool) (entries : List Entry) → ((who : Who) → leaves who ≡ goes who)
@@ -20,16 +22,6 @@ same_without leaves goes [] alike = refl
 same_without leaves goes (entry ∷ entries) alike =
     let rest : without leaves entries ≡ without goes entries = same_without leaves goes entries alike in
     rw (alike entry.who, rest) refl
-
--- a list that names nobody takes nobody out
-named_nobody : (entries : List Entry) → without_named [] entries ≡ entries
-named_nobody [] = refl
-named_nobody (entry ∷ entries) = ap (λ others. entry ∷ others) (named_nobody entries)
-
--- a claim that names exactly nobody lets nobody go
-left_alone : (claim : Claim) (entries : List Entry) → NamesExactly [] claim.woken → left_by claim entries ≡ entries
-left_alone claim entries none =
-    subst (λ woken. without_named woken entries ≡ entries) (sym (names_nobody claim.woken none)) (named_nobody entries)
 
 -- a test or false is the test
 or_false : (test : Bool) → (test || false) ≡ test
@@ -42,6 +34,14 @@ left_one : (claim : Claim) (one : Who) (entries : List Entry) → NamesExactly (
 left_one claim one entries named =
     same_without (λ who. is_named who claim.woken) (λ who. is_same who one) entries (λ who. named who ∙ or_false (is_same who one))
 
+-- what cannot be had at once wakes nobody
+unmet_alone : (time_out : ℤ) → (unmet time_out).woken ≡ []
+unmet_alone time_out = go (is_over time_out)
+  where
+    go : (over : Bool) → (if over then answering code.NotAvailable else waiting).woken ≡ []
+    go true = refl
+    go false = refl
+
 -- where there is a message, the oldest is taken, and the message of the sender that waits first moves up
 pub after_taking : (time_out : ℤ) (claim : Claim) (found : Buffer) (receivers : List Entry) (first : Option Entry) (messages : Messages)
     → is_some (slice_get messages 0) ≡ true → NamesExactly (received time_out first messages).answer.woken claim.woken
@@ -50,7 +50,7 @@ pub after_taking : (time_out : ℤ) (claim : Claim) (found : Buffer) (receivers 
 after_taking time_out claim found receivers None [] some named = cc
 after_taking time_out claim found receivers (Some sender) [] some named = cc
 after_taking time_out claim found receivers None (message ∷ others) some named =
-    rw (left_alone claim found.senders named) refl
+    rw (without-unnamed claim.woken found.senders named) refl
 after_taking time_out claim found receivers (Some sender) (message ∷ others) some named =
     rw (left_one claim sender.who found.senders named) refl
 
@@ -61,9 +61,9 @@ pub after_none : (time_out : ℤ) (claim : Claim) (found : Buffer) (receivers : 
     ≡ record found { messages = (received time_out first messages).next; senders = left_by claim found.senders; receivers = receivers }
 after_none time_out claim found receivers None [] none named =
     let nobody : NamesExactly [] claim.woken = subst (λ woken. NamesExactly woken claim.woken) (unmet_alone time_out) named in
-    rw (left_alone claim found.senders nobody) refl
+    rw (without-unnamed claim.woken found.senders nobody) refl
 after_none time_out claim found receivers (Some sender) [] none named =
     let nobody : NamesExactly [] claim.woken = subst (λ woken. NamesExactly woken claim.woken) (unmet_alone time_out) named in
-    rw (left_alone claim found.senders nobody) refl
+    rw (without-unnamed claim.woken found.senders nobody) refl
 after_none time_out claim found receivers None (message ∷ others) none named = cc
 after_none time_out claim found receivers (Some sender) (message ∷ others) none named = cc

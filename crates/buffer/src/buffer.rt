@@ -164,7 +164,8 @@ impl ApexObject for Buffer {
     }
 
     fn leave(&mut self, who: Who) -> bool {
-        let same = who;
-        self.senders.leave(who) | self.receivers.leave(same)
+        // Both sets are asked, each with a copy of its own.
+        let copy = who;
+        self.senders.leave(who) | self.receivers.leave(copy)
     }
 }

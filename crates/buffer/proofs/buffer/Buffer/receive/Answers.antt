@@ -7,16 +7,6 @@ use Rattle.wait_set.specs.Actors.{joined_by}
 use Rattle.buffer.proofs.buffer.Buffer.receive.Goals as goal
 use Rattle.buffer.proofs.buffer.Buffer.receive.Goals.{then-is_some, else-is_some}
 use Rattle.buffer.proofs.Receiving.{after_none, after_taking}
-use Rattle.buffer.proofs.Sending.{receives_alone, waits_alone}
-
-pub settle-requires-clause-alone : goal.settle-requires-clause-alone
-settle-requires-clause-alone c =
-    let time_out = c.args.time_out in
-    let buffer = c.args.self.now in
-    let claim = c.args.claim.now in
-    let holds : AllHold (answer_demands (buffer_received time_out buffer).answer claim) = search rules in
-    let alone = receives_alone time_out (first_waiter buffer.discipline buffer.senders) buffer.messages in
-    waits_alone (buffer_received time_out buffer).answer claim alone holds
 
 pub returns-clause-after : goal.returns-clause-after
 returns-clause-after c =
