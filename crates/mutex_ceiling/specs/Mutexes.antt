@@ -1,0 +1,70 @@
+-- What each operation on a mutex gives its caller, and the mutex after it.
+use Rattle.std.specs.Prelude.{ℤ, Bool, List, [], ◌∷◌, Option, Some, None, true, false, nat_lt, if◌then◌else◌}
+use Rattle.apex_types.specs.declared.record.Claim.{Claim}
+use Rattle.apex_types.specs.declared.record.Who.{Who}
+use Rattle.apex_types.specs.declared.request.Request.{Request}
+use Rattle.apex_types.specs.declared.request.Request.TheVariants.{AcquireMutex, ReleaseMutex}
+use Rattle.apex_machine.specs.declared.state.Entry.{Entry}
+use Rattle.apex_machine.specs.Answer.{Answer, Effect, done}
+use Rattle.apex_machine.specs.Objects.{acquired, mutex_released, owned_by}
+use Rattle.apex_machine.specs.State.{Mutex}
+use Rattle.apex_machine.specs.Waiting.{first_waiter}
+use Rattle.wait_set.specs.declared.object.Actor.{Actor}
+use Rattle.wait_set.specs.Actors.{joined_by, left_by}
+use Rattle.wait_set.specs.Sets as waiters
+
+-- the operation on a mutex that asks nothing of its count
+abbrev pub serves : Request → Bool
+serves (ReleaseMutex mutex) = true
+serves _ = false
+
+-- ACQUIRE_MUTEX, by this process
+abbrev pub acquire : Actor → ℤ → Mutex → Effect Mutex
+acquire actor time_out found = acquired actor.who.proc time_out found
+
+-- RELEASE_MUTEX, by the first of those who wait
+abbrev pub release : Mutex → Effect Mutex
+release found = mutex_released (first_waiter found.discipline found.waiters) found
+
+-- the process of an entry, if it is one
+abbrev pub who_of : Option Entry → Option Who
+who_of None = None
+who_of (Some entry) = Some entry.who
+
+-- who owns the mutex next: the first who waits, where this release is the last
+abbrev pub heir : Mutex → Option Who
+heir found = if nat_lt 1 found.count then None else who_of (first_waiter found.discipline found.waiters)
+
+-- the mutex, once it is this process's, or free where it is nobody's
+abbrev pub passed_to : Option Who → Mutex → Mutex
+passed_to None found = record found { owner = None; count = 0 }
+passed_to (Some who) found = owned_by who.proc found
+
+-- what an operation gives its caller
+abbrev pub answer : Actor → Request → Mutex → Answer
+answer actor (AcquireMutex mutex time_out) found = (acquire actor time_out found).answer
+answer actor (ReleaseMutex mutex) found = (release found).answer
+answer actor _ found = done
+
+-- the mutex after ACQUIRE_MUTEX: a caller that waits stands in its set
+abbrev pub after_acquire : Actor → ℤ → Claim → Mutex → Mutex
+after_acquire actor time_out claim found =
+    record (acquire actor time_out found).next { waiters = joined_by actor claim [] found.waiters }
+
+-- the mutex after RELEASE_MUTEX: whose wait ends has left
+abbrev pub after_release : Claim → Mutex → Mutex
+after_release claim found = record (release found).next { waiters = left_by claim found.waiters }
+
+-- the mutex after an operation
+abbrev pub after : Actor → Request → Claim → Mutex → Mutex
+after actor (AcquireMutex mutex time_out) claim found = after_acquire actor time_out claim found
+after actor (ReleaseMutex mutex) claim found = after_release claim found
+after actor _ claim found = found
+
+-- its one waiting set
+abbrev pub sets : Mutex → List (List Entry)
+sets found = found.waiters ∷ []
+
+-- the mutex at which this process does not wait
+abbrev pub without_one : Who → Mutex → Mutex
+without_one who found = record found { waiters = waiters.without_one who found.waiters }

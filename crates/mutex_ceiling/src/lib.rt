@@ -1,0 +1,6 @@
+//! Mutexes.
+#![tactic(auto)]
+
+mod mutex;
+
+pub use mutex::Mutex653;

@@ -1,0 +1,231 @@
+// Mutexes.
+
+ghost use Rattle.std.specs.Prelude.{ℤ, ◌≡◌, ◌↔◌, ◌≤◌, ◌<◌, ◌+◌, [], None, IfErr, IfOk, IsTrue, OnErr, OnOk};
+ghost use Rattle.apex_types.specs.declared.record.Out.TheVariants as out;
+ghost use Rattle.apex_types.specs.Bounds.{place_count};
+ghost use Rattle.apex_machine.specs.Demands.{AllHold, answer_demands};
+ghost use Rattle.apex_machine.specs.Objects.{is_owner, owned_by};
+ghost use Rattle.apex_machine.specs.Waiting.{first_waiter};
+ghost use Rattle.wait_set.specs.Actors.{Refuses, entry_with};
+ghost use Rattle.wait_set.specs.Givens.{answer_given};
+ghost use Rattle.wait_set.specs.Sets.{IsNew};
+ghost use Rattle.mutex_ceiling.specs.Mutexes as rules;
+
+use apex_types::{Claim, Discipline, Name, ProcId, Request, Who};
+use std::alloc::Global;
+use std::marker::Model;
+use wait_set::{Actor, ApexObject, Effect, Given, ObjFault, WaitSet};
+
+/// A mutex: its priority, the process that owns it, how often its owner has acquired it, and those that wait.
+#[derive(Drop)]
+pub struct Mutex653 {
+    name: Name,
+    priority: u8,
+    owner: Option<ProcId>,
+    count: u64,
+    waiters: WaitSet,
+}
+
+impl Model for Mutex653 {
+    ghost use Rattle.apex_machine.specs.State.{Mutex as Seen};
+
+    ghost Value = { Seen };
+
+    ghost view = { λ mutex. record { name = mutex.name; priority = mutex.priority; discipline = mutex.waiters.discipline; owner = mutex.owner; count = mutex.count; waiters = mutex.waiters.entries } };
+}
+
+impl Mutex653 {
+    /// The mutex of this priority that is free, and for which nobody waits. Takes no memory.
+    pub fn new(alloc: Global, name: Name, priority: u8, discipline: Discipline) -> Mutex653
+        ensures { result ≡ record { name = name; priority = priority; discipline = discipline; owner = None; count = 0; waiters = [] } }
+    {
+        Mutex653 {
+            name,
+            priority,
+            owner: None,
+            count: 0,
+            waiters: WaitSet::new(alloc, discipline),
+        }
+    }
+
+    /// Its name.
+    pub fn name(&self) -> &Name
+        ensures { result.now ≡ self.now.name }
+    {
+        &self.name
+    }
+
+    /// The process that owns it, or None where it is free.
+    pub fn owner(&self) -> Option<ProcId>
+        ensures { result ≡ self.now.owner }
+    {
+        self.owner
+    }
+
+    /// Whether this process owns it.
+    pub fn is_owned_by(&self, process: ProcId) -> bool
+        ensures { result ≡ is_owner self.now.owner process }
+    {
+        match self.owner {
+            None => false,
+            Some(owner) => owner == process,
+        }
+    }
+
+    /// The priority with which its owner runs.
+    pub fn priority(&self) -> u8
+        ensures { result ≡ self.now.priority }
+    {
+        self.priority
+    }
+
+    /// How often its owner has acquired it and not released it: 0 where it is free.
+    pub fn count(&self) -> u64
+        ensures { result ≡ self.now.count }
+    {
+        self.count
+    }
+
+    /// ACQUIRE_MUTEX: a free mutex is the caller's, its owner acquires it once more, another process waits.
+    ///
+    /// Each call adds one to the count at most, so that the count is not above the place of this call.
+    /// Refused, with nothing changed, where the claim is another, or where memory is refused to a caller that waits.
+    pub fn acquire(
+        &mut self,
+        actor: Actor,
+        time_out: i64,
+        claim: &Claim,
+    ) -> Result<Effect, ObjFault>
+        requires new { IsNew (entry_with actor []) self.old.waiters }
+        requires counted { self.old.count ≤ actor.place }
+        ensures ok { OnOk result (AllHold (answer_demands (rules.acquire actor time_out self.old).answer claim.now)) }
+        ensures after { OnOk result (self.new ≡ rules.after_acquire actor time_out claim.now self.old) }
+        ensures counted { self.new.count ≤ self.old.count + 1 }
+        ensures waits { IfOk result (λ effect. IsTrue effect.waits ↔ (claim.now.out ≡ out.Waits)) }
+        ensures refused { IfErr result (Refuses (answer_demands (rules.acquire actor time_out self.old).answer claim.now)) }
+        ensures unchanged { OnErr result (self.new ≡ self.old) }
+    {
+        self.asked(&actor, time_out)
+            .judge(claim)
+            .map_err(ObjFault::Unlawful)?;
+        self.waiters
+            .settle(actor, claim, &[])
+            .map_err(|_| ObjFault::Memory)?;
+        self.take(&actor);
+        Ok(Effect::of(claim))
+    }
+
+    // What acquiring gives its caller: a free mutex and one's own are had at once.
+    fn asked(&self, actor: &Actor, time_out: i64) -> Given<'static>
+        ensures { answer_given result ≡ (rules.acquire actor.now time_out self.now).answer }
+    {
+        if self.owner.is_none() || self.is_owned_by(actor.who.proc) {
+            Given::done()
+        } else {
+            Given::unmet(time_out)
+        }
+    }
+
+    // The mutex once its caller has called: acquired where it was free or the caller's, else as it was.
+    fn take(&mut self, actor: &Actor)
+        requires { self.old.count < place_count }
+        ensures { (time_out : ℤ) → self.new ≡ (rules.acquire actor.now time_out self.old).next }
+    {
+        if self.owner.is_none() {
+            self.give_to(actor.who.proc);
+        } else if self.is_owned_by(actor.who.proc) {
+            self.count += 1;
+        }
+    }
+
+    // The process owns the mutex, acquired once.
+    fn give_to(&mut self, owner: ProcId)
+        ensures { self.new ≡ owned_by owner self.old }
+    {
+        self.owner = Some(owner);
+        self.count = 1;
+    }
+
+    /// RELEASE_MUTEX: one is taken from a count above 1; else the first who waits owns the mutex, or it is free.
+    ///
+    /// Refused, with nothing changed, where the claim is another. Takes no memory.
+    pub fn release(&mut self, claim: &Claim) -> Result<Effect, ObjFault>
+        ensures ok { OnOk result (AllHold (answer_demands (rules.release self.old).answer claim.now)) }
+        ensures after { OnOk result (self.new ≡ rules.after_release claim.now self.old) }
+        ensures counted { self.new.count ≤ self.old.count + 1 }
+        ensures waits { IfOk result (λ effect. IsTrue effect.waits ↔ (claim.now.out ≡ out.Waits)) }
+        ensures refused { IfErr result (Refuses (answer_demands (rules.release self.old).answer claim.now)) }
+        ensures unchanged { OnErr result (self.new ≡ self.old) }
+    {
+        let heir = self.heir();
+        Given::waking(self.heir())
+            .judge(claim)
+            .map_err(ObjFault::Unlawful)?;
+        self.waiters.release(claim.woken.as_slice());
+        if self.count > 1 {
+            self.count -= 1;
+        } else {
+            self.hand_on(heir);
+        }
+        Ok(Effect::of(claim))
+    }
+
+    // The process that owns the mutex once it is released now: the first who waits, where this release is the last.
+    fn heir(&self) -> Option<Who>
+        ensures { result ≡ rules.heir self.now }
+    {
+        if self.count > 1 {
+            return None;
+        }
+        match self.waiters.first() {
+            Some(entry) => Some(entry.who),
+            None => None,
+        }
+    }
+
+    // The mutex is this process's, or it is free.
+    fn hand_on(&mut self, first: Option<Who>)
+        ensures { self.new ≡ rules.passed_to first self.old }
+    {
+        match first {
+            Some(who) => self.give_to(who.proc),
+            None => self.set_free(),
+        }
+    }
+
+    // The mutex is free.
+    fn set_free(&mut self)
+        ensures { self.new ≡ record self.old { owner = None; count = 0 } }
+    {
+        self.owner = None;
+        self.count = 0;
+    }
+}
+
+impl ApexObject for Mutex653 {
+    ghost serves = { rules.serves };
+
+    ghost answer = { rules.answer };
+
+    ghost after = { rules.after };
+
+    ghost sets = { rules.sets };
+
+    ghost without_one = { rules.without_one };
+
+    fn apply(
+        &mut self,
+        _actor: Actor,
+        request: &Request,
+        claim: &Claim,
+    ) -> Result<Effect, ObjFault> {
+        match request {
+            Request::ReleaseMutex { .. } => self.release(claim),
+            _ => unreachable!(),
+        }
+    }
+
+    fn leave(&mut self, who: Who) -> bool {
+        self.waiters.leave(who)
+    }
+}
