@@ -1,0 +1,4 @@
+pub mod Booleans
+pub mod Tables
+pub mod Numbers
+pub mod Results

@@ -1,0 +1,175 @@
+// The table of one kind.
+
+ghost use Rattle.std.specs.Prelude.{◌≡◌, ◌≢◌, ◌↔◌, ◌++◌, ◌∷◌, ℕ, [], None, pos, length, IfErr, IfOk, IfSome, IsTrue, OnErr, OnOk, List};
+ghost use Rattle.std.specs.Option.{option_copied};
+ghost use Rattle.apex_types.specs.declared.record.Out.TheVariants as out;
+ghost use Rattle.apex_machine.specs.Answer.{is_new};
+ghost use Rattle.apex_machine.specs.Arguments.{natural_of};
+ghost use Rattle.apex_machine.specs.Conditions.{is_taken};
+ghost use Rattle.apex_machine.specs.Demands.{AllHold, answer_demands};
+ghost use Rattle.apex_machine.specs.State.{change_at, given_object, is_free, item_at};
+ghost use Rattle.wait_set.specs.Actors.{Refuses, entry_with};
+ghost use Rattle.wait_set.specs.Sets.{IsNewInEach};
+ghost use Rattle.object_table.specs.Numbers.{number_of};
+
+use apex_types::{Claim, Name, Request, Who};
+use indexmap::IndexMap;
+use std::alloc::{AllocError, Global};
+use std::marker::Model;
+use wait_set::{Actor, ApexObject, Effect, ObjFault};
+
+/// The greatest number of an object.
+const GREATEST_NUMBER: i64 = 2_147_483_647;
+
+/// What has a name.
+pub trait Named {
+    ghost use Rattle.std.specs.Prelude.{ℕ, List};
+
+    // Its name.
+    ghost name_of: { Self → List ℕ };
+
+    /// Its name.
+    fn name(&self) -> &Name
+        ensures { result.now ≡ name_of self.now };
+}
+
+/// The objects of one kind, under their numbers, in the order of their creation.
+#[derive(Drop)]
+pub struct ObjectTable<Object> {
+    objects: IndexMap<u32, Object>,
+}
+
+impl<Object> Model for ObjectTable<Object> {
+    ghost use Rattle.std.specs.Prelude.{ℕ, List};
+    ghost use Rattle.object_table.specs.Numbers.{NumbersFit};
+
+    ghost Value = { List (ℕ × Object) };
+
+    ghost view = { λ table. table.objects.entries };
+
+    ghost invariant = { λ table. NumbersFit table.objects.entries };
+}
+
+impl<Object> ObjectTable<Object> {
+    /// The table of no object. Takes no memory.
+    pub fn new(alloc: Global) -> ObjectTable<Object>
+        ensures { result ≡ [] }
+    {
+        ObjectTable {
+            objects: IndexMap::new(alloc),
+        }
+    }
+
+    /// The object of the number that a caller gives, or None where there is none.
+    pub fn given(&self, number: i64) -> Option<&Object>
+        ensures { option_copied result ≡ given_object self.now number }
+    {
+        // What is known of each table, that its numbers fit 32 bits, is known where one of its fields is used.
+        let _ = &self.objects;
+        let number = object_number(number)?;
+        self.at(number)
+    }
+
+    /// The object of this number, or None where there is none.
+    pub fn at(&self, number: u32) -> Option<&Object>
+        ensures { option_copied result ≡ item_at self.now number }
+    {
+        self.objects.get(&number)
+    }
+
+    /// How many objects there are.
+    pub fn len(&self) -> usize
+        ensures { result ≡ length self.now }
+    {
+        self.objects.len()
+    }
+
+    /// Whether a claimed value is a number that a new object can take: 1 to 2,147,483,647, and no object has it.
+    pub fn is_new_number(&self, claimed: Option<i64>) -> bool
+        ensures { result ≡ is_new (is_free self.now) claimed }
+    {
+        match claimed {
+            Some(number) => {
+                number > 0 && number <= GREATEST_NUMBER && self.at(number as u32).is_none()
+            }
+            None => false,
+        }
+    }
+}
+
+impl<Object: Drop> ObjectTable<Object> {
+    /// Adds a new object behind the others. The caller sees to it that no object has its number.
+    ///
+    /// AllocError where memory is refused; nothing has changed then.
+    pub fn add(&mut self, number: u32, object: Object) -> Result<(), AllocError>
+        requires new { IsTrue (is_new (is_free self.old) (Some (pos number))) }
+        ensures added { OnOk result (self.new ≡ self.old ++ (number, object) ∷ []) }
+        ensures unchanged { OnErr result (self.new ≡ self.old) }
+    {
+        self.objects.insert(number, object)?;
+        Ok(())
+    }
+}
+
+impl<Object: Named> ObjectTable<Object> {
+    /// Whether an object has this name.
+    pub fn is_taken(&self, name: &Name) -> bool
+        ensures { result ≡ is_taken Object.name_of name.now self.now }
+    {
+        self.objects
+            .values()
+            .any(|object| name.as_bytes() == object.name().as_bytes())
+    }
+}
+
+impl<Object: ApexObject> ObjectTable<Object> {
+    /// Carries out an operation on the object of the number that a caller gives, where the claim is what it gives its caller.
+    ///
+    /// Refused, with nothing changed, where the claim is another, or where memory is refused.
+    pub fn apply(
+        &mut self,
+        number: i64,
+        actor: Actor,
+        request: &Request,
+        claim: &Claim,
+    ) -> Result<Effect, ObjFault>
+        requires served { IsTrue (Object.serves request.now) }
+        requires found { given_object self.old number ≢ None }
+        requires new { IfSome (given_object self.old number) (λ object. IsNewInEach (entry_with actor []) (Object.sets object)) }
+        ensures ok { OnOk result (IfSome (given_object self.old number) (λ object. AllHold (answer_demands (Object.answer actor request.now object) claim.now))) }
+        ensures after { OnOk result (self.new ≡ change_at (natural_of number) (Object.after actor request.now claim.now) self.old) }
+        ensures waits { IfOk result (λ effect. IsTrue effect.waits ↔ (claim.now.out ≡ out.Waits)) }
+        ensures refused { IfErr result (λ fault. IfSome (given_object self.old number) (λ object. Refuses (answer_demands (Object.answer actor request.now object) claim.now) fault)) }
+        ensures unchanged { OnErr result (self.new ≡ self.old) }
+    {
+        // What is known of each table, that its numbers fit 32 bits, is known where one of its fields is used.
+        let _ = &self.objects;
+        let Some(key) = object_number(number) else {
+            unreachable!()
+        };
+        match self.objects.get_mut(&key) {
+            Some(object) => object.apply(actor, request, claim),
+            None => unreachable!(),
+        }
+    }
+
+    /// Takes a process out of the waiting sets of the object of this number, where there is one. Takes no memory.
+    pub fn leave(&mut self, number: u32, who: Who)
+        ensures { self.new ≡ change_at number (Object.without_one who) self.old }
+    {
+        if let Some(object) = self.objects.get_mut(&number) {
+            object.leave(who);
+        }
+    }
+}
+
+// The number of an object that a caller's number can be: 0 to 4,294,967,295; None for any other.
+fn object_number(given: i64) -> Option<u32>
+    ensures { result ≡ number_of given }
+{
+    if given >= 0 && given <= u32::MAX as i64 {
+        Some(given as u32)
+    } else {
+        None
+    }
+}
