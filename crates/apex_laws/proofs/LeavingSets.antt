@@ -29,9 +29,11 @@ use Rattle.apex_laws.specs.PartLaws.{DueLeave, ForeignCallsLeaveSets, HasDistinc
 use Rattle.apex_laws.specs.PartObjects.{StoppedLeaves, left_by, with_set, without_one}
 use Rattle.apex_laws.proofs.Booleans.{cannot_hold, neither_first, neither_later}
 use Rattle.apex_laws.proofs.OtherSets.{enters_no_other}
-use Rattle.apex_laws.proofs.PartObjects.{Leaves, becomes_found, blackboard_changes, buffer_changes, event_changes, leaves_found, mutex_changes, same_if, semaphore_changes, sets_stay}
+use Rattle.apex_laws.proofs.EachSet.{Leaves, becomes_found, leaves_found, sets_stay}
+use Rattle.apex_laws.proofs.PartObjects.{blackboard_changes, buffer_changes, event_changes, mutex_changes, same_if, semaphore_changes}
 use Rattle.apex_laws.proofs.SoundParts.{Stands}
 use Rattle.apex_laws.proofs.Waiters.{none_leaves}
+use Rattle.apex_laws.proofs.WaitSets.{set_itself}
 use Rattle.apex_laws.proofs.Whos.{same_is}
 use Rattle.apex_laws.proofs.Woken.{created_is}
 
@@ -143,10 +145,11 @@ stays_without number partition wanted who process at off entries all =
     true≢false (sym (and_parts process.alive (is_in wanted process.wait) here).1 ∙ off)))) entries all
 
 -- the partition after one process left
-one_leaves : (change : WaitingSet → List Entry → List Entry) (partition : Partition) (who : Who) (one : Wait) → HasDistinctObjects partition
-    → ((wanted : WaitingSet) → change wanted (entries_at partition wanted) ≡ without_one who (entries_at partition wanted))
+pub one_leaves : (change : WaitingSet → List Entry → List Entry) (partition : Partition) (who : Who) (one : Wait) → HasDistinctObjects partition
+    → ((wanted : WaitingSet) → is_in wanted one ≡ true → change wanted (entries_at partition wanted) ≡ without_one who (entries_at partition wanted))
     → ((wanted : WaitingSet) → is_in wanted one ≡ false → Leaves change partition wanted) → each_set change partition ≡ left_by who one partition
-one_leaves change partition who (wait.At wanted due) has becomes leaves = one_set_alone change (without_one who) partition wanted has (becomes wanted) leaves
+one_leaves change partition who (wait.At wanted due) has becomes leaves =
+    one_set_alone change (without_one who) partition wanted has (becomes wanted (set_itself wanted)) leaves
 one_leaves change partition who _ has becomes leaves = sets_stay change partition has (λ wanted off. leaves wanted refl)
 
 pub stopped_leaves : StoppedLeaves
@@ -167,5 +170,5 @@ stopped_leaves judged configuration number place core cores partition call is pr
       becomes,
       leaves,
       ap (λ one. each_set change (cond (is_done call.claim.out) (objects_by configuration call.who call.claim.val one partition) partition)) asked
-          ∙ ap (each_set change) (same_if (is_done call.claim.out) partition) ∙ one_leaves change partition who target.wait is.sound.objects becomes leaves,
+          ∙ ap (each_set change) (same_if (is_done call.claim.out) partition) ∙ one_leaves change partition who target.wait is.sound.objects (λ wanted on. becomes wanted) leaves,
     )

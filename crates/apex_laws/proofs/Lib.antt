@@ -55,5 +55,7 @@ pub mod Waits
 pub mod WorkedRun
 pub mod SoundParts
 pub mod OtherSets
+pub mod EachSet
 pub mod PartObjects
 pub mod LeavingSets
+pub mod TickLeaves

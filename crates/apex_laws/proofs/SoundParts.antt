@@ -265,7 +265,7 @@ used_distinct configuration now who claimed (request.CreateQueuingPort name size
 used_distinct configuration now who claimed _ partition has value = has
 
 -- a change of each set leaves the numbers
-sets_distinct : (change : WaitingSet → List Entry → List Entry) (partition : Partition) → HasDistinctObjects partition → HasDistinctObjects (each_set change partition)
+pub sets_distinct : (change : WaitingSet → List Entry → List Entry) (partition : Partition) → HasDistinctObjects partition → HasDistinctObjects (each_set change partition)
 sets_distinct change partition has = record {
   buffers = distinct_each _ partition.buffers ∙ has.buffers;
   blackboards = distinct_each _ partition.blackboards ∙ has.blackboards;

@@ -8,6 +8,7 @@ use Rattle.apex_machine.specs.declared.state.WaitingSet.{WaitingSet}
 use Rattle.apex_machine.specs.declared.state.WaitingSet.TheVariants as set
 use Rattle.apex_machine.specs.Choice.{waits_for_nothing}
 use Rattle.apex_machine.specs.Waiting.{is_in, is_same_set, is_the_set, waits_at}
+use Rattle.apex_laws.proofs.Booleans.{is_itself}
 
 -- the test says that these are one set
 pub same_set_is : (one other : WaitingSet) → is_same_set one other ≡ true → one ≡ other
@@ -20,6 +21,17 @@ same_set_is (set.MutexWaiters a) (set.MutexWaiters b) same = ap set.MutexWaiters
 same_set_is (set.ChannelSenders a) (set.ChannelSenders b) same = ap set.ChannelSenders (eqb-true a b same)
 same_set_is (set.ChannelReceivers a) (set.ChannelReceivers b) same = ap set.ChannelReceivers (eqb-true a b same)
 same_set_is _ _ same = absurd (true≢false (sym same))
+
+-- a set is the same as itself
+pub set_itself : (wanted : WaitingSet) → is_same_set wanted wanted ≡ true
+set_itself (set.BufferSenders number) = is_itself number
+set_itself (set.BufferReceivers number) = is_itself number
+set_itself (set.BlackboardReaders number) = is_itself number
+set_itself (set.SemaphoreWaiters number) = is_itself number
+set_itself (set.EventWaiters number) = is_itself number
+set_itself (set.MutexWaiters number) = is_itself number
+set_itself (set.ChannelSenders number) = is_itself number
+set_itself (set.ChannelReceivers number) = is_itself number
 
 -- the set that is found is the one that is wanted
 pub found_set : (wanted : WaitingSet) (found : Option WaitingSet) → is_the_set wanted found ≡ true → found ≡ Some wanted

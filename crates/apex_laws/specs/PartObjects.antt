@@ -1,7 +1,7 @@
 -- What a call makes of the objects of its caller's partition: the one object that it names changes, with its waiting sets, and all
 -- others stay as they are.
-use Rattle.std.specs.Prelude.{◌≡◌, ℕ, ℤ, Bool, IsFalse, IsTrue, List, Some, if◌then◌else◌}
-use Rattle.apex_types.specs.declared.record.Body.TheVariants.{Call}
+use Rattle.std.specs.Prelude.{◌≡◌, ℕ, ℤ, Bool, IsFalse, IsTrue, List, [], ◌∷◌, Some, if◌then◌else◌}
+use Rattle.apex_types.specs.declared.record.Body.TheVariants.{Call, Tick}
 use Rattle.apex_types.specs.declared.record.Call.{Call as CallRecord}
 use Rattle.apex_types.specs.declared.record.Who.{Who}
 use Rattle.apex_types.specs.declared.request.Request.{Request}
@@ -14,15 +14,15 @@ use Rattle.apex_machine.specs.declared.state.Wait.{Wait}
 use Rattle.apex_machine.specs.declared.state.Wait.TheVariants as wait
 use Rattle.apex_machine.specs.declared.state.WaitingSet.{WaitingSet}
 use Rattle.apex_machine.specs.declared.state.WaitingSet.TheVariants as set
-use Rattle.apex_machine.specs.After.{is_done, objects_by, objects_called}
+use Rattle.apex_machine.specs.After.{each_set, is_done, objects_by, objects_called}
 use Rattle.apex_machine.specs.Arguments.{natural_of}
 use Rattle.apex_machine.specs.Configuration.{Configuration}
 use Rattle.apex_machine.specs.Objects.{acquired, buffer_received, buffer_sent, cleared, displayed, event_reset, event_set, mutex_released, semaphore_waited, signalled}
 use Rattle.apex_machine.specs.Services.{fellow}
-use Rattle.apex_machine.specs.State.{Partition, change_at, created, is_same}
+use Rattle.apex_machine.specs.State.{Partition, Table, change_at, created, is_named, is_same}
 use Rattle.apex_machine.specs.Waiting.{first_waiter, is_in, is_no_error, set_after, without}
 use Rattle.apex_laws.specs.Laws.{entries_at}
-use Rattle.apex_laws.specs.PartLaws.{IsOwnCall, is_stop_done}
+use Rattle.apex_laws.specs.PartLaws.{IsOwnCall, IsSoundPart, is_stop_done}
 
 -- the partition with the one object that a request names changed: what it holds as its rule leaves it, where the call is done, and
 -- its waiting sets by whom the call lets go on and who enters; any other request changes what is created alone
@@ -139,3 +139,18 @@ StoppedLeaves =
     → ((wanted : WaitingSet) → set_after place (Call call) wanted (entries_at partition wanted) ≡ without_one (fellow call.who process) (entries_at partition wanted))
     × ((wanted : WaitingSet) → IsFalse (is_in wanted target.wait) → set_after place (Call call) wanted (entries_at partition wanted) ≡ entries_at partition wanted)
     × (objects_called configuration place call partition ≡ left_by (fellow call.who process) target.wait partition)
+
+-- ticks
+
+-- the partition after those processes of a table that are named left, one after another, each the waiting set that its wait names
+abbrev pub all_left : ℕ → List Who → Table → Partition → Partition
+all_left number woken [] partition = partition
+all_left number woken (entry ∷ entries) partition =
+    let who : Who = record { part = number; proc = entry.0 } in
+    all_left number woken entries (if is_named who woken then left_by who entry.1.wait partition else partition)
+
+-- a tick changes the waiting sets of a sound partition so: each process that is named leaves the one that its wait names
+abbrev pub EachLeavesItsSet : Type 0
+EachLeavesItsSet =
+    (number place : ℕ) (partition : Partition) (woken : List Who) → IsSoundPart number place partition
+    → each_set (set_after place (Tick woken)) partition ≡ all_left number woken partition.table partition

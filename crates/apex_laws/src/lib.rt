@@ -7,7 +7,7 @@
 
 ghost use Rattle.apex_laws.specs.Laws.{AtMostOneNextState, ChoiceIsTheSentence, OneFirstRefusal, OneRun, PiecesCompose, PiecesFollow, RunOfEach, StaysInOrder, StaysTied, ViewIsOfTheRun, WhoWaitsStands};
 ghost use Rattle.apex_laws.specs.PartLaws.{CallerStandsNowhere, DueLeave, ForeignCallsLeaveSets, OtherSetsStay, PartStaysSound};
-ghost use Rattle.apex_laws.specs.PartObjects.{OneObjectChanges, StoppedLeaves};
+ghost use Rattle.apex_laws.specs.PartObjects.{EachLeavesItsSet, OneObjectChanges, StoppedLeaves};
 ghost use Rattle.apex_laws.specs.JoinLaws.{FindingsJoin, FoundIsRefused, NothingFoundIsARun, RunsJoin};
 ghost use Rattle.apex_laws.specs.ObjectLaws.{BlackboardIsTheSentence, ChannelIsTheSentence, EventIsTheSentence, FirstIsTheSentence, MutexIsTheSentence, ObjectCallIsTheSentence, OrderIsApart, QueueIsTheSentence, SamplingIsTheSentence, SemaphoreIsTheSentence};
 ghost use Rattle.apex_laws.specs.RecordLaws.{CallIsTheSentence, DispatchIsTheSentence, RefusalIsTheSentence, ReturnIsTheSentence, SetIsTheSentence, TickIsTheSentence};
@@ -88,6 +88,12 @@ pub fn stopped_leaves()
 /// At a tick a waiting set of a sound partition stays in which no process waits that is named.
 pub fn due_leave()
     ensures { DueLeave }
+{}
+
+/// At a tick each process of a sound partition that is named leaves the waiting set that its wait names, and all other sets,
+/// objects and ports stay.
+pub fn each_leaves_its_set()
+    ensures { EachLeavesItsSet }
 {}
 
 /// Calls of other partitions, returns and dispatches leave a partition's objects, waiting sets and ports.
