@@ -53,3 +53,8 @@ not_first one other fails = rw fails refl
 pub not_second : (one other : Bool) → other ≡ false → (one && other) ≡ false
 not_second true other fails = fails
 not_second false other fails = refl
+
+-- a test or none is the test
+pub or_false : (test : Bool) → (test || false) ≡ test
+or_false true = refl
+or_false false = refl

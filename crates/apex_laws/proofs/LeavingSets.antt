@@ -1,5 +1,5 @@
 -- Who leaves the waiting sets of a partition: the target of a STOP, those named at a tick, and nobody at another partition's record.
-use Rattle.std.proofs.Common.{◌≡◌, ℕ, List, [], ◌∷◌, Bool, true, false, cond, nat_eq, ℤ, pos, Some, None, refl, sym, ap, subst, ◌∙◌, true≢false, ◌&&◌, ◌||◌}
+use Rattle.std.proofs.Common.{◌≡◌, ℕ, List, [], ◌∷◌, true, false, cond, nat_eq, ℤ, pos, Some, None, refl, sym, ap, subst, ◌∙◌, true≢false, ◌&&◌, ◌||◌}
 use Rattle.std.proofs.lemmas.Bool.{and_parts, eqb-true}
 use Rattle.apex_types.specs.declared.code.Code.{Code}
 use Rattle.apex_types.specs.declared.record.Body.TheVariants.{Call, Ret}
@@ -23,7 +23,7 @@ use Rattle.apex_machine.specs.Ports.{channel_of}
 use Rattle.apex_machine.specs.ServiceConditions.{condition_codes}
 use Rattle.apex_machine.specs.Services.{answer_of, fellow}
 use Rattle.apex_machine.specs.State.{Blackboard, Buffer, Event, Mutex, Partition, Semaphore, each_item, is_named, is_same, item_at, time_of}
-use Rattle.apex_machine.specs.Waiting.{ends_wait, is_in, is_no_error, is_same_set, is_target, set_after, stop_of, waits_at, without}
+use Rattle.apex_machine.specs.Waiting.{ends_wait, is_in, is_no_error, is_same_set, is_target, set_after, stop_of, waits_at}
 use Rattle.apex_laws.specs.Laws.{AllEntries, entries_at}
 use Rattle.apex_laws.specs.PartLaws.{DueLeave, ForeignCallsLeaveSets, HasDistinctObjects, OnlyProcessesChange, is_of_channel, is_set_used}
 use Rattle.apex_laws.specs.PartObjects.{StoppedLeaves, left_by, with_set, without_one}
@@ -32,7 +32,7 @@ use Rattle.apex_laws.proofs.OtherSets.{enters_no_other}
 use Rattle.apex_laws.proofs.EachSet.{Leaves, becomes_found, leaves_found, sets_stay}
 use Rattle.apex_laws.proofs.PartObjects.{blackboard_changes, buffer_changes, event_changes, mutex_changes, same_if, semaphore_changes}
 use Rattle.apex_laws.proofs.SoundParts.{Stands}
-use Rattle.apex_laws.proofs.Waiters.{none_leaves}
+use Rattle.apex_laws.proofs.Waiters.{none_leaves, without_same}
 use Rattle.apex_laws.proofs.WaitSets.{set_itself}
 use Rattle.apex_laws.proofs.Whos.{same_is}
 use Rattle.apex_laws.proofs.Woken.{created_is}
@@ -113,13 +113,6 @@ one_set_alone change through partition (set.ChannelReceivers channel) has become
     off_channel channel _ off = refl
 
 -- a STOP that is done
-
--- where the same leave, the same stay
-without_same : (leaves other : Who → Bool) → ((who : Who) → leaves who ≡ other who) → (entries : List Entry) → without leaves entries ≡ without other entries
-without_same leaves other same [] = refl
-without_same leaves other same (entry ∷ entries) =
-    let rest = without_same leaves other same entries in
-    λ i. cond (same entry.who i) (rest i) (entry ∷ rest i)
 
 -- it names nobody
 stop_names : (codes : List Code) (number : ℕ) (asked : Request) (claim : Claim) → AllHold (outcome_demands codes None number asked done claim) → (who : Who) → is_named who claim.woken ≡ false

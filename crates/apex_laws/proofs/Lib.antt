@@ -59,3 +59,4 @@ pub mod EachSet
 pub mod PartObjects
 pub mod LeavingSets
 pub mod TickLeaves
+pub mod EnteringSets

@@ -45,7 +45,7 @@ use Rattle.apex_laws.proofs.Whos.{same_is}
 -- own calls, by their demands
 
 -- a call that is done meets no error condition
-demands_none : (codes : List Code) (channel : Option ℕ) (number : ℕ) (asked : Request) (answer : Answer) (claim : Claim) → AreErrors codes
+pub demands_none : (codes : List Code) (channel : Option ℕ) (number : ℕ) (asked : Request) (answer : Answer) (claim : Claim) → AreErrors codes
     → AllHold (outcome_demands codes channel number asked answer claim) → is_done claim.out ≡ true → codes ≡ []
 demands_none [] channel number asked answer claim errors hold done = refl
 demands_none (code ∷ codes) channel number asked answer claim errors hold done = absurd (true≢false (sym done ∙ not_done (code ∷ codes) claim.out errors hold.1.0))

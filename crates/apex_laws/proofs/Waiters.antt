@@ -41,6 +41,13 @@ none_leaves Fact leaves stays [] all = refl
 none_leaves Fact leaves stays (entry ∷ entries) all =
     rw (stays entry all.0) (ap (λ others. entry ∷ others) (none_leaves Fact leaves stays entries all.1))
 
+-- where the same leave, the same stay
+pub without_same : (leaves other : Who → Bool) → ((who : Who) → leaves who ≡ other who) → (entries : List Entry) → without leaves entries ≡ without other entries
+without_same leaves other same [] = refl
+without_same leaves other same (entry ∷ entries) =
+    let rest = without_same leaves other same entries in
+    λ i. cond (same entry.who i) (rest i) (entry ∷ rest i)
+
 -- the first of a set has what each of its entries has
 pub first_has : (Fact : Entry → Type 0) (discipline : Discipline) (entries : List Entry) (entry : Entry) → AllEntries Fact entries
     → first_waiter discipline entries ≡ Some entry → Fact entry

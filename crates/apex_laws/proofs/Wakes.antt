@@ -29,7 +29,7 @@ pub nobody : {Fact : Type 0} (one : Who) (woken : List Who) → woken ≡ [] →
 nobody {Fact} one woken none named = absurd (true≢false (sym named ∙ ap (is_named one) none))
 
 -- who cannot have at once what it wants wakes nobody
-unmet_wakes : (time_out : ℤ) → (unmet time_out).woken ≡ []
+pub unmet_wakes : (time_out : ℤ) → (unmet time_out).woken ≡ []
 unmet_wakes time_out = elim (is_over time_out) as (λ over. (cond over (answering code.NotAvailable) waiting).woken ≡ []) [ true ↦ refl | false ↦ refl ]
 
 -- queues
@@ -89,24 +89,24 @@ release_wakes Fact first mutex has one named =
     ] named
 
 -- these wake nobody
-wait_wakes : (time_out : ℤ) (value : ℕ) → (semaphore_waited time_out value).answer.woken ≡ []
+pub wait_wakes : (time_out : ℤ) (value : ℕ) → (semaphore_waited time_out value).answer.woken ≡ []
 wait_wakes time_out zero = unmet_wakes time_out
 wait_wakes time_out (suc value) = refl
 
-board_wakes : (time_out : ℤ) (message : Option (List ℕ)) → (board_read time_out message).answer.woken ≡ []
+pub board_wakes : (time_out : ℤ) (message : Option (List ℕ)) → (board_read time_out message).answer.woken ≡ []
 board_wakes time_out None = unmet_wakes time_out
 board_wakes time_out (Some message) = refl
 
-event_wakes : (time_out : ℤ) (up : Bool) → (event_waited time_out up).answer.woken ≡ []
+pub event_wakes : (time_out : ℤ) (up : Bool) → (event_waited time_out up).answer.woken ≡ []
 event_wakes time_out true = refl
 event_wakes time_out false = unmet_wakes time_out
 
-acquire_wakes : (caller : ℕ) (time_out : ℤ) (mutex : Mutex) (owner : Option ℕ) → (acquired_from owner caller time_out mutex).answer.woken ≡ []
+pub acquire_wakes : (caller : ℕ) (time_out : ℤ) (mutex : Mutex) (owner : Option ℕ) → (acquired_from owner caller time_out mutex).answer.woken ≡ []
 acquire_wakes caller time_out mutex None = refl
 acquire_wakes caller time_out mutex (Some owner) =
     elim (nat_eq owner caller) as (λ own. (cond own (acquired_again mutex) (not_acquired time_out mutex)).answer.woken ≡ []) [ true ↦ refl | false ↦ unmet_wakes time_out ]
 
-done_or_waiting : (over : Bool) → (cond over done waiting).woken ≡ []
+pub done_or_waiting : (over : Bool) → (cond over done waiting).woken ≡ []
 done_or_waiting true = refl
 done_or_waiting false = refl
 

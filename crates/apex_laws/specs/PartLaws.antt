@@ -1,6 +1,6 @@
 -- The laws on one partition alone, for the piece that holds it: from its own demands, whatever the other pieces do. Each is the
 -- contract of a function in `src/lib.rt`.
-use Rattle.std.specs.Prelude.{◌≡◌, ◌≤◌, ◌<◌, ℕ, ◌+◌, List, Option, Bool, true, false, IsTrue, IsFalse, is_some, ◌&&◌, ◌||◌}
+use Rattle.std.specs.Prelude.{◌≡◌, ◌≤◌, ◌<◌, ℕ, ◌+◌, List, [], ◌∷◌, ◌++◌, Option, None, if◌then◌else◌, Bool, true, false, IsTrue, IsFalse, is_some, ◌&&◌, ◌||◌}
 use Rattle.apex_types.specs.declared.record.Body.TheVariants.{Call, Disp, Ret, Tick}
 use Rattle.apex_types.specs.declared.record.Call.{Call as CallRecord}
 use Rattle.apex_types.specs.declared.record.Ordered.{Ordered}
@@ -16,8 +16,10 @@ use Rattle.apex_machine.specs.After.{partition_after, partition_by}
 use Rattle.apex_machine.specs.Arguments.{natural_of}
 use Rattle.apex_machine.specs.Configuration.{Configuration}
 use Rattle.apex_machine.specs.Demands.{AllHold, own_call_demands, partition_demands, stands_in}
-use Rattle.apex_machine.specs.State.{Partition, cold_partition, is_named, item_at}
-use Rattle.apex_machine.specs.Waiting.{is_no_error, is_same_set, set_after, stop_of, waits_at}
+use Rattle.apex_machine.specs.Ports.{channel_of}
+use Rattle.apex_machine.specs.Services.{answer_of}
+use Rattle.apex_machine.specs.State.{Partition, cold_partition, is_named, item_at, time_of}
+use Rattle.apex_machine.specs.Waiting.{enters, entry_of, is_no_error, is_same_set, set_after, stop_of, waits_at, without}
 use Rattle.apex_laws.specs.Laws.{AllEntries, IsInOrder, are_distinct, entries_at}
 
 -- a sound partition
@@ -103,6 +105,25 @@ OtherSetsStay =
     (judged : Service → Bool) (configuration : Configuration) (number place core : ℕ) (cores : List CoreState) (partition : Partition) (call : CallRecord)
     → IsOwnCall judged configuration number place core cores partition call → IsFalse (is_stop_done call)
     → (wanted : WaitingSet) → IsFalse (is_set_used call.request wanted) → set_after place (Call call) wanted (entries_at partition wanted) ≡ entries_at partition wanted
+
+-- an own call that doesn't answer NO_ERROR ends no wait in the partition: a caller that waits enters its set at the end, and all
+-- else stays
+abbrev pub OnlyDoneLetsGo : Type 0
+OnlyDoneLetsGo =
+    (judged : Service → Bool) (configuration : Configuration) (number place core : ℕ) (cores : List CoreState) (partition : Partition) (call : CallRecord)
+    → IsOwnCall judged configuration number place core cores partition call → IsFalse (is_no_error call.claim.out)
+    → (wanted : WaitingSet) → set_after place (Call call) wanted (entries_at partition wanted)
+    ≡ (if enters call wanted then entries_at partition wanted ++ entry_of place call ∷ [] else entries_at partition wanted)
+
+-- an own call that answers NO_ERROR, is no STOP and goes through no channel ends the waits that its service's answer names: those
+-- leave, and nobody enters
+abbrev pub LetsGoAsAnswered : Type 0
+LetsGoAsAnswered =
+    (judged : Service → Bool) (configuration : Configuration) (number place core : ℕ) (cores : List CoreState) (partition : Partition) (call : CallRecord)
+    → IsOwnCall judged configuration number place core cores partition call → IsTrue (is_no_error call.claim.out) → stop_of call.request ≡ None
+    → channel_of partition call.request ≡ None
+    → (wanted : WaitingSet) → set_after place (Call call) wanted (entries_at partition wanted)
+    ≡ without (λ who. is_named who (answer_of (time_of cores core) call.who partition call.request).woken) (entries_at partition wanted)
 
 -- ticks
 

@@ -101,6 +101,12 @@ OneObjectChanges =
     → IsOwnCall judged configuration number place core cores partition call → IsFalse (is_stop_done call)
     → (asked : Request) → call.request ≡ asked → objects_called configuration place call partition ≡ objects_changed configuration place call asked partition
 
+-- an own call that isn't done leaves all objects, waiting sets and ports
+abbrev pub RefusedLeavesObjects : Type 0
+RefusedLeavesObjects =
+    (judged : Service → Bool) (configuration : Configuration) (number place core : ℕ) (cores : List CoreState) (partition : Partition) (call : CallRecord)
+    → IsOwnCall judged configuration number place core cores partition call → IsFalse (is_done call.claim.out) → objects_called configuration place call partition ≡ partition
+
 -- a STOP that is done
 
 -- the partition with one waiting set of its objects changed; a channel's is no partition's

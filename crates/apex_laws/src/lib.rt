@@ -6,8 +6,8 @@
 #![tactic(auto)]
 
 ghost use Rattle.apex_laws.specs.Laws.{AtMostOneNextState, ChoiceIsTheSentence, OneFirstRefusal, OneRun, PiecesCompose, PiecesFollow, RunOfEach, StaysInOrder, StaysTied, ViewIsOfTheRun, WhoWaitsStands};
-ghost use Rattle.apex_laws.specs.PartLaws.{CallerStandsNowhere, DueLeave, ForeignCallsLeaveSets, OtherSetsStay, PartStaysSound};
-ghost use Rattle.apex_laws.specs.PartObjects.{EachLeavesItsSet, OneObjectChanges, StoppedLeaves};
+ghost use Rattle.apex_laws.specs.PartLaws.{CallerStandsNowhere, DueLeave, ForeignCallsLeaveSets, LetsGoAsAnswered, OnlyDoneLetsGo, OtherSetsStay, PartStaysSound};
+ghost use Rattle.apex_laws.specs.PartObjects.{EachLeavesItsSet, OneObjectChanges, RefusedLeavesObjects, StoppedLeaves};
 ghost use Rattle.apex_laws.specs.JoinLaws.{FindingsJoin, FoundIsRefused, NothingFoundIsARun, RunsJoin};
 ghost use Rattle.apex_laws.specs.ObjectLaws.{BlackboardIsTheSentence, ChannelIsTheSentence, EventIsTheSentence, FirstIsTheSentence, MutexIsTheSentence, ObjectCallIsTheSentence, OrderIsApart, QueueIsTheSentence, SamplingIsTheSentence, SemaphoreIsTheSentence};
 ghost use Rattle.apex_laws.specs.RecordLaws.{CallIsTheSentence, DispatchIsTheSentence, RefusalIsTheSentence, ReturnIsTheSentence, SetIsTheSentence, TickIsTheSentence};
@@ -77,6 +77,23 @@ pub fn other_sets_stay()
 /// leaves all other objects and ports of the partition.
 pub fn one_object_changes()
     ensures { OneObjectChanges }
+{}
+
+/// A call of a sound partition that doesn't answer NO_ERROR ends no wait in it: a caller that waits enters its set at the end, and
+/// every other set stays.
+pub fn only_done_lets_go()
+    ensures { OnlyDoneLetsGo }
+{}
+
+/// From the waiting sets of a sound partition a call that answers NO_ERROR, is no STOP and goes through no channel lets those go
+/// whom its service's answer names, and nobody enters.
+pub fn lets_go_as_answered()
+    ensures { LetsGoAsAnswered }
+{}
+
+/// A call of a sound partition that isn't done leaves all objects, waiting sets and ports of it.
+pub fn refused_leaves_objects()
+    ensures { RefusedLeavesObjects }
 {}
 
 /// A STOP that is done takes its target out of the one waiting set that its wait names: nobody else leaves, nobody enters, and all
