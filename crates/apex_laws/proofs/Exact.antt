@@ -1,6 +1,6 @@
 -- Every process that waits in a set stands in it.
 use Rattle.std.proofs.Common.{◌≡◌, ℕ, List, [], ◌∷◌, ◌++◌, Bool, true, false, cond, nat_eq, ℤ, pos, negsuc, Option, Some, None, is_some, option_map, refl, sym, ap, subst, ◌∙◌, inl, inr, true≢false}
-use Rattle.std.proofs.lemmas.Bool.{and_parts, cases_Bool}
+use Rattle.std.proofs.lemmas.Bool.{and_parts, cases_Bool, eq-eqb}
 use Rattle.apex_types.specs.declared.record.Body.{Body}
 use Rattle.apex_types.specs.declared.record.Body.TheVariants.{Call, Ret, Disp, Tick}
 use Rattle.apex_types.specs.declared.record.Call.{Call as CallRecord}
@@ -11,6 +11,7 @@ use Rattle.apex_types.specs.declared.record.Who.{Who}
 use Rattle.apex_types.specs.declared.request.Request.{Request}
 use Rattle.apex_types.specs.declared.request.Request.TheVariants as request
 use Rattle.apex_types.specs.declared.service.Service.{Service}
+use Rattle.apex_machine.specs.declared.state.CoreState.{CoreState}
 use Rattle.apex_machine.specs.declared.state.Entry.{Entry}
 use Rattle.apex_machine.specs.declared.state.Process.{Process}
 use Rattle.apex_machine.specs.declared.state.WaitingSet.{WaitingSet}
@@ -20,16 +21,14 @@ use Rattle.apex_machine.specs.Arguments.{natural_of}
 use Rattle.apex_machine.specs.Configuration.{Configuration, first_core}
 use Rattle.apex_machine.specs.Demands.{stands_in}
 use Rattle.apex_machine.specs.Objects.{acquired, buffer_received, buffer_sent, semaphore_waited}
-use Rattle.apex_machine.specs.Ports.{channel_of, suits_use, use_of}
 use Rattle.apex_machine.specs.ServiceConditions.{condition_codes}
-use Rattle.apex_machine.specs.Services.{answer_of}
-use Rattle.apex_machine.specs.State.{Buffer, Partition, State, change_at, cold_state, each_item, given_object, initialising_process, is_named, is_same, item_at, time_of}
-use Rattle.apex_machine.specs.Step.{IsLawfulBody, IsLawfulCall, RunJudging, StepJudging, channel_answer}
+use Rattle.apex_machine.specs.State.{Buffer, Partition, State, change_at, cold_state, each_item, given_object, initialising_process, is_named, is_same, item_at}
+use Rattle.apex_machine.specs.Step.{IsLawfulBody, RunJudging, StepJudging}
 use Rattle.apex_machine.specs.Waiting.{ends_wait, enters, entry_of, is_the_set, is_waiting, set_after, set_of, waits_at, without}
+use Rattle.apex_laws.specs.PartLaws.{is_of_channel}
 use Rattle.apex_laws.specs.Laws.{AreTied, WaitersStand, WhoWaitsStands, entries_at, entries_in, entries_of}
 use Rattle.apex_laws.proofs.Booleans.{first_holds, is_itself, later_holds, other_holds}
-use Rattle.apex_laws.proofs.Codes.{are_errors, done_is_lawful}
-use Rattle.apex_laws.proofs.Keeps.{leaves}
+use Rattle.apex_laws.proofs.Keeps.{CallsReady, IsReadyCall, calls_ready, leaves}
 use Rattle.apex_laws.proofs.ObjectCalls.{message_there, mutex_there, object_there}
 use Rattle.apex_laws.proofs.Objects.{each_set_holds, objects_have, stands_at}
 use Rattle.apex_laws.proofs.Tables.{at_each}
@@ -187,71 +186,75 @@ waiting_is_done out.Never is = refl
 waiting_is_done (out.Answer code) is = absurd (true≢false (sym is))
 
 -- a caller that enters a set of its partition
-own_takes : (judged : Service → Bool) (configuration : Configuration) (state : State) (place core : ℕ) (call : CallRecord) → IsLawfulCall judged configuration state core call → (wanted : WaitingSet)
+own_takes : (configuration : Configuration) (cores : List CoreState) (place core : ℕ) (call : CallRecord) (partition : Partition) → IsReadyCall configuration partition core call → (wanted : WaitingSet)
     → ((other : ℕ) → ¬ (wanted ≡ set.ChannelSenders other)) → ((other : ℕ) → ¬ (wanted ≡ set.ChannelReceivers other)) → enters call wanted ≡ true
-    → stands_in call.who (entries_at (partition_by configuration state.cores place core call.who.part (Call call) (state.partitions call.who.part)) wanted) ≡ true
-own_takes judged configuration state place core call law wanted not_sending not_receiving here =
-    let partition = state.partitions call.who.part in
+    → stands_in call.who (entries_at (partition_by configuration cores place core call.who.part (Call call) partition) wanted) ≡ true
+own_takes configuration cores place core call partition ready wanted not_sending not_receiving here =
     let parts = and_parts (is_waiting call.claim.out) (is_the_set wanted (set_of call.request call.claim.chan)) here in
     let done = waiting_is_done call.claim.out parts.0 in
-    let none = done_is_lawful (condition_codes configuration call.who partition call.request) (channel_of partition call.request)
-    (answer_of (time_of state.cores core) call.who partition call.request) (λ number. suits_use (use_of call.request) (state.channels number))
-    (channel_answer configuration (time_of state.cores core) call.request state.channels) call.claim
-    (are_errors configuration call.who partition call.request) law.outcome done in
     let objects : Partition = cond (is_done call.claim.out) (objects_by configuration call.who call.claim.val call.request partition) partition in
     let there : stands_at objects wanted ≡ true = rw done
     (waits_there configuration call.who call.claim.val call.request call.claim.chan partition wanted not_sending not_receiving
-    (found_set wanted (set_of call.request call.claim.chan) parts.1) none) in
-    rw (is_itself call.who.part) (subst (λ entries. stands_in call.who entries ≡ true) (sym (called_sets configuration state.cores place core call partition wanted))
+    (found_set wanted (set_of call.request call.claim.chan) parts.1) (ready.none done)) in
+    rw (is_itself call.who.part) (subst (λ entries. stands_in call.who entries ≡ true) (sym (called_sets configuration cores place core call partition wanted))
     (each_stands call.who (set_after place (Call call)) objects wanted there (set_takes place call wanted (entries_at objects wanted) here)))
 
--- who waits in a set of a partition after a record stands there
-partition_stands : (judged : Service → Bool) (configuration : Configuration) (state : State) (place core : ℕ) (body : Body) → AreTied configuration state
-    → IsLawfulBody judged configuration state core body → (who : Who) (wanted : WaitingSet)
+-- who waits in a set of a partition after a record stands there, if the record's own calls are of ready callers
+partition_stands : (configuration : Configuration) (cores : List CoreState) (place core : ℕ) (body : Body) (partition : Partition) (who : Who) (wanted : WaitingSet)
+    → CallsReady configuration core who.part body partition
     → ((other : ℕ) → ¬ (wanted ≡ set.ChannelSenders other)) → ((other : ℕ) → ¬ (wanted ≡ set.ChannelReceivers other))
-    → (waits_at wanted (found state.partitions who) ≡ true → stands_in who (entries_at (state.partitions who.part) wanted) ≡ true)
-    → waits_at wanted (item_at (partition_by configuration state.cores place core who.part body (state.partitions who.part)).table who.proc) ≡ true
-    → stands_in who (entries_at (partition_by configuration state.cores place core who.part body (state.partitions who.part)) wanted) ≡ true
-partition_stands judged configuration state place core (Disp one) tied law who wanted not_sending not_receiving before waits =
-    elim (who_waits judged configuration state place core (Disp one) tied law who wanted waits) [
+    → (waits_at wanted (item_at partition.table who.proc) ≡ true → stands_in who (entries_at partition wanted) ≡ true)
+    → waits_at wanted (item_at (partition_by configuration cores place core who.part body partition).table who.proc) ≡ true
+    → stands_in who (entries_at (partition_by configuration cores place core who.part body partition) wanted) ≡ true
+partition_stands configuration cores place core (Disp one) partition who wanted ready not_sending not_receiving before waits =
+    elim (who_waits configuration cores place core (Disp one) partition who wanted ready waits) [
       | inl goes ↦ before goes.1
       | inr enters ↦ absurd enters
     ]
-partition_stands judged configuration state place core (Ret ret) tied law who wanted not_sending not_receiving before waits =
-    elim (who_waits judged configuration state place core (Ret ret) tied law who wanted waits) [
+partition_stands configuration cores place core (Ret ret) partition who wanted ready not_sending not_receiving before waits =
+    elim (who_waits configuration cores place core (Ret ret) partition who wanted ready waits) [
       | inl goes ↦ elim (nat_eq ret.who.part who.part) as (λ own. stands_in who (entries_at (cond own
-          (record (state.partitions who.part) { table = each_item (returned ret.who.proc) (state.partitions who.part).table }) (state.partitions who.part)) wanted) ≡ true) [
-            | true ↦ subst (λ entries. stands_in who entries ≡ true) (sym (same_sets (state.partitions who.part) (each_item (returned ret.who.proc) (state.partitions who.part).table) wanted)) (before goes.1)
+          (record partition { table = each_item (returned ret.who.proc) partition.table }) partition) wanted) ≡ true) [
+            | true ↦ subst (λ entries. stands_in who entries ≡ true) (sym (same_sets partition (each_item (returned ret.who.proc) partition.table) wanted)) (before goes.1)
             | false ↦ before goes.1
           ]
       | inr enters ↦ absurd enters
     ]
-partition_stands judged configuration state place core (Tick woken) tied law who wanted not_sending not_receiving before waits =
-    elim (who_waits judged configuration state place core (Tick woken) tied law who wanted waits) [
+partition_stands configuration cores place core (Tick woken) partition who wanted ready not_sending not_receiving before waits =
+    elim (who_waits configuration cores place core (Tick woken) partition who wanted ready waits) [
       | inl goes ↦
-          let partition = state.partitions who.part in
           subst (λ entries. stands_in who entries ≡ true) (sym (same_sets (each_set (set_after place (Tick woken)) partition) (each_item (ticked place who.part woken) partition.table) wanted))
           (each_stands who (set_after place (Tick woken)) partition wanted (standing_there who partition wanted (before goes.1))
           (set_keeps place (Tick woken) who wanted (entries_at partition wanted) goes.0 (before goes.1)))
       | inr enters ↦ absurd enters
     ]
-partition_stands judged configuration state place core (Call call) tied law who wanted not_sending not_receiving before waits =
-    let partition = state.partitions who.part in
-    elim (who_waits judged configuration state place core (Call call) tied law who wanted waits) [
+partition_stands configuration cores place core (Call call) partition who wanted ready not_sending not_receiving before waits =
+    elim (who_waits configuration cores place core (Call call) partition who wanted ready waits) [
       | inl goes ↦
           let objects : Partition = cond (is_done call.claim.out) (objects_by configuration call.who call.claim.val call.request partition) partition in
           let used = used_stands who configuration call partition wanted (before goes.1) in
           let foreign : ℕ → Process → Process = λ other process. roused place call (record { part = who.part; proc = other }) process in
-          elim (nat_eq call.who.part who.part) as (λ own. stands_in who (entries_at (cond own (partition_called configuration state.cores place core call partition)
+          elim (nat_eq call.who.part who.part) as (λ own. stands_in who (entries_at (cond own (partition_called configuration cores place core call partition)
           (record partition { table = each_item foreign partition.table })) wanted) ≡ true) [
-            | true ↦ subst (λ entries. stands_in who entries ≡ true) (sym (called_sets configuration state.cores place core call partition wanted))
+            | true ↦ subst (λ entries. stands_in who entries ≡ true) (sym (called_sets configuration cores place core call partition wanted))
                 (each_stands who (set_after place (Call call)) objects wanted (standing_there who objects wanted used) (set_keeps place (Call call) who wanted (entries_at objects wanted) goes.0 used))
             | false ↦ subst (λ entries. stands_in who entries ≡ true) (sym (same_sets partition (each_item foreign partition.table) wanted)) (before goes.1)
           ]
       | inr entering ↦
-          subst (λ one. stands_in one (entries_at (partition_by configuration state.cores place core one.part (Call call) (state.partitions one.part)) wanted) ≡ true) (sym entering.0)
-          (own_takes judged configuration state place core call law wanted not_sending not_receiving entering.1)
+          let own : nat_eq call.who.part who.part ≡ true = eq-eqb call.who.part who.part (ap (λ one. one.part) (sym entering.0)) in
+          subst (λ one. stands_in one (entries_at (partition_by configuration cores place core one.part (Call call) partition) wanted) ≡ true) (sym entering.0)
+          (own_takes configuration cores place core call partition (ready own) wanted not_sending not_receiving entering.1)
     ]
+
+-- so it is where the set isn't a channel's
+pub object_stands : (configuration : Configuration) (cores : List CoreState) (place core : ℕ) (body : Body) (partition : Partition) (who : Who) (wanted : WaitingSet)
+    → CallsReady configuration core who.part body partition → is_of_channel wanted ≡ false
+    → (waits_at wanted (item_at partition.table who.proc) ≡ true → stands_in who (entries_at partition wanted) ≡ true)
+    → waits_at wanted (item_at (partition_by configuration cores place core who.part body partition).table who.proc) ≡ true
+    → stands_in who (entries_at (partition_by configuration cores place core who.part body partition) wanted) ≡ true
+object_stands configuration cores place core body partition who wanted ready off before waits =
+    partition_stands configuration cores place core body partition who wanted ready
+    (λ other is. true≢false (sym (ap is_of_channel is) ∙ off)) (λ other is. true≢false (sym (ap is_of_channel is) ∙ off)) before waits
 
 -- the whole state
 
@@ -262,7 +265,7 @@ channel_stands : (judged : Service → Bool) (configuration : Configuration) (st
     → waits_at wanted (item_at (partition_by configuration state.cores place core who.part body (state.partitions who.part)).table who.proc) ≡ true
     → stands_in who (set_after place body wanted entries) ≡ true
 channel_stands judged configuration state place core body tied law who wanted entries before waits =
-    elim (who_waits judged configuration state place core body tied law who wanted waits) [
+    elim (who_waits configuration state.cores place core body (state.partitions who.part) who wanted (calls_ready judged configuration state core body tied law who.part) waits) [
       | inl goes ↦ set_keeps place body who wanted entries goes.0 (before goes.1)
       | inr enters ↦ entering_stands place body who wanted entries enters
     ]
@@ -274,17 +277,23 @@ next_stands judged configuration state ordered tied stand law who (set.ChannelSe
 next_stands judged configuration state ordered tied stand law who (set.ChannelReceivers channel) waits =
     channel_stands judged configuration state ordered.pos ordered.core ordered.rec.body tied law who (set.ChannelReceivers channel) (state.channels channel).receivers (stand who (set.ChannelReceivers channel)) waits
 next_stands judged configuration state ordered tied stand law who (set.BufferSenders number) waits =
-    partition_stands judged configuration state ordered.pos ordered.core ordered.rec.body tied law who (set.BufferSenders number) (λ other. λ e. cc) (λ other. λ e. cc) (stand who (set.BufferSenders number)) waits
+    object_stands configuration state.cores ordered.pos ordered.core ordered.rec.body (state.partitions who.part) who (set.BufferSenders number)
+    (calls_ready judged configuration state ordered.core ordered.rec.body tied law who.part) refl (stand who (set.BufferSenders number)) waits
 next_stands judged configuration state ordered tied stand law who (set.BufferReceivers number) waits =
-    partition_stands judged configuration state ordered.pos ordered.core ordered.rec.body tied law who (set.BufferReceivers number) (λ other. λ e. cc) (λ other. λ e. cc) (stand who (set.BufferReceivers number)) waits
+    object_stands configuration state.cores ordered.pos ordered.core ordered.rec.body (state.partitions who.part) who (set.BufferReceivers number)
+    (calls_ready judged configuration state ordered.core ordered.rec.body tied law who.part) refl (stand who (set.BufferReceivers number)) waits
 next_stands judged configuration state ordered tied stand law who (set.BlackboardReaders number) waits =
-    partition_stands judged configuration state ordered.pos ordered.core ordered.rec.body tied law who (set.BlackboardReaders number) (λ other. λ e. cc) (λ other. λ e. cc) (stand who (set.BlackboardReaders number)) waits
+    object_stands configuration state.cores ordered.pos ordered.core ordered.rec.body (state.partitions who.part) who (set.BlackboardReaders number)
+    (calls_ready judged configuration state ordered.core ordered.rec.body tied law who.part) refl (stand who (set.BlackboardReaders number)) waits
 next_stands judged configuration state ordered tied stand law who (set.SemaphoreWaiters number) waits =
-    partition_stands judged configuration state ordered.pos ordered.core ordered.rec.body tied law who (set.SemaphoreWaiters number) (λ other. λ e. cc) (λ other. λ e. cc) (stand who (set.SemaphoreWaiters number)) waits
+    object_stands configuration state.cores ordered.pos ordered.core ordered.rec.body (state.partitions who.part) who (set.SemaphoreWaiters number)
+    (calls_ready judged configuration state ordered.core ordered.rec.body tied law who.part) refl (stand who (set.SemaphoreWaiters number)) waits
 next_stands judged configuration state ordered tied stand law who (set.EventWaiters number) waits =
-    partition_stands judged configuration state ordered.pos ordered.core ordered.rec.body tied law who (set.EventWaiters number) (λ other. λ e. cc) (λ other. λ e. cc) (stand who (set.EventWaiters number)) waits
+    object_stands configuration state.cores ordered.pos ordered.core ordered.rec.body (state.partitions who.part) who (set.EventWaiters number)
+    (calls_ready judged configuration state ordered.core ordered.rec.body tied law who.part) refl (stand who (set.EventWaiters number)) waits
 next_stands judged configuration state ordered tied stand law who (set.MutexWaiters number) waits =
-    partition_stands judged configuration state ordered.pos ordered.core ordered.rec.body tied law who (set.MutexWaiters number) (λ other. λ e. cc) (λ other. λ e. cc) (stand who (set.MutexWaiters number)) waits
+    object_stands configuration state.cores ordered.pos ordered.core ordered.rec.body (state.partitions who.part) who (set.MutexWaiters number)
+    (calls_ready judged configuration state ordered.core ordered.rec.body tied law who.part) refl (stand who (set.MutexWaiters number)) waits
 
 step_stands : (judged : Service → Bool) (configuration : Configuration) (state : State) (ordered : Ordered) (next : State)
     → AreTied configuration state → WaitersStand state → StepJudging judged configuration state ordered next → WaitersStand next

@@ -20,12 +20,12 @@ use Rattle.apex_machine.specs.declared.state.WaitingSet.TheVariants as set
 use Rattle.apex_machine.specs.After.{each_set, is_done, new_blackboard, new_buffer, new_event, new_mutex, new_queuing_port, new_sampling_port, new_semaphore, objects_by, objects_called, partition_by, partition_called, returned, roused, ticked}
 use Rattle.apex_machine.specs.Answer.{Answer, HasValue, is_new}
 use Rattle.apex_machine.specs.Channels.{QueuingPort, SamplingPort, queuing_port, sampling_port}
-use Rattle.apex_machine.specs.Configuration.{Configuration}
+use Rattle.apex_machine.specs.Configuration.{Configuration, first_core}
 use Rattle.apex_machine.specs.Demands.{AllHold, AllWaitAt, WakesHere, call_demands, outcome_demands, own_call_demands, partition_demands, stands_in}
 use Rattle.apex_machine.specs.Ports.{channel_of}
 use Rattle.apex_machine.specs.ServiceConditions.{condition_codes}
 use Rattle.apex_machine.specs.Services.{answer_of}
-use Rattle.apex_machine.specs.State.{Blackboard, Buffer, Event, Mutex, Partition, Port, Semaphore, Table, cold_partition, each_item, is_free, is_named, is_same, item_at, time_of}
+use Rattle.apex_machine.specs.State.{Blackboard, Buffer, Event, Mutex, Partition, Port, Semaphore, Table, cold_partition, each_item, initialising_process, is_free, is_named, is_same, item_at, time_of}
 use Rattle.apex_machine.specs.Waiting.{ends_wait, set_after, stops, waits_at}
 use Rattle.apex_laws.specs.Laws.{AllEntries, IsInOrder, are_distinct, entries_at}
 use Rattle.apex_laws.specs.PartLaws.{CallerStandsNowhere, HasDistinctObjects, IsSoundPart, PartStaysSound}
@@ -33,6 +33,7 @@ use Rattle.apex_laws.proofs.Booleans.{cannot_hold, holds_if, neither, other_hold
 use Rattle.apex_laws.proofs.Callers.{StandsReady, choice_stands, ready_waits_not}
 use Rattle.apex_laws.proofs.Codes.{AreErrors, are_errors, not_done}
 use Rattle.apex_laws.proofs.Distinct.{CallsClaimValues, distinct_by, distinct_new}
+use Rattle.apex_laws.proofs.Exact.{object_stands}
 use Rattle.apex_laws.proofs.InOrder.{EntersNew, none_in_order, set_stays_in_order}
 use Rattle.apex_laws.proofs.Keeps.{CallsReady, IsReadyCall, entered_waits, keeps_waiting, leaves}
 use Rattle.apex_laws.proofs.SetsAfter.{EntersWith, IsElsewhere, each_entry, of_objects, one_set_after}
@@ -385,6 +386,8 @@ sound_after judged configuration number cores partition place core body sound ho
       order = λ wanted. subst (λ count. IsInOrder count (entries_at next wanted)) (next_place place)
           (set_stays_in_order configuration cores place place core number body partition wanted refl
           (own_caller_new configuration number place core body partition sound ready wanted) (sound.order wanted));
+      waiters = λ wanted process off waits. object_stands configuration cores place core body partition (record { part = number; proc = process }) wanted ready off
+          (λ before. sound.waiters wanted process off before) waits;
     }
 
 -- the places of a set are below every later place too
@@ -400,6 +403,7 @@ sound_later number place later partition most sound = record {
   objects = sound.objects;
   stands = sound.stands;
   order = λ wanted. order_before place later (entries_at partition wanted) most (sound.order wanted);
+  waiters = sound.waiters;
 }
 
 -- the sets of a cold partition are empty
@@ -413,12 +417,21 @@ cold_set configuration number (set.MutexWaiters object) = refl
 cold_set configuration number (set.ChannelSenders channel) = refl
 cold_set configuration number (set.ChannelReceivers channel) = refl
 
+-- nobody waits in a cold partition
+cold_waits_not : (configuration : Configuration) (number : ℕ) (wanted : WaitingSet) (process : ℕ) → waits_at wanted (item_at (cold_partition configuration number).table process) ≡ true → ⊥
+cold_waits_not configuration number wanted process waits =
+    elim (nat_eq process 0) as (λ first. waits_at wanted (cond first (Some (initialising_process (first_core configuration number))) None) ≡ true → ⊥) [
+      | true ↦ λ waits. true≢false (sym waits)
+      | false ↦ λ waits. true≢false (sym waits)
+    ] waits
+
 cold_sound : (configuration : Configuration) (number place : ℕ) → IsSoundPart number place (cold_partition configuration number)
 cold_sound configuration number place = record {
   distinct = refl;
   objects = record { buffers = refl; blackboards = refl; semaphores = refl; events = refl; mutexes = refl; sampling_ports = refl; queuing_ports = refl };
   stands = λ wanted. subst (AllEntries (Stands number wanted (cold_partition configuration number))) (sym (cold_set configuration number wanted)) tt;
   order = λ wanted. subst (IsInOrder place) (sym (cold_set configuration number wanted)) (none_in_order place);
+  waiters = λ wanted process off waits. absurd (cold_waits_not configuration number wanted process waits);
 }
 
 pub part_stays_sound : PartStaysSound

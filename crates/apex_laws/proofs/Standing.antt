@@ -1,4 +1,4 @@
--- Who waits in a set after a lawful record: who waited there and whose wait the record doesn't end, or the caller that enters.
+-- Who waits in a set after a record: who waited there and whose wait the record doesn't end, or the caller that enters.
 use Rattle.std.proofs.Common.{◌≡◌, ◌⊎◌, ℕ, List, [], ◌++◌, Bool, true, false, cond, nat_eq, ℤ, pos, negsuc, Option, Some, None, option_map, refl, sym, ap, subst, ◌∙◌, inl, inr, true≢false, ◌&&◌}
 use Rattle.std.proofs.lemmas.Bool.{and_from, and_parts, cases_Bool, eq-eqb, eqb-true}
 use Rattle.apex_types.specs.declared.record.Body.{Body}
@@ -9,7 +9,6 @@ use Rattle.apex_types.specs.declared.record.Out.TheVariants as out
 use Rattle.apex_types.specs.declared.record.Who.{Who}
 use Rattle.apex_types.specs.declared.request.Request.{Request}
 use Rattle.apex_types.specs.declared.request.Request.TheVariants as request
-use Rattle.apex_types.specs.declared.service.Service.{Service}
 use Rattle.apex_machine.specs.declared.state.CoreState.{CoreState}
 use Rattle.apex_machine.specs.declared.state.Process.{Process}
 use Rattle.apex_machine.specs.declared.state.Wait.TheVariants as wait
@@ -18,16 +17,13 @@ use Rattle.apex_machine.specs.After.{adjusted, called, caller_after, created_by,
 use Rattle.apex_machine.specs.Arguments.{is_number, natural_of}
 use Rattle.apex_machine.specs.Conditions.{is_normal}
 use Rattle.apex_machine.specs.Configuration.{Configuration, first_core, period_of}
-use Rattle.apex_machine.specs.Demands.{window_now}
 use Rattle.apex_machine.specs.DueTimes.{due_of_call, entry_wait, time_out_of, wait_in, wait_of, waits_for_normal}
 use Rattle.apex_machine.specs.Processes.{by_mutex, caller_with, gift_of, new_process, released, set_by, started, stopped, woken_by}
-use Rattle.apex_machine.specs.State.{Mutex, Partition, State, Table, each_item, given_object, is_named, item_at, time_of}
-use Rattle.apex_machine.specs.Step.{IsLawfulBody}
+use Rattle.apex_machine.specs.State.{Mutex, Partition, Table, each_item, given_object, is_named, item_at, time_of}
 use Rattle.apex_machine.specs.Waiting.{ends_wait, enters, is_in, is_no_error, is_target, is_the_set, is_waiting, set_of, stop_of, stops, waits_at}
-use Rattle.apex_laws.specs.Laws.{AreTied}
-use Rattle.apex_laws.proofs.Booleans.{cannot_hold, is_itself, neither, not_first, not_second}
-use Rattle.apex_laws.proofs.Callers.{chosen_stands, ready_waits_not}
-use Rattle.apex_laws.proofs.Keeps.{found_changed, leaves, mutex_alive, mutex_wait}
+use Rattle.apex_laws.proofs.Booleans.{cannot_hold, neither, not_first, not_second}
+use Rattle.apex_laws.proofs.Callers.{ready_waits_not}
+use Rattle.apex_laws.proofs.Keeps.{CallsReady, found_changed, leaves, mutex_alive, mutex_wait}
 use Rattle.apex_laws.proofs.Tables.{at_each}
 use Rattle.apex_laws.proofs.WholeCalls.{found_behind}
 use Rattle.apex_laws.proofs.Whos.{same_who}
@@ -197,62 +193,52 @@ abbrev pub Entering : Body → Who → WaitingSet → Type 0
 Entering (Call call) who wanted = (who ≡ call.who) × (enters call wanted ≡ true)
 Entering _ who wanted = ⊥
 
--- who waits in a set after a record waited there and goes on, or enters
-pub who_waits : (judged : Service → Bool) (configuration : Configuration) (state : State) (place core : ℕ) (body : Body) → AreTied configuration state
-    → IsLawfulBody judged configuration state core body → (who : Who) (wanted : WaitingSet)
-    → waits_at wanted (item_at (partition_by configuration state.cores place core who.part body (state.partitions who.part)).table who.proc) ≡ true
-    → ((leaves body who ≡ false) × (waits_at wanted (found state.partitions who) ≡ true)) ⊎ Entering body who wanted
-who_waits judged configuration state place core (Disp one) tied law who wanted waits = inl (refl, waits)
-who_waits judged configuration state place core (Tick woken) tied law who wanted waits =
-    each_back _ (ticked place who.part woken) (state.partitions who.part).table who.proc wanted
+-- who waits in a set after a record waited there and goes on, or enters, if the record's own calls are of ready callers
+pub who_waits : (configuration : Configuration) (cores : List CoreState) (place core : ℕ) (body : Body) (partition : Partition) (who : Who) (wanted : WaitingSet)
+    → CallsReady configuration core who.part body partition
+    → waits_at wanted (item_at (partition_by configuration cores place core who.part body partition).table who.proc) ≡ true
+    → ((leaves body who ≡ false) × (waits_at wanted (item_at partition.table who.proc) ≡ true)) ⊎ Entering body who wanted
+who_waits configuration cores place core (Disp one) partition who wanted ready waits = inl (refl, waits)
+who_waits configuration cores place core (Tick woken) partition who wanted ready waits =
+    each_back _ (ticked place who.part woken) partition.table who.proc wanted
     (λ x at waits. (let back = ticked_back place who.part woken who.proc x wanted waits in inl (back.0, subst (λ one. waits_at wanted one ≡ true) (sym at) back.1))) waits
-who_waits judged configuration state place core (Ret ret) tied law who wanted waits =
-    let Fact : Type 0 = ((false ≡ false) × (waits_at wanted (found state.partitions who) ≡ true)) ⊎ ⊥ in
-    elim (nat_eq ret.who.part who.part) as (λ own. waits_at wanted (item_at (cond own (record (state.partitions who.part) { table = each_item (returned ret.who.proc) (state.partitions who.part).table })
-    (state.partitions who.part)).table who.proc) ≡ true → Fact) [
-      | true ↦ λ waits. each_back Fact (returned ret.who.proc) (state.partitions who.part).table who.proc wanted
+who_waits configuration cores place core (Ret ret) partition who wanted ready waits =
+    let Fact : Type 0 = ((false ≡ false) × (waits_at wanted (item_at partition.table who.proc) ≡ true)) ⊎ ⊥ in
+    elim (nat_eq ret.who.part who.part) as (λ own. waits_at wanted (item_at (cond own (record partition { table = each_item (returned ret.who.proc) partition.table }) partition).table who.proc) ≡ true
+    → Fact) [
+      | true ↦ λ waits. each_back Fact (returned ret.who.proc) partition.table who.proc wanted
           (λ x at waits. inl (refl, subst (λ one. waits_at wanted one ≡ true) (sym at) (one_back wanted (nat_eq who.proc ret.who.proc) (record x { due = None }) x (λ waits. waits) waits))) waits
       | false ↦ λ waits. inl (refl, waits)
     ] waits
-who_waits judged configuration state place core (Call call) tied law who wanted waits =
-    let Fact : Type 0 = ((ends_wait call who ≡ false) × (waits_at wanted (found state.partitions who) ≡ true)) ⊎ ((who ≡ call.who) × (enters call wanted ≡ true)) in
-    let own_table = (state.partitions call.who.part).table in
-    let now = time_of state.cores core in
+who_waits configuration cores place core (Call call) partition who wanted ready waits =
+    let Fact : Type 0 = ((ends_wait call who ≡ false) × (waits_at wanted (item_at partition.table who.proc) ≡ true)) ⊎ ((who ≡ call.who) × (enters call wanted ≡ true)) in
+    let table = partition.table in
+    let now = time_of cores core in
     let period = period_of configuration call.who.part in
+    let added = created_by (first_core configuration call.who.part) call call.request in
+    let foreign : ℕ → Process → Process = λ number process. roused place call (record { part = who.part; proc = number }) process in
+    let after : Bool → Table = λ own. (cond own (partition_called configuration cores place core call partition) (record partition { table = each_item foreign table })).table in
     elim (cases_Bool (nat_eq call.who.part who.part)) [
       | inl own ↦
           let here : call.who.part ≡ who.part = eqb-true call.who.part who.part own in
           let same : record { part = call.who.part; proc = who.proc } ≡ who = same_who (record { part = call.who.part; proc = who.proc }) who here refl in
-          let change = called place now period state.cores (state.partitions call.who.part) call in
-          let ready = chosen_stands (window_now configuration state.cores core) state.partitions core call.who (tied.distinct call.who.part) law.choice in
-          let at_home : waits_at wanted (item_at (partition_by configuration state.cores place core call.who.part (Call call) (state.partitions call.who.part)).table who.proc) ≡ true =
-          subst (λ part. waits_at wanted (item_at (partition_by configuration state.cores place core part (Call call) (state.partitions part)).table who.proc) ≡ true) (sym here) waits in
-          let foreign : ℕ → Process → Process = λ number process. roused place call (record { part = call.who.part; proc = number }) process in
-          let in_table : waits_at wanted (item_at (each_item change own_table ++ created_by (first_core configuration call.who.part) call call.request) who.proc) ≡ true =
-          subst (λ test. waits_at wanted (item_at (cond test (partition_called configuration state.cores place core call (state.partitions call.who.part))
-          (record (state.partitions call.who.part) { table = each_item foreign own_table })).table who.proc) ≡ true) (is_itself call.who.part) at_home in
-          longer_back Fact change own_table (created_by (first_core configuration call.who.part) call call.request) who.proc wanted
-          (λ x at waits. elim (called_back place now period state.cores (state.partitions call.who.part) call who.proc x wanted waits) [
+          let change = called place now period cores partition call in
+          let caller_ready = (ready own).ready in
+          let in_table : waits_at wanted (item_at (each_item change table ++ added) who.proc) ≡ true = subst (λ test. waits_at wanted (item_at (after test) who.proc) ≡ true) own waits in
+          longer_back Fact change table added who.proc wanted
+          (λ x at waits. elim (called_back place now period cores partition call who.proc x wanted waits) [
             | inl caller ↦
                 let number : who.proc ≡ call.who.proc = eqb-true who.proc call.who.proc caller.0 in
-                let begun = caller_back place now call (adjusted place period state.cores (state.partitions call.who.part) call who.proc x) wanted call.claim.out
-                (λ waits. ready_waits_not core (found state.partitions call.who) wanted ready
-                (subst (λ one. waits_at wanted one ≡ true) (sym at ∙ ap (item_at own_table) number)
-                (adjusted_back place period state.cores (state.partitions call.who.part) call who.proc x wanted waits))) caller.1 in
+                let begun = caller_back place now call (adjusted place period cores partition call who.proc x) wanted call.claim.out
+                (λ waits. ready_waits_not core (item_at table call.who.proc) wanted caller_ready
+                (subst (λ one. waits_at wanted one ≡ true) (sym at ∙ ap (item_at table) number) (adjusted_back place period cores partition call who.proc x wanted waits))) caller.1 in
                 inr (same_who who call.who (sym here) number, and_from _ _ begun.0 begun.1)
-            | inr other ↦ inl (
-              subst (λ one. ends_wait call one ≡ false) same other.0,
-              subst (λ one. waits_at wanted (found state.partitions one) ≡ true) same (subst (λ one. waits_at wanted one ≡ true) (sym at) other.1),
-            )
+            | inr other ↦ inl (subst (λ one. ends_wait call one ≡ false) same other.0, subst (λ one. waits_at wanted one ≡ true) (sym at) other.1)
           ])
-          (λ added. created_not (first_core configuration call.who.part) call call.request who.proc wanted added) in_table
+          (λ new. created_not (first_core configuration call.who.part) call call.request who.proc wanted new) in_table
       | inr elsewhere ↦
-          let table = (state.partitions who.part).table in
-          let change : ℕ → Process → Process = λ number process. roused place call (record { part = who.part; proc = number }) process in
-          let in_table : waits_at wanted (item_at (each_item change table) who.proc) ≡ true =
-          subst (λ test. waits_at wanted (item_at (cond test (partition_called configuration state.cores place core call (state.partitions who.part))
-          (record (state.partitions who.part) { table = each_item change table })).table who.proc) ≡ true) elsewhere waits in
-          each_back Fact change table who.proc wanted
+          let in_table : waits_at wanted (item_at (each_item foreign table) who.proc) ≡ true = subst (λ test. waits_at wanted (item_at (after test) who.proc) ≡ true) elsewhere waits in
+          each_back Fact foreign table who.proc wanted
           (λ x at waits. (let back = roused_back place call who x wanted waits in
           let stays : stops call who ≡ false = not_stopped call who elsewhere in
           inl (neither _ _ back.0 stays, subst (λ one. waits_at wanted one ≡ true) (sym at) back.1))) in_table

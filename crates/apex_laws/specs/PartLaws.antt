@@ -34,14 +34,22 @@ pub record HasDistinctObjects (partition : Partition) : Type 0 where
   pub sampling_ports : IsTrue (are_distinct partition.sampling_ports)
   pub queuing_ports : IsTrue (are_distinct partition.queuing_ports)
 
+-- whether a waiting set is a channel's
+abbrev pub is_of_channel : WaitingSet → Bool
+is_of_channel (set.ChannelSenders channel) = true
+is_of_channel (set.ChannelReceivers channel) = true
+is_of_channel _ = false
+
 -- a partition's waiting sets are sound before this place: numbers are distinct; who stands in one of its sets is a process of
--- it that waits there; and every set is in order
+-- it that waits there; every set is in order; and each process that waits in a set of one of its objects stands in it
 pub record IsSoundPart (number place : ℕ) (partition : Partition) : Type 0 where
   pub distinct : IsTrue (are_distinct partition.table)
   pub objects : HasDistinctObjects partition
   pub stands : (wanted : WaitingSet)
       → AllEntries (λ entry. (entry.who.part ≡ number) × IsTrue (waits_at wanted (item_at partition.table entry.who.proc))) (entries_at partition wanted)
   pub order : (wanted : WaitingSet) → IsInOrder place (entries_at partition wanted)
+  pub waiters : (wanted : WaitingSet) (process : ℕ) → IsFalse (is_of_channel wanted) → IsTrue (waits_at wanted (item_at partition.table process))
+      → IsTrue (stands_in (record { part = number; proc = process }) (entries_at partition wanted))
 
 -- the cold partition is sound; a record whose demands hold keeps a partition sound; and a sound partition is sound before every
 -- later place
@@ -71,12 +79,6 @@ CallerStandsNowhere =
 -- whether a waiting set is one of the two of a buffer
 abbrev pub is_of_buffer : ℕ → WaitingSet → Bool
 is_of_buffer number wanted = is_same_set (set.BufferSenders number) wanted || is_same_set (set.BufferReceivers number) wanted
-
--- whether a waiting set is a channel's
-abbrev pub is_of_channel : WaitingSet → Bool
-is_of_channel (set.ChannelSenders channel) = true
-is_of_channel (set.ChannelReceivers channel) = true
-is_of_channel _ = false
 
 -- whether a request uses a waiting set: one of the object that it names; CLEAR_BLACKBOARD and RESET_EVENT use none, and the sets
 -- that the services of queuing ports use are channels', which no partition holds

@@ -56,8 +56,8 @@ pub fn who_waits_stands()
     ensures { WhoWaitsStands }
 {}
 
-/// By a partition's own demands alone, its waiting sets stay sound: numbers are distinct, who stands in a set of the partition
-/// is a process of it that waits there, and every set is in order.
+/// By a partition's own demands alone, its waiting sets stay sound: numbers are distinct, exactly those of its processes stand in
+/// a set of one of its objects who wait there, and every set is in order.
 pub fn part_stays_sound()
     ensures { PartStaysSound }
 {}
