@@ -171,11 +171,6 @@ created_stay : {Object : Type 0} (change : ℕ → Object → Object) (done : Bo
 created_stay change true objects claimed new stays all = all_stay_with change objects claimed new stays all
 created_stay change false objects claimed new stays all = all
 
--- the partition, with what is created
-partition_created : {Objects : Type 0} (put : Objects → Partition) (change : WaitingSet → List Entry → List Entry) (done : Bool) (after objects : Objects) (partition : Partition) → put objects ≡ partition
-    → each_set change (cond done (put after) partition) ≡ put (cond done after objects) → each_set change (cond done (put after) partition) ≡ cond done (put after) partition
-partition_created put change done after objects partition is becomes = becomes ∙ sym (put_if done put after objects partition is)
-
 -- each request
 
 -- the objects and sets after a call, by what its sets become
@@ -261,57 +256,52 @@ changed_by configuration place call partition (request.CreateBuffer name size ca
     let done = is_done call.claim.out in
     let new = new_buffer name size capacity discipline in
     let after = partition.buffers ++ numbered call.claim.val new in
-    partition_created (λ (one : List (ℕ × Buffer)). record partition { buffers = one }) change done after partition.buffers partition refl
-    (buffers_alone change partition done after _ has (λ other. leaves (set.BlackboardReaders other) refl) (λ other. leaves (set.SemaphoreWaiters other) refl)
+    buffers_alone change partition done after _ has (λ other. leaves (set.BlackboardReaders other) refl) (λ other. leaves (set.SemaphoreWaiters other) refl)
     (λ other. leaves (set.EventWaiters other) refl) (λ other. leaves (set.MutexWaiters other) refl)
     (created_stay (of_buffer change) done partition.buffers call.claim.val new
     (λ number. (let senders = empty (set.BufferSenders number) refl in let receivers = empty (set.BufferReceivers number) refl in λ i. record new { senders = senders i; receivers = receivers i }))
-    (buffers_stay change partition has (λ other. leaves (set.BufferSenders other) refl) (λ other. leaves (set.BufferReceivers other) refl))))
+    (buffers_stay change partition has (λ other. leaves (set.BufferSenders other) refl) (λ other. leaves (set.BufferReceivers other) refl)))
 changed_by configuration place call partition (request.CreateBlackboard name size) has leaves empty =
     let change = set_after place (Call call) in
     let done = is_done call.claim.out in
     let new = new_blackboard name size in
     let after = partition.blackboards ++ numbered call.claim.val new in
-    partition_created (λ (one : List (ℕ × Blackboard)). record partition { blackboards = one }) change done after partition.blackboards partition refl
-    (blackboards_alone change partition done after _ has (λ other. leaves (set.BufferSenders other) refl) (λ other. leaves (set.BufferReceivers other) refl)
+    blackboards_alone change partition done after _ has (λ other. leaves (set.BufferSenders other) refl) (λ other. leaves (set.BufferReceivers other) refl)
     (λ other. leaves (set.SemaphoreWaiters other) refl) (λ other. leaves (set.EventWaiters other) refl) (λ other. leaves (set.MutexWaiters other) refl)
     (created_stay (of_blackboard change) done partition.blackboards call.claim.val new (λ number. ap (λ readers. record new { readers = readers }) (empty (set.BlackboardReaders number) refl))
-    (blackboards_stay change partition has (λ other. leaves (set.BlackboardReaders other) refl))))
+    (blackboards_stay change partition has (λ other. leaves (set.BlackboardReaders other) refl)))
 changed_by configuration place call partition (request.CreateSemaphore name value maximum discipline) has leaves empty =
     let change = set_after place (Call call) in
     let done = is_done call.claim.out in
     let new = new_semaphore name value maximum discipline in
     let after = partition.semaphores ++ numbered call.claim.val new in
-    partition_created (λ (one : List (ℕ × Semaphore)). record partition { semaphores = one }) change done after partition.semaphores partition refl
-    (semaphores_alone change partition done after _ has (λ other. leaves (set.BufferSenders other) refl) (λ other. leaves (set.BufferReceivers other) refl)
+    semaphores_alone change partition done after _ has (λ other. leaves (set.BufferSenders other) refl) (λ other. leaves (set.BufferReceivers other) refl)
     (λ other. leaves (set.BlackboardReaders other) refl) (λ other. leaves (set.EventWaiters other) refl) (λ other. leaves (set.MutexWaiters other) refl)
     (created_stay (of_semaphore change) done partition.semaphores call.claim.val new (λ number. ap (λ waiters. record new { waiters = waiters }) (empty (set.SemaphoreWaiters number) refl))
-    (semaphores_stay change partition has (λ other. leaves (set.SemaphoreWaiters other) refl))))
+    (semaphores_stay change partition has (λ other. leaves (set.SemaphoreWaiters other) refl)))
 changed_by configuration place call partition (request.CreateEvent name) has leaves empty =
     let change = set_after place (Call call) in
     let done = is_done call.claim.out in
     let new = new_event name in
     let after = partition.events ++ numbered call.claim.val new in
-    partition_created (λ (one : List (ℕ × Event)). record partition { events = one }) change done after partition.events partition refl
-    (events_alone change partition done after _ has (λ other. leaves (set.BufferSenders other) refl) (λ other. leaves (set.BufferReceivers other) refl)
+    events_alone change partition done after _ has (λ other. leaves (set.BufferSenders other) refl) (λ other. leaves (set.BufferReceivers other) refl)
     (λ other. leaves (set.BlackboardReaders other) refl) (λ other. leaves (set.SemaphoreWaiters other) refl) (λ other. leaves (set.MutexWaiters other) refl)
     (created_stay (of_event change) done partition.events call.claim.val new (λ number. ap (λ waiters. record new { waiters = waiters }) (empty (set.EventWaiters number) refl))
-    (events_stay change partition has (λ other. leaves (set.EventWaiters other) refl))))
+    (events_stay change partition has (λ other. leaves (set.EventWaiters other) refl)))
 changed_by configuration place call partition (request.CreateMutex name priority discipline) has leaves empty =
     let change = set_after place (Call call) in
     let done = is_done call.claim.out in
     let new = new_mutex name priority discipline in
     let after = partition.mutexes ++ numbered call.claim.val new in
-    partition_created (λ (one : List (ℕ × Mutex)). record partition { mutexes = one }) change done after partition.mutexes partition refl
-    (mutexes_alone change partition done after _ has (λ other. leaves (set.BufferSenders other) refl) (λ other. leaves (set.BufferReceivers other) refl)
+    mutexes_alone change partition done after _ has (λ other. leaves (set.BufferSenders other) refl) (λ other. leaves (set.BufferReceivers other) refl)
     (λ other. leaves (set.BlackboardReaders other) refl) (λ other. leaves (set.SemaphoreWaiters other) refl) (λ other. leaves (set.EventWaiters other) refl)
     (created_stay (of_mutex change) done partition.mutexes call.claim.val new (λ number. ap (λ waiters. record new { waiters = waiters }) (empty (set.MutexWaiters number) refl))
-    (mutexes_stay change partition has (λ other. leaves (set.MutexWaiters other) refl))))
+    (mutexes_stay change partition has (λ other. leaves (set.MutexWaiters other) refl)))
 changed_by configuration place call partition (request.CreateSamplingPort name size direction refresh) has leaves empty =
     let after = partition.sampling_ports ++ new_sampling_port name call.claim.val (sampling_port configuration call.who.part name) in
     let stays = sets_stay (set_after place (Call call)) partition has (λ wanted off. leaves wanted refl) in
     elim (is_done call.claim.out) as (λ done. each_set (set_after place (Call call)) (cond done (record partition { sampling_ports = after }) partition)
-    ≡ cond done (record partition { sampling_ports = after }) partition) [
+    ≡ record partition { sampling_ports = cond done after partition.sampling_ports }) [
       | true ↦ ap (λ (one : Partition). record one { sampling_ports = after }) stays
       | false ↦ stays
     ]
@@ -319,19 +309,16 @@ changed_by configuration place call partition (request.CreateQueuingPort name si
     let after = partition.queuing_ports ++ new_queuing_port name call.claim.val (queuing_port configuration call.who.part name) in
     let stays = sets_stay (set_after place (Call call)) partition has (λ wanted off. leaves wanted refl) in
     elim (is_done call.claim.out) as (λ done. each_set (set_after place (Call call)) (cond done (record partition { queuing_ports = after }) partition)
-    ≡ cond done (record partition { queuing_ports = after }) partition) [
+    ≡ record partition { queuing_ports = cond done after partition.queuing_ports }) [
       | true ↦ ap (λ (one : Partition). record one { queuing_ports = after }) stays
       | false ↦ stays
     ]
 changed_by configuration place call partition (request.SendQueuingMessage port length time_out message) has leaves empty =
     ap (each_set (set_after place (Call call))) (same_if (is_done call.claim.out) partition) ∙ sets_stay (set_after place (Call call)) partition has (λ wanted off. leaves wanted off)
-    ∙ sym (same_if (is_done call.claim.out) partition)
 changed_by configuration place call partition (request.ReceiveQueuingMessage port time_out) has leaves empty =
     ap (each_set (set_after place (Call call))) (same_if (is_done call.claim.out) partition) ∙ sets_stay (set_after place (Call call)) partition has (λ wanted off. leaves wanted off)
-    ∙ sym (same_if (is_done call.claim.out) partition)
 changed_by configuration place call partition _ has leaves empty =
     ap (each_set (set_after place (Call call))) (same_if (is_done call.claim.out) partition) ∙ sets_stay (set_after place (Call call)) partition has (λ wanted off. leaves wanted refl)
-    ∙ sym (same_if (is_done call.claim.out) partition)
 
 -- any own call
 pub one_object_changes : OneObjectChanges

@@ -79,7 +79,7 @@ own_value judged configuration number core cores partition call hold done off =
     off hold.1.1.1.1.1
 
 -- the demands of a call of one of these processes
-own_holds : (judged : Service → Bool) (configuration : Configuration) (number core : ℕ) (cores : List CoreState) (partition : Partition) (call : CallRecord) → nat_eq call.who.part number ≡ true
+pub own_holds : (judged : Service → Bool) (configuration : Configuration) (number core : ℕ) (cores : List CoreState) (partition : Partition) (call : CallRecord) → nat_eq call.who.part number ≡ true
     → AllHold (partition_demands judged configuration number cores partition core (Call call)) → AllHold (own_call_demands judged configuration number cores partition core call)
 own_holds judged configuration number core cores partition call own hold = subst (λ one. AllHold (call_demands one judged configuration number cores partition core call)) own hold
 

@@ -1,6 +1,6 @@
 -- What a call makes of the objects of its caller's partition: the one object that it names changes, with its waiting sets, and all
 -- others stay as they are.
-use Rattle.std.specs.Prelude.{◌≡◌, ℕ, ℤ, Bool, IsFalse, IsTrue, List, [], ◌∷◌, Some, if◌then◌else◌}
+use Rattle.std.specs.Prelude.{◌≡◌, ℕ, ℤ, Bool, IsFalse, IsTrue, List, [], ◌∷◌, ◌++◌, Some, if◌then◌else◌}
 use Rattle.apex_types.specs.declared.record.Body.TheVariants.{Call, Tick}
 use Rattle.apex_types.specs.declared.record.Call.{Call as CallRecord}
 use Rattle.apex_types.specs.declared.record.Who.{Who}
@@ -14,8 +14,9 @@ use Rattle.apex_machine.specs.declared.state.Wait.{Wait}
 use Rattle.apex_machine.specs.declared.state.Wait.TheVariants as wait
 use Rattle.apex_machine.specs.declared.state.WaitingSet.{WaitingSet}
 use Rattle.apex_machine.specs.declared.state.WaitingSet.TheVariants as set
-use Rattle.apex_machine.specs.After.{each_set, is_done, objects_by, objects_called}
+use Rattle.apex_machine.specs.After.{each_set, is_done, new_blackboard, new_buffer, new_event, new_mutex, new_queuing_port, new_sampling_port, new_semaphore, numbered, objects_called}
 use Rattle.apex_machine.specs.Arguments.{natural_of}
+use Rattle.apex_machine.specs.Channels.{queuing_port, sampling_port}
 use Rattle.apex_machine.specs.Configuration.{Configuration}
 use Rattle.apex_machine.specs.Objects.{acquired, buffer_received, buffer_sent, cleared, displayed, event_reset, event_set, mutex_released, semaphore_waited, signalled}
 use Rattle.apex_machine.specs.Services.{fellow}
@@ -24,8 +25,12 @@ use Rattle.apex_machine.specs.Waiting.{first_waiter, is_in, is_no_error, set_aft
 use Rattle.apex_laws.specs.Laws.{entries_at}
 use Rattle.apex_laws.specs.PartLaws.{IsOwnCall, IsSoundPart, is_stop_done}
 
+-- the objects of a kind, and this one under the number that the call claims, where it is done
+abbrev pub created_if_done : {Object : Type 0} → CallRecord → Object → List (ℕ × Object) → List (ℕ × Object)
+created_if_done call new objects = if is_done call.claim.out then objects ++ numbered call.claim.val new else objects
+
 -- the partition with the one object that a request names changed: what it holds as its rule leaves it, where the call is done, and
--- its waiting sets by whom the call lets go on and who enters; any other request changes what is created alone
+-- its waiting sets by whom the call lets go on and who enters; or with what it creates; any other request leaves all objects
 abbrev pub objects_changed : Configuration → ℕ → CallRecord → Request → Partition → Partition
 objects_changed configuration place call (request.SendBuffer buffer length time_out message) partition = record partition {
   buffers = change_at (natural_of buffer) (λ found. record found {
@@ -91,10 +96,35 @@ objects_changed configuration place call (request.ReleaseMutex mutex) partition 
         waiters = set_after place (Call call) (set.MutexWaiters (natural_of mutex)) found.waiters;
       }) partition.mutexes;
 }
-objects_changed configuration place call asked partition =
-    if is_done call.claim.out then objects_by configuration call.who call.claim.val asked partition else partition
+objects_changed configuration place call (request.CreateBuffer name size capacity discipline) partition = record partition {
+  buffers = created_if_done call (new_buffer name size capacity discipline) partition.buffers;
+}
+objects_changed configuration place call (request.CreateBlackboard name size) partition = record partition {
+  blackboards = created_if_done call (new_blackboard name size) partition.blackboards;
+}
+objects_changed configuration place call (request.CreateSemaphore name value maximum discipline) partition = record partition {
+  semaphores = created_if_done call (new_semaphore name value maximum discipline) partition.semaphores;
+}
+objects_changed configuration place call (request.CreateEvent name) partition = record partition {
+  events = created_if_done call (new_event name) partition.events;
+}
+objects_changed configuration place call (request.CreateMutex name priority discipline) partition = record partition {
+  mutexes = created_if_done call (new_mutex name priority discipline) partition.mutexes;
+}
+objects_changed configuration place call (request.CreateSamplingPort name size direction refresh) partition = record partition {
+  sampling_ports = if is_done call.claim.out
+      then partition.sampling_ports ++ new_sampling_port name call.claim.val (sampling_port configuration call.who.part name)
+      else partition.sampling_ports;
+}
+objects_changed configuration place call (request.CreateQueuingPort name size capacity both) partition = record partition {
+  queuing_ports = if is_done call.claim.out
+      then partition.queuing_ports ++ new_queuing_port name call.claim.val (queuing_port configuration call.who.part name)
+      else partition.queuing_ports;
+}
+objects_changed configuration place call _ partition = partition
 
--- an own call that is no STOP, or one that is refused, changes the one object that it names, and leaves all other objects and ports
+-- an own call that is no STOP, or one that is refused, changes the one object that it names or adds the one that it creates, and
+-- leaves all other objects and ports
 abbrev pub OneObjectChanges : Type 0
 OneObjectChanges =
     (judged : Service → Bool) (configuration : Configuration) (number place core : ℕ) (cores : List CoreState) (partition : Partition) (call : CallRecord)

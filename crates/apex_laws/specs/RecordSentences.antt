@@ -21,6 +21,7 @@ use Rattle.apex_machine.specs.Step.{IsAmong}
 use Rattle.apex_machine.specs.Waiting.{ends_wait, enters, entry_of, stops}
 use Rattle.apex_laws.specs.Laws.{entries_at}
 use Rattle.apex_laws.specs.ObjectSentences.{IsUse}
+use Rattle.apex_laws.specs.PartLaws.{OnlyProcessesChange}
 use Rattle.apex_laws.specs.ProcessSentences.{IsCaller, IsCreated, IsDue, IsReleased, IsSetBy, IsStopped, IsWoken}
 
 -- processes of a state
@@ -45,7 +46,7 @@ Stays state next who = process_in next who ≡ process_in state who
 
 -- a partition is as before, but for its processes
 abbrev pub RestStays : State → State → ℕ → Type 0
-RestStays state next number = next.partitions number ≡ record (state.partitions number) { table = (next.partitions number).table }
+RestStays state next number = OnlyProcessesChange (state.partitions number) (next.partitions number)
 
 -- a partition's objects and ports without those who wait
 abbrev pub emptied : Partition → Partition

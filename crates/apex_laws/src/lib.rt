@@ -73,8 +73,8 @@ pub fn other_sets_stay()
     ensures { OtherSetsStay }
 {}
 
-/// A call of a sound partition that is no STOP that is done changes the one object that it names, with its waiting sets, and
-/// leaves all other objects and ports of the partition.
+/// A call of a sound partition that is no STOP that is done changes the one object that it names, with its waiting sets, or adds
+/// the one that it creates, and leaves all other objects and ports of the partition.
 pub fn one_object_changes()
     ensures { OneObjectChanges }
 {}
