@@ -12,4 +12,6 @@ mod rousing;
 #[cfg(test)]
 mod texts;
 #[cfg(test)]
+mod waiting;
+#[cfg(test)]
 mod writers;

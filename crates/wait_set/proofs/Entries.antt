@@ -66,7 +66,8 @@ once-entered entry (other ∷ others) new once =
     elim (cases_Bool (nat_lt other.place entry.place)) [
       | inl before ↦ rw before (
         named-entered other.who entry others ∙ neither _ _ (same_swap other.who entry.who ∙ neither_first _ _ new) once.0,
-        once-entered entry others (neither_later _ _ new) once.1)
+        once-entered entry others (neither_later _ _ new) once.1,
+      )
       | inr behind ↦ rw behind (stands-named entry.who (other ∷ others) ∙ new, once)
     ]
 
@@ -93,7 +94,8 @@ rising-entered entry (other ∷ others) new rising =
     elim (cases_Bool (nat_lt other.place entry.place)) [
       | inl before ↦ rw before (
         behind-entered other.place entry others (grind (arith, nat_tests)) rising.0,
-        rising-entered entry others (neither_later _ _ new) rising.1)
+        rising-entered entry others (neither_later _ _ new) rising.1,
+      )
       | inr not_before ↦
           let apart : nat_eq entry.place other.place ≡ false = neither_first _ _ new in
           let above : entry.place < other.place = grind (arith, nat_tests) in

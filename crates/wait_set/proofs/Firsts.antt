@@ -56,9 +56,10 @@ none_before : (discipline : Discipline) (rank : Rank) (entries : List Entry)
     → ((other : Rank) → has_rank discipline other entries ≡ true → rank_precedes other rank ≡ false) → NoneBefore discipline rank entries
 unfolding NoneBefore
 none_before discipline rank [] least = tt
-none_before discipline rank (entry ∷ entries) least =
-    (least (rank_of discipline entry) (rw (rank_itself (rank_of discipline entry)) refl),
-    none_before discipline rank entries (λ other has. least other (either other has)))
+none_before discipline rank (entry ∷ entries) least = (
+  least (rank_of discipline entry) (rw (rank_itself (rank_of discipline entry)) refl),
+  none_before discipline rank entries (λ other has. least other (either other has)),
+)
   where
     either : (other : Rank) → has_rank discipline other entries ≡ true → has_rank discipline other (entry ∷ entries) ≡ true
     either other has =
@@ -157,12 +158,13 @@ first_at discipline rank (entry ∷ entries) rising has none =
         let same = rank_same rank (rank_of discipline entry) here in
         let later : precedes discipline other entry ≡ false = precedes-rank discipline other entry ∙ subst (λ (own : Rank). rank_precedes (rank_of discipline other) own ≡ false) same not_before in
         rw later refl
+
     tail : is_rank rank (rank_of discipline entry) ≡ false → (at : RankedAt discipline rank entries)
         → sooner_entry discipline entry (Some at.entry) ≡ Some at.entry
     tail elsewhere at =
         let before : precedes discipline at.entry entry ≡ true =
-            precedes-rank discipline at.entry entry
-            ∙ subst (λ (own : Rank). rank_precedes own (rank_of discipline entry) ≡ true) at.same (rank_total rank (rank_of discipline entry) none.0 elsewhere) in
+        precedes-rank discipline at.entry entry
+        ∙ subst (λ (own : Rank). rank_precedes own (rank_of discipline entry) ≡ true) at.same (rank_total rank (rank_of discipline entry) none.0 elsewhere) in
         rw before refl
 
 -- what is found at the place of the least rank that is kept is the first of the set
@@ -173,9 +175,9 @@ pub first_of_least : (discipline : Discipline) (stored : List (ℕ × Entry)) (p
 first_of_least discipline stored places ranks rank kept has least =
     let entries : List Entry = values_of stored in
     let asked : (other : Rank) → list_any (is_at (rank_order.cmp-value.it other)) ranks ≡ has_rank discipline other entries =
-        λ other. any-same (is_at (rank_order.cmp-value.it other)) (is_rank other) (rank_is other) ranks ∙ kept.ranked other in
+    λ other. any-same (is_at (rank_order.cmp-value.it other)) (is_rank other) (rank_is other) ranks ∙ kept.ranked other in
     let found = first_at discipline rank entries kept.rising (sym (asked rank) ∙ has)
-        (none_before discipline rank entries (λ other is. sym (rank_above other rank) ∙ least other (asked other ∙ is))) in
+    (none_before discipline rank entries (λ other is. sym (rank_above other rank) ∙ least other (asked other ∙ is))) in
     ap (λ list. lookup (is_at (nat_cmp rank.place)) list) kept.under_places ∙ found
 
 -- a list without a first is empty
@@ -203,6 +205,7 @@ first_is_its_own discipline (entry ∷ entries) first once is =
   where
     own : entry ≡ first → entry_of first.who (entry ∷ entries) ≡ Some first
     own same = subst (λ (one : Entry). entry_of one.who (entry ∷ entries) ≡ Some one) same (rw (same_itself entry.who) refl)
+
     by : (found : Option Entry) → first_waiter discipline entries ≡ found → sooner_entry discipline entry found ≡ Some first
         → ((other : Entry) → NobodyTwice (whos entries) → first_waiter discipline entries ≡ Some other → entry_of other.who entries ≡ Some other)
         → entry_of first.who (entry ∷ entries) ≡ Some first
@@ -213,7 +216,7 @@ first_is_its_own discipline (entry ∷ entries) first once is =
               let chosen : Some other ≡ Some first = rw sooner at is_first in
               let same : other ≡ first = cc in
               let later : entry_of first.who entries ≡ Some first =
-                  subst (λ (one : Entry). entry_of one.who entries ≡ Some one) same (rest other once.1 e) in
+              subst (λ (one : Entry). entry_of one.who entries ≡ Some one) same (rest other once.1 e) in
               rw (apart later) later
           | inr later ↦
               let chosen : Some entry ≡ Some first = rw later at is_first in
@@ -226,7 +229,7 @@ first_is_its_own discipline (entry ∷ entries) first once is =
               | inl same ↦
                   let stands : stands_in first.who entries ≡ true = sym (entry_of-stands first.who entries) ∙ ap is_some later in
                   let named : is_named entry.who (whos entries) ≡ true =
-                      ap (λ who. is_named who (whos entries)) (sym (same_is first.who entry.who same)) ∙ stands-named first.who entries ∙ stands in
+                  ap (λ who. is_named who (whos entries)) (sym (same_is first.who entry.who same)) ∙ stands-named first.who entries ∙ stands in
                   absurd (true≢false (sym named ∙ once.0))
               | inr differs ↦ differs
             ]

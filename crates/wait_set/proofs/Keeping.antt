@@ -54,7 +54,7 @@ pub entered-kept : (discipline : Discipline) (entry : Entry) (stored after : Lis
 entered-kept discipline entry stored after places places_after ranks ranks_after kept new inserted placed ranked =
     let entries : List Entry = values_of stored in
     let is : after ≡ by_place (entered entry entries) =
-        inserted ∙ ap (λ list. insert_entry nat_cmp list entry.place entry) kept.under_places ∙ insert-by_place entry entries new.1 in
+    inserted ∙ ap (λ list. insert_entry nat_cmp list entry.place entry) kept.under_places ∙ insert-by_place entry entries new.1 in
     let values : values_of after ≡ entered entry entries = ap values_of is ∙ values-by_place (entered entry entries) in
     record {
       values = values;
@@ -87,7 +87,7 @@ left-kept discipline who place entry stored after places places_after ranks rank
     let entries : List Entry = values_of stored in
     let leaves : Who → Bool = λ other. is_same other who in
     let is : after ≡ by_place (without_one who entries) =
-        removed ∙ ap (λ list. remove_entry (is_at (nat_cmp place)) list) kept.under_places ∙ remove-by_place who place entries kept.rising kept.once at in
+    removed ∙ ap (λ list. remove_entry (is_at (nat_cmp place)) list) kept.under_places ∙ remove-by_place who place entries kept.rising kept.once at in
     let values : values_of after ≡ without_one who entries = ap values_of is ∙ values-by_place (without_one who entries) in
     record {
       values = values;
@@ -132,10 +132,11 @@ place-restored old between new who place entries found none put taken other =
     absent : (b : Option ℕ) → place_of other entries ≡ b → is_some b ≡ false → b ≡ None
     absent None is none_found = refl
     absent (Some p) is none_found = absurd (true≢false none_found)
+
     by : (b : Bool) → is_same who other ≡ b → (if b then None else lookup (is_same other) between.entries) ≡ place_of other entries
     by true same =
         let no : is_some (place_of other entries) ≡ false =
-            found-stands other entries ∙ ap (λ w. stands_in w entries) (sym (same_is who other same)) ∙ none in
+        found-stands other entries ∙ ap (λ w. stands_in w entries) (sym (same_is who other same)) ∙ none in
         sym (absent (place_of other entries) refl no)
     by false differs = place-updated old between who (Some place) put other ∙ rw differs (found other)
 

@@ -41,6 +41,7 @@ place_of-without leaves who (entry ∷ entries) =
           | inl same ↦ absurd (true≢false (sym gone ∙ ap leaves (sym (same_is who entry.who same)) ∙ e))
           | inr differs ↦ rw differs refl
         ]
+
     kept : leaves entry.who ≡ false → (b : Bool) → is_same who entry.who ≡ b
         → place_of who (without leaves entries) ≡ (if leaves who then None else place_of who entries)
         → place_of who (entry ∷ without leaves entries) ≡ (if leaves who then None else place_of who (entry ∷ entries))
@@ -180,6 +181,7 @@ has_rank-without discipline rank who entry (other ∷ others) rising once found 
         let place : other.place ≡ rank.place = eqb-true other.place rank.place parts.1 in
         unranked-behind discipline rank other.place others rising.0 (sym place)
     first false e = rw (rank_swap rank (rank_of discipline other) ∙ e) refl
+
     later_one : (b : Bool) → is_rank (rank_of discipline entry) rank ≡ b → other.place < entry.place
         → has_rank discipline rank (without_one who others) ≡ (if b then false else has_rank discipline rank others)
         → has_rank discipline rank (other ∷ without_one who others) ≡ (if b then false else has_rank discipline rank (other ∷ others))

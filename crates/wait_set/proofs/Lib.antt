@@ -8,3 +8,4 @@ pub mod Maps
 pub mod Keeping
 pub mod Firsts
 pub mod Rolls
+pub mod Last

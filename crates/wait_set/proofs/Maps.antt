@@ -79,6 +79,7 @@ insert-by_place entry (other ∷ others) new =
   where
     behind : nat_lt other.place entry.place ≡ true → nat_cmp entry.place other.place ≡ Greater
     behind before = grind (arith, nat_tests)
+
     ahead : nat_lt other.place entry.place ≡ false → nat_eq entry.place other.place ≡ false → nat_cmp entry.place other.place ≡ Less
     ahead not_before apart = grind (arith, nat_tests)
 

@@ -106,11 +106,12 @@ roll-exact entries named once once_named same_length stand who =
           | inl same ↦ ap (λ w. is_named w (whos entries)) (same_is other who same) ∙ waits
           | inr differs ↦ stands-named other entries ∙ stand other (rw differs at is)
         ]
+
     too_many : is_named who named ≡ false → is_named who (whos entries) ≡ true → ⊥
     too_many not_named waits =
         let more : length (who ∷ named) ≤ length (whos entries) =
-            length-le_from_is_member same_laws (who ∷ named) (whos entries) (distinct (who ∷ named) (not_named, once_named))
-            (λ other is. sym (is_named-any other (whos entries)) ∙ among waits other (is_named-any other (who ∷ named) ∙ is)) in
+        length-le_from_is_member same_laws (who ∷ named) (whos entries) (distinct (who ∷ named) (not_named, once_named))
+        (λ other is. sym (is_named-any other (whos entries)) ∙ among waits other (is_named-any other (who ∷ named) ∙ is)) in
         omega (arith, length-whos entries)
 
 -- all whom a list names wait where the search says so
@@ -181,6 +182,7 @@ several-named who (first ∷ second ∷ others) some rising exact =
     both : (b : Bool) → is_same second first ≡ b → (b || is_named second (second ∷ others)) ≡ true
     both true e = refl
     both false e = rw (same_itself second) refl
+
     alone : (b : Bool) → (b || false) ≡ true → b ≡ true
     alone true is = refl
     alone false is = is

@@ -3,3 +3,4 @@ pub mod Kept
 pub mod Actors
 pub mod Givens
 pub mod Ranks
+pub mod Laws

@@ -1,12 +1,20 @@
 //! The waiting sets of a partition's objects, and what all objects share.
+//!
+//! Promises: a waiting set is seen as its discipline and its entries in the order of their places. Nobody stands in it
+//! twice, and its first is the one that the definitions choose. Entering, leaving and finding the first cost the logarithm of its size; only
+//! entering takes memory, and where that is refused the entry comes back whole and nothing has changed.
+//! An operation on an object is accepted exactly where the claim is what the operation gives its caller; else the cause is that of
+//! the first demand that fails, and nothing has changed. Which error conditions hold is judged before.
 #![tactic(auto)]
 
 mod given;
+mod laws;
 mod named;
 mod object;
 mod rank;
 mod set;
 
 pub use given::{Given, judge_waking_all};
+pub use laws::{enters_last, rising_is_roll};
 pub use object::{Actor, ApexObject, Effect, ObjFault};
 pub use set::{Refused, WaitSet};

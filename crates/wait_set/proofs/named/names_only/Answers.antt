@@ -4,9 +4,10 @@ use Rattle.wait_set.proofs.named.names_only.Goals as goal
 
 pub returns-in-len1 : goal.returns-in-len1
 returns-in-len1 c =
-    rw c.in-Some.is
-    (λ is. names-one c.in-Some.who c.only-item.result c.args.named.now c.in-len1.len_at_least c.in-len1.len_below c.only-item.is (sym c.eq.ensures ∙ is),
-    λ exact. c.eq.ensures ∙ one-named c.in-Some.who c.only-item.result c.args.named.now c.in-len1.len_at_least c.only-item.is exact)
+    rw c.in-Some.is (
+      λ is. names-one c.in-Some.who c.only-item.result c.args.named.now c.in-len1.len_at_least c.in-len1.len_below c.only-item.is (sym c.eq.ensures ∙ is),
+      λ exact. c.eq.ensures ∙ one-named c.in-Some.who c.only-item.result c.args.named.now c.in-len1.len_at_least c.only-item.is exact,
+    )
 
 pub returns-in_default : goal.returns-in_default
 returns-in_default c =

@@ -8,18 +8,23 @@ use Rattle.wait_set.proofs.set.WaitSet.is_exactly.Goals as goal
 pub returns-then-named-len : goal.returns-then-named-len
 returns-then-named-len c =
     let entries : List Entry = values_of c.self.inside.entries.entries in
-    rw (← c.self.view_is)
-    (λ is. absurd (true≢false (sym is)),
-    λ roll. absurd (c.if-named-len.true (roll-length entries c.args.named.now c.self.invariant.once roll.0 roll.1
-    ∙ length-values_of c.self.inside.entries.entries ∙ sym c.len.ensures.len)))
+    rw (← c.self.view_is) (
+      λ is. absurd (true≢false (sym is)),
+      λ roll. absurd (c.if-named-len.true (roll-length entries c.args.named.now c.self.invariant.once roll.0 roll.1
+          ∙ length-values_of c.self.inside.entries.entries ∙ sym c.len.ensures.len)),
+    )
 
 pub returns-then-names_nobody_twice : goal.returns-then-names_nobody_twice
 returns-then-names_nobody_twice c =
     let entries : List Entry = values_of c.self.inside.entries.entries in
     let once = c.names_nobody_twice.ensures.0 c.if-names_nobody_twice.true in
     let all = rw (← c.self.view_is) at c.all_stand.ensures in
-    rw (← c.self.view_is)
-    (λ is. (roll-exact entries c.args.named.now c.self.invariant.once once
-    (c.if-named-len.false ∙ c.len.ensures.len ∙ sym (length-values_of c.self.inside.entries.entries))
-    (all-stand entries c.args.named.now (sym all ∙ is)), once),
-    λ roll. all ∙ stand-all entries c.args.named.now (stands-exact entries c.args.named.now roll.0))
+    rw (← c.self.view_is) (
+      λ is. (
+        roll-exact entries c.args.named.now c.self.invariant.once once
+            (c.if-named-len.false ∙ c.len.ensures.len ∙ sym (length-values_of c.self.inside.entries.entries))
+            (all-stand entries c.args.named.now (sym all ∙ is)),
+        once,
+      ),
+      λ roll. all ∙ stand-all entries c.args.named.now (stands-exact entries c.args.named.now roll.0),
+    )

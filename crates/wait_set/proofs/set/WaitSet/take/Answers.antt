@@ -26,7 +26,7 @@ pub unreachable-requires : goal.unreachable-requires
 unreachable-requires c =
     let entries : List Entry = values_of c.self.inside.entries.entries in
     let at : place_of c.args.who entries ≡ Some c.in_ok-place.place =
-        sym (asked-place _ _ _ _ c.args.who _ c.self.invariant c.remove.ensures.value) ∙ c.in_ok-place.was in
+    sym (asked-place _ _ _ _ c.args.who _ c.self.invariant c.remove.ensures.value) ∙ c.in_ok-place.was in
     let has = found-entry c.args.who entries c.in_ok-place.place at in
     let found = asked-entry _ _ _ _ c.args.who c.in_ok-place.place _ c.self.invariant at c.remove-2.ensures.value in
     c.in_default.not-Some has.0 (found ∙ has.1)

@@ -1,0 +1,21 @@
+-- The laws on waiting sets.
+use Rattle.std.proofs.Common.{◌≡◌, ◌<◌, List, [], ◌∷◌, ◌++◌, Bool, true, false, nat_lt, refl, ap, arith}
+use Rattle.std.proofs.lemmas.Bool.Decides.{nat_tests}
+use Rattle.apex_machine.specs.declared.state.Entry.{Entry}
+use Rattle.wait_set.specs.Laws.{EntersLast, RisingIsRoll, StandBefore}
+use Rattle.wait_set.specs.Sets.{entered}
+use Rattle.wait_set.proofs.Rolls.{once-rising}
+
+-- an entry behind all others enters as the last
+pub last : (entry : Entry) (entries : List Entry) → StandBefore entry.place entries → entered entry entries ≡ entries ++ entry ∷ []
+last entry [] before = refl
+last entry (other ∷ others) before =
+    let below : other.place < entry.place = before.0 in
+    let is : nat_lt other.place entry.place ≡ true = grind (arith, nat_tests) in
+    rw is (ap (λ rest. other ∷ rest) (last entry others before.1))
+
+pub enters_last : EntersLast
+enters_last = last
+
+pub rising_is_roll : RisingIsRoll
+rising_is_roll entries named rising exact = (exact, once-rising named rising)
