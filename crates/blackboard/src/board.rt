@@ -84,8 +84,12 @@ impl Blackboard {
         ensures refused { IfErr result (Refuses (answer_demands (board_read time_out self.old.message).answer claim.now)) }
         ensures unchanged { OnErr result (self.new ≡ self.old) }
     {
-        self.given_to_reader(time_out).judge(claim).map_err(ObjFault::Unlawful)?;
-        self.readers.settle(actor, claim, &[]).map_err(|_| ObjFault::Memory)?;
+        self.given_to_reader(time_out)
+            .judge(claim)
+            .map_err(ObjFault::Unlawful)?;
+        self.readers
+            .settle(actor, claim, &[])
+            .map_err(|_| ObjFault::Memory)?;
         Ok(Effect::of(claim))
     }
 
@@ -125,7 +129,12 @@ impl ApexObject for Blackboard {
 
     ghost without_one = { rules.without_one };
 
-    fn apply(&mut self, actor: Actor, request: &Request, claim: &Claim) -> Result<Effect, ObjFault> {
+    fn apply(
+        &mut self,
+        actor: Actor,
+        request: &Request,
+        claim: &Claim,
+    ) -> Result<Effect, ObjFault> {
         match request {
             Request::DisplayBlackboard { message, .. } => self.display(message, claim),
             Request::ReadBlackboard { time_out, .. } => self.read(actor, *time_out, claim),

@@ -1,4 +1,26 @@
-//! Buffers.
+//! Buffers, with their operations as the definitions have them.
+//!
+//! Promises: a buffer is seen as the definitions' own; an operation on it is accepted exactly where the claim is what the
+//! definitions' rule gives its caller, and leaves the buffer that the rule leaves, both its waiting sets too; else nothing has
+//! changed. The places of its messages are taken once, when it is made. A message is copied once, where the buffer holds it
+//! or its sender waits with it; the message of a sender that moves up is not copied again.
+//!
+//! A buffer needs no partition around it. A recording of a single one can be judged by it alone:
+//!
+//! ```text
+//! let mut buffer = Buffer::new(alloc, name, 100, 1, Discipline::Fifo)?;
+//! let send = Request::SendBuffer { buffer: 1, length: 3, time_out: -1, message };
+//! let receive = Request::ReceiveBuffer { buffer: 1, time_out: 0 };
+//!
+//! // Process 1 fills the one place that there is, and process 2 waits.
+//! buffer.apply(first, &send, &done)?;               // Effect { waits: false }
+//! buffer.apply(second, &send_two, &waits)?;         // Effect { waits: true }
+//!
+//! // A receive that wakes nobody is not what the rule gives: the message of process 2 moves up.
+//! buffer.apply(third, &receive, &gives_one);        // Err(ObjFault::Unlawful(Cause::Woken))
+//! buffer.apply(third, &receive, &gives_one_and_wakes_second)?;
+//! buffer.apply(third, &receive, &gives_two)?;
+//! ```
 #![tactic(auto)]
 
 mod buffer;
