@@ -1,19 +1,21 @@
 -- What each operation on a mutex gives its caller, and the mutex after it.
-use Rattle.std.specs.Prelude.{ℤ, Bool, List, [], ◌∷◌, Option, Some, None, true, false, nat_lt, if◌then◌else◌}
+use Rattle.std.specs.Prelude.{ℤ, Bool, List, [], ◌∷◌, true, false, IsTrue}
 use Rattle.apex_types.specs.declared.record.Claim.{Claim}
 use Rattle.apex_types.specs.declared.record.Who.{Who}
 use Rattle.apex_types.specs.declared.request.Request.{Request}
 use Rattle.apex_types.specs.declared.request.Request.TheVariants.{AcquireMutex, ReleaseMutex}
 use Rattle.apex_machine.specs.declared.state.Entry.{Entry}
 use Rattle.apex_machine.specs.Answer.{Answer, Effect, done}
-use Rattle.apex_machine.specs.Objects.{acquired, mutex_released, owned_by}
+use Rattle.apex_machine.specs.Objects.{acquired, mutex_released}
 use Rattle.apex_machine.specs.State.{Mutex}
-use Rattle.apex_machine.specs.Waiting.{first_waiter}
+use Rattle.apex_machine.specs.Waiting.{first_waiter, is_waiting}
 use Rattle.wait_set.specs.declared.object.Actor.{Actor}
+use Rattle.wait_set.specs.declared.object.ObjFault.{ObjFault}
+use Rattle.wait_set.specs.declared.object.ObjFault.TheVariants.{Unlawful, Memory}
 use Rattle.wait_set.specs.Actors.{joined_by, left_by}
 use Rattle.wait_set.specs.Sets as waiters
 
--- the operation on a mutex that asks nothing of its count
+-- the operation that owes what the trait asks and no more: ACQUIRE_MUTEX asks that the count is not above its place
 abbrev pub serves : Request → Bool
 serves (ReleaseMutex mutex) = true
 serves _ = false
@@ -25,20 +27,6 @@ acquire actor time_out found = acquired actor.who.proc time_out found
 -- RELEASE_MUTEX, by the first of those who wait
 abbrev pub release : Mutex → Effect Mutex
 release found = mutex_released (first_waiter found.discipline found.waiters) found
-
--- the process of an entry, if it is one
-abbrev pub who_of : Option Entry → Option Who
-who_of None = None
-who_of (Some entry) = Some entry.who
-
--- who owns the mutex next: the first who waits, where this release is the last
-abbrev pub heir : Mutex → Option Who
-heir found = if nat_lt 1 found.count then None else who_of (first_waiter found.discipline found.waiters)
-
--- the mutex, once it is this process's, or free where it is nobody's
-abbrev pub passed_to : Option Who → Mutex → Mutex
-passed_to None found = record found { owner = None; count = 0 }
-passed_to (Some who) found = owned_by who.proc found
 
 -- what an operation gives its caller
 abbrev pub answer : Actor → Request → Mutex → Answer
@@ -68,3 +56,8 @@ sets found = found.waiters ∷ []
 -- the mutex at which this process does not wait
 abbrev pub without_one : Who → Mutex → Mutex
 without_one who found = record found { waiters = waiters.without_one who found.waiters }
+
+-- a refusal of memory: it comes only to a caller that waits
+abbrev pub WantsMemoryToWait : Claim → ObjFault → Type 0
+WantsMemoryToWait claim (Unlawful cause) = Unit {0}
+WantsMemoryToWait claim Memory = IsTrue (is_waiting claim.out)

@@ -2,5 +2,7 @@
 #![tactic(auto)]
 
 mod mutex;
+#[cfg(test)]
+mod tests;
 
 pub use mutex::Mutex653;

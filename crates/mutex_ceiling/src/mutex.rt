@@ -5,7 +5,6 @@ ghost use Rattle.apex_types.specs.declared.record.Out.TheVariants as out;
 ghost use Rattle.apex_types.specs.Bounds.{place_count};
 ghost use Rattle.apex_machine.specs.Demands.{AllHold, answer_demands};
 ghost use Rattle.apex_machine.specs.Objects.{is_owner, owned_by};
-ghost use Rattle.apex_machine.specs.Waiting.{first_waiter};
 ghost use Rattle.wait_set.specs.Actors.{Refuses, entry_with};
 ghost use Rattle.wait_set.specs.Givens.{answer_given};
 ghost use Rattle.wait_set.specs.Sets.{IsNew};
@@ -88,7 +87,7 @@ impl Mutex653 {
 
     /// ACQUIRE_MUTEX: a free mutex is the caller's, its owner acquires it once more, another process waits.
     ///
-    /// Each call adds one to the count at most, so that the count is not above the place of this call.
+    /// Each call adds one to the count at most, so that the count is not above the place of a later call.
     /// Refused, with nothing changed, where the claim is another, or where memory is refused to a caller that waits.
     pub fn acquire(
         &mut self,
@@ -103,9 +102,10 @@ impl Mutex653 {
         ensures counted { self.new.count ≤ self.old.count + 1 }
         ensures waits { IfOk result (λ effect. IsTrue effect.waits ↔ (claim.now.out ≡ out.Waits)) }
         ensures refused { IfErr result (Refuses (answer_demands (rules.acquire actor time_out self.old).answer claim.now)) }
+        ensures memory { IfErr result (rules.WantsMemoryToWait claim.now) }
         ensures unchanged { OnErr result (self.new ≡ self.old) }
     {
-        self.asked(&actor, time_out)
+        self.answer_to_acquire(&actor, time_out)
             .judge(claim)
             .map_err(ObjFault::Unlawful)?;
         self.waiters
@@ -115,8 +115,8 @@ impl Mutex653 {
         Ok(Effect::of(claim))
     }
 
-    // What acquiring gives its caller: a free mutex and one's own are had at once.
-    fn asked(&self, actor: &Actor, time_out: i64) -> Given<'static>
+    // What ACQUIRE_MUTEX gives its caller: a free mutex and its own are had at once.
+    fn answer_to_acquire(&self, actor: &Actor, time_out: i64) -> Given<'static>
         ensures { answer_given result ≡ (rules.acquire actor.now time_out self.now).answer }
     {
         if self.owner.is_none() || self.is_owned_by(actor.who.proc) {
@@ -126,7 +126,7 @@ impl Mutex653 {
         }
     }
 
-    // The mutex once its caller has called: acquired where it was free or the caller's, else as it was.
+    // The mutex after ACQUIRE_MUTEX, but for those who wait: it is as it was where another process owns it.
     fn take(&mut self, actor: &Actor)
         requires { self.old.count < place_count }
         ensures { (time_out : ℤ) → self.new ≡ (rules.acquire actor.now time_out self.old).next }
@@ -138,14 +138,6 @@ impl Mutex653 {
         }
     }
 
-    // The process owns the mutex, acquired once.
-    fn give_to(&mut self, owner: ProcId)
-        ensures { self.new ≡ owned_by owner self.old }
-    {
-        self.owner = Some(owner);
-        self.count = 1;
-    }
-
     /// RELEASE_MUTEX: one is taken from a count above 1; else the first who waits owns the mutex, or it is free.
     ///
     /// Refused, with nothing changed, where the claim is another. Takes no memory.
@@ -155,42 +147,48 @@ impl Mutex653 {
         ensures counted { self.new.count ≤ self.old.count + 1 }
         ensures waits { IfOk result (λ effect. IsTrue effect.waits ↔ (claim.now.out ≡ out.Waits)) }
         ensures refused { IfErr result (Refuses (answer_demands (rules.release self.old).answer claim.now)) }
+        ensures memory { IfErr result (rules.WantsMemoryToWait claim.now) }
         ensures unchanged { OnErr result (self.new ≡ self.old) }
     {
-        let heir = self.heir();
-        Given::waking(self.heir())
+        self.answer_to_release()
             .judge(claim)
             .map_err(ObjFault::Unlawful)?;
+        self.give_up();
         self.waiters.release(claim.woken.as_slice());
-        if self.count > 1 {
-            self.count -= 1;
-        } else {
-            self.hand_on(heir);
-        }
         Ok(Effect::of(claim))
     }
 
-    // The process that owns the mutex once it is released now: the first who waits, where this release is the last.
-    fn heir(&self) -> Option<Who>
-        ensures { result ≡ rules.heir self.now }
+    // What RELEASE_MUTEX gives: the wait of the first ends by the last release.
+    fn answer_to_release(&self) -> Given<'static>
+        ensures { answer_given result ≡ (rules.release self.now).answer }
     {
         if self.count > 1 {
-            return None;
+            return Given::done();
         }
-        match self.waiters.first() {
-            Some(entry) => Some(entry.who),
-            None => None,
+        Given::waking(self.waiters.first().map(|entry| entry.who))
+    }
+
+    // The mutex after RELEASE_MUTEX, but for those who wait.
+    fn give_up(&mut self)
+        ensures { self.new ≡ (rules.release self.old).next }
+    {
+        if self.count > 1 {
+            self.count -= 1;
+            return;
+        }
+        let first = self.waiters.first().map(|entry| entry.who.proc);
+        match first {
+            Some(process) => self.give_to(process),
+            None => self.set_free(),
         }
     }
 
-    // The mutex is this process's, or it is free.
-    fn hand_on(&mut self, first: Option<Who>)
-        ensures { self.new ≡ rules.passed_to first self.old }
+    // The process owns the mutex, acquired once.
+    fn give_to(&mut self, owner: ProcId)
+        ensures { self.new ≡ owned_by owner self.old }
     {
-        match first {
-            Some(who) => self.give_to(who.proc),
-            None => self.set_free(),
-        }
+        self.owner = Some(owner);
+        self.count = 1;
     }
 
     // The mutex is free.
