@@ -43,7 +43,13 @@ impl Buffer {
     /// `capacity` of them.
     ///
     /// AllocError where memory for their places is refused. No other operation takes memory for a place.
-    pub fn new(alloc: Global, name: Name, size: u16, capacity: u16, discipline: Discipline) -> Result<Buffer, AllocError>
+    pub fn new(
+        alloc: Global,
+        name: Name,
+        size: u16,
+        capacity: u16,
+        discipline: Discipline,
+    ) -> Result<Buffer, AllocError>
         ensures { IfOk result (λ buffer. buffer ≡ record { name = name; size = size; capacity = capacity; discipline = discipline; messages = []; senders = []; receivers = [] }) }
     {
         Ok(Buffer {
@@ -79,7 +85,13 @@ impl Buffer {
 
     // SEND_BUFFER: the receiver that waits first gets the message; else, if there is room, the buffer holds it; else the
     // caller waits with it.
-    fn send(&mut self, actor: Actor, message: &Message, time_out: i64, claim: &Claim) -> Result<Effect, ObjFault>
+    fn send(
+        &mut self,
+        actor: Actor,
+        message: &Message,
+        time_out: i64,
+        claim: &Claim,
+    ) -> Result<Effect, ObjFault>
         requires new { IsNew (entry_with actor []) self.old.senders }
         ensures ok { OnOk result (AllHold (answer_demands (buffer_sent message.now time_out self.old).answer claim.now)) }
         ensures after { OnOk result (self.new ≡ rules.after_send actor message.now time_out claim.now self.old) }
@@ -96,10 +108,14 @@ impl Buffer {
         };
         given.judge(claim).map_err(ObjFault::Unlawful)?;
         if is_held {
-            let bytes = Vec::from_slice(self.alloc, message.as_bytes()).map_err(|_| ObjFault::Memory)?;
+            let bytes = Vec::from_slice(self.alloc, message.as_bytes()).map_err(
+                |_| ObjFault::Memory,
+            )?;
             self.messages.push_back(Message::new(bytes));
         }
-        self.senders.settle(actor, claim, message.as_bytes()).map_err(|_| ObjFault::Memory)?;
+        self.senders
+            .settle(actor, claim, message.as_bytes())
+            .map_err(|_| ObjFault::Memory)?;
         self.receivers.release(claim.woken.as_slice());
         Ok(Effect::of(claim))
     }
@@ -114,8 +130,12 @@ impl Buffer {
         ensures refused { IfErr result (Refuses (answer_demands (buffer_received time_out self.old).answer claim.now)) }
         ensures unchanged { OnErr result (self.new ≡ self.old) }
     {
-        self.given_to_receiver(time_out).judge(claim).map_err(ObjFault::Unlawful)?;
-        self.receivers.settle(actor, claim, &[]).map_err(|_| ObjFault::Memory)?;
+        self.given_to_receiver(time_out)
+            .judge(claim)
+            .map_err(ObjFault::Unlawful)?;
+        self.receivers
+            .settle(actor, claim, &[])
+            .map_err(|_| ObjFault::Memory)?;
         if self.messages.pop_front().is_some() {
             self.move_up();
         }
@@ -155,9 +175,18 @@ impl ApexObject for Buffer {
 
     ghost without_one = { rules.without_one };
 
-    fn apply(&mut self, actor: Actor, request: &Request, claim: &Claim) -> Result<Effect, ObjFault> {
+    fn apply(
+        &mut self,
+        actor: Actor,
+        request: &Request,
+        claim: &Claim,
+    ) -> Result<Effect, ObjFault> {
         match request {
-            Request::SendBuffer { time_out, message, .. } => self.send(actor, message, *time_out, claim),
+            Request::SendBuffer {
+                time_out,
+                message,
+                ..
+            } => self.send(actor, message, *time_out, claim),
             Request::ReceiveBuffer { time_out, .. } => self.receive(actor, *time_out, claim),
             _ => unreachable!(),
         }

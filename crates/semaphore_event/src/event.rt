@@ -92,9 +92,15 @@ impl Event {
         ensures refused { IfErr result (Refuses (answer_demands (event_waited time_out self.old.up).answer claim.now)) }
         ensures unchanged { OnErr result (self.new ≡ self.old) }
     {
-        let given = if self.up { Given::done() } else { Given::unmet(time_out) };
+        let given = if self.up {
+            Given::done()
+        } else {
+            Given::unmet(time_out)
+        };
         given.judge(claim).map_err(ObjFault::Unlawful)?;
-        self.waiters.settle(actor, claim, &[]).map_err(|_| ObjFault::Memory)?;
+        self.waiters
+            .settle(actor, claim, &[])
+            .map_err(|_| ObjFault::Memory)?;
         Ok(Effect::of(claim))
     }
 }
@@ -110,7 +116,12 @@ impl ApexObject for Event {
 
     ghost without_one = { rules.without_one };
 
-    fn apply(&mut self, actor: Actor, request: &Request, claim: &Claim) -> Result<Effect, ObjFault> {
+    fn apply(
+        &mut self,
+        actor: Actor,
+        request: &Request,
+        claim: &Claim,
+    ) -> Result<Effect, ObjFault> {
         match request {
             Request::SetEvent { .. } => self.set(claim),
             Request::ResetEvent { .. } => self.reset(claim),

@@ -32,7 +32,13 @@ impl Model for Semaphore {
 
 impl Semaphore {
     /// The semaphore of this value, at which nobody waits. Takes no memory.
-    pub fn new(alloc: Global, name: Name, value: u16, maximum: u16, discipline: Discipline) -> Semaphore
+    pub fn new(
+        alloc: Global,
+        name: Name,
+        value: u16,
+        maximum: u16,
+        discipline: Discipline,
+    ) -> Semaphore
         ensures { result ≡ record { name = name; maximum = maximum; discipline = discipline; value = value; waiters = [] } }
     {
         Semaphore {
@@ -66,9 +72,15 @@ impl Semaphore {
         ensures refused { IfErr result (Refuses (answer_demands (semaphore_waited time_out self.old.value).answer claim.now)) }
         ensures unchanged { OnErr result (self.new ≡ self.old) }
     {
-        let given = if self.value > 0 { Given::done() } else { Given::unmet(time_out) };
+        let given = if self.value > 0 {
+            Given::done()
+        } else {
+            Given::unmet(time_out)
+        };
         given.judge(claim).map_err(ObjFault::Unlawful)?;
-        self.waiters.settle(actor, claim, &[]).map_err(|_| ObjFault::Memory)?;
+        self.waiters
+            .settle(actor, claim, &[])
+            .map_err(|_| ObjFault::Memory)?;
         self.value = self.value.saturating_sub(1);
         Ok(Effect::of(claim))
     }
@@ -108,7 +120,12 @@ impl ApexObject for Semaphore {
 
     ghost without_one = { rules.without_one };
 
-    fn apply(&mut self, actor: Actor, request: &Request, claim: &Claim) -> Result<Effect, ObjFault> {
+    fn apply(
+        &mut self,
+        actor: Actor,
+        request: &Request,
+        claim: &Claim,
+    ) -> Result<Effect, ObjFault> {
         match request {
             Request::WaitSemaphore { time_out, .. } => self.wait(actor, *time_out, claim),
             Request::SignalSemaphore { .. } => self.signal(claim),
