@@ -1,19 +1,15 @@
 // A mutex by itself, as the page of the crate shows it, and a growth that is refused.
 
-ghost use Rattle.std.specs.Prelude.{◌≡◌, IfOk};
+ghost use Rattle.std.specs.Prelude.{◌≡◌, ◌≤◌, [], IfOk};
+ghost use Rattle.apex_types.specs.declared.code.Code.TheVariants as code;
+ghost use Rattle.apex_types.specs.declared.record.Out.TheVariants as out;
 ghost use Rattle.apex_types.specs.Rising.{IsRising};
 
 use crate::Mutex653;
-use apex_types::{
-    Cause, Claim, Code, Discipline, Message, Name, Out, PartId, Place, ProcId, Request, Who, Woken,
-};
+use apex_types::{Claim, Code, Discipline, Message, Name, Out, PartId, Place, ProcId, Who, Woken};
 use std::alloc::{AllocError, Global};
 use std::test::Fail;
-use wait_set::{Actor, ApexObject, Effect, ObjFault};
-
-const WAITS: Effect = Effect { waits: true };
-
-const GOES_ON: Effect = Effect { waits: false };
+use wait_set::{Actor, ApexObject, ObjFault};
 
 // The process of this number.
 fn who(number: u32) -> Who
@@ -53,25 +49,51 @@ fn claim(alloc: Global, out: Out, woken: &[Who]) -> Result<Claim, AllocError>
     })
 }
 
-#[test]
-fn goes_by_itself(rt: HostRuntime) -> Result<(), Fail> {
-    let alloc = rt.alloc();
+// A mutex that process 1 has acquired once.
+fn owned(alloc: Global, done: &Claim) -> Result<Mutex653, ObjFault>
+    requires { done.now.out ≡ out.Answer code.NoError }
+    ensures waiters { IfOk result (λ mutex. mutex.waiters ≡ []) }
+    ensures count { IfOk result (λ mutex. mutex.count ≤ 1) }
+{
     let mut mutex = Mutex653::new(alloc, Name::empty(alloc), 20, Discipline::Fifo);
+    mutex.acquire(actor(1, 0), 0, done)?;
+    Ok(mutex)
+}
+
+#[test]
+fn goes_to_who_waits(rt: HostRuntime) -> Result<(), Fail> {
+    let alloc = rt.alloc();
     let done = claim(alloc, Out::Answer(Code::NoError), &[])?;
     let waiting = claim(alloc, Out::Waits, &[])?;
     let waking = claim(alloc, Out::Answer(Code::NoError), &[who(2)])?;
-    assert_eq!(rt; mutex.acquire(actor(1, 0), 0, &done)?, GOES_ON);
-    assert_eq!(rt; mutex.acquire(actor(1, 1), 0, &done)?, GOES_ON);
-    assert_eq!(rt; mutex.count(), 2);
-    assert_eq!(rt; mutex.acquire(actor(2, 2), 5, &waiting)?, WAITS);
-    assert_eq!(rt; mutex.release(&done)?, GOES_ON);
-    assert_eq!(rt; mutex.release(&waking)?, GOES_ON);
+    let mut mutex = owned(alloc, &done)?;
+    mutex.acquire(actor(2, 1), 5, &waiting)?;
+    mutex.release(&waking)?;
     assert_eq!(rt; mutex.owner(), Some(ProcId::new(2)));
-    assert_eq!(rt;
-        mutex.release(&waking),
-        Err(ObjFault::Unlawful(Cause::Woken))
-    );
-    assert_eq!(rt; mutex.release(&done)?, GOES_ON);
+    Ok(())
+}
+
+#[test]
+fn is_free_after_as_many_releases(rt: HostRuntime) -> Result<(), Fail> {
+    let alloc = rt.alloc();
+    let done = claim(alloc, Out::Answer(Code::NoError), &[])?;
+    let mut mutex = owned(alloc, &done)?;
+    mutex.acquire(actor(1, 1), 0, &done)?;
+    assert_eq!(rt; mutex.count(), 2);
+    mutex.release(&done)?;
+    mutex.release(&done)?;
     assert_eq!(rt; mutex.owner(), None);
+    Ok(())
+}
+
+#[test]
+fn a_refused_growth_changes_nothing(rt: HostRuntime) -> Result<(), Fail> {
+    let alloc = rt.alloc();
+    let done = claim(alloc, Out::Answer(Code::NoError), &[])?;
+    let waiting = claim(alloc, Out::Waits, &[])?;
+    let mut mutex = owned(alloc, &done)?;
+    let is_taken_in = mutex.acquire(actor(2, 1), 5, &waiting).is_ok();
+    assert_eq!(rt; mutex.leave(who(2)), is_taken_in);
+    assert_eq!(rt; mutex.count(), 1);
     Ok(())
 }
