@@ -45,7 +45,10 @@ fn three(alloc: Global, discipline: Discipline) -> Result<WaitSet, AllocError> {
 
 #[test]
 fn a_set_goes_by_its_discipline(rt: HostRuntime) -> Result<(), Fail> {
-    for (discipline, order) in [(Discipline::Fifo, [1, 2, 3]), (Discipline::Priority, [2, 3, 1])] {
+    for (discipline, order) in [
+        (Discipline::Fifo, [1, 2, 3]),
+        (Discipline::Priority, [2, 3, 1]),
+    ] {
         let mut set = three(rt.alloc(), discipline)?;
         assert!(rt; set.is_exactly(&[who(1), who(2), who(3)]));
         assert!(rt; set.is_exactly(&[who(3), who(1), who(2)]));
