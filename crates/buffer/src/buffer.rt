@@ -100,7 +100,7 @@ impl Buffer {
         ensures unchanged { OnErr result (self.new ≡ self.old) }
     {
         let receiver = self.receivers.first().map(|entry| entry.who);
-        let is_held = receiver.is_none() && self.messages.len() < self.messages.capacity();
+        let is_held = receiver.is_none() && self.has_room();
         let given = if receiver.is_some() || is_held {
             Given::waking(receiver)
         } else {
@@ -118,6 +118,13 @@ impl Buffer {
             .map_err(|_| ObjFault::Memory)?;
         self.receivers.release(claim.woken.as_slice());
         Ok(Effect::of(claim))
+    }
+
+    // Whether the buffer holds fewer messages than it may.
+    fn has_room(&self) -> bool
+        ensures { IsTrue result ↔ length self.now.messages < self.now.capacity }
+    {
+        self.messages.len() < self.messages.capacity()
     }
 
     // RECEIVE_BUFFER: the caller gets the oldest message, if there is one, and the message of the sender that waits first
