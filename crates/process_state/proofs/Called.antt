@@ -1,28 +1,26 @@
 -- A table after a call: what the call sets there, and what becomes of its caller.
-use Rattle.std.proofs.Common.{◌≡◌, ℕ, Bool, true, false, ◌&&◌, nat_eq, List, [], ◌∷◌, ◌++◌, Option, Some, None, ℤ, pos, negsuc, is_some, if◌then◌else◌, Bor, refl, sym, ap, subst, ◌∙◌, arith}
+use Rattle.std.proofs.Common.{◌≡◌, ℕ, Bool, true, false, not, ◌&&◌, nat_eq, List, [], ◌∷◌, ◌++◌, Option, Some, None, ℤ, pos, negsuc, is_some, if◌then◌else◌, Bor, refl, sym, ap, subst, ◌∙◌, arith}
 use Rattle.std.proofs.lemmas.Bool.Decides.{nat_tests}
 use Rattle.std.specs.Option.{option_copied}
 use Rattle.apex_types.specs.declared.record.Call.{Call as CallRecord}
-use Rattle.apex_types.specs.declared.record.Who.{Who}
 use Rattle.apex_types.specs.declared.request.Request.{Request}
 use Rattle.apex_types.specs.declared.request.Request.TheVariants as request
-use Rattle.apex_types.specs.Requested.{service_of}
 use Rattle.apex_machine.specs.declared.state.CoreState.{CoreState}
 use Rattle.apex_machine.specs.declared.state.Mode.{Mode}
 use Rattle.apex_machine.specs.declared.state.Process.{Process}
 use Rattle.apex_machine.specs.Configuration.{Configuration, first_core, period_of}
-use Rattle.apex_machine.specs.State.{Partition, Table, each_item, is_free, item_at, time_of}
+use Rattle.apex_machine.specs.State.{Partition, Table, each_item, is_free, is_named, item_at, time_of}
 use Rattle.apex_machine.specs.Answer.{is_new}
-use Rattle.apex_machine.specs.Processes.{caller_after, new_process, set_by}
-use Rattle.apex_machine.specs.Services.{is_built}
-use Rattle.apex_machine.specs.Waiting.{stop_of, stops}
+use Rattle.apex_machine.specs.Processes.{caller_after, gift_of, new_process, set_by, stopped, woken_by}
+use Rattle.apex_machine.specs.Waiting.{is_no_error, stops}
 use Rattle.apex_machine.specs.After.{adjusted, called, created_by, is_done, mode_by, numbered, partition_called}
-use Rattle.process_state.specs.Changes.{only, with_each}
+use Rattle.process_state.specs.Changes.{named, only, with_each}
+use Rattle.process_state.specs.Fellows.{fellow_at, fellow_woken, is_fellow, stopped_by}
 use Rattle.process_state.specs.Processes.{Processes, processes_in, processes_of}
 use Rattle.process_state.specs.Sound.{AsksSoundly, IsSound}
 use Rattle.process_state.proofs.Carried.{append-nothing, carried}
 use Rattle.process_state.proofs.Numbers.{new-absent}
-use Rattle.process_state.proofs.Tables.{each_item-append, each_item-congr, each_item-same, each_item-twice, only-absent}
+use Rattle.process_state.proofs.Tables.{with_table, each_item-append, each_item-congr, each_item-same, each_item-twice, only-absent}
 
 -- the mode once a call has set it, if it was carried out
 abbrev mode_between : CallRecord → Mode → Mode
@@ -98,39 +96,79 @@ none-some : (found : Option Process) → is_some found ≡ false → found ≡ N
 none-some None h = refl
 none-some (Some process) h = cc
 
--- what a judged service leaves alone
+-- the caller's fellows
 
--- no judged service stops another process
-stops-nobody : (asked : Request) → is_built (service_of asked) ≡ true → stop_of asked ≡ None
-stops-nobody (request.Stop process) judged = cc
-stops-nobody _ judged = refl
-
-stops-not : (call : CallRecord) (who : Who) → stop_of call.request ≡ None → stops call who ≡ false
-stops-not call who none = rw none (neither _ _)
-  where
-    neither : (a b : Bool) → a && (b && false) ≡ false
-    neither true true = refl
-    neither true false = refl
-    neither false b = refl
-
--- a process after the call: the caller, or another, which no judged service stops or wakes
-called-is : (place now period : ℕ) (cores : List CoreState) (call : CallRecord) (partition : Partition) (number : ℕ) (process : Process)
-    → IsSound partition.table call
-    → (if nat_eq number call.who.proc then caller_after place now call (adjusted place period cores partition call number process)
-    else adjusted place period cores partition call number process)
+-- what is done of its fellows' part by a call, one after another, is what becomes of each
+fellows-are : (place now period : ℕ) (cores : List CoreState) (call : CallRecord) (partition : Partition) (change : Process → Process)
+    → ((process : Process) → change process ≡ caller_after place now call process) → (number : ℕ) (process : Process)
+    → fellow_woken place call number (stopped_by call number (only call.who.proc change number (adjusted place period cores partition call number process)))
     ≡ called place now period cores partition call number process
-called-is place now period cores call partition number process sound =
-    rw (stops-not call (record { part = call.who.part; proc = number }) (stops-nobody call.request sound.judged), sound.wakes_none) refl
+fellows-are place now period cores call partition change same number process =
+    by (nat_eq number call.who.proc) (stops call (fellow_at call number)) (is_named (fellow_at call number) call.claim.woken) (adjusted place period cores partition call number process)
+  where
+    by : (c s n : Bool) (x : Process)
+        → (if n && (not c && not s)
+        then woken_by place (gift_of call.request) (if not c && s then stopped (if c then change x else x) else (if c then change x else x))
+        else (if not c && s then stopped (if c then change x else x) else (if c then change x else x)))
+        ≡ (if c then caller_after place now call x else if s then stopped x else if n then woken_by place (gift_of call.request) x else x)
+    by true s true x = same x
+    by true s false x = same x
+    by false true true x = refl
+    by false true false x = refl
+    by false false true x = refl
+    by false false false x = refl
 
 -- each process after the call, by the change of the caller
 called-each : (place now period : ℕ) (cores : List CoreState) (call : CallRecord) (partition : Partition) (change : Process → Process)
-    → IsSound partition.table call → ((process : Process) → change process ≡ caller_after place now call process)
-    → each_item (only call.who.proc change) (each_item (adjusted place period cores partition call) partition.table)
+    → ((process : Process) → change process ≡ caller_after place now call process)
+    → each_item (fellow_woken place call) (each_item (stopped_by call) (each_item (only call.who.proc change) (each_item (adjusted place period cores partition call) partition.table)))
     ≡ each_item (called place now period cores partition call) partition.table
-called-each place now period cores call partition change sound same =
-    each_item-twice (adjusted place period cores partition call) (only call.who.proc change) partition.table
-    ∙ each_item-congr _ (called place now period cores partition call)
-    (λ number process. rw (same (adjusted place period cores partition call number process)) (called-is place now period cores call partition number process sound)) partition.table
+called-each place now period cores call partition change same =
+    ap (λ t. each_item (fellow_woken place call) (each_item (stopped_by call) t)) (each_item-twice (adjusted place period cores partition call) (only call.who.proc change) partition.table)
+    ∙ ap (each_item (fellow_woken place call)) (each_item-twice _ (stopped_by call) partition.table)
+    ∙ each_item-twice _ (fellow_woken place call) partition.table
+    ∙ each_item-congr _ (called place now period cores partition call) (fellows-are place now period cores call partition change same) partition.table
+
+-- no process is created that the call stops or whose wait it ends
+created-stays : (place first : ℕ) (call : CallRecord) (table : Table) → AsksSoundly table call call.request
+    → each_item (fellow_woken place call) (each_item (stopped_by call) (created_by first call call.request)) ≡ created_by first call call.request
+created-stays place first call table sound = stays call.request refl
+  where
+    neither : (a b c : Bool) → a && (b && (c && false)) ≡ false
+    neither true true true = refl
+    neither true true false = refl
+    neither true false c = refl
+    neither false b c = refl
+
+    stays : (asked : Request) → call.request ≡ asked
+        → each_item (fellow_woken place call) (each_item (stopped_by call) (created_by first call asked)) ≡ created_by first call asked
+    stays (request.CreateProcess name priority period) is = by (is_done call.claim.out) refl
+      where
+        not_stopped : (number : ℕ) (process : Process) → stopped_by call number process ≡ process
+        not_stopped number process =
+            rw (is, neither (is_fellow call number) (is_no_error call.claim.out) (nat_eq call.who.part call.who.part)) refl
+
+        not_woken : is_done call.claim.out ≡ true → (number : ℕ) (process : Process) → fellow_woken place call number process ≡ process
+        not_woken done number process =
+            let facts = rw is at sound in
+            rw ((facts done).2) refl
+
+        by : (b : Bool) → is_done call.claim.out ≡ b
+            → each_item (fellow_woken place call) (each_item (stopped_by call) (if b then numbered call.claim.val (new_process first name priority period) else []))
+            ≡ (if b then numbered call.claim.val (new_process first name priority period) else [])
+        by true done =
+            ap (each_item (fellow_woken place call)) (each_item-same (stopped_by call) not_stopped (numbered call.claim.val (new_process first name priority period)))
+            ∙ each_item-same (fellow_woken place call) (not_woken done) (numbered call.claim.val (new_process first name priority period))
+        by false refused = refl
+    stays _ is = refl
+
+-- the fellows of a table, and the created process
+fellows-append : (place : ℕ) (call : CallRecord) (a b : Table)
+    → each_item (fellow_woken place call) (each_item (stopped_by call) (a ++ b))
+    ≡ each_item (fellow_woken place call) (each_item (stopped_by call) a) ++ each_item (fellow_woken place call) (each_item (stopped_by call) b)
+fellows-append place call a b =
+    ap (each_item (fellow_woken place call)) (each_item-append (stopped_by call) a b)
+    ∙ each_item-append (fellow_woken place call) (each_item (stopped_by call) a) (each_item (stopped_by call) b)
 
 -- the mode and the processes after the call
 whole : (configuration : Configuration) (place core period first : ℕ) (cores : List CoreState) (call : CallRecord) (partition : Partition)
@@ -144,71 +182,152 @@ whole configuration place core period first cores call partition first_is period
     λ i. processes_in (mode_between call partition.mode)
     (each_item (called place (time_of cores core) (ticks i) cores partition call) partition.table ++ created_by (own i) call call.request)
 
--- a caller that stands in the table has become what its call makes of it
+-- a caller that stands in the table has become what its call makes of it, and so have its fellows
 called-stands : (configuration : Configuration) (place core period first : ℕ) (cores : List CoreState) (call : CallRecord) (partition : Partition)
-    (middle new : Processes) (change : Process → Process) (found : Option (Bor Process))
+    (middle own stopping new : Processes) (change : Process → Process) (found : Option (Bor Process))
     → first_core configuration call.who.part ≡ first → period_of configuration call.who.part ≡ period
     → middle ≡ between place period first cores call partition (processes_of partition) → IsSound partition.table call
     → option_copied found ≡ item_at partition.table call.who.proc → is_some found ≡ true
     → ((process : Process) → change process ≡ caller_after place (time_of cores core) call process)
-    → new ≡ with_each (only call.who.proc change) middle → new ≡ processes_of (partition_called configuration cores place core call partition)
-called-stands configuration place core period first cores call partition middle new change found first_is period_is adjusts sound looked stands same is =
+    → own ≡ with_each (only call.who.proc change) middle → stopping ≡ with_each (stopped_by call) own → new ≡ with_each (fellow_woken place call) stopping
+    → new ≡ processes_of (partition_called configuration cores place core call partition)
+called-stands configuration place core period first cores call partition middle own stopping new change found first_is period_is adjusts sound looked stands same is stops wakes_them =
     let there : is_some (item_at partition.table call.who.proc) ≡ true = ap is_some (sym looked) ∙ copied-some found ∙ stands in
     let created : Table = created_by first call call.request in
-    let each : each_item (only call.who.proc change) (each_item (adjusted place period cores partition call) partition.table ++ created)
-    ≡ each_item (called place (time_of cores core) period cores partition call) partition.table ++ created
-    = each_item-append (only call.who.proc change) (each_item (adjusted place period cores partition call) partition.table) created
-    ∙ ap (λ t. t ++ each_item (only call.who.proc change) created)
-    (called-each place (time_of cores core) period cores call partition change sound same)
-    ∙ ap (λ t. each_item (called place (time_of cores core) period cores partition call) partition.table ++ t)
+    let before : Table = each_item (adjusted place period cores partition call) partition.table in
+    let of_caller : each_item (only call.who.proc change) (before ++ created) ≡ each_item (only call.who.proc change) before ++ created
+    = each_item-append (only call.who.proc change) before created
+    ∙ ap (λ t. each_item (only call.who.proc change) before ++ t)
     (only-absent call.who.proc change created (creates-apart first call call.request partition.table call.who.proc sound.asks there)) in
-    is ∙ ap (with_each (only call.who.proc change)) adjusts ∙ ap (processes_in (mode_between call partition.mode)) each
+    let each : each_item (fellow_woken place call) (each_item (stopped_by call) (each_item (only call.who.proc change) (before ++ created)))
+    ≡ each_item (called place (time_of cores core) period cores partition call) partition.table ++ created
+    = ap (λ t. each_item (fellow_woken place call) (each_item (stopped_by call) t)) of_caller
+    ∙ fellows-append place call (each_item (only call.who.proc change) before) created
+    ∙ ap (λ t. each_item (fellow_woken place call) (each_item (stopped_by call) (each_item (only call.who.proc change) before)) ++ t) (created-stays place first call partition.table sound.asks)
+    ∙ ap (λ t. t ++ created) (called-each place (time_of cores core) period cores call partition change same) in
+    wakes_them ∙ ap (with_each (fellow_woken place call)) (stops ∙ ap (with_each (stopped_by call)) (is ∙ ap (with_each (only call.who.proc change)) adjusts))
+    ∙ ap (processes_in (mode_between call partition.mode)) each
     ∙ whole configuration place core period first cores call partition first_is period_is
 
 -- of a caller that does not, nothing becomes
 called-absent : (configuration : Configuration) (place core period first : ℕ) (cores : List CoreState) (call : CallRecord) (partition : Partition)
-    (middle : Processes) (found : Option (Bor Process))
+    (middle stopping new : Processes) (found : Option (Bor Process))
     → first_core configuration call.who.part ≡ first → period_of configuration call.who.part ≡ period
     → middle ≡ between place period first cores call partition (processes_of partition) → IsSound partition.table call
     → option_copied found ≡ item_at partition.table call.who.proc → is_some found ≡ false
-    → middle ≡ processes_of (partition_called configuration cores place core call partition)
-called-absent configuration place core period first cores call partition middle found first_is period_is adjusts sound looked absent =
+    → stopping ≡ with_each (stopped_by call) middle → new ≡ with_each (fellow_woken place call) stopping
+    → new ≡ processes_of (partition_called configuration cores place core call partition)
+called-absent configuration place core period first cores call partition middle stopping new found first_is period_is adjusts sound looked absent stops wakes_them =
     let none : item_at partition.table call.who.proc ≡ None = none-some _ (ap is_some (sym looked) ∙ copied-some found ∙ absent) in
     let change : Process → Process = caller_after place (time_of cores core) call in
-    let none_too : item_at (each_item (adjusted place period cores partition call) partition.table) call.who.proc ≡ None
-    = absent-each (adjusted place period cores partition call) partition.table call.who.proc none in
-    let each : each_item (adjusted place period cores partition call) partition.table
-    ≡ each_item (called place (time_of cores core) period cores partition call) partition.table
-    = sym (only-absent call.who.proc change (each_item (adjusted place period cores partition call) partition.table) none_too)
-    ∙ called-each place (time_of cores core) period cores call partition change sound (λ process. refl) in
-    adjusts ∙ ap (λ t. processes_in (mode_between call partition.mode) (t ++ created_by first call call.request)) each
+    let created : Table = created_by first call call.request in
+    let before : Table = each_item (adjusted place period cores partition call) partition.table in
+    let none_too : item_at before call.who.proc ≡ None = absent-each (adjusted place period cores partition call) partition.table call.who.proc none in
+    let each : each_item (fellow_woken place call) (each_item (stopped_by call) (before ++ created))
+    ≡ each_item (called place (time_of cores core) period cores partition call) partition.table ++ created
+    = ap (λ t. each_item (fellow_woken place call) (each_item (stopped_by call) (t ++ created))) (sym (only-absent call.who.proc change before none_too))
+    ∙ fellows-append place call (each_item (only call.who.proc change) before) created
+    ∙ ap (λ t. each_item (fellow_woken place call) (each_item (stopped_by call) (each_item (only call.who.proc change) before)) ++ t) (created-stays place first call partition.table sound.asks)
+    ∙ ap (λ t. t ++ created) (called-each place (time_of cores core) period cores call partition change (λ process. refl)) in
+    wakes_them ∙ ap (with_each (fellow_woken place call)) (stops ∙ ap (with_each (stopped_by call)) adjusts)
+    ∙ ap (processes_in (mode_between call partition.mode)) each
     ∙ whole configuration place core period first cores call partition first_is period_is
 
 -- the same of any partition that has the mode and the processes of a table
 
 pub called-stands-in : (configuration : Configuration) (place core period first : ℕ) (cores : List CoreState) (call : CallRecord) (partition : Partition)
-    (old middle new : Processes) (change : Process → Process) (found : Option (Bor Process)) → processes_of partition ≡ old
+    (old middle own stopping new : Processes) (change : Process → Process) (found : Option (Bor Process)) → processes_of partition ≡ old
     → first_core configuration call.who.part ≡ first → period_of configuration call.who.part ≡ period
     → middle ≡ between place period first cores call partition old → IsSound old.table call
     → option_copied found ≡ item_at old.table call.who.proc → is_some found ≡ true
     → ((process : Process) → change process ≡ caller_after place (time_of cores core) call process)
-    → new ≡ with_each (only call.who.proc change) middle → new ≡ processes_of (partition_called configuration cores place core call partition)
-called-stands-in configuration place core period first cores call partition old middle new change found seen first_is period_is adjusts sound looked stands same is =
+    → own ≡ with_each (only call.who.proc change) middle → stopping ≡ with_each (stopped_by call) own → new ≡ with_each (fellow_woken place call) stopping
+    → new ≡ processes_of (partition_called configuration cores place core call partition)
+called-stands-in configuration place core period first cores call partition old middle own stopping new change found seen first_is period_is adjusts sound looked stands same is stops wakes_them =
     let P : Processes → Type 0 = λ one. middle ≡ between place period first cores call partition one → IsSound one.table call
     → option_copied found ≡ item_at one.table call.who.proc → new ≡ processes_of (partition_called configuration cores place core call partition) in
     subst P seen
-    (λ adjusts_it sound_it looked_it. called-stands configuration place core period first cores call partition middle new change found first_is period_is adjusts_it sound_it looked_it stands same is)
+    (λ adjusts_it sound_it looked_it. called-stands configuration place core period first cores call partition middle own stopping new change found first_is period_is adjusts_it sound_it looked_it stands same is stops wakes_them)
     adjusts sound looked
 
 pub called-absent-in : (configuration : Configuration) (place core period first : ℕ) (cores : List CoreState) (call : CallRecord) (partition : Partition)
-    (old middle : Processes) (found : Option (Bor Process)) → processes_of partition ≡ old
+    (old middle stopping new : Processes) (found : Option (Bor Process)) → processes_of partition ≡ old
     → first_core configuration call.who.part ≡ first → period_of configuration call.who.part ≡ period
     → middle ≡ between place period first cores call partition old → IsSound old.table call
     → option_copied found ≡ item_at old.table call.who.proc → is_some found ≡ false
-    → middle ≡ processes_of (partition_called configuration cores place core call partition)
-called-absent-in configuration place core period first cores call partition old middle found seen first_is period_is adjusts sound looked absent =
+    → stopping ≡ with_each (stopped_by call) middle → new ≡ with_each (fellow_woken place call) stopping
+    → new ≡ processes_of (partition_called configuration cores place core call partition)
+called-absent-in configuration place core period first cores call partition old middle stopping new found seen first_is period_is adjusts sound looked absent stops wakes_them =
     let P : Processes → Type 0 = λ one. middle ≡ between place period first cores call partition one → IsSound one.table call
-    → option_copied found ≡ item_at one.table call.who.proc → middle ≡ processes_of (partition_called configuration cores place core call partition) in
+    → option_copied found ≡ item_at one.table call.who.proc → new ≡ processes_of (partition_called configuration cores place core call partition) in
     subst P seen
-    (λ adjusts_it sound_it looked_it. called-absent configuration place core period first cores call partition middle found first_is period_is adjusts_it sound_it looked_it absent)
+    (λ adjusts_it sound_it looked_it. called-absent configuration place core period first cores call partition middle stopping new found first_is period_is adjusts_it sound_it looked_it absent stops wakes_them)
     adjusts sound looked
+
+-- a process that the caller names, and that the call stops
+
+pub stopped-named : (call : CallRecord) (given : ℤ) (processes new : Processes) → call.request ≡ request.Stop given → is_no_error call.claim.out ≡ true
+    → ¬ (given ≡ pos call.who.proc) → new ≡ with_each (named given stopped) processes → new ≡ with_each (stopped_by call) processes
+stopped-named call given processes new asked no_error apart is = is ∙ ap (with_table processes) (each_item-congr _ _ (λ number process. same given asked apart number process) processes.table)
+  where
+    same : (given : ℤ) → call.request ≡ request.Stop given → ¬ (given ≡ pos call.who.proc) → (number : ℕ) (process : Process)
+        → named given stopped number process ≡ stopped_by call number process
+    same (pos n) asked apart number process =
+        let self_too : nat_eq call.who.part call.who.part ≡ true = grind (arith, nat_tests) in
+        let other : nat_eq n call.who.proc ≡ false = apart_too n (nat_eq n call.who.proc) refl apart in
+        rw (asked, no_error, self_too) (by number process (nat_eq n number) (nat_eq number n) (nat_eq number call.who.proc) refl refl refl other)
+      where
+        apart_too : (n : ℕ) (b : Bool) → nat_eq n call.who.proc ≡ b → ¬ (pos n ≡ pos call.who.proc) → b ≡ false
+        apart_too n true e differ = let equal : n ≡ call.who.proc = grind (arith, nat_tests) in absurd (differ (ap pos equal))
+        apart_too n false e differ = refl
+
+        by : (number : ℕ) (process : Process) (a b c : Bool) → nat_eq n number ≡ a → nat_eq number n ≡ b → nat_eq number call.who.proc ≡ c → nat_eq n call.who.proc ≡ false
+            → (if a then stopped process else process) ≡ (if not c && b then stopped process else process)
+        by number process true true true h k l other = let contrary : nat_eq n call.who.proc ≡ true = grind (arith, nat_tests) in cc
+        by number process true true false h k l other = refl
+        by number process true false c h k l other = let contrary : nat_eq number n ≡ true = grind (arith, nat_tests) in cc
+        by number process false true c h k l other = let contrary : nat_eq n number ≡ true = grind (arith, nat_tests) in cc
+        by number process false false true h k l other = refl
+        by number process false false false h k l other = refl
+    same (negsuc n) asked apart number process = rw (asked, neither (is_fellow call number) (is_no_error call.claim.out) (nat_eq call.who.part call.who.part)) refl
+      where
+        neither : (a b c : Bool) → a && (b && (c && false)) ≡ false
+        neither true true true = refl
+        neither true true false = refl
+        neither true false c = refl
+        neither false b c = refl
+
+pub stopped-none : (call : CallRecord) (processes : Processes) → ((number : ℕ) → is_fellow call number && stops call (fellow_at call number) ≡ false)
+    → processes ≡ with_each (stopped_by call) processes
+stopped-none call processes none = ap (with_table processes) (sym (each_item-same (stopped_by call) (λ number process. rw (none number) refl) processes.table))
+
+-- a call of another service than STOP stops nobody
+pub stops-nobody : (call : CallRecord) (asked : Request) → call.request ≡ asked → ((given : ℤ) → asked ≡ request.Stop given → ⊥) → (number : ℕ)
+    → is_fellow call number && stops call (fellow_at call number) ≡ false
+stops-nobody call (request.Stop given) is not_stop number = absurd (not_stop given refl)
+stops-nobody call _ is not_stop number = rw (is, neither (is_fellow call number) (is_no_error call.claim.out) (nat_eq call.who.part call.who.part)) refl
+  where
+    neither : (a b c : Bool) → a && (b && (c && false)) ≡ false
+    neither true true true = refl
+    neither true true false = refl
+    neither true false c = refl
+    neither false b c = refl
+
+-- nor does one that does not answer NO_ERROR
+pub stops-not : (call : CallRecord) → is_no_error call.claim.out ≡ false → (number : ℕ) → is_fellow call number && stops call (fellow_at call number) ≡ false
+stops-not call refused number = rw refused (never (is_fellow call number))
+  where
+    never : (a : Bool) → a && false ≡ false
+    never true = refl
+    never false = refl
+
+-- nor one that names its caller
+pub stops-itself : (call : CallRecord) → call.request ≡ request.Stop (pos call.who.proc) → (number : ℕ)
+    → is_fellow call number && stops call (fellow_at call number) ≡ false
+stops-itself call is number = rw is (by (nat_eq number call.who.proc) (is_no_error call.claim.out) (nat_eq call.who.part call.who.part))
+  where
+    by : (a b c : Bool) → not a && (b && (c && a)) ≡ false
+    by true b c = refl
+    by false true true = refl
+    by false true false = refl
+    by false false c = refl

@@ -4,7 +4,6 @@ use Rattle.std.proofs.lemmas.Bool.Decides.{nat_tests}
 use Rattle.apex_types.specs.declared.record.Call.{Call as CallRecord}
 use Rattle.apex_types.specs.declared.request.Request.{Request}
 use Rattle.apex_types.specs.declared.request.Request.TheVariants as request
-use Rattle.apex_types.specs.Requested.{service_of}
 use Rattle.apex_machine.specs.declared.state.CoreState.{CoreState}
 use Rattle.apex_machine.specs.declared.state.Process.{Process}
 use Rattle.apex_machine.specs.declared.state.Mode.TheVariants as mode
@@ -12,12 +11,13 @@ use Rattle.apex_machine.specs.State.{Partition, Table, each_item, is_free, time_
 use Rattle.apex_machine.specs.Answer.{is_new}
 use Rattle.apex_machine.specs.Arguments.{is_priority, natural_of}
 use Rattle.apex_machine.specs.Processes.{after_normal, new_process, set_by, started}
-use Rattle.apex_machine.specs.Services.{is_built}
 use Rattle.apex_machine.specs.After.{created_by, is_done, mode_by}
-use Rattle.process_state.specs.Changes.{moved_to, named, only, with_each}
+use Rattle.process_state.specs.Changes.{moved_to, named, only, reprioritised, resumed, suspended, with_each}
 use Rattle.process_state.specs.Numbers.{NumbersFit, number_of}
 use Rattle.process_state.specs.Processes.{Processes}
 use Rattle.process_state.specs.Sound.{AsksSoundly}
+use Rattle.process_state.specs.Transfers.{IsTransferOf, transferred}
+use Rattle.process_state.specs.declared.transfer.Transfer.{Transfer}
 use Rattle.process_state.proofs.Tables.{each_item-congr, each_item-same, nat_eq-swap, with_table}
 
 pub append-nothing : (table : Table) → table ++ [] ≡ table
@@ -54,35 +54,29 @@ carried place period first cores call asked partition old = record old {
   table = each_item (set_by place period cores partition call.who.proc asked) old.table ++ created_by first call asked;
 }
 
--- the table of a service that changes each process so, and creates none
-table-set : (place period first : ℕ) (cores : List CoreState) (call : CallRecord) (asked : Request) (partition : Partition) (old : Processes) (set : ℕ → Process → Process)
-    → created_by first call asked ≡ [] → ((number : ℕ) (process : Process) → set number process ≡ set_by place period cores partition call.who.proc asked number process)
-    → each_item set old.table ≡ each_item (set_by place period cores partition call.who.proc asked) old.table ++ created_by first call asked
-table-set place period first cores call asked partition old set none same = rw none (each_item-congr _ _ same old.table ∙ sym (append-nothing _))
-
--- a judged service that sets nothing beside its caller
+-- a service that sets nothing beside its caller
 pub carried-none : (place period first : ℕ) (cores : List CoreState) (call : CallRecord) (asked : Request) (partition : Partition) (old : Processes)
-    → is_built (service_of asked) ≡ true
     → ((name : List ℕ) (priority own : ℤ) → asked ≡ request.CreateProcess name priority own → ⊥)
     → ((process core : ℤ) → asked ≡ request.InitializeProcessCoreAffinity process core → ⊥)
     → ((process : ℤ) → asked ≡ request.Start process → ⊥)
+    → ((process : ℤ) → asked ≡ request.Suspend process → ⊥)
+    → ((process : ℤ) → asked ≡ request.Resume process → ⊥)
+    → ((process priority : ℤ) → asked ≡ request.SetPriority process priority → ⊥)
     → ((mode : ℤ) → asked ≡ request.SetPartitionMode mode → ⊥)
+    → ((mutex time_out : ℤ) → asked ≡ request.AcquireMutex mutex time_out → ⊥)
+    → ((mutex : ℤ) → asked ≡ request.ReleaseMutex mutex → ⊥)
     → old ≡ carried place period first cores call asked partition old
-carried-none place period first cores call (request.CreateProcess name priority own) partition old judged not_create not_move not_start not_mode = absurd (not_create name priority own refl)
-carried-none place period first cores call (request.InitializeProcessCoreAffinity process on) partition old judged not_create not_move not_start not_mode = absurd (not_move process on refl)
-carried-none place period first cores call (request.Start process) partition old judged not_create not_move not_start not_mode = absurd (not_start process refl)
-carried-none place period first cores call (request.SetPartitionMode mode) partition old judged not_create not_move not_start not_mode = absurd (not_mode mode refl)
-carried-none place period first cores call request.StopSelf partition old judged not_create not_move not_start not_mode = same-table
-  where
-    same-table : old ≡ carried place period first cores call request.StopSelf partition old
-    same-table = ap (with_table old) (sym (append-nothing _ ∙ each_item-same _ (λ number process. refl) old.table))
-carried-none place period first cores call request.GetMyId partition old judged not_create not_move not_start not_mode =
+carried-none place period first cores call (request.CreateProcess name priority own) partition old create move start suspend resume priority_set mode acquire release = absurd (create name priority own refl)
+carried-none place period first cores call (request.InitializeProcessCoreAffinity process on) partition old create move start suspend resume priority_set mode acquire release = absurd (move process on refl)
+carried-none place period first cores call (request.Start process) partition old create move start suspend resume priority_set mode acquire release = absurd (start process refl)
+carried-none place period first cores call (request.Suspend process) partition old create move start suspend resume priority_set mode acquire release = absurd (suspend process refl)
+carried-none place period first cores call (request.Resume process) partition old create move start suspend resume priority_set mode acquire release = absurd (resume process refl)
+carried-none place period first cores call (request.SetPriority process priority) partition old create move start suspend resume priority_set mode acquire release = absurd (priority_set process priority refl)
+carried-none place period first cores call (request.SetPartitionMode given) partition old create move start suspend resume priority_set mode acquire release = absurd (mode given refl)
+carried-none place period first cores call (request.AcquireMutex mutex time_out) partition old create move start suspend resume priority_set mode acquire release = absurd (acquire mutex time_out refl)
+carried-none place period first cores call (request.ReleaseMutex mutex) partition old create move start suspend resume priority_set mode acquire release = absurd (release mutex refl)
+carried-none place period first cores call _ partition old create move start suspend resume priority_set mode acquire release =
     ap (with_table old) (sym (append-nothing _ ∙ each_item-same _ (λ number process. refl) old.table))
-carried-none place period first cores call (request.TimedWait delay) partition old judged not_create not_move not_start not_mode =
-    ap (with_table old) (sym (append-nothing _ ∙ each_item-same _ (λ number process. refl) old.table))
-carried-none place period first cores call request.GetTime partition old judged not_create not_move not_start not_mode =
-    ap (with_table old) (sym (append-nothing _ ∙ each_item-same _ (λ number process. refl) old.table))
-carried-none place period first cores call _ partition old judged not_create not_move not_start not_mode = cc
 
 -- CREATE_PROCESS
 
@@ -133,6 +127,39 @@ pub carried-move : (place period first : ℕ) (cores : List CoreState) (call : C
     → new ≡ with_each (named given (moved_to (natural_of core))) old
     → new ≡ carried place period first cores call (request.InitializeProcessCoreAffinity given core) partition old
 carried-move place period first cores call given core partition old new is = is ∙ ap (with_table old) (sym (append-nothing _))
+
+pub carried-suspend : (place period first : ℕ) (cores : List CoreState) (call : CallRecord) (given : ℤ) (partition : Partition) (old new : Processes)
+    → new ≡ with_each (named given suspended) old → new ≡ carried place period first cores call (request.Suspend given) partition old
+carried-suspend place period first cores call given partition old new is = is ∙ ap (with_table old) (sym (append-nothing _))
+
+pub carried-resume : (place period first : ℕ) (cores : List CoreState) (call : CallRecord) (given : ℤ) (partition : Partition) (old new : Processes)
+    → new ≡ with_each (named given (resumed place)) old → new ≡ carried place period first cores call (request.Resume given) partition old
+carried-resume place period first cores call given partition old new is = is ∙ ap (with_table old) (sym (append-nothing _))
+
+pub carried-priority : (place period first : ℕ) (cores : List CoreState) (call : CallRecord) (given priority : ℤ) (partition : Partition) (old new : Processes) (cast : ℕ)
+    → new ≡ with_each (named given (reprioritised place cast)) old → cast ≡ nat_abs priority → is_priority priority ≡ true
+    → new ≡ carried place period first cores call (request.SetPriority given priority) partition old
+carried-priority place period first cores call given priority partition old new cast is kept within =
+    is ∙ ap (λ given_priority. with_each (named given (reprioritised place given_priority)) old) (kept ∙ natural-kept priority within)
+    ∙ ap (with_table old) (sym (append-nothing _))
+  where
+    natural-kept : (p : ℤ) → is_priority p ≡ true → nat_abs p ≡ natural_of p
+    natural-kept (pos n) h = refl
+    natural-kept (negsuc n) h = cc
+
+-- ACQUIRE_MUTEX and RELEASE_MUTEX
+
+pub carried-acquire : (place period first : ℕ) (cores : List CoreState) (call : CallRecord) (mutex time_out : ℤ) (transfer : Transfer) (partition : Partition) (old new : Processes)
+    → new ≡ with_each (transferred transfer) old → IsTransferOf partition call.who.proc (request.AcquireMutex mutex time_out) transfer
+    → new ≡ carried place period first cores call (request.AcquireMutex mutex time_out) partition old
+carried-acquire place period first cores call mutex time_out transfer partition old new is tied =
+    is ∙ ap (with_table old) (each_item-congr _ _ (λ number process. sym (tied number process)) old.table ∙ sym (append-nothing _))
+
+pub carried-release : (place period first : ℕ) (cores : List CoreState) (call : CallRecord) (mutex : ℤ) (transfer : Transfer) (partition : Partition) (old new : Processes)
+    → new ≡ with_each (transferred transfer) old → IsTransferOf partition call.who.proc (request.ReleaseMutex mutex) transfer
+    → new ≡ carried place period first cores call (request.ReleaseMutex mutex) partition old
+carried-release place period first cores call mutex transfer partition old new is tied =
+    is ∙ ap (with_table old) (each_item-congr _ _ (λ number process. sym (tied number process)) old.table ∙ sym (append-nothing _))
 
 -- SET_PARTITION_MODE to NORMAL
 

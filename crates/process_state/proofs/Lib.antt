@@ -16,3 +16,5 @@ pub mod Releases
 pub mod Times
 pub mod Waiters
 pub mod Gifts
+pub mod Periodic
+pub mod Transfers

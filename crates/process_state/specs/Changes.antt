@@ -1,5 +1,5 @@
 -- Changes of one process of a table, and of each.
-use Rattle.std.specs.Prelude.{ℕ, Option, Some, None, nat_eq, if◌then◌else◌, ℤ}
+use Rattle.std.specs.Prelude.{ℕ, Option, Some, None, true, false, nat_eq, if◌then◌else◌, ℤ}
 use Rattle.apex_machine.specs.declared.state.Outcome.{Outcome}
 use Rattle.apex_machine.specs.declared.state.Process.{Process}
 use Rattle.apex_machine.specs.declared.state.Wait.{Wait}
@@ -44,3 +44,15 @@ answered now renewed outcome process = record process {
   due = Some outcome;
   called_at = now;
 }
+
+-- a process that another one suspends; what it waits for stays
+abbrev pub suspended : Process → Process
+suspended process = record process { suspended = true }
+
+-- a process that another one resumes at this place
+abbrev pub resumed : ℕ → Process → Process
+resumed place process = record process { suspended = false; ready_position = place }
+
+-- a process that gets this current priority at this place
+abbrev pub reprioritised : ℕ → ℕ → Process → Process
+reprioritised place priority process = record process { current_priority = priority; ready_position = place }

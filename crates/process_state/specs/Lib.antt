@@ -10,3 +10,5 @@ pub mod Gifts
 pub mod Orders
 pub mod Firsts
 pub mod Kept
+pub mod Transfers
+pub mod Fellows

@@ -1,30 +1,49 @@
 -- What a call must keep to, so that a table can hold what it asks for.
-use Rattle.std.specs.Prelude.{◌≡◌, [], IsTrue, Bool, false, nat_lt, ℤ, pos, negsuc}
+use Rattle.std.specs.Prelude.{◌≡◌, ◌<◌, [], IsTrue, Bool, true, false, nat_lt, ℤ, pos, negsuc}
 use Rattle.apex_types.specs.declared.record.Call.{Call as CallRecord}
 use Rattle.apex_types.specs.declared.request.Request.{Request}
 use Rattle.apex_types.specs.declared.request.Request.TheVariants as request
-use Rattle.apex_types.specs.Requested.{service_of}
 use Rattle.apex_machine.specs.State.{Table, is_free}
 use Rattle.apex_machine.specs.Answer.{is_new}
-use Rattle.apex_machine.specs.Arguments.{is_priority}
-use Rattle.apex_machine.specs.Services.{is_built}
+use Rattle.apex_machine.specs.Arguments.{is_priority, natural_of}
 use Rattle.apex_machine.specs.After.{is_done}
+use Rattle.apex_machine.specs.Waiting.{is_waiting}
 
 -- the number of a core fits 8 bits
 abbrev pub is_core_number : ℤ → Bool
 is_core_number (pos n) = nat_lt n 256
 is_core_number (negsuc n) = false
 
--- a CREATE_PROCESS that was carried out claims a new number and has a priority in range; an INITIALIZE_PROCESS_CORE_AFFINITY
--- that was carried out gives the number of a core
+-- a CREATE_PROCESS that was carried out claims a new number, has a priority in range and ends no wait; an
+-- INITIALIZE_PROCESS_CORE_AFFINITY that was carried out gives the number of a core, a SET_PRIORITY a priority in range
 abbrev pub AsksSoundly : Table → CallRecord → Request → Type 0
 AsksSoundly table call (request.CreateProcess name priority period) =
-    IsTrue (is_done call.claim.out) → IsTrue (is_new (is_free table) call.claim.val) × IsTrue (is_priority priority)
+    IsTrue (is_done call.claim.out) → IsTrue (is_new (is_free table) call.claim.val) × IsTrue (is_priority priority) × (call.claim.woken ≡ [])
 AsksSoundly table call (request.InitializeProcessCoreAffinity process core) = IsTrue (is_done call.claim.out) → IsTrue (is_core_number core)
+AsksSoundly table call (request.SetPriority process priority) = IsTrue (is_done call.claim.out) → IsTrue (is_priority priority)
 AsksSoundly table call _ = Unit {0}
 
--- a table can hold what a call asks for: its service is one of those that are judged, none of which ends another's wait
+-- the number of an object fits 32 bits
+abbrev pub IsObjectNumber : ℤ → Type 0
+IsObjectNumber given = natural_of given < 4294967296
+
+-- where a call waits at an object, its number fits
+abbrev pub WaitsSoundly : Request → Type 0
+WaitsSoundly (request.SendBuffer buffer length time_out message) = IsObjectNumber buffer
+WaitsSoundly (request.ReceiveBuffer buffer time_out) = IsObjectNumber buffer
+WaitsSoundly (request.ReadBlackboard blackboard time_out) = IsObjectNumber blackboard
+WaitsSoundly (request.WaitSemaphore semaphore time_out) = IsObjectNumber semaphore
+WaitsSoundly (request.WaitEvent event time_out) = IsObjectNumber event
+WaitsSoundly (request.AcquireMutex mutex time_out) = IsObjectNumber mutex
+WaitsSoundly _ = Unit {0}
+
+-- whether a request is PERIODIC_WAIT
+abbrev pub is_periodic_wait : Request → Bool
+is_periodic_wait request.PeriodicWait = true
+is_periodic_wait _ = false
+
+-- a table can hold what a call asks for
 pub record IsSound (table : Table) (call : CallRecord) : Type 0 where
-  pub judged : IsTrue (is_built (service_of call.request))
-  pub wakes_none : call.claim.woken ≡ []
   pub asks : AsksSoundly table call call.request
+  pub waits : IsTrue (is_waiting call.claim.out) → WaitsSoundly call.request
+  pub not_periodic : is_periodic_wait call.request ≡ false

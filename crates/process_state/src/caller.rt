@@ -1,15 +1,15 @@
 // What becomes of a caller by its call.
 
-ghost use Rattle.std.specs.Prelude.{◌≡◌, ◌<◌, ℕ, IfOk, IsTrue, Option};
+ghost use Rattle.std.specs.Prelude.{◌≡◌, ◌<◌, IfOk, IsTrue, false};
 ghost use Rattle.apex_types.specs.Bounds.{place_count};
-ghost use Rattle.apex_types.specs.Requested.{service_of};
 ghost use Rattle.apex_machine.specs.declared.state.Process.{Process as ProcessValue};
-ghost use Rattle.apex_machine.specs.DueTimes as due_times;
 ghost use Rattle.apex_machine.specs.Processes as processes;
-ghost use Rattle.apex_machine.specs.Services.{is_built};
+ghost use Rattle.apex_machine.specs.Waiting.{is_waiting};
 ghost use Rattle.apex_machine.specs.After as after;
 ghost use Rattle.process_state.specs.Settled.{settled};
+ghost use Rattle.process_state.specs.Sound.{WaitsSoundly, is_periodic_wait};
 
+use crate::waiting::wait_of;
 use apex_machine::{Outcome, Wait};
 use apex_types::{Call, Code, Message, Out, Place, Request};
 use std::alloc::{AllocError, Global};
@@ -38,9 +38,10 @@ pub fn is_done(out: Out) -> bool
     }
 }
 
-/// What becomes of the caller of this call of a service that is judged, at this place and at its core's time `now`.
+/// What becomes of the caller of this call, at this place and at its core's time `now`.
 ///
 /// AllocError where memory for the outcome's message is refused; an empty message takes none.
+#[tactic(auto, using(crate::proofs::Periodic::none_taken))]
 pub fn settling_of(
     alloc: Global,
     place: Place,
@@ -48,11 +49,12 @@ pub fn settling_of(
     call: &Call,
 ) -> Result<Settling, AllocError>
     requires time { now < place_count }
-    requires judged { IsTrue (is_built (service_of call.now.request)) }
+    requires waits { IsTrue (is_waiting call.now.claim.out) → WaitsSoundly call.now.request }
+    requires not_periodic { is_periodic_wait call.now.request ≡ false }
     ensures { IfOk result (λ settling. (process : ProcessValue) → settled now settling process ≡ after.caller_after place now call.now process) }
 {
     match call.claim.out {
-        Out::Waits => Ok(Settling::Waits(wait_of(&call.request, now))),
+        Out::Waits => Ok(Settling::Waits(wait_of(&call.request, call.claim.chan, now))),
         Out::Never => Ok(Settling::Stops),
         Out::Answer(code) => {
             let outcome = outcome_of(alloc, call, code)?;
@@ -77,24 +79,6 @@ fn outcome_of(alloc: Global, call: &Call, code: Code) -> Result<Outcome, AllocEr
         val: call.claim.val,
         bytes: Message::new(bytes),
     })
-}
-
-// What a caller of a service that is judged waits for, that began to wait when its core's time was `now`.
-fn wait_of(request: &Request, now: u64) -> Wait
-    requires time { now < place_count }
-    requires judged { IsTrue (is_built (service_of request.now)) }
-    ensures { (chan : Option ℕ) (process : ProcessValue) → result ≡ due_times.wait_of request.now chan now process }
-{
-    match request {
-        Request::TimedWait { delay } => {
-            if *delay < 0 {
-                Wait::Nothing
-            } else {
-                Wait::Until(now + *delay as u64)
-            }
-        }
-        _ => Wait::Nothing,
-    }
 }
 
 // Whether the request renews its caller's ready position: TIMED_WAIT with a delay of 0, and PERIODIC_WAIT.

@@ -6,6 +6,7 @@
 #![tactic(auto)]
 
 mod caller;
+mod fellow;
 mod gift;
 mod moment;
 mod number;
@@ -13,7 +14,10 @@ mod order;
 mod process;
 mod sorted;
 mod table;
+mod transfer;
 mod wait;
+mod waiting;
 
 pub use moment::Moment;
 pub use table::ProcTable;
+pub use transfer::Transfer;

@@ -5,7 +5,7 @@ ghost use Rattle.apex_types.specs.Bounds.{greatest_span, place_count};
 ghost use Rattle.apex_machine.specs.Arguments.{period_given};
 ghost use Rattle.apex_machine.specs.Processes as processes;
 ghost use Rattle.apex_machine.specs.State.{initialising_process};
-ghost use Rattle.process_state.specs.Changes.{answered, moved_to, stopped_self, waiting_for};
+ghost use Rattle.process_state.specs.Changes.{answered, moved_to, reprioritised, resumed, stopped_self, suspended, waiting_for};
 
 use crate::wait;
 use apex_machine::{Mode, Outcome, Process, Wait};
@@ -153,15 +153,67 @@ pub fn give_back(process: &mut Process)
     process.due = None;
 }
 
-/// The process has stopped itself, when its core's time was `now`.
-pub fn stop_self(process: &mut Process, now: u64)
-    ensures { process.new ≡ stopped_self now process.old }
+/// The process has been stopped: it is dormant, and nothing is due to it.
+pub fn stop(process: &mut Process)
+    ensures { process.new ≡ processes.stopped process.old }
 {
     process.alive = false;
     process.suspended = false;
     process.wait = Wait::Nothing;
     give_back(process);
+}
+
+/// The process has stopped itself, when its core's time was `now`.
+pub fn stop_self(process: &mut Process, now: u64)
+    ensures { process.new ≡ stopped_self now process.old }
+{
+    stop(process);
     process.called_at = now;
+}
+
+/// Another process has suspended this one; what it waits for stays.
+pub fn suspend(process: &mut Process)
+    ensures { process.new ≡ suspended process.old }
+{
+    process.suspended = true;
+}
+
+/// Another process has resumed this one, at this place.
+pub fn resume(process: &mut Process, place: Place)
+    ensures { process.new ≡ resumed place process.old }
+{
+    process.suspended = false;
+    put_behind(process, place);
+}
+
+/// The process has another current priority, at this place.
+pub fn set_priority(process: &mut Process, place: Place, priority: u8)
+    ensures { process.new ≡ reprioritised place priority process.old }
+{
+    process.current_priority = priority;
+    put_behind(process, place);
+}
+
+// The process stands behind the others of its priority that became ready before this place.
+fn put_behind(process: &mut Process, place: Place)
+    ensures { process.new ≡ record process.old { ready_position = place } }
+{
+    process.ready_position = place.number();
+}
+
+/// The process owns a mutex of this priority from now on, and keeps its own.
+pub fn grant(process: &mut Process, priority: u8)
+    ensures { process.new ≡ processes.granted priority process.old }
+{
+    process.retained_priority = process.current_priority;
+    process.current_priority = priority;
+}
+
+/// The process no longer owns a mutex, and has its own priority again.
+pub fn ungrant(process: &mut Process)
+    ensures { process.new ≡ processes.restored process.old }
+{
+    process.current_priority = process.retained_priority;
 }
 
 /// The process has begun to wait, when its core's time was `now`.

@@ -5,10 +5,11 @@ ghost use Rattle.std.specs.Fn.{FnOnceReturnsAtMut};
 ghost use Rattle.apex_types.specs.Bounds.{place_count};
 ghost use Rattle.apex_machine.specs.declared.state.Process.{Process as ProcessValue};
 ghost use Rattle.apex_machine.specs.Answer.{is_new};
-ghost use Rattle.apex_machine.specs.Processes.{after_normal, new_process, released, started, woken_by};
+ghost use Rattle.apex_machine.specs.Processes.{after_normal, granted, new_process, released, restored, started, stopped, woken_by};
 ghost use Rattle.apex_machine.specs.State.{each_item, is_free, time_of};
 ghost use Rattle.apex_machine.specs.After.{returned};
-ghost use Rattle.process_state.specs.Changes.{answered, moved_to, named, only, stopped_self, waiting_for, with_each};
+ghost use Rattle.process_state.specs.Changes.{answered, moved_to, named, only, reprioritised, resumed, stopped_self, suspended, waiting_for, with_each};
+ghost use Rattle.process_state.specs.Transfers.{transferred};
 ghost use Rattle.process_state.specs.Timely.{IsTimely, TimesFit};
 
 use super::ProcTable;
@@ -16,6 +17,7 @@ use crate::moment::Moment;
 use crate::number::process_number;
 use crate::order::{DueTime, Rank};
 use crate::process;
+use crate::transfer::Transfer;
 use apex_machine::{CoreState, Mode, Outcome, Process, Wait};
 use apex_types::{CoreId, Message, Name, Place, ProcId};
 use std::alloc::AllocError;
@@ -155,6 +157,75 @@ impl ProcTable {
         ensures { self.new ≡ with_each (returned returner) self.old }
     {
         self.change(returner, |process| process::give_back(process));
+    }
+
+    /// SUSPEND of the process that a caller names by this number: of none, where there is none. Takes no memory.
+    pub fn suspend_named(&mut self, given: i64)
+        ensures { self.new ≡ with_each (named given suspended) self.old }
+    {
+        self.change_named(given, |process| process::suspend(process));
+    }
+
+    /// RESUME of such a process, at this place. Takes no memory.
+    pub fn resume_named(&mut self, given: i64, place: Place)
+        ensures { self.new ≡ with_each (named given (resumed place)) self.old }
+    {
+        self.change_named(given, |process| process::resume(process, place));
+    }
+
+    /// SET_PRIORITY of such a process, at this place. Takes no memory.
+    pub fn set_priority_named(&mut self, given: i64, place: Place, priority: u8)
+        ensures { self.new ≡ with_each (named given (reprioritised place priority)) self.old }
+    {
+        self.change_named(given, |process| {
+            process::set_priority(process, place, priority)
+        });
+    }
+
+    /// STOP of such a process. Takes no memory.
+    pub fn stop_named(&mut self, given: i64)
+        ensures { self.new ≡ with_each (named given stopped) self.old }
+    {
+        self.change_named(given, |process| process::stop(process));
+    }
+
+    /// This process owns a mutex of this priority from now on, and keeps its own. Takes no memory.
+    pub fn grant(&mut self, owner: ProcId, priority: u8)
+        ensures { self.new ≡ with_each (only owner (granted priority)) self.old }
+    {
+        self.change(owner, |process| process::grant(process, priority));
+    }
+
+    /// This process no longer owns a mutex, and has its own priority again. Takes no memory.
+    pub fn ungrant(&mut self, owner: ProcId)
+        ensures { self.new ≡ with_each (only owner restored) self.old }
+    {
+        self.change(owner, |process| process::ungrant(process));
+    }
+
+    /// A mutex has another owner: who no longer owns it has its own priority again, and who owns it now has the mutex's.
+    /// Takes no memory.
+    pub fn transfer(&mut self, transfer: Transfer)
+        ensures { self.new ≡ with_each (transferred transfer) self.old }
+    {
+        if let Some(owner) = transfer.from {
+            self.ungrant(owner);
+        }
+        if let Some(owner) = transfer.to {
+            self.grant(owner, transfer.priority);
+        }
+    }
+
+    // Changes the process that a caller names by this number in place: none, where there is none. Takes no memory.
+    fn change_named<F: FnOnce(&mut Process)>(&mut self, given: i64, change: F)
+        requires { F.IsAlwaysCallable change }
+        ensures { (becomes : ProcessValue → ProcessValue) → ((old new : ProcessValue) → FnOnceReturnsAtMut F.FnOnce change old tt new → new ≡ becomes old) → self.new ≡ with_each (named given becomes) self.old }
+    {
+        // What is known of each table, that its numbers fit 32 bits, is known where one of its fields is used.
+        let _ = &self.processes;
+        if let Some(number) = process_number(given) {
+            self.change(number, change);
+        }
     }
 
     // Changes the process of this number in place, where there is one. Takes no memory.

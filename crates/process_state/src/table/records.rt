@@ -1,32 +1,37 @@
 // What a call and a tick make of a table.
 
-ghost use Rattle.std.specs.Prelude.{◌≡◌, ◌++◌, ℕ, true, OnOk, OnErr, IsTrue};
-ghost use Rattle.apex_types.specs.Requested.{service_of};
+ghost use Rattle.std.specs.Prelude.{◌≡◌, ◌++◌, ◌≤◌, ℕ, true, OnOk, OnErr, IsTrue, length, vec_len};
 ghost use Rattle.apex_machine.specs.Configuration as configured;
 ghost use Rattle.apex_machine.specs.Configuration.{Configuration};
 ghost use Rattle.apex_machine.specs.State.{Partition, each_item, time_of};
 ghost use Rattle.apex_machine.specs.Processes.{gift_of, set_by};
-ghost use Rattle.apex_machine.specs.Services.{is_built};
 ghost use Rattle.apex_machine.specs.After as after;
 ghost use Rattle.process_state.specs.Changes.{only, with_each};
+ghost use Rattle.process_state.specs.Fellows.{fellow_woken, stopped_by};
+ghost use Rattle.process_state.specs.Gifts.{AreCopies};
 ghost use Rattle.process_state.specs.Processes.{processes_of};
 ghost use Rattle.process_state.specs.Settled.{settled};
 ghost use Rattle.process_state.specs.Sound.{IsSound};
 ghost use Rattle.process_state.specs.Timely.{IsTimely};
+ghost use Rattle.process_state.specs.Transfers.{IsTransferOf};
 
 use super::ProcTable;
 use super::changes::time_at;
 use crate::caller::{Settling, is_done, settling_of};
+use crate::fellow::{answers_no_error, wakes};
 use crate::gift::gifts_of;
 use crate::moment::Moment;
 use crate::number::claimed_number;
 use crate::order::is_of;
-use apex_types::{Call, CoreId, PartId, Place, ProcId, Request, Woken};
+use crate::transfer::Transfer;
+use apex_types::{Call, CoreId, Message, PartId, Place, ProcId, Request, Woken};
 use std::alloc::AllocError;
 
 impl ProcTable {
-    /// A call of one of the partition's processes at this moment: what it sets in the partition, and what becomes of its
-    /// caller. The period is the partition's, in ticks. A process that it creates runs on the first core.
+    /// A call of one of the partition's processes at this moment: what it sets in the partition, what becomes of its
+    /// caller, which process it stops, and whose waits it ends. The period is the partition's, in ticks. A process that it
+    /// creates runs on the first core. The transfer is what the call makes of the owners of its mutex; a call of another
+    /// service than ACQUIRE_MUTEX and RELEASE_MUTEX makes nothing of owners, and its transfer is not looked at.
     ///
     /// AllocError where memory is refused; nothing has changed then.
     pub fn call(
@@ -34,24 +39,28 @@ impl ProcTable {
         first_core: CoreId,
         period: u64,
         moment: &Moment<'_>,
+        transfer: Transfer,
         call: &Call,
     ) -> Result<(), AllocError>
         requires timely { IsTimely period moment.now.cores.now }
         requires sound { IsSound self.old.table call.now }
-        ensures ok { OnOk result ((configuration : Configuration) (partition : Partition) → configured.first_core configuration call.now.who.part ≡ first_core → configured.period_of configuration call.now.who.part ≡ period → processes_of partition ≡ self.old → self.new ≡ processes_of (after.partition_called configuration moment.now.cores.now moment.now.place moment.now.core call.now partition)) }
+        ensures ok { OnOk result ((configuration : Configuration) (partition : Partition) → configured.first_core configuration call.now.who.part ≡ first_core → configured.period_of configuration call.now.who.part ≡ period → processes_of partition ≡ self.old → (IsTrue (after.is_done call.now.claim.out) → IsTransferOf partition call.now.who.proc call.now.request transfer) → self.new ≡ processes_of (after.partition_called configuration moment.now.cores.now moment.now.place moment.now.core call.now partition)) }
         ensures unchanged { OnErr result (self.new ≡ self.old) }
     {
         let alloc = *self.processes.allocator();
         let now = time_at(moment.cores, moment.core);
         let settling = settling_of(alloc, moment.place, now, call)?;
+        let gifts = gifts_of(alloc, &call.request, call.claim.woken.as_slice().len())?;
         // Looked up before the call creates a process, which a caller that is not there may name as itself.
         let stands = self.proc(call.who.proc).is_some();
         if is_done(call.claim.out) {
-            self.carry_out(first_core, period, moment, call)?;
+            self.carry_out(first_core, period, moment, transfer, call)?;
         }
         if stands {
             self.settle(call.who.proc, now, settling);
         }
+        self.stop_fellow(call);
+        self.wake_fellows(moment.place, call, gifts);
         Ok(())
     }
 
@@ -88,18 +97,20 @@ impl ProcTable {
         }
     }
 
-    // What a call that is carried out sets in its partition, beside what becomes of its caller.
+    // What a call that is carried out sets in its partition, beside the waits that it ends, the process that it stops, and
+    // what becomes of its caller.
     fn carry_out(
         &mut self,
         first_core: CoreId,
         period: u64,
         moment: &Moment<'_>,
+        transfer: Transfer,
         call: &Call,
     ) -> Result<(), AllocError>
         requires timely { IsTimely period moment.now.cores.now }
         requires done { after.is_done call.now.claim.out ≡ true }
         requires sound { IsSound self.old.table call.now }
-        ensures ok { OnOk result ((partition : Partition) → processes_of partition ≡ self.old → self.new ≡ record self.old {
+        ensures ok { OnOk result ((partition : Partition) → processes_of partition ≡ self.old → IsTransferOf partition call.now.who.proc call.now.request transfer → self.new ≡ record self.old {
           mode = after.mode_by call.now.request self.old.mode;
           table = each_item (set_by moment.now.place period moment.now.cores.now partition call.now.who.proc call.now.request) self.old.table ++ after.created_by first_core call.now call.now.request;
         }) }
@@ -119,10 +130,44 @@ impl ProcTable {
                 self.set_affinity_named(*process, CoreId::new(*core as u8));
             }
             Request::Start { process } => self.start_named(*process, period, moment),
+            Request::Suspend { process } => self.suspend_named(*process),
+            Request::Resume { process } => self.resume_named(*process, moment.place),
+            Request::SetPriority { process, priority } => {
+                self.set_priority_named(*process, moment.place, *priority as u8)
+            }
             Request::SetPartitionMode { .. } => self.normal(period, moment),
+            Request::AcquireMutex { .. } | Request::ReleaseMutex { .. } => self.transfer(transfer),
             _ => {}
         }
         Ok(())
+    }
+
+    // STOP of another process than the caller.
+    fn stop_fellow(&mut self, call: &Call)
+        ensures { self.new ≡ with_each (stopped_by call.now) self.old }
+    {
+        if let Request::Stop { process } = &call.request {
+            if answers_no_error(call.claim.out) && *process != call.who.proc.number() as i64 {
+                self.stop_named(*process);
+            }
+        }
+    }
+
+    // The waits of the caller's fellows end that the call names and does not stop: each gets one of these messages.
+    fn wake_fellows(&mut self, place: Place, call: &Call, gifts: Vec<Message>)
+        requires enough { length call.now.claim.woken ≤ vec_len gifts }
+        requires alike { AreCopies (gift_of call.now.request) gifts.items }
+        ensures { self.new ≡ with_each (fellow_woken place call.now) self.old }
+    {
+        let mut gifts = gifts;
+        let woken = call.claim.woken.as_slice();
+        for who in woken {
+            if wakes(call, *who) {
+                if let Some(gift) = gifts.pop() {
+                    self.wake(who.proc, place, gift);
+                }
+            }
+        }
     }
 
     // What becomes of a caller.

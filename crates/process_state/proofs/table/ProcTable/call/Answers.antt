@@ -1,32 +1,32 @@
--- The partition between, then its caller.
+-- The partition between, then its caller, then its caller's fellows.
 use Rattle.std.proofs.Common.{◌≡◌, ℕ, sym, ap, ◌∙◌}
 use Rattle.apex_machine.specs.Processes.{caller_after}
+use Rattle.process_state.specs.Changes.{with_each}
+use Rattle.process_state.specs.Fellows.{stopped_by}
 use Rattle.process_state.proofs.Called.{adjusted-done, adjusted-not, between, called-absent-in, called-stands-in}
 use Rattle.process_state.proofs.table.ProcTable.call.Goals as goal
-use Rattle.process_state.proofs.table.ProcTable.call.Goals.{then-is_done+in_ok-carry_out, else-is_done}
+use Rattle.process_state.proofs.table.ProcTable.call.Goals.{then-is_done+in_ok-carry_out, else-is_done, then-stands, else-stands}
 
-pub returns-then-stands-clause-ok : goal.returns-then-stands-clause-ok
-returns-then-stands-clause-ok c = λ configuration partition first_is period_is seen.
+pub returns-clause-ok : goal.returns-clause-ok
+returns-clause-ok c = λ configuration partition first_is period_is seen tied.
     let a = c.args in
-    let middle : c.if-is_done.self ≡ between a.moment.now.place a.period a.first_core a.moment.now.cores.now a.call.now partition a.self.now =
+    let m = a.moment.now in
+    let call = a.call.now in
+    let middle : c.if-is_done.self ≡ between m.place a.period a.first_core m.cores.now call partition a.self.now =
     elim c.if-is_done.branch [
-      | then-is_done+in_ok-carry_out w ↦ rw w.self-is (adjusted-done a.moment.now.place a.period a.first_core a.moment.now.cores.now a.call.now partition a.self.now _ (sym c.is_done.ensures ∙ w.if-is_done.true) (w.in_ok-carry_out.ensures.ok partition seen))
-      | else-is_done w ↦ rw w.self-is (adjusted-not a.moment.now.place a.period a.first_core a.moment.now.cores.now a.call.now partition a.self.now (sym c.is_done.ensures ∙ w.if-is_done.false))
+      | then-is_done+in_ok-carry_out w ↦
+          let done = sym c.is_done.ensures ∙ w.if-is_done.true in
+          rw w.self-is (adjusted-done m.place a.period a.first_core m.cores.now call partition a.self.now _ done (w.in_ok-carry_out.ensures.ok partition seen (tied done)))
+      | else-is_done w ↦ rw w.self-is (adjusted-not m.place a.period a.first_core m.cores.now call partition a.self.now (sym c.is_done.ensures ∙ w.if-is_done.false))
     ] in
-    called-stands-in configuration a.moment.now.place a.moment.now.core a.period a.first_core a.moment.now.cores.now a.call.now partition a.self.now c.if-is_done.self c.settle.new.self _ c.proc.result
-    seen first_is period_is middle c.requires.sound
-    c.proc.ensures (sym c.is_some-stands.ensures ∙ c.if-stands.true)
-    (λ process. c.in_ok-settling.ensures process ∙ ap (λ (now : ℕ). caller_after a.moment.now.place now a.call.now process) c.time_at-now.ensures.value)
-    c.settle.ensures
-
-pub returns-else-stands-clause-ok : goal.returns-else-stands-clause-ok
-returns-else-stands-clause-ok c = λ configuration partition first_is period_is seen.
-    let a = c.args in
-    let middle : c.if-is_done.self ≡ between a.moment.now.place a.period a.first_core a.moment.now.cores.now a.call.now partition a.self.now =
-    elim c.if-is_done.branch [
-      | then-is_done+in_ok-carry_out w ↦ rw w.self-is (adjusted-done a.moment.now.place a.period a.first_core a.moment.now.cores.now a.call.now partition a.self.now _ (sym c.is_done.ensures ∙ w.if-is_done.true) (w.in_ok-carry_out.ensures.ok partition seen))
-      | else-is_done w ↦ rw w.self-is (adjusted-not a.moment.now.place a.period a.first_core a.moment.now.cores.now a.call.now partition a.self.now (sym c.is_done.ensures ∙ w.if-is_done.false))
-    ] in
-    called-absent-in configuration a.moment.now.place a.moment.now.core a.period a.first_core a.moment.now.cores.now a.call.now partition a.self.now c.if-is_done.self c.proc.result
-    seen first_is period_is middle c.requires.sound
-    c.proc.ensures (sym c.is_some-stands.ensures ∙ c.if-stands.false)
+    elim c.if-stands.branch [
+      | then-stands w ↦
+          called-stands-in configuration m.place m.core a.period a.first_core m.cores.now call partition a.self.now c.if-is_done.self c.if-stands.self c.stop_fellow.new.self c.wake_fellows.new.self
+          _ c.proc.result seen first_is period_is middle c.requires.sound c.proc.ensures (sym c.is_some-stands.ensures ∙ w.if-stands.true)
+          (λ process. c.in_ok-settling.ensures process ∙ ap (λ (now : ℕ). caller_after m.place now call process) c.time_at-now.ensures.value)
+          (w.self-is ∙ w.settle.ensures) c.stop_fellow.ensures c.wake_fellows.ensures
+      | else-stands w ↦
+          called-absent-in configuration m.place m.core a.period a.first_core m.cores.now call partition a.self.now c.if-is_done.self c.stop_fellow.new.self c.wake_fellows.new.self
+          c.proc.result seen first_is period_is middle c.requires.sound c.proc.ensures (sym c.is_some-stands.ensures ∙ w.if-stands.false)
+          (c.stop_fellow.ensures ∙ ap (with_each (stopped_by call)) w.self-is) c.wake_fellows.ensures
+    ]
