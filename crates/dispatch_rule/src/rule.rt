@@ -22,7 +22,7 @@ pub fn owns_window(config: &Config, clock: &Clock, part: PartId, core: CoreId) -
 /// The process of this partition that the core is to run now: none where no process is ready there, or where the present
 /// window is not the partition's.
 ///
-/// It is the rule whole, for callers of the library. The pieces test the window first, since a table is walked only in the
+/// It is the rule whole, for callers of the library. The pieces test the window first, since a table is asked only in the
 /// partition's own windows.
 pub fn choice(
     config: &Config,

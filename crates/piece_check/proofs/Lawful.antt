@@ -22,8 +22,10 @@ use Rattle.apex_machine.specs.Step.{IsAmong, HasCode}
 use Rattle.apex_machine.specs.Demands.{AllHold, outcome_demands, own_call_demands}
 use Rattle.apex_types.specs.Requested.{service_of}
 use Rattle.module_config.specs.Limits.{CoresAreOfModule}
-use Rattle.process_state.specs.Sound.{IsSound, AsksSoundly, is_core_number}
-use Rattle.piece_check.proofs.Judged.{no_channel, nobody, wakes_nobody}
+use Rattle.process_state.specs.Sound.{IsSound, AsksSoundly, WaitsSoundly, is_core_number, is_periodic_wait}
+use Rattle.process_state.specs.Transfers.{IsTransferOf}
+use Rattle.process_state.specs.declared.transfer.Transfer.{Transfer}
+use Rattle.piece_check.proofs.Judged.{no_channel, nobody}
 
 -- none of the codes is NO_ERROR
 abbrev AreErrors : List Code → Type 0
@@ -109,23 +111,39 @@ creates normal named full passes no_period no_fit number asked answer claim hold
     (when_not passes error.InvalidParam (nil_right _ _ (nil_left _ _ (nil_left _ _ none.0))), none.1)
 
 asks_soundly : (configuration : Configuration) (number now : ℕ) (who : Who) (partition : Partition) (call : CallRecord) (asked : Request)
-    → configuration.cores ≤ 16 → CoresAreOfModule configuration
+    → configuration.cores ≤ 16 → CoresAreOfModule configuration → is_built (service_of asked) ≡ true
     → AllHold (outcome_demands (condition_codes configuration who partition asked) None number asked (answer_of now who partition asked) call.claim)
     → AsksSoundly partition.table call asked
-asks_soundly configuration number now who partition call (request.CreateProcess name priority period) few of_module hold =
+asks_soundly configuration number now who partition call (request.CreateProcess name priority period) few of_module judged hold =
     λ done. let both = creates _ _ _ _ _ _ number (request.CreateProcess name priority period) (answer_of now who partition (request.CreateProcess name priority period)) call.claim hold done in
-    (both.1.1.1.0, both.0)
-asks_soundly configuration number now who partition call (request.InitializeProcessCoreAffinity process core) few of_module hold =
+    (both.1.1.1.0, both.0, nobody call.claim.woken both.1.1.1.1.1.0)
+asks_soundly configuration number now who partition call (request.SetPriority process priority) few of_module judged hold = cc
+asks_soundly configuration number now who partition call (request.InitializeProcessCoreAffinity process core) few of_module judged hold =
     λ done. core_is configuration who.part core few of_module
     (moves _ _ _ number (request.InitializeProcessCoreAffinity process core) (answer_of now who partition (request.InitializeProcessCoreAffinity process core)) call.claim hold done)
-asks_soundly configuration number now who partition call _ few of_module hold = tt
+asks_soundly configuration number now who partition call _ few of_module judged hold = tt
 
--- a call whose outcome wakes nobody names nobody
-names_none : (codes : List Code) (number : ℕ) (asked : Request) (answer : Answer) (claim : Claim) → answer.woken ≡ []
-    → AllHold (outcome_demands codes None number asked answer claim) → claim.woken ≡ []
-names_none [] number asked answer claim none hold =
-    let exactly = rw none at hold.1.1.1.1.0 in nobody claim.woken exactly
-names_none (code ∷ codes) number asked answer claim none hold = hold.1.1.1.1.0
+-- no judged service waits at an object
+waits_soundly : (asked : Request) → is_built (service_of asked) ≡ true → WaitsSoundly asked
+waits_soundly (request.SendBuffer buffer length time_out message) judged = cc
+waits_soundly (request.ReceiveBuffer buffer time_out) judged = cc
+waits_soundly (request.ReadBlackboard blackboard time_out) judged = cc
+waits_soundly (request.WaitSemaphore semaphore time_out) judged = cc
+waits_soundly (request.WaitEvent event time_out) judged = cc
+waits_soundly (request.AcquireMutex mutex time_out) judged = cc
+waits_soundly _ judged = tt
+
+-- nor is PERIODIC_WAIT judged
+other_wait : (asked : Request) → is_built (service_of asked) ≡ true → is_periodic_wait asked ≡ false
+other_wait request.PeriodicWait judged = cc
+other_wait _ judged = refl
+
+-- nor one that changes the owner of a mutex
+pub no_transfer : (partition : Partition) (caller : ℕ) (asked : Request) (transfer : Transfer) → is_built (service_of asked) ≡ true
+    → IsTransferOf partition caller asked transfer
+no_transfer partition caller (request.AcquireMutex mutex time_out) transfer judged = cc
+no_transfer partition caller (request.ReleaseMutex mutex) transfer judged = cc
+no_transfer partition caller _ transfer judged = tt
 
 -- a lawful call of one of the partition's processes can be carried out
 pub IsSound_lawful : (configuration : Configuration) (number : ℕ) (cores : List CoreState) (partition : Partition) (core : ℕ) (call : CallRecord)
@@ -135,7 +153,12 @@ IsSound_lawful configuration number cores partition core call few of_module hold
     let judged : is_built (service_of call.request) ≡ true = hold.1.1.1.0.0 in
     let outcome = rw (no_channel partition call.request judged) at hold.1.1.1.1.1 in
     record {
-      judged = judged;
-      wakes_none = names_none _ number call.request _ call.claim (wakes_nobody (time_of cores core) call.who partition call.request judged) outcome;
-      asks = asks_soundly configuration number (time_of cores core) call.who partition call call.request few of_module outcome;
+      asks = asks_soundly configuration number (time_of cores core) call.who partition call call.request few of_module judged outcome;
+      waits = λ waiting. waits_soundly call.request judged;
+      not_periodic = other_wait call.request judged;
     }
+
+-- its service is judged
+pub is_judged_lawful : (configuration : Configuration) (number : ℕ) (cores : List CoreState) (partition : Partition) (core : ℕ) (call : CallRecord)
+    → AllHold (own_call_demands is_built configuration number cores partition core call) → is_built (service_of call.request) ≡ true
+is_judged_lawful configuration number cores partition core call hold = hold.1.1.1.0.0

@@ -3,6 +3,7 @@
 ghost use Rattle.std.specs.Prelude.{◌≡◌, ◌<◌, ◌↔◌, IsTrue, Some, OnOk, OnErr, length, false};
 ghost use Rattle.std.specs.Option.{option_copied};
 ghost use Rattle.apex_types.specs.Bounds.{place_count};
+ghost use Rattle.apex_types.specs.Requested.{service_of};
 ghost use Rattle.apex_types.specs.declared.record.Body.TheVariants as body;
 ghost use Rattle.apex_machine.specs.State.{item_at, time_of};
 ghost use Rattle.apex_machine.specs.Step.{HasNoneDue, HasPriority, due_of};
@@ -27,7 +28,7 @@ use apex_types::{
 };
 use dispatch_rule::{Clock, owns_window};
 use module_config::Config;
-use process_state::Moment;
+use process_state::{Moment, Transfer};
 use std::alloc::AllocError;
 
 /// The piece of a partition: its number, the cores, and its state.
@@ -98,6 +99,7 @@ impl PartitionPiece {
         call: &Call,
     ) -> Result<(), AllocError>
         requires times { TimesFit self.old.clock.cores }
+        requires judged { call.now.who.part ≡ self.old.number → IsTrue (is_built (service_of call.now.request)) }
         requires sound { call.now.who.part ≡ self.old.number → IsSound self.old.state.processes.table call.now }
         ensures ok { OnOk result (partition_part self.new ≡ PartitionPart self.old.number self.old.clock.cores (partition_by config.now self.old.clock.cores ordered.now.pos ordered.now.core self.old.number (body.Call call.now) (partition_of self.old.state))) }
         ensures unchanged { OnErr result (self.new ≡ self.old) }
@@ -110,7 +112,9 @@ impl PartitionPiece {
                 core: ordered.core,
                 cores: self.clock.states(),
             };
-            self.state.processes.call(first_core, period, &moment, call)
+            self.state
+                .processes
+                .call(first_core, period, &moment, Transfer::none(), call)
         } else {
             self.state.processes.rouse(self.number, ordered.pos, call)
         }
