@@ -1,6 +1,8 @@
 -- A table after a call: what the call sets there, and what becomes of its caller.
 use Rattle.std.proofs.Common.{◌≡◌, ℕ, Bool, true, false, not, ◌&&◌, nat_eq, List, [], ◌∷◌, ◌++◌, Option, Some, None, ℤ, pos, negsuc, is_some, if◌then◌else◌, Bor, refl, sym, ap, subst, ◌∙◌, arith}
 use Rattle.std.proofs.lemmas.Bool.Decides.{nat_tests}
+use Rattle.std.specs.List.{IsDistinct}
+use Rattle.std.specs.Map.{keys_of}
 use Rattle.std.specs.Option.{option_copied}
 use Rattle.apex_types.specs.declared.record.Call.{Call as CallRecord}
 use Rattle.apex_types.specs.declared.request.Request.{Request}
@@ -11,16 +13,17 @@ use Rattle.apex_machine.specs.declared.state.Process.{Process}
 use Rattle.apex_machine.specs.Configuration.{Configuration, first_core, period_of}
 use Rattle.apex_machine.specs.State.{Partition, Table, each_item, is_free, is_named, item_at, time_of}
 use Rattle.apex_machine.specs.Answer.{is_new}
+use Rattle.apex_machine.specs.DueTimes.{next_release}
 use Rattle.apex_machine.specs.Processes.{caller_after, gift_of, new_process, set_by, stopped, woken_by}
 use Rattle.apex_machine.specs.Waiting.{is_no_error, stops}
 use Rattle.apex_machine.specs.After.{adjusted, called, created_by, is_done, mode_by, numbered, partition_called}
 use Rattle.process_state.specs.Changes.{named, only, with_each}
 use Rattle.process_state.specs.Fellows.{fellow_at, fellow_woken, is_fellow, stopped_by}
 use Rattle.process_state.specs.Processes.{Processes, processes_in, processes_of}
-use Rattle.process_state.specs.Sound.{AsksSoundly, IsSound}
+use Rattle.process_state.specs.Sound.{AsksSoundly, IsSound, is_periodic_wait}
 use Rattle.process_state.proofs.Carried.{append-nothing, carried}
 use Rattle.process_state.proofs.Numbers.{new-absent}
-use Rattle.process_state.proofs.Tables.{with_table, each_item-append, each_item-congr, each_item-same, each_item-twice, only-absent}
+use Rattle.process_state.proofs.Tables.{absent_from, with_table, each_item-append, each_item-congr, each_item-same, each_item-twice, only-absent}
 
 -- the mode once a call has set it, if it was carried out
 abbrev mode_between : CallRecord → Mode → Mode
@@ -331,3 +334,63 @@ stops-itself call is number = rw is (by (nat_eq number call.who.proc) (is_no_err
     by false true true = refl
     by false true false = refl
     by false false c = refl
+
+-- what becomes of a caller of PERIODIC_WAIT is known of the process that it is
+
+agree_at : (number : ℕ) (f g : Process → Process) (entries : Table) → IsDistinct nat_eq (keys_of entries)
+    → ((process : Process) → item_at entries number ≡ Some process → f process ≡ g process) → each_item (only number f) entries ≡ each_item (only number g) entries
+unfolding IsDistinct
+agree_at number f g [] distinct same = refl
+agree_at number f g (entry ∷ entries) distinct same = by (nat_eq number entry.0) refl (agree_at number f g entries distinct.1)
+  where
+    by : (b : Bool) → nat_eq number entry.0 ≡ b
+        → (((process : Process) → item_at entries number ≡ Some process → f process ≡ g process) → each_item (only number f) entries ≡ each_item (only number g) entries)
+        → each_item (only number f) (entry ∷ entries) ≡ each_item (only number g) (entry ∷ entries)
+    by true e rest =
+        let here : nat_eq entry.0 number ≡ true = grind (arith, nat_tests) in
+        let equal : number ≡ entry.0 = grind (arith, nat_tests) in
+        let none : item_at entries number ≡ None = rw equal (absent_from entry.0 entries distinct.0) in
+        let own : f entry.1 ≡ g entry.1 = same entry.1 (rw e refl) in
+        let same_rest : each_item (only number f) entries ≡ each_item (only number g) entries
+        = only-absent number f entries none ∙ sym (only-absent number g entries none) in
+        rw (here, own) (ap (λ others. (entry.0, g entry.1) ∷ others) same_rest)
+    by false e rest =
+        let apart : nat_eq entry.0 number ≡ false = grind (arith, nat_tests) in
+        rw apart (ap (λ others. entry ∷ others) (rest (λ process found. same process (rw e found))))
+
+-- PERIODIC_WAIT sets nothing beside its caller
+periodic-between : (place period first : ℕ) (cores : List CoreState) (call : CallRecord) (partition : Partition) (old : Processes) (asked : Request)
+    → call.request ≡ asked → is_periodic_wait asked ≡ true → old ≡ between place period first cores call partition old
+periodic-between place period first cores call partition old request.PeriodicWait is periodic = by (is_done call.claim.out) refl
+  where
+    by : (b : Bool) → is_done call.claim.out ≡ b → old ≡ between place period first cores call partition old
+    by true done =
+        adjusted-done place period first cores call partition old old done
+        (subst (λ (a : Request). old ≡ carried place period first cores call a partition old) (sym is)
+        (ap (with_table old) (sym (append-nothing _ ∙ each_item-same _ (λ number process. refl) old.table))))
+    by false refused = adjusted-not place period first cores call partition old refused
+periodic-between place period first cores call partition old _ is periodic = cc
+
+pub caller-settled : (place now period first : ℕ) (cores : List CoreState) (call : CallRecord) (partition : Partition) (old middle own : Processes) (next : ℕ) (change : Process → Process)
+    → middle ≡ between place period first cores call partition old → IsDistinct nat_eq (keys_of old.table)
+    → ((process : Process) → (is_periodic_wait call.request ≡ true → next_release process ≡ next) → change process ≡ caller_after place now call process)
+    → (is_periodic_wait call.request ≡ true → (process : Process) → item_at old.table call.who.proc ≡ Some process → next ≡ next_release process)
+    → own ≡ with_each (only call.who.proc change) middle → own ≡ with_each (only call.who.proc (caller_after place now call)) middle
+caller-settled place now period first cores call partition old middle own next change adjusts distinct same next_is is = by (is_periodic_wait call.request) refl
+  where
+    by : (b : Bool) → is_periodic_wait call.request ≡ b → own ≡ with_each (only call.who.proc (caller_after place now call)) middle
+    by true periodic =
+        let unchanged : middle ≡ old = adjusts ∙ sym (periodic-between place period first cores call partition old call.request refl periodic) in
+        let agree : each_item (only call.who.proc change) old.table ≡ each_item (only call.who.proc (caller_after place now call)) old.table
+        = agree_at call.who.proc change (caller_after place now call) old.table distinct (λ process found. same process (λ asked. sym (next_is periodic process found))) in
+        is ∙ ap (with_each (only call.who.proc change)) unchanged ∙ ap (with_table old) agree ∙ ap (with_each (only call.who.proc (caller_after place now call))) (sym unchanged)
+    by false other =
+        is ∙ ap (with_table middle) (each_item-congr _ _ (λ number process. settles number process (nat_eq number call.who.proc) refl) middle.table)
+      where
+        contrary : is_periodic_wait call.request ≡ true → (process : Process) → next_release process ≡ next
+        contrary h process = let clash : false ≡ true = sym other ∙ h in cc
+
+        settles : (number : ℕ) (process : Process) (b : Bool) → nat_eq number call.who.proc ≡ b
+            → only call.who.proc change number process ≡ only call.who.proc (caller_after place now call) number process
+        settles number process true e = rw (e) (same process (λ h. contrary h process))
+        settles number process false e = rw e refl

@@ -32,15 +32,17 @@ stopped_self now process = record (stopped process) { called_at = now }
 abbrev pub waiting_for : ℕ → Wait → Process → Process
 waiting_for now wait process = record process { wait = wait; called_at = now }
 
--- the ready position of a process that is put to this place, if to any
-abbrev pub position_by : Option ℕ → ℕ → ℕ
-position_by None old = old
-position_by (Some place) old = place
+-- a number, if another one is given that one
+abbrev pub given_or : Option ℕ → ℕ → ℕ
+given_or None old = old
+given_or (Some given) old = given
 
--- a caller to which an outcome is due after its call; where its ready position is renewed, it is this place
-abbrev pub answered : ℕ → Option ℕ → Outcome → Process → Process
-answered now renewed outcome process = record process {
-  ready_position = position_by renewed process.ready_position;
+-- a caller to which an outcome is due after its call; where its ready position is renewed, it is this place, and where a
+-- release is reached, that is its last
+abbrev pub answered : ℕ → Option ℕ → Option ℕ → Outcome → Process → Process
+answered now renewed reached outcome process = record process {
+  ready_position = given_or renewed process.ready_position;
+  last_release = given_or reached process.last_release;
   due = Some outcome;
   called_at = now;
 }

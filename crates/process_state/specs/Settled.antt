@@ -9,4 +9,4 @@ use Rattle.process_state.specs.declared.caller.Settling.TheVariants as settling
 abbrev pub settled : ℕ → Settling → Process → Process
 settled now (settling.Waits wait) process = waiting_for now wait process
 settled now settling.Stops process = stopped_self now process
-settled now (settling.Owed outcome renewed) process = answered now renewed outcome process
+settled now (settling.Owed outcome renewed reached) process = answered now renewed reached outcome process

@@ -1,9 +1,11 @@
 -- What a call must keep to, so that a table can hold what it asks for.
-use Rattle.std.specs.Prelude.{◌≡◌, ◌<◌, [], IsTrue, Bool, true, false, nat_lt, ℤ, pos, negsuc}
+use Rattle.std.specs.Prelude.{◌≡◌, ◌<◌, ℕ, Some, [], IsTrue, Bool, true, false, nat_lt, ℤ, pos, negsuc}
 use Rattle.apex_types.specs.declared.record.Call.{Call as CallRecord}
 use Rattle.apex_types.specs.declared.request.Request.{Request}
 use Rattle.apex_types.specs.declared.request.Request.TheVariants as request
-use Rattle.apex_machine.specs.State.{Table, is_free}
+use Rattle.apex_machine.specs.declared.state.Process.{Process}
+use Rattle.apex_machine.specs.DueTimes.{next_release}
+use Rattle.apex_machine.specs.State.{Table, is_free, item_at}
 use Rattle.apex_machine.specs.Answer.{is_new}
 use Rattle.apex_machine.specs.Arguments.{is_priority, natural_of}
 use Rattle.apex_machine.specs.After.{is_done}
@@ -42,8 +44,13 @@ abbrev pub is_periodic_wait : Request → Bool
 is_periodic_wait request.PeriodicWait = true
 is_periodic_wait _ = false
 
+-- the next release of a caller of PERIODIC_WAIT fits 64 bits
+abbrev pub ReleasesSoundly : Table → ℕ → Request → Type 0
+ReleasesSoundly table caller request.PeriodicWait = (process : Process) → item_at table caller ≡ Some process → next_release process < 18446744073709551616
+ReleasesSoundly table caller _ = Unit {0}
+
 -- a table can hold what a call asks for
 pub record IsSound (table : Table) (call : CallRecord) : Type 0 where
   pub asks : AsksSoundly table call call.request
   pub waits : IsTrue (is_waiting call.claim.out) → WaitsSoundly call.request
-  pub not_periodic : is_periodic_wait call.request ≡ false
+  pub releases : ReleasesSoundly table call.who.proc call.request

@@ -1,15 +1,20 @@
 // What becomes of a caller by its call.
 
-ghost use Rattle.std.specs.Prelude.{◌≡◌, ◌<◌, IfOk, IsTrue, false};
+ghost use Rattle.std.specs.Prelude.{◌≡◌, ◌<◌, ◌&&◌, ℕ, IfOk, IsTrue, true, if◌then◌else◌};
 ghost use Rattle.apex_types.specs.Bounds.{place_count};
 ghost use Rattle.apex_machine.specs.declared.state.Process.{Process as ProcessValue};
+ghost use Rattle.apex_machine.specs.DueTimes.{next_release};
 ghost use Rattle.apex_machine.specs.Processes as processes;
-ghost use Rattle.apex_machine.specs.Waiting.{is_waiting};
+ghost use Rattle.apex_machine.specs.Waiting.{is_no_error, is_waiting};
+ghost use Rattle.apex_types.specs.declared.record.Out.TheVariants as out;
+ghost use Rattle.process_state.specs.Changes.{given_or};
 ghost use Rattle.apex_machine.specs.After as after;
 ghost use Rattle.process_state.specs.Settled.{settled};
-ghost use Rattle.process_state.specs.Sound.{WaitsSoundly, is_periodic_wait};
+ghost use Rattle.process_state.specs.Sound as sound;
+ghost use Rattle.process_state.specs.Sound.{WaitsSoundly};
 
-use crate::waiting::wait_of;
+use crate::fellow::answers_no_error;
+use crate::waiting::{is_periodic_wait, wait_of};
 use apex_machine::{Outcome, Wait};
 use apex_types::{Call, Code, Message, Out, Place, Request};
 use std::alloc::{AllocError, Global};
@@ -21,10 +26,12 @@ pub enum Settling {
     Waits(Wait),
     /// It is dormant.
     Stops,
-    /// The outcome is due to it; where its ready position is renewed, it is that place.
+    /// The outcome is due to it; where its ready position is renewed, it is that place, and where a release is reached, it
+    /// is that time, in ticks.
     Owed {
         outcome: Outcome,
         renewed: Option<Place>,
+        reached: Option<u64>,
     },
 }
 
@@ -38,32 +45,33 @@ pub fn is_done(out: Out) -> bool
     }
 }
 
-/// What becomes of the caller of this call, at this place and at its core's time `now`.
+/// What becomes of the caller of this call, at this place and at its core's time `now`, by its next release, in ticks, which
+/// only PERIODIC_WAIT looks at.
 ///
 /// AllocError where memory for the outcome's message is refused; an empty message takes none.
-#[tactic(auto, using(crate::proofs::Periodic::none_taken))]
 pub fn settling_of(
     alloc: Global,
     place: Place,
     now: u64,
+    next: u64,
     call: &Call,
 ) -> Result<Settling, AllocError>
     requires time { now < place_count }
     requires waits { IsTrue (is_waiting call.now.claim.out) → WaitsSoundly call.now.request }
-    requires not_periodic { is_periodic_wait call.now.request ≡ false }
-    ensures { IfOk result (λ settling. (process : ProcessValue) → settled now settling process ≡ after.caller_after place now call.now process) }
+    ensures { IfOk result (λ settling. (process : ProcessValue) → (sound.is_periodic_wait call.now.request ≡ true → next_release process ≡ next) → settled now settling process ≡ after.caller_after place now call.now process) }
 {
     match call.claim.out {
-        Out::Waits => Ok(Settling::Waits(wait_of(&call.request, call.claim.chan, now))),
+        Out::Waits => Ok(Settling::Waits(wait_of(&call.request, call.claim.chan, now, next))),
         Out::Never => Ok(Settling::Stops),
         Out::Answer(code) => {
             let outcome = outcome_of(alloc, call, code)?;
-            let renewed = if code == Code::NoError && renews(&call.request) {
-                Some(place)
-            } else {
-                None
-            };
-            Ok(Settling::Owed { outcome, renewed })
+            let renewed = renewed_by(place, code, &call.request);
+            let reached = reached_by(next, code, &call.request);
+            Ok(Settling::Owed {
+                outcome,
+                renewed,
+                reached,
+            })
         }
     }
 }
@@ -79,6 +87,42 @@ fn outcome_of(alloc: Global, call: &Call, code: Code) -> Result<Outcome, AllocEr
         val: call.claim.val,
         bytes: Message::new(bytes),
     })
+}
+
+// The place that the caller's ready position becomes, if the call renews it.
+fn renewed_by(place: Place, code: Code, request: &Request) -> Option<Place>
+    ensures { (old : ℕ) → given_or result old ≡ (if processes.renews request.now && is_no_error (out.Answer code) then place else old) }
+{
+    if renews_with(code, request) {
+        Some(place)
+    } else {
+        None
+    }
+}
+
+// The release that the call reaches, by the caller's next one, in ticks, if it reaches one.
+fn reached_by(next: u64, code: Code, request: &Request) -> Option<u64>
+    ensures { (process : ProcessValue) → (sound.is_periodic_wait request.now ≡ true → next_release process ≡ next) → given_or result process.last_release ≡ (if is_no_error (out.Answer code) then processes.release_taken request.now process else process.last_release) }
+{
+    if takes_release(code, request) {
+        Some(next)
+    } else {
+        None
+    }
+}
+
+// Whether an answer with this code renews its caller's ready position.
+fn renews_with(code: Code, request: &Request) -> bool
+    ensures { result ≡ processes.renews request.now && is_no_error (out.Answer code) }
+{
+    renews(request) && answers_no_error(Out::Answer(code))
+}
+
+// Whether an answer with this code has come to its caller's next release.
+fn takes_release(code: Code, request: &Request) -> bool
+    ensures { result ≡ is_no_error (out.Answer code) && sound.is_periodic_wait request.now }
+{
+    answers_no_error(Out::Answer(code)) && is_periodic_wait(request)
 }
 
 // Whether the request renews its caller's ready position: TIMED_WAIT with a delay of 0, and PERIODIC_WAIT.

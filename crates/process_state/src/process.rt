@@ -3,6 +3,7 @@
 ghost use Rattle.std.specs.Prelude.{◌≡◌, ◌<◌, ◌≤◌, None, pos, IfOk};
 ghost use Rattle.apex_types.specs.Bounds.{greatest_span, place_count};
 ghost use Rattle.apex_machine.specs.Arguments.{period_given};
+ghost use Rattle.apex_machine.specs.DueTimes as due_times;
 ghost use Rattle.apex_machine.specs.Processes as processes;
 ghost use Rattle.apex_machine.specs.State.{initialising_process};
 ghost use Rattle.process_state.specs.Changes.{answered, moved_to, reprioritised, resumed, stopped_self, suspended, waiting_for};
@@ -224,13 +225,34 @@ pub fn begin_wait(process: &mut Process, now: u64, wait: Wait)
     process.called_at = now;
 }
 
-/// A call at the core's time `now` owes the process this outcome; where its ready position is renewed, it is that place.
-pub fn owe(process: &mut Process, now: u64, renewed: Option<Place>, outcome: Outcome)
-    ensures { process.new ≡ answered now renewed outcome process.old }
+/// A call at the core's time `now` owes the process this outcome; where its ready position is renewed, it is that place, and
+/// where a release is reached, that is its last, in ticks.
+pub fn owe(
+    process: &mut Process,
+    now: u64,
+    renewed: Option<Place>,
+    reached: Option<u64>,
+    outcome: Outcome,
+)
+    ensures { process.new ≡ answered now renewed reached outcome process.old }
 {
     if let Some(place) = renewed {
         process.ready_position = place.number();
     }
+    if let Some(release) = reached {
+        process.last_release = release;
+    }
     process.due = Some(outcome);
     process.called_at = now;
+}
+
+/// The next release of a process, in ticks: a period after its last, where it has one.
+pub fn next_release(process: &Process) -> u64
+    requires { due_times.next_release process.now < 18446744073709551616 }
+    ensures { result ≡ due_times.next_release process.now }
+{
+    match process.period {
+        Some(period) => process.last_release + period,
+        None => process.last_release,
+    }
 }

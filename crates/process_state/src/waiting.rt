@@ -1,24 +1,26 @@
 // Where a call waits, and until when.
 
-ghost use Rattle.std.specs.Prelude.{◌≡◌, ◌<◌, false};
+ghost use Rattle.std.specs.Prelude.{◌≡◌, ◌<◌, true};
 ghost use Rattle.apex_types.specs.Bounds.{place_count};
 ghost use Rattle.apex_machine.specs.declared.state.Process.{Process as ProcessValue};
 ghost use Rattle.apex_machine.specs.Arguments.{natural_of};
 ghost use Rattle.apex_machine.specs.DueTimes as due_times;
 ghost use Rattle.apex_machine.specs.Waiting as waiting;
-ghost use Rattle.process_state.specs.Sound.{WaitsSoundly, is_periodic_wait};
+ghost use Rattle.process_state.specs.Sound as sound;
+ghost use Rattle.process_state.specs.Sound.{WaitsSoundly};
 
 use apex_machine::{Wait, WaitingSet};
 use apex_types::{ChanId, Request};
 
-/// What a caller waits for that began to wait when its core's time was `now`; a port's set is that of its channel.
-pub fn wait_of(request: &Request, channel: Option<ChanId>, now: u64) -> Wait
+/// What a caller waits for that began to wait when its core's time was `now`, by its next release, in ticks, which only
+/// PERIODIC_WAIT looks at; a port's set is that of its channel.
+pub fn wait_of(request: &Request, channel: Option<ChanId>, now: u64, next: u64) -> Wait
     requires time { now < place_count }
     requires sound { WaitsSoundly request.now }
-    requires not_periodic { is_periodic_wait request.now ≡ false }
-    ensures { (process : ProcessValue) → result ≡ due_times.wait_of request.now channel now process }
+    ensures { (process : ProcessValue) → (sound.is_periodic_wait request.now ≡ true → due_times.next_release process ≡ next) → result ≡ due_times.wait_of request.now channel now process }
 {
     match request {
+        Request::PeriodicWait => Wait::PeriodicRelease(next),
         Request::TimedWait { delay } => {
             if *delay < 0 {
                 Wait::Nothing
@@ -114,5 +116,15 @@ fn due_time(time_out: i64, now: u64) -> Option<u64>
         None
     } else {
         Some(now + time_out as u64)
+    }
+}
+
+/// Whether a request is PERIODIC_WAIT.
+pub fn is_periodic_wait(request: &Request) -> bool
+    ensures { result ≡ sound.is_periodic_wait request.now }
+{
+    match request {
+        Request::PeriodicWait => true,
+        _ => false,
     }
 }

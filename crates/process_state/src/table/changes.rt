@@ -128,12 +128,19 @@ impl ProcTable {
     }
 
     /// The outcome is due to the caller from now on, its core's time; where its ready position is renewed, it is that
-    /// place. Takes no memory.
-    pub fn answer(&mut self, caller: ProcId, now: u64, renewed: Option<Place>, outcome: Outcome)
-        ensures { self.new ≡ with_each (only caller (answered now renewed outcome)) self.old }
+    /// place, and where a release is reached, that is its last, in ticks. Takes no memory.
+    pub fn answer(
+        &mut self,
+        caller: ProcId,
+        now: u64,
+        renewed: Option<Place>,
+        reached: Option<u64>,
+        outcome: Outcome,
+    )
+        ensures { self.new ≡ with_each (only caller (answered now renewed reached outcome)) self.old }
     {
         self.change(caller, |process| {
-            process::owe(process, now, renewed, outcome)
+            process::owe(process, now, renewed, reached, outcome)
         });
     }
 

@@ -1,9 +1,13 @@
 // What a call and a tick make of a table.
 
-ghost use Rattle.std.specs.Prelude.{◌≡◌, ◌++◌, ◌≤◌, ℕ, true, OnOk, OnErr, IsTrue, length, vec_len};
+ghost use Rattle.std.specs.Prelude.{◌≡◌, ◌++◌, ◌≤◌, ℕ, Some, nat_eq, true, OnOk, OnErr, IsTrue, length, vec_len};
 ghost use Rattle.apex_machine.specs.Configuration as configured;
 ghost use Rattle.apex_machine.specs.Configuration.{Configuration};
-ghost use Rattle.apex_machine.specs.State.{Partition, each_item, time_of};
+ghost use Rattle.std.specs.List.{IsDistinct};
+ghost use Rattle.std.specs.Map.{keys_of};
+ghost use Rattle.apex_machine.specs.declared.state.Process.{Process as ProcessValue};
+ghost use Rattle.apex_machine.specs.DueTimes as due_times;
+ghost use Rattle.apex_machine.specs.State.{Partition, each_item, item_at, time_of};
 ghost use Rattle.apex_machine.specs.Processes.{gift_of, set_by};
 ghost use Rattle.apex_machine.specs.After as after;
 ghost use Rattle.process_state.specs.Changes.{only, with_each};
@@ -11,7 +15,7 @@ ghost use Rattle.process_state.specs.Fellows.{fellow_woken, stopped_by};
 ghost use Rattle.process_state.specs.Gifts.{AreCopies};
 ghost use Rattle.process_state.specs.Processes.{processes_of};
 ghost use Rattle.process_state.specs.Settled.{settled};
-ghost use Rattle.process_state.specs.Sound.{IsSound};
+ghost use Rattle.process_state.specs.Sound.{IsSound, ReleasesSoundly, is_periodic_wait};
 ghost use Rattle.process_state.specs.Timely.{IsTimely};
 ghost use Rattle.process_state.specs.Transfers.{IsTransferOf};
 
@@ -23,6 +27,7 @@ use crate::gift::gifts_of;
 use crate::moment::Moment;
 use crate::number::claimed_number;
 use crate::order::is_of;
+use crate::process::next_release;
 use crate::transfer::Transfer;
 use apex_types::{Call, CoreId, Message, PartId, Place, ProcId, Request, Woken};
 use std::alloc::AllocError;
@@ -49,7 +54,8 @@ impl ProcTable {
     {
         let alloc = *self.processes.allocator();
         let now = time_at(moment.cores, moment.core);
-        let settling = settling_of(alloc, moment.place, now, call)?;
+        let next = self.next_release(call);
+        let settling = settling_of(alloc, moment.place, now, next, call)?;
         let gifts = gifts_of(alloc, &call.request, call.claim.woken.as_slice().len())?;
         // Looked up before the call creates a process, which a caller that is not there may name as itself.
         let stands = self.proc(call.who.proc).is_some();
@@ -170,6 +176,24 @@ impl ProcTable {
         }
     }
 
+    // The next release of a caller of PERIODIC_WAIT, in ticks; 0 where a call is of another service, or its caller is not
+    // there.
+    fn next_release(&self, call: &Call) -> u64
+        requires { ReleasesSoundly self.now.table call.now.who.proc call.now.request }
+        ensures value { is_periodic_wait call.now.request ≡ true → (process : ProcessValue) → item_at self.now.table call.now.who.proc ≡ Some process → result ≡ due_times.next_release process }
+        ensures distinct { IsDistinct nat_eq (keys_of self.now.table) }
+    {
+        // That no number stands twice in the map is known where the map is used.
+        let _ = self.processes.len();
+        match &call.request {
+            Request::PeriodicWait => match self.proc(call.who.proc) {
+                Some(process) => next_release(process),
+                None => 0,
+            },
+            _ => 0,
+        }
+    }
+
     // What becomes of a caller.
     fn settle(&mut self, caller: ProcId, now: u64, settling: Settling)
         ensures { self.new ≡ with_each (only caller (settled now settling)) self.old }
@@ -177,7 +201,11 @@ impl ProcTable {
         match settling {
             Settling::Waits(wait) => self.wait(caller, now, wait),
             Settling::Stops => self.stop_self(caller, now),
-            Settling::Owed { outcome, renewed } => self.answer(caller, now, renewed, outcome),
+            Settling::Owed {
+                outcome,
+                renewed,
+                reached,
+            } => self.answer(caller, now, renewed, reached, outcome),
         }
     }
 }
