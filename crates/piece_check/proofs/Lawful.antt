@@ -13,7 +13,7 @@ use Rattle.apex_types.specs.declared.request.Request.{Request}
 use Rattle.apex_types.specs.declared.request.Request.TheVariants as request
 use Rattle.apex_machine.specs.declared.state.CoreState.{CoreState}
 use Rattle.apex_machine.specs.Configuration.{Configuration, is_core}
-use Rattle.apex_machine.specs.State.{Partition, time_of}
+use Rattle.apex_machine.specs.State.{Partition, Table, time_of}
 use Rattle.apex_machine.specs.Conditions.{when}
 use Rattle.apex_machine.specs.ServiceConditions.{condition_codes}
 use Rattle.apex_machine.specs.Services.{Answer, answer_of, is_built}
@@ -22,7 +22,7 @@ use Rattle.apex_machine.specs.Step.{IsAmong, HasCode}
 use Rattle.apex_machine.specs.Demands.{AllHold, outcome_demands, own_call_demands}
 use Rattle.apex_types.specs.Requested.{service_of}
 use Rattle.module_config.specs.Limits.{CoresAreOfModule}
-use Rattle.process_state.specs.Sound.{IsSound, AsksSoundly, WaitsSoundly, is_core_number, is_periodic_wait}
+use Rattle.process_state.specs.Sound.{IsSound, AsksSoundly, ReleasesSoundly, WaitsSoundly, is_core_number}
 use Rattle.process_state.specs.Transfers.{IsTransferOf}
 use Rattle.process_state.specs.declared.transfer.Transfer.{Transfer}
 use Rattle.piece_check.proofs.Judged.{no_channel, nobody}
@@ -134,9 +134,9 @@ waits_soundly (request.AcquireMutex mutex time_out) judged = cc
 waits_soundly _ judged = tt
 
 -- nor is PERIODIC_WAIT judged
-other_wait : (asked : Request) → is_built (service_of asked) ≡ true → is_periodic_wait asked ≡ false
-other_wait request.PeriodicWait judged = cc
-other_wait _ judged = refl
+releases_soundly : (table : Table) (caller : ℕ) (asked : Request) → is_built (service_of asked) ≡ true → ReleasesSoundly table caller asked
+releases_soundly table caller request.PeriodicWait judged = cc
+releases_soundly table caller _ judged = tt
 
 -- nor one that changes the owner of a mutex
 pub no_transfer : (partition : Partition) (caller : ℕ) (asked : Request) (transfer : Transfer) → is_built (service_of asked) ≡ true
@@ -155,7 +155,7 @@ IsSound_lawful configuration number cores partition core call few of_module hold
     record {
       asks = asks_soundly configuration number (time_of cores core) call.who partition call call.request few of_module judged outcome;
       waits = λ waiting. waits_soundly call.request judged;
-      not_periodic = other_wait call.request judged;
+      releases = releases_soundly partition.table call.who.proc call.request judged;
     }
 
 -- its service is judged
