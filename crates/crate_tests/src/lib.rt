@@ -1,10 +1,12 @@
-//! What no clause says: what comes of readers and writers that fail in mid-stream, and of a call that no recording reaches
-//! today.
+//! What no clause says: what comes of readers and writers that fail in mid-stream, of a call that no recording reaches
+//! today, of waiting sets in ample memory and under a refusal, and of a semaphore by itself.
 //!
 //! Promises: nothing; the crate is tests alone. They stand here, and not in the crates that they test, so that those
 //! are proved once. Whole recordings are the data of `case_runner`.
 #![tactic(auto)]
 
+#[cfg(test)]
+mod queuing;
 #[cfg(test)]
 mod readers;
 #[cfg(test)]

@@ -1,14 +1,14 @@
 // A waiting set.
 
-ghost use Rattle.std.specs.Prelude.{◌≡◌, ◌↔◌, [], Some, IfErr, IfOk, IfSome, IsTrue, OnErr, OnOk};
+ghost use Rattle.std.specs.Prelude.{◌≡◌, ◌↔◌, [], Some, length, IfErr, IfOk, IfSome, IsTrue, OnErr, OnOk};
 ghost use Rattle.std.specs.List.{list_all};
 ghost use Rattle.std.specs.Option.{option_copied};
-ghost use Rattle.apex_machine.specs.Answer.{NamesExactly};
+ghost use Rattle.apex_machine.specs.Answer.{NamesExactly, whos};
 ghost use Rattle.apex_machine.specs.Demands.{stands_in};
 ghost use Rattle.apex_machine.specs.Waiting.{first_waiter, is_waiting};
 ghost use Rattle.wait_set.specs.Actors.{WaitsAlone, entry_with, joined_by};
 ghost use Rattle.wait_set.specs.Sets as sets;
-ghost use Rattle.wait_set.specs.Sets.{IsNew, IsRollOf, entered, whos_of, without_first, without_named, without_one};
+ghost use Rattle.wait_set.specs.Sets.{IsNew, IsRollOf, NobodyTwice, PlacesRise, entered, whos_of, without_first, without_named, without_one};
 
 use crate::named::names_nobody_twice;
 use crate::object::Actor;
@@ -185,6 +185,15 @@ impl WaitSet {
         self.entries.clear();
         self.places.clear();
         self.ranks.clear();
+    }
+
+    /// How many wait here. The places of the entries rise, and no process stands twice.
+    pub fn len(&self) -> usize
+        ensures len { result ≡ length self.now.entries }
+        ensures rising { PlacesRise self.now.entries }
+        ensures once { NobodyTwice (whos self.now.entries) }
+    {
+        self.entries.len()
     }
 
     /// Whether nobody waits here.
