@@ -199,7 +199,7 @@ condition_facts = record {
   may_stop_itself = refl;
   no_restart = refl;
   normal_mode = refl;
-  periodic_not_built = refl;
-  aperiodic_built = refl;
+  periodic_wants_its_wait = refl;
+  aperiodic_wants_none = refl;
   periodic_judged = refl;
 }

@@ -128,7 +128,7 @@ stop_ends call process number who at asked no_error not_named =
     (λ i. not_named i || (no_error i && (nat_eq who.part call.who.part && is_target (stop_of (asked i)) who.proc))) ∙ stopped
 
 -- who leaves by its wait alone
-stays_without : (number : ℕ) (partition : Partition) (wanted : WaitingSet) (who : Who) (process : Process) → item_at partition.table who.proc ≡ Some process → is_in wanted process.wait ≡ false
+pub stays_without : (number : ℕ) (partition : Partition) (wanted : WaitingSet) (who : Who) (process : Process) → item_at partition.table who.proc ≡ Some process → is_in wanted process.wait ≡ false
     → (entries : List Entry) → AllEntries (Stands number wanted partition) entries → without_one who entries ≡ entries
 stays_without number partition wanted who process at off entries all =
     none_leaves (Stands number wanted partition) (λ other. is_same other who)

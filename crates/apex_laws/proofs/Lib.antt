@@ -60,3 +60,5 @@ pub mod PartObjects
 pub mod LeavingSets
 pub mod TickLeaves
 pub mod EnteringSets
+pub mod BoundedParts
+pub mod PartSets

@@ -28,7 +28,7 @@ use Rattle.apex_machine.specs.Services.{answer_of}
 use Rattle.apex_machine.specs.State.{Blackboard, Buffer, Event, Mutex, Partition, Port, Semaphore, Table, cold_partition, each_item, initialising_process, is_free, is_named, is_same, item_at, time_of}
 use Rattle.apex_machine.specs.Waiting.{ends_wait, set_after, stops, waits_at}
 use Rattle.apex_laws.specs.Laws.{AllEntries, IsInOrder, are_distinct, entries_at}
-use Rattle.apex_laws.specs.PartLaws.{CallerStandsNowhere, HasDistinctObjects, IsSoundPart, PartStaysSound}
+use Rattle.apex_laws.specs.PartLaws.{HasDistinctObjects, IsSoundPart, PartStaysSound, RunningStandsNowhere}
 use Rattle.apex_laws.proofs.Booleans.{cannot_hold, holds_if, neither, other_holds}
 use Rattle.apex_laws.proofs.Callers.{StandsReady, choice_stands, ready_waits_not}
 use Rattle.apex_laws.proofs.Codes.{AreErrors, are_errors, not_done}
@@ -93,7 +93,7 @@ calls_ready judged configuration number core cores partition _ distinct hold = t
 -- calls of other partitions, by their demands
 
 -- each process of this partition that is named waits in the set
-named_wait : (wanted : WaitingSet) (number : ℕ) (table : Table) (others : List Who) → AllWaitAt wanted number table others → (who : Who) → who.part ≡ number → is_named who others ≡ true
+pub named_wait : (wanted : WaitingSet) (number : ℕ) (table : Table) (others : List Who) → AllWaitAt wanted number table others → (who : Who) → who.part ≡ number → is_named who others ≡ true
     → waits_at wanted (item_at table who.proc) ≡ true
 named_wait wanted number table [] all who here named = absurd (true≢false (sym named))
 named_wait wanted number table (other ∷ others) all who here named =
@@ -441,10 +441,10 @@ part_stays_sound = (
   sound_later,
 )
 
--- the caller of an own call
+-- who runs
 
-pub caller_stands_nowhere : CallerStandsNowhere
-caller_stands_nowhere judged configuration number place core cores partition call is wanted = (
-  stands_nowhere number place core partition call.who is.sound (own_ready judged configuration number core cores partition call is.sound.distinct is.demands).ready wanted,
-  (is.sound.order wanted).below,
+pub running_stands_nowhere : RunningStandsNowhere
+running_stands_nowhere number place core cores partition who sound running wanted = (
+  stands_nowhere number place core partition who sound (choice_stands number core partition.table who sound.distinct running.1) wanted,
+  (sound.order wanted).below,
 )

@@ -21,12 +21,12 @@ use Rattle.apex_laws.proofs.Whos.{same_is, same_itself, same_who}
 -- leaving one after another
 
 -- where nobody leaves all stay
-without_none : (entries : List Entry) → without (λ who. false) entries ≡ entries
+pub without_none : (entries : List Entry) → without (λ who. false) entries ≡ entries
 without_none [] = refl
 without_none (entry ∷ entries) = ap (λ others. entry ∷ others) (without_none entries)
 
 -- those who leave first, and those who leave then
-without_without : (first second : Who → Bool) (entries : List Entry) → without second (without first entries) ≡ without (λ who. first who || second who) entries
+pub without_without : (first second : Who → Bool) (entries : List Entry) → without second (without first entries) ≡ without (λ who. first who || second who) entries
 without_without first second [] = refl
 without_without first second (entry ∷ entries) =
     elim (first entry.who) as (λ gone. without second (cond gone (without first entries) (entry ∷ without first entries))

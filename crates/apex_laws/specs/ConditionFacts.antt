@@ -8,11 +8,11 @@ use Rattle.apex_types.specs.declared.request.Request.{Request}
 use Rattle.apex_types.specs.declared.request.Request.TheVariants as request
 use Rattle.apex_machine.specs.Channels.{receiving_discipline, sending_discipline}
 use Rattle.apex_machine.specs.Configuration.{Configuration}
-use Rattle.apex_machine.specs.Services.{in_profile, is_built}
+use Rattle.apex_machine.specs.Services.{in_profile}
 use Rattle.apex_machine.specs.State.{State, cold_state}
 use Rattle.apex_machine.specs.DueTimes.{falls_due}
 use Rattle.apex_laws.specs.Worked.{aperiodic, at, codes_for, creates, does, normal, one_partition, play, played, process_of, start, ticks, two_partitions, waits}
-use Rattle.apex_laws.specs.WorkedFacts.{all, connected, one, semaphore, there, three_processes, two}
+use Rattle.apex_laws.specs.WorkedFacts.{all, connected, none, one, semaphore, there, three_processes, two}
 
 -- the initialising process
 abbrev pub initialiser : Who
@@ -185,6 +185,6 @@ pub record ConditionFacts : Type 0 where
   pub may_stop_itself : in_profile all one (at_work.partitions 0) request.StopSelf ≡ true
   pub no_restart : in_profile all one (at_work.partitions 0) (request.SetPartitionMode (pos 2)) ≡ false
   pub normal_mode : in_profile all initialiser (furnished.partitions 0) (request.SetPartitionMode (pos 3)) ≡ true
-  pub periodic_not_built : in_profile is_built initialiser (furnished.partitions 0) (request.CreateProcess (codes "D") (pos 10) (pos 20)) ≡ false
-  pub aperiodic_built : in_profile is_built initialiser (furnished.partitions 0) (request.CreateProcess (codes "D") (pos 10) (negsuc 0)) ≡ true
+  pub periodic_wants_its_wait : in_profile none initialiser (furnished.partitions 0) (request.CreateProcess (codes "D") (pos 10) (pos 20)) ≡ false
+  pub aperiodic_wants_none : in_profile none initialiser (furnished.partitions 0) (request.CreateProcess (codes "D") (pos 10) (negsuc 0)) ≡ true
   pub periodic_judged : in_profile all initialiser (furnished.partitions 0) (request.CreateProcess (codes "D") (pos 10) (pos 20)) ≡ true

@@ -1,6 +1,8 @@
 pub mod Laws
 pub mod PartLaws
 pub mod PartObjects
+pub mod PartBounds
+pub mod PartSets
 pub mod JoinLaws
 pub mod ObjectSentences
 pub mod CallSentences

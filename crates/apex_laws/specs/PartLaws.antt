@@ -15,7 +15,7 @@ use Rattle.apex_machine.specs.declared.state.WaitingSet.TheVariants as set
 use Rattle.apex_machine.specs.After.{partition_after, partition_by}
 use Rattle.apex_machine.specs.Arguments.{natural_of}
 use Rattle.apex_machine.specs.Configuration.{Configuration}
-use Rattle.apex_machine.specs.Demands.{AllHold, own_call_demands, partition_demands, stands_in}
+use Rattle.apex_machine.specs.Demands.{AllHold, IsRunning, own_call_demands, partition_demands, stands_in}
 use Rattle.apex_machine.specs.Ports.{channel_of}
 use Rattle.apex_machine.specs.Services.{answer_of}
 use Rattle.apex_machine.specs.State.{Partition, cold_partition, is_named, item_at, time_of}
@@ -63,18 +63,19 @@ PartStaysSound =
 
 -- own calls
 
+-- a process that runs on a core of a sound partition stands in none of the partition's waiting sets, and all places in them are
+-- below this one
+abbrev pub RunningStandsNowhere : Type 0
+RunningStandsNowhere =
+    (number place core : ℕ) (cores : List CoreState) (partition : Partition) (who : Who)
+    → IsSoundPart number place partition → IsRunning number cores partition.table core who
+    → (wanted : WaitingSet) → IsFalse (stands_in who (entries_at partition wanted)) × AllEntries (λ entry. entry.place < place) (entries_at partition wanted)
+
 -- a call of one of a sound partition's own processes, all of whose demands hold
 pub record IsOwnCall (judged : Service → Bool) (configuration : Configuration) (number place core : ℕ) (cores : List CoreState) (partition : Partition) (call : CallRecord) : Type 0 where
   pub sound : IsSoundPart number place partition
   pub own : call.who.part ≡ number
   pub demands : AllHold (own_call_demands judged configuration number cores partition core call)
-
--- the caller of an own call stands in no waiting set of the partition, and all places in them are below the call's
-abbrev pub CallerStandsNowhere : Type 0
-CallerStandsNowhere =
-    (judged : Service → Bool) (configuration : Configuration) (number place core : ℕ) (cores : List CoreState) (partition : Partition) (call : CallRecord)
-    → IsOwnCall judged configuration number place core cores partition call
-    → (wanted : WaitingSet) → IsFalse (stands_in call.who (entries_at partition wanted)) × AllEntries (λ entry. entry.place < place) (entries_at partition wanted)
 
 -- whether a waiting set is one of the two of a buffer
 abbrev pub is_of_buffer : ℕ → WaitingSet → Bool

@@ -34,6 +34,10 @@ there = process_of 1 1
 abbrev pub all : Service → Bool
 all service = true
 
+-- no service is judged
+abbrev pub none : Service → Bool
+none service = false
+
 -- set-ups
 
 -- processes 1 (10), 2 (20) and 3 (5), after some creations

@@ -6,8 +6,10 @@
 #![tactic(auto)]
 
 ghost use Rattle.apex_laws.specs.Laws.{AtMostOneNextState, ChoiceIsTheSentence, OneFirstRefusal, OneRun, PiecesCompose, PiecesFollow, RunOfEach, StaysInOrder, StaysTied, ViewIsOfTheRun, WhoWaitsStands};
-ghost use Rattle.apex_laws.specs.PartLaws.{CallerStandsNowhere, DueLeave, ForeignCallsLeaveSets, LetsGoAsAnswered, OnlyDoneLetsGo, OtherSetsStay, PartStaysSound};
+ghost use Rattle.apex_laws.specs.PartLaws.{DueLeave, ForeignCallsLeaveSets, LetsGoAsAnswered, OnlyDoneLetsGo, OtherSetsStay, PartStaysSound, RunningStandsNowhere};
+ghost use Rattle.apex_laws.specs.PartBounds.{PartStaysBounded, ReleasesFit};
 ghost use Rattle.apex_laws.specs.PartObjects.{EachLeavesItsSet, OneObjectChanges, RefusedLeavesObjects, StoppedLeaves};
+ghost use Rattle.apex_laws.specs.PartSets.{EachNamedLeaves, LeavesEverySet, NamedLeave};
 ghost use Rattle.apex_laws.specs.JoinLaws.{FindingsJoin, FoundIsRefused, NothingFoundIsARun, RunsJoin};
 ghost use Rattle.apex_laws.specs.ObjectLaws.{BlackboardIsTheSentence, ChannelIsTheSentence, EventIsTheSentence, FirstIsTheSentence, MutexIsTheSentence, ObjectCallIsTheSentence, OrderIsApart, QueueIsTheSentence, SamplingIsTheSentence, SemaphoreIsTheSentence};
 ghost use Rattle.apex_laws.specs.RecordLaws.{CallIsTheSentence, DispatchIsTheSentence, RefusalIsTheSentence, ReturnIsTheSentence, SetIsTheSentence, TickIsTheSentence};
@@ -62,9 +64,21 @@ pub fn part_stays_sound()
     ensures { PartStaysSound }
 {}
 
-/// The caller of a call of a sound partition stands in no waiting set of it, and all places in them are below the call's.
-pub fn caller_stands_nowhere()
-    ensures { CallerStandsNowhere }
+/// By a partition's own demands its numbers stay bounded: before each place no mutex was acquired more often, and no process's last
+/// release is later, than there were records; and each period is one that a caller can give.
+pub fn part_stays_bounded()
+    ensures { PartStaysBounded }
+{}
+
+/// The next release of each process of a bounded partition is a number of 64 bits.
+pub fn releases_fit()
+    ensures { ReleasesFit }
+{}
+
+/// A process that runs on a core of a sound partition stands in none of the partition's waiting sets, and all places in them are
+/// below the next one.
+pub fn running_stands_nowhere()
+    ensures { RunningStandsNowhere }
 {}
 
 /// A call of a sound partition that is no STOP that is done leaves every waiting set of the partition that isn't one of the
@@ -111,6 +125,23 @@ pub fn due_leave()
 /// objects and ports stay.
 pub fn each_leaves_its_set()
     ensures { EachLeavesItsSet }
+{}
+
+/// From a waiting set a call that is no STOP lets those go whom it names, and nobody else; its caller enters at the end, where it
+/// waits there.
+pub fn named_leave()
+    ensures { NamedLeave }
+{}
+
+/// A process of a sound partition that leaves the waiting set that its wait names has left every set of the partition.
+pub fn leaves_every_set()
+    ensures { LeavesEverySet }
+{}
+
+/// A tick changes the waiting sets of a sound partition as those do whom it names, who leave one after another, each the set that its
+/// wait names.
+pub fn each_named_leaves()
+    ensures { EachNamedLeaves }
 {}
 
 /// Calls of other partitions, returns and dispatches leave a partition's objects, waiting sets and ports.

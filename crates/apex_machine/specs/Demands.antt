@@ -1,5 +1,5 @@
 -- What each piece demands of a record that touches it, in the order in which it looks, and its local step.
-use Rattle.std.specs.Prelude.{◌≡◌, ◌⊎◌, ℕ, ◌+◌, List, [], ◌∷◌, Option, Some, None, Bool, true, false, nat_eq, ◌||◌, IsTrue, IsFalse, ℤ, Result, MatchResult}
+use Rattle.std.specs.Prelude.{◌≡◌, ◌⊎◌, ℕ, ◌+◌, List, [], ◌∷◌, ◌++◌, Option, Some, None, Bool, true, false, nat_eq, ◌||◌, IsTrue, IsFalse, ℤ, Result, MatchResult}
 use Rattle.apex_types.specs.declared.cause.Cause.{Cause}
 use Rattle.apex_types.specs.declared.cause.Cause.TheVariants as cause
 use Rattle.apex_types.specs.declared.code.Code.{Code}
@@ -130,16 +130,24 @@ outcome_demands (code ∷ codes) channel number asked answer claim =
     ∷ record { cause = cause.Data; holds = claim.bytes ≡ [] }
     ∷ record { cause = cause.Woken; holds = claim.woken ≡ [] } ∷ []
 
--- a call of one of the partition's own processes
-abbrev pub own_call_demands : (Service → Bool) → Configuration → ℕ → List CoreState → Partition → ℕ → CallRecord → List {1} Demand
-own_call_demands judged configuration number cores partition core call =
-    let codes : List Code = condition_codes configuration call.who partition call.request in
+-- what is demanded of a call of one of the partition's own processes before its outcome: its caller runs in a window of the
+-- partition and has nothing due, the service is judged and used as the profile has it, and the priority is the caller's
+abbrev pub caller_demands : (Service → Bool) → Configuration → ℕ → List CoreState → Partition → ℕ → CallRecord → List {1} Demand
+caller_demands judged configuration number cores partition core call =
     record { cause = cause.Window; holds = window_now configuration cores core ≡ Some number }
     ∷ record { cause = cause.Choice; holds = IsRunning number cores partition.table core call.who }
     ∷ record { cause = cause.Return; holds = HasNoneDue (item_at partition.table call.who.proc) }
-    ∷ record { cause = cause.OutsideProfile; holds = IsWithinProfile judged codes call.who partition call.request }
-    ∷ record { cause = cause.Prio; holds = HasPriority call.claim.prio (item_at partition.table call.who.proc) }
-    ∷ outcome_demands codes (channel_of partition call.request) number call.request
+    ∷ record {
+      cause = cause.OutsideProfile;
+      holds = IsWithinProfile judged (condition_codes configuration call.who partition call.request) call.who partition call.request;
+    }
+    ∷ record { cause = cause.Prio; holds = HasPriority call.claim.prio (item_at partition.table call.who.proc) } ∷ []
+
+-- a call of one of the partition's own processes
+abbrev pub own_call_demands : (Service → Bool) → Configuration → ℕ → List CoreState → Partition → ℕ → CallRecord → List {1} Demand
+own_call_demands judged configuration number cores partition core call =
+    caller_demands judged configuration number cores partition core call
+    ++ outcome_demands (condition_codes configuration call.who partition call.request) (channel_of partition call.request) number call.request
     (answer_of (time_of cores core) call.who partition call.request) call.claim
 
 -- partitions: the calls of others, the returns and the ticks

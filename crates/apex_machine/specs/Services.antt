@@ -20,15 +20,13 @@ use Rattle.apex_machine.specs.Waiting.{first_waiter}
 
 -- the services that are judged today; a call of any other stands outside the profile
 abbrev pub is_built : Service → Bool
-is_built service.CreateProcess = true
-is_built service.InitializeProcessCoreAffinity = true
-is_built service.Start = true
-is_built service.StopSelf = true
-is_built service.GetMyId = true
-is_built service.TimedWait = true
-is_built service.GetTime = true
-is_built service.SetPartitionMode = true
-is_built _ = false
+is_built service.CreateSamplingPort = false
+is_built service.WriteSamplingMessage = false
+is_built service.ReadSamplingMessage = false
+is_built service.CreateQueuingPort = false
+is_built service.SendQueuingMessage = false
+is_built service.ReceiveQueuingMessage = false
+is_built _ = true
 
 -- whether a process waits for a mutex
 abbrev pub waits_for_mutex : Table → ℕ → Bool
