@@ -4,10 +4,12 @@ ghost use Rattle.std.specs.Prelude.{◌≡◌, ◌≤◌, ◌<◌, ◌-◌, ◌�
 ghost use Rattle.std.specs.List.{list_all};
 ghost use Rattle.apex_types.specs.Bounds.{place_count};
 ghost use Rattle.apex_machine.specs.State.{time_of, occupant_of};
+ghost use Rattle.apex_machine.specs.Demands.{window_now};
 ghost use Rattle.dispatch_rule.specs.Clocks.{cold_clocks, advanced, dispatched, MayTick};
 
 use apex_machine::CoreState;
-use apex_types::{CoreId, Who};
+use apex_types::{CoreId, PartId, Who};
+use module_config::Config;
 use std::marker::Model;
 use thiserror::Error;
 
@@ -29,6 +31,8 @@ pub struct Skew;
 #[derive(Debug, Drop)]
 pub struct Clock {
     cores: [CoreState; CORE_LIMIT],
+    // For each core a guess how many windows have begun, renewed as it ticks: its window is found there without a search.
+    begun: [usize; CORE_LIMIT],
     count: usize,
     skew: u64,
 }
@@ -52,6 +56,7 @@ impl Clock {
     {
         Clock {
             cores: [COLD; CORE_LIMIT],
+            begun: [0; CORE_LIMIT],
             count: cores as usize,
             skew,
         }
@@ -79,6 +84,17 @@ impl Clock {
         }
     }
 
+    /// The partition whose window a core is in now, or none where it is in no window.
+    pub fn window_now(&self, config: &Config, core: CoreId) -> Option<PartId>
+        ensures { result ≡ window_now config.now self.now.cores core }
+    {
+        let guess = match self.begun.get(core.number() as usize) {
+            Some(begun) => *begun,
+            None => 0,
+        };
+        config.window_near(guess, core, self.now(core))
+    }
+
     /// Whether the core may tick under this skew, in ticks: it is then at most the skew ahead of each core.
     pub fn may_tick(&self, core: CoreId, skew: u64) -> bool
         requires { time_of self.now.cores core < place_count }
@@ -91,7 +107,7 @@ impl Clock {
     /// Adds one to the time of a core, for callers of the library that let the clock judge the skew.
     ///
     /// Refused, with nothing changed, where the core would then be more than the clock's skew ahead of another.
-    pub fn tick(&mut self, core: CoreId) -> Result<(), Skew>
+    pub fn tick(&mut self, config: &Config, core: CoreId) -> Result<(), Skew>
         requires core { core < length self.old.cores }
         requires time { time_of self.old.cores core < place_count }
         ensures within { OnOk result (MayTick core self.old.skew self.old.cores) }
@@ -102,23 +118,26 @@ impl Clock {
         if !self.may_tick(core, self.skew) {
             return Err(Skew);
         }
-        self.advance(core);
+        self.advance(config, core);
         Ok(())
     }
 
     /// Adds one to the time of a core, whatever the times of the others. It serves where the skew is judged before: the module
-    /// alone judges it, and the pieces of the partitions follow.
-    pub fn advance(&mut self, core: CoreId)
+    /// alone judges it, and the pieces of the partitions follow. The configuration says where the core's window is to be
+    /// looked for from now on, and changes no time.
+    pub fn advance(&mut self, config: &Config, core: CoreId)
         requires core { core < length self.old.cores }
         requires time { time_of self.old.cores core < place_count }
         ensures { self.new ≡ advanced core self.old }
     {
         let index = core.number() as usize;
         let state = self.cores[index];
+        let time = state.time + 1;
         self.cores[index] = CoreState {
-            time: state.time + 1,
+            time,
             occupant: state.occupant,
         };
+        self.begun[index] = config.windows_begun(self.begun[index], core, time);
     }
 
     /// Gives a core to a process, or leaves it idle.

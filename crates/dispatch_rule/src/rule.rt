@@ -13,7 +13,7 @@ use process_state::ProcTable;
 pub fn owns_window(config: &Config, clock: &Clock, part: PartId, core: CoreId) -> bool
     ensures { result ≡ owns_window config.now clock.now part core }
 {
-    match config.window_at(core, clock.now(core)) {
+    match clock.window_now(config, core) {
         Some(owner) => owner == part,
         None => false,
     }

@@ -1,9 +1,9 @@
 // The configuration of a module, and the readers of its fields.
 
-ghost use Rattle.std.specs.Prelude.{◌≡◌, ◌≤◌, ◌<◌, ◌↔◌, All, AllPairs, IfOk, IfErr, IfSome, Bool, true, length, slice_index};
+ghost use Rattle.std.specs.Prelude.{◌≡◌, ◌≤◌, ◌<◌, ◌%◌, ◌↔◌, All, AllPairs, IfOk, IfErr, IfSome, Bool, true, length, slice_index};
 ghost use Rattle.toml.specs.Errors.{IsMemory};
 ghost use Rattle.toml.specs.View.{table_view};
-ghost use Rattle.apex_machine.specs.Configuration.{window_at, has_partition, WindowsAreConfigured, first_core, process_limit, period_of, is_core};
+ghost use Rattle.apex_machine.specs.Configuration.{PartitionLimits, window_at, has_partition, WindowsAreConfigured, first_core, object_limit, process_limit, period_of, is_core};
 ghost use Rattle.apex_machine.specs.Channels.{has_channel};
 ghost use Rattle.module_config.specs.declared.fault.ConfigFault.TheVariants.{Memory, NotToml, TooMany};
 ghost use Rattle.module_config.specs.Keys.{Gives};
@@ -11,12 +11,13 @@ ghost use Rattle.module_config.specs.Reading.{configuration_of, configuration_un
 ghost use Rattle.module_config.specs.Walk.{walk};
 ghost use Rattle.module_config.specs.Limits.{partition_numbers, BeginsNoLater, CoresAreOfModule, HasNoChannel, HasTick, IsConsistent, IsOrdered, IsWithinLimits};
 ghost use Rattle.module_config.specs.Laid.{laid_out};
+ghost use Rattle.module_config.specs.Order.{windows_begun};
 ghost use Rattle.module_config.specs.Whole.{whole_fault};
 
 use crate::fault::ConfigFault;
 use crate::layout::{Layout, read_layout};
 use crate::partition::Partition;
-use crate::timetable::window_among;
+use crate::timetable::{begun_near, window_among};
 use crate::whole::{find_partition, whole_fault};
 use crate::window::TimeWindow;
 use apex_types::{ChanId, CoreId, PartId};
@@ -153,8 +154,34 @@ impl Config {
         ensures value { result ≡ window_at self.now core time }
         ensures configured { IfSome result (λ part. has_partition self.now part ≡ true) }
     {
-        let offset = time % self.frame;
-        window_among(&self.windows, core, offset)
+        self.window_near(0, core, time)
+    }
+
+    /// The partition whose window of a core holds a time, if there is one, as `window_at` answers it.
+    ///
+    /// The guess is how many windows have begun then, as `windows_begun` counts them. No guess changes the answer; one that
+    /// is right, or one too small, spares the search.
+    pub fn window_near(&self, guess: usize, core: CoreId, time: u64) -> Option<PartId>
+        ensures value { result ≡ window_at self.now core time }
+        ensures configured { IfSome result (λ part. has_partition self.now part ≡ true) }
+    {
+        window_among(&self.windows, guess, core, self.offset(time))
+    }
+
+    /// How many windows are of earlier cores, or have begun on this core by a time of the major frame.
+    ///
+    /// No guess changes the answer; one that is right, or one too small, spares the search.
+    pub fn windows_begun(&self, guess: usize, core: CoreId, time: u64) -> usize
+        ensures { result ≡ windows_begun self.now core time }
+    {
+        begun_near(&self.windows, guess, core, self.offset(time))
+    }
+
+    // The time within the major frame.
+    fn offset(&self, time: u64) -> u64
+        ensures { result ≡ time % self.now.frame }
+    {
+        time % self.frame
     }
 
     /// How many partitions are configured.
@@ -221,6 +248,56 @@ impl Config {
     {
         match find_partition(&self.partitions, part) {
             Some(partition) => partition.processes,
+            None => 0,
+        }
+    }
+
+    /// How many buffers a partition may create, and 0 where none of this number is configured.
+    pub fn buffer_limit(&self, part: PartId) -> u32
+        ensures { result ≡ object_limit self.now (λ (limits : PartitionLimits). limits.buffers) part }
+    {
+        match find_partition(&self.partitions, part) {
+            Some(partition) => partition.buffers,
+            None => 0,
+        }
+    }
+
+    /// How many blackboards a partition may create, and 0 where none of this number is configured.
+    pub fn blackboard_limit(&self, part: PartId) -> u32
+        ensures { result ≡ object_limit self.now (λ (limits : PartitionLimits). limits.blackboards) part }
+    {
+        match find_partition(&self.partitions, part) {
+            Some(partition) => partition.blackboards,
+            None => 0,
+        }
+    }
+
+    /// How many semaphores a partition may create, and 0 where none of this number is configured.
+    pub fn semaphore_limit(&self, part: PartId) -> u32
+        ensures { result ≡ object_limit self.now (λ (limits : PartitionLimits). limits.semaphores) part }
+    {
+        match find_partition(&self.partitions, part) {
+            Some(partition) => partition.semaphores,
+            None => 0,
+        }
+    }
+
+    /// How many events a partition may create, and 0 where none of this number is configured.
+    pub fn event_limit(&self, part: PartId) -> u32
+        ensures { result ≡ object_limit self.now (λ (limits : PartitionLimits). limits.events) part }
+    {
+        match find_partition(&self.partitions, part) {
+            Some(partition) => partition.events,
+            None => 0,
+        }
+    }
+
+    /// How many mutexes a partition may create, and 0 where none of this number is configured.
+    pub fn mutex_limit(&self, part: PartId) -> u32
+        ensures { result ≡ object_limit self.now (λ (limits : PartitionLimits). limits.mutexes) part }
+    {
+        match find_partition(&self.partitions, part) {
+            Some(partition) => partition.mutexes,
             None => 0,
         }
     }

@@ -5,8 +5,8 @@ use Rattle.dispatch_rule.specs.Clocks.{Clocks}
 use Rattle.dispatch_rule.proofs.Cores.{time_of_first, at_core_first}
 use Rattle.dispatch_rule.proofs.clock.Clock.advance.Goals as goal
 
-pub overflow_add-self : goal.overflow_add-self
-overflow_add-self c =
+pub overflow_add-time : goal.overflow_add-time
+overflow_add-time c =
     let there = rw (← c.self.view_is) at c.requires.core in
     let below = rw (← c.self.view_is, time_of_first c.self.inside.count c.args.core c.self.inside.cores c.index-self-index.result there) at c.requires.time in
     rw c.number-index.ensures (omega (arith, below))

@@ -1,6 +1,6 @@
 use Rattle.module_config.specs.Held.{held_in}
 use Rattle.module_config.proofs.Found.{window_at-configured}
-use Rattle.module_config.proofs.config.Config.window_at.Goals as goal
+use Rattle.module_config.proofs.config.Config.window_near.Goals as goal
 
 pub returns-clause-configured : goal.returns-clause-configured
 returns-clause-configured c =
