@@ -116,19 +116,25 @@ module _ {Key : Type 0} (before : Key → Key → Bool) (order : IsStrictOrder b
       ∙ without-with before order (key_of number old) (keys_in before key_of (table_without number entries))
 
   -- so that there is room for one more
-  room_left : (number : ℕ) (old : Process) (entries : Table) (keys taken : List Key) (room : ℕ) → item_at entries number ≡ Some old
-      → keys ≡ keys_in before key_of entries → taken ≡ without_key before (key_of number old) keys → length entries ≤ room
-      → length taken < room
-  room_left number old entries keys taken room found kept is fits =
-      let left : length taken ≡ length (keys_in before key_of (table_without number entries)) = ap length (taken_out number old entries keys taken found kept is) in
+  room_left : (number : ℕ) (old : Process) (entries : Table) (keys : List Key) (room : ℕ) → item_at entries number ≡ Some old
+      → keys ≡ keys_in before key_of entries → length entries ≤ room → length (without_key before (key_of number old) keys) < room
+  room_left number old entries keys room found kept fits =
+      let left : length (without_key before (key_of number old) keys) ≡ length (keys_in before key_of (table_without number entries))
+      = ap length (taken_out number old entries keys _ found kept refl) in
       omega (arith, left, length-keys_in (table_without number entries), length-table_without number old entries found, fits)
 
+  -- its key stands among those of the table
+  stands : (number : ℕ) (old : Process) (entries : Table) (keys : List Key) → item_at entries number ≡ Some old → keys ≡ keys_in before key_of entries
+      → with_key before (key_of number old) (without_key before (key_of number old) keys) ≡ keys
+  stands number old entries keys found kept =
+      ap (with_key before (key_of number old)) (taken_out number old entries keys _ found kept refl) ∙ sym (kept ∙ keys_in-found number old entries found)
+
   -- and with the key of the changed process put in, they are those of the changed table
-  put_back : (number : ℕ) (old written : Process) (entries : Table) (keys taken new : List Key) → item_at entries number ≡ Some old
-      → keys ≡ keys_in before key_of entries → taken ≡ without_key before (key_of number old) keys
-      → new ≡ with_key before (key_of number written) taken → new ≡ keys_in before key_of (set_value (nat_eq number) entries written)
-  put_back number old written entries keys taken new found kept is is_new =
-      is_new ∙ ap (with_key before (key_of number written)) (taken_out number old entries keys taken found kept is)
+  put_back : (number : ℕ) (old written : Process) (entries : Table) (keys new : List Key) → item_at entries number ≡ Some old
+      → keys ≡ keys_in before key_of entries → new ≡ with_key before (key_of number written) (without_key before (key_of number old) keys)
+      → new ≡ keys_in before key_of (set_value (nat_eq number) entries written)
+  put_back number old written entries keys new found kept is_new =
+      is_new ∙ ap (with_key before (key_of number written)) (taken_out number old entries keys _ found kept refl)
       ∙ sym (keys_in-written number old written entries found)
 
   keys_in-push : (entries : Table) (number : ℕ) (process : Process) → key_of number process ≡ None
@@ -148,37 +154,47 @@ module _ {Key : Type 0} (before : Key → Key → Bool) (order : IsStrictOrder b
 found_there : (number : ℕ) (old : Process) (entries : Table) → Some old ≡ lookup (nat_eq number) entries → item_at entries number ≡ Some old
 found_there number old entries found = sym (found ∙ lookup-item_at number entries)
 
--- there is room for the rank and the due time of a process whose own were taken out
+-- there is room for the rank and the due time of a process whose own are taken out
 
-pub ready_room_left : (number : ℕ) (old : Process) (entries : Table) (ready taken : Sequence Rank) (due : Sequence DueTime) → IsKept entries ready due
-    → Some old ≡ lookup (nat_eq number) entries → taken.keys ≡ without_key rank_before (rank_of number old) ready.keys → taken.room ≡ ready.room
-    → length taken.keys < taken.room
-ready_room_left number old entries ready taken due kept found is room =
-    room_left rank_before rank_laws rank_of number old entries ready.keys taken.keys taken.room (found_there number old entries found) kept.ranks is (omega (arith, kept.ready_room, room))
+pub ready_room_left : (number : ℕ) (old : Process) (entries : Table) (ready : Sequence Rank) (due : Sequence DueTime) → IsKept entries ready due
+    → Some old ≡ lookup (nat_eq number) entries → length (without_key rank_before (rank_of number old) ready.keys) < ready.room
+ready_room_left number old entries ready due kept found =
+    room_left rank_before rank_laws rank_of number old entries ready.keys ready.room (found_there number old entries found) kept.ranks kept.ready_room
 
-pub due_room_left : (number : ℕ) (old : Process) (entries : Table) (ready : Sequence Rank) (due taken : Sequence DueTime) → IsKept entries ready due
-    → Some old ≡ lookup (nat_eq number) entries → taken.keys ≡ without_key due_before (due_time_of number old) due.keys → taken.room ≡ due.room
-    → length taken.keys < taken.room
-due_room_left number old entries ready due taken kept found is room =
-    room_left due_before due_laws due_time_of number old entries due.keys taken.keys taken.room (found_there number old entries found) kept.due_times is (omega (arith, kept.due_room, room))
+pub due_room_left : (number : ℕ) (old : Process) (entries : Table) (ready : Sequence Rank) (due : Sequence DueTime) → IsKept entries ready due
+    → Some old ≡ lookup (nat_eq number) entries → length (without_key due_before (due_time_of number old) due.keys) < due.room
+due_room_left number old entries ready due kept found =
+    room_left due_before due_laws due_time_of number old entries due.keys due.room (found_there number old entries found) kept.due_times kept.due_room
+
+-- and these stand there
+
+pub rank-stands : (number : ℕ) (old : Process) (entries : Table) (ready : Sequence Rank) (due : Sequence DueTime) → IsKept entries ready due
+    → Some old ≡ lookup (nat_eq number) entries
+    → with_key rank_before (rank_of number old) (without_key rank_before (rank_of number old) ready.keys) ≡ ready.keys
+rank-stands number old entries ready due kept found =
+    stands rank_before rank_laws rank_of number old entries ready.keys (found_there number old entries found) kept.ranks
+
+pub due-stands : (number : ℕ) (old : Process) (entries : Table) (ready : Sequence Rank) (due : Sequence DueTime) → IsKept entries ready due
+    → Some old ≡ lookup (nat_eq number) entries
+    → with_key due_before (due_time_of number old) (without_key due_before (due_time_of number old) due.keys) ≡ due.keys
+due-stands number old entries ready due kept found =
+    stands due_before due_laws due_time_of number old entries due.keys (found_there number old entries found) kept.due_times
 
 -- what is kept once a process has changed
-pub IsKept-written : (number : ℕ) (old written : Process) (entries next : Table) (ready ready_taken ready_new : Sequence Rank) (due due_taken due_new : Sequence DueTime)
+pub IsKept-written : (number : ℕ) (old written : Process) (entries next : Table) (ready ready_new : Sequence Rank) (due due_new : Sequence DueTime)
     → IsKept entries ready due → Some old ≡ lookup (nat_eq number) entries → next ≡ set_value (nat_eq number) entries written
-    → ready_taken.keys ≡ without_key rank_before (rank_of number old) ready.keys → ready_taken.room ≡ ready.room
-    → ready_new.keys ≡ with_key rank_before (rank_of number written) ready_taken.keys → ready_taken.room ≤ ready_new.room
-    → due_taken.keys ≡ without_key due_before (due_time_of number old) due.keys → due_taken.room ≡ due.room
-    → due_new.keys ≡ with_key due_before (due_time_of number written) due_taken.keys → due_taken.room ≤ due_new.room
+    → ready_new.keys ≡ with_key rank_before (rank_of number written) (without_key rank_before (rank_of number old) ready.keys) → ready.room ≤ ready_new.room
+    → due_new.keys ≡ with_key due_before (due_time_of number written) (without_key due_before (due_time_of number old) due.keys) → due.room ≤ due_new.room
     → IsKept next ready_new due_new
-IsKept-written number old written entries next ready ready_taken ready_new due due_taken due_new kept found is r_taken r_same r_put r_grows d_taken d_same d_put d_grows =
+IsKept-written number old written entries next ready ready_new due due_new kept found is r_put r_grows d_put d_grows =
     let there = found_there number old entries found in
     let long : length next ≡ length entries = ap length is ∙ length-set_value (nat_eq number) written entries in
     record {
       numbers = NumbersFit-written (nat_eq number) entries next written kept.numbers is;
-      ranks = rw is (put_back rank_before rank_laws rank_of number old written entries ready.keys ready_taken.keys ready_new.keys there kept.ranks r_taken r_put);
-      due_times = rw is (put_back due_before due_laws due_time_of number old written entries due.keys due_taken.keys due_new.keys there kept.due_times d_taken d_put);
-      ready_room = omega (arith, long, kept.ready_room, r_same, r_grows);
-      due_room = omega (arith, long, kept.due_room, d_same, d_grows);
+      ranks = rw is (put_back rank_before rank_laws rank_of number old written entries ready.keys ready_new.keys there kept.ranks r_put);
+      due_times = rw is (put_back due_before due_laws due_time_of number old written entries due.keys due_new.keys there kept.due_times d_put);
+      ready_room = omega (arith, long, kept.ready_room, r_grows);
+      due_room = omega (arith, long, kept.due_room, d_grows);
     }
 
 -- what is kept once a process without a rank and a due time is added, with room made for it

@@ -18,3 +18,4 @@ pub mod Waiters
 pub mod Gifts
 pub mod Periodic
 pub mod Transfers
+pub mod Owed

@@ -1,5 +1,5 @@
 -- The numbers of processes: new ones, and those that callers give.
-use Rattle.std.proofs.Common.{◌≡◌, ℕ, zero, suc, ◌<◌, ◌≤◌, ◌^◌, true, is_none, nat_le, nat_lt, Option, Some, None, ℤ, pos, negsuc, refl, arith}
+use Rattle.std.proofs.Common.{◌≡◌, ◌≢◌, true≢false, is_some, ℕ, zero, suc, ◌<◌, ◌≤◌, ◌^◌, true, is_none, nat_le, nat_lt, Option, Some, None, ℤ, pos, negsuc, refl, sym, ap, arith}
 use Rattle.std.proofs.lemmas.Bool.Decides.{nat_tests}
 use Rattle.apex_types.specs.Bounds.{greatest_number}
 use Rattle.apex_machine.specs.declared.state.Process.{Process}
@@ -43,3 +43,21 @@ created-some table (pos (suc n)) number found apart =
     let same : suc n ≡ number = grind (arith, nat_tests) in
     rw same refl
 created-some table (negsuc n) number found apart = cc
+
+-- a natural number that fits is a process's own
+
+pub natural-none : (table : Table) (n : ℕ) → NumbersFit table → number_of (pos n) ≡ None → item_at table n ≡ None
+natural-none table n fit none = absent-above table n fit (grind (arith, nat_tests))
+
+pub natural-some : (n number : ℕ) → number_of (pos n) ≡ Some number → number ≡ n
+natural-some n number found = grind (arith, nat_tests)
+
+-- a caller's number that fits is that number
+pub given-some : (given : ℤ) (number : ℕ) → number_of given ≡ Some number → given ≡ pos number
+given-some (pos n) number is = ap pos (sym (natural-some n number is))
+given-some (negsuc n) number is = cc
+
+-- what is some process is not none
+pub there-is : (process : Process) (found : Option Process) → Some process ≡ found → found ≢ None
+there-is process None is = λ none. true≢false (ap is_some is)
+there-is process (Some other) is = λ none. true≢false (ap is_some none)

@@ -12,3 +12,4 @@ pub mod Firsts
 pub mod Kept
 pub mod Transfers
 pub mod Fellows
+pub mod Prepared

@@ -1,6 +1,6 @@
 // What becomes of a caller by its call.
 
-ghost use Rattle.std.specs.Prelude.{◌≡◌, ◌<◌, ◌&&◌, ℕ, IfOk, IsTrue, true, if◌then◌else◌};
+ghost use Rattle.std.specs.Prelude.{◌≡◌, ◌<◌, ◌&&◌, ℕ, IsTrue, true, if◌then◌else◌};
 ghost use Rattle.apex_types.specs.Bounds.{place_count};
 ghost use Rattle.apex_machine.specs.declared.state.Process.{Process as ProcessValue};
 ghost use Rattle.apex_machine.specs.DueTimes.{next_release};
@@ -9,6 +9,7 @@ ghost use Rattle.apex_machine.specs.Waiting.{is_no_error, is_waiting};
 ghost use Rattle.apex_types.specs.declared.record.Out.TheVariants as out;
 ghost use Rattle.process_state.specs.Changes.{given_or};
 ghost use Rattle.apex_machine.specs.After as after;
+ghost use Rattle.process_state.specs.Prepared.{outcome_due};
 ghost use Rattle.process_state.specs.Settled.{settled};
 ghost use Rattle.process_state.specs.Sound as sound;
 ghost use Rattle.process_state.specs.Sound.{WaitsSoundly};
@@ -16,8 +17,7 @@ ghost use Rattle.process_state.specs.Sound.{WaitsSoundly};
 use crate::fellow::answers_no_error;
 use crate::waiting::{is_periodic_wait, wait_of};
 use apex_machine::{Outcome, Wait};
-use apex_types::{Call, Code, Message, Out, Place, Request};
-use std::alloc::{AllocError, Global};
+use apex_types::{Call, Code, Out, Place, Request};
 
 /// What becomes of a caller after its call.
 #[derive(Drop)]
@@ -46,47 +46,35 @@ pub fn is_done(out: Out) -> bool
 }
 
 /// What becomes of the caller of this call, at this place and at its core's time `now`, by its next release, in ticks, which
-/// only PERIODIC_WAIT looks at.
-///
-/// AllocError where memory for the outcome's message is refused; an empty message takes none.
+/// only PERIODIC_WAIT looks at, and by the outcome that becomes due to it, if one does.
 pub fn settling_of(
-    alloc: Global,
     place: Place,
     now: u64,
     next: u64,
     call: &Call,
-) -> Result<Settling, AllocError>
+    outcome: Option<Outcome>,
+) -> Settling
     requires time { now < place_count }
     requires waits { IsTrue (is_waiting call.now.claim.out) → WaitsSoundly call.now.request }
-    ensures { IfOk result (λ settling. (process : ProcessValue) → (sound.is_periodic_wait call.now.request ≡ true → next_release process ≡ next) → settled now settling process ≡ after.caller_after place now call.now process) }
+    requires outcome { outcome ≡ outcome_due call.now call.now.claim.out }
+    ensures { (process : ProcessValue) → (sound.is_periodic_wait call.now.request ≡ true → next_release process ≡ next) → settled now result process ≡ after.caller_after place now call.now process }
 {
-    match call.claim.out {
-        Out::Waits => Ok(Settling::Waits(wait_of(&call.request, call.claim.chan, now, next))),
-        Out::Never => Ok(Settling::Stops),
-        Out::Answer(code) => {
-            let outcome = outcome_of(alloc, call, code)?;
-            let renewed = renewed_by(place, code, &call.request);
-            let reached = reached_by(next, code, &call.request);
-            Ok(Settling::Owed {
+    match outcome {
+        Some(outcome) => {
+            let renewed = renewed_by(place, outcome.code, &call.request);
+            let reached = reached_by(next, outcome.code, &call.request);
+            Settling::Owed {
                 outcome,
                 renewed,
                 reached,
-            })
+            }
         }
+        None => match call.claim.out {
+            Out::Waits => { Settling::Waits(wait_of(&call.request, call.claim.chan, now, next)) }
+            // An answer has an outcome.
+            Out::Never | Out::Answer(_) => Settling::Stops,
+        },
     }
-}
-
-// The outcome that a call claims, with this code.
-fn outcome_of(alloc: Global, call: &Call, code: Code) -> Result<Outcome, AllocError>
-    ensures { IfOk result (λ outcome. outcome ≡ after.outcome_of call.now code) }
-{
-    let bytes = Vec::from_slice(alloc, call.claim.bytes.as_bytes())?;
-    Ok(Outcome {
-        service: call.request.service(),
-        code,
-        val: call.claim.val,
-        bytes: Message::new(bytes),
-    })
 }
 
 // The place that the caller's ready position becomes, if the call renews it.

@@ -11,6 +11,7 @@ mod gift;
 mod moment;
 mod number;
 mod order;
+mod prepared;
 mod process;
 mod sorted;
 mod table;
@@ -19,5 +20,6 @@ mod wait;
 mod waiting;
 
 pub use moment::Moment;
+pub use prepared::Prepared;
 pub use table::ProcTable;
 pub use transfer::Transfer;

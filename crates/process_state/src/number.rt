@@ -1,6 +1,7 @@
 // Numbers of processes as callers give them.
 
-ghost use Rattle.std.specs.Prelude.{◌≡◌, None, MatchOption};
+ghost use Rattle.std.specs.Prelude.{◌≡◌, None, MatchOption, pos};
+ghost use Rattle.apex_machine.specs.Arguments.{natural_of};
 ghost use Rattle.process_state.specs.Numbers.{number_of};
 
 use apex_types::ProcId;
@@ -16,7 +17,14 @@ pub fn process_number(given: i64) -> Option<ProcId>
     }
 }
 
-/// The same of a number that a call may claim: None too where it claims none.
+/// The same of a number as the definitions read it: 0 for one below 0.
+pub fn natural_number(given: i64) -> Option<ProcId>
+    ensures { result ≡ number_of (pos (natural_of given)) }
+{
+    process_number(if given < 0 { 0 } else { given })
+}
+
+/// The number of a process that a number can be which a call may claim: None too where it claims none.
 pub fn claimed_number(claimed: Option<i64>) -> Option<ProcId>
     ensures { MatchOption claimed (result ≡ None) (λ given. result ≡ number_of given) }
 {

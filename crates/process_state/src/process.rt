@@ -1,6 +1,6 @@
 // The changes of one process.
 
-ghost use Rattle.std.specs.Prelude.{◌≡◌, ◌<◌, ◌≤◌, None, pos, IfOk};
+ghost use Rattle.std.specs.Prelude.{◌≡◌, ◌<◌, ◌≤◌, Some, None, pos, IfOk};
 ghost use Rattle.apex_types.specs.Bounds.{greatest_span, place_count};
 ghost use Rattle.apex_machine.specs.Arguments.{period_given};
 ghost use Rattle.apex_machine.specs.DueTimes as due_times;
@@ -254,5 +254,16 @@ pub fn next_release(process: &Process) -> u64
     match process.period {
         Some(period) => process.last_release + period,
         None => process.last_release,
+    }
+}
+
+/// Whether the next release of a process is reached at this time, in ticks.
+pub fn is_released(process: &Process, now: u64) -> bool
+    ensures { result ≡ due_times.is_released now (Some process.now) }
+{
+    let since = process.last_release;
+    match process.period {
+        Some(period) => since <= now && period <= now - since,
+        None => since <= now,
     }
 }

@@ -1,16 +1,18 @@
 // The processes of a partition under their numbers.
 
-ghost use Rattle.std.specs.Prelude.{◌≡◌, ◌∷◌, ◌↔◌, [], IfOk, IsTrue};
+ghost use Rattle.std.specs.Prelude.{◌≡◌, ◌≢◌, ◌∷◌, ◌↔◌, [], IfOk, IsTrue, MatchOption, None, pos};
 ghost use Rattle.std.specs.Option.{option_copied};
 ghost use Rattle.apex_types.specs.Rising.{IsRising};
 ghost use Rattle.apex_machine.specs.declared.state.Process.{Process as ProcessValue};
 ghost use Rattle.apex_machine.specs.State.{created, initialising_process, is_free, item_at};
 ghost use Rattle.apex_machine.specs.Choice.{choice_in};
 ghost use Rattle.apex_machine.specs.Answer.{is_new};
+ghost use Rattle.apex_machine.specs.Arguments.{natural_of};
 ghost use Rattle.apex_machine.specs.ProcessConditions.{created_count};
 ghost use Rattle.apex_machine.specs.Conditions.{is_taken};
 ghost use Rattle.apex_machine.specs.Demands.{AllWaitAt};
 ghost use Rattle.apex_machine.specs.DueTimes as due_times;
+ghost use Rattle.apex_machine.specs.Services.{waits_for_mutex};
 ghost use Rattle.apex_machine.specs.Waiting.{waits_at};
 ghost use Rattle.process_state.specs.Due.{DueAreNamed, NamedFallDue};
 ghost use Rattle.process_state.specs.Processes.{processes_in};
@@ -18,11 +20,10 @@ ghost use Rattle.process_state.specs.Processes.{processes_in};
 mod changes;
 mod records;
 
-use crate::number::process_number;
+use crate::number::{natural_number, process_number};
 use crate::order::{DueTime, Rank, count_of, due_count, falls_due, first_on};
-use crate::process::initialising;
 use crate::sorted::Sorted;
-use crate::wait;
+use crate::{process, wait};
 use apex_machine::{Mode, Process, WaitingSet};
 use apex_types::{CoreId, Name, PartId, ProcId, Who, Woken};
 use indexmap::IndexMap;
@@ -63,7 +64,7 @@ impl ProcTable {
     pub fn new(alloc: Global, first_core: CoreId) -> Result<ProcTable, AllocError>
         ensures { IfOk result (λ table. table ≡ processes_in Mode.ColdStart ((0, initialising_process first_core) ∷ [])) }
     {
-        let (number, process) = (ProcId::new(0), initialising(alloc, first_core));
+        let (number, process) = (ProcId::new(0), process::initialising(alloc, first_core));
         let mut ready = Sorted::new(alloc);
         ready.reserve(1)?;
         ready.put_in(Rank::of(number, &process));
@@ -102,6 +103,27 @@ impl ProcTable {
         if number == 0 {
             return None;
         }
+        processes.get(&process)
+    }
+
+    /// The number of the created process that a caller gives, or None where there is none of that number.
+    pub fn created_number(&self, number: i64) -> Option<ProcId>
+        ensures { MatchOption result (created self.now.table number ≡ None) (λ found. (number ≡ pos found) × (created self.now.table number ≢ None)) }
+    {
+        // What is known of each table, that its numbers fit 32 bits, is known where one of its fields is used.
+        let _ = &self.processes;
+        let process = process_number(number)?;
+        self.created(number)?;
+        Some(process)
+    }
+
+    /// The process of the number that a caller gives as the definitions read it, the initialising one for a number below 0,
+    /// or None where there is none.
+    pub fn numbered(&self, number: i64) -> Option<&Process>
+        ensures { option_copied result ≡ item_at self.now.table (natural_of number) }
+    {
+        let processes = &self.processes;
+        let process = natural_number(number)?;
         processes.get(&process)
     }
 
@@ -162,6 +184,26 @@ impl ProcTable {
         woken
             .iter()
             .all(|who| who.part != part || self.waits_at(wanted, who.proc))
+    }
+
+    /// Whether a process of this number waits for a mutex; a number is read as `numbered` reads it.
+    pub fn waits_for_mutex(&self, number: i64) -> bool
+        ensures { result ≡ waits_for_mutex self.now.table (natural_of number) }
+    {
+        match self.numbered(number) {
+            Some(process) => wait::is_for_mutex(process.wait),
+            None => false,
+        }
+    }
+
+    /// Whether the next release of this process is reached at this time, in ticks: a period after its last, where it has one.
+    pub fn is_released(&self, now: u64, number: ProcId) -> bool
+        ensures { result ≡ due_times.is_released now (item_at self.now.table number) }
+    {
+        match self.proc(number) {
+            Some(process) => process::is_released(process, now),
+            None => false,
+        }
     }
 
     // Whether a process of this number stands that waits in this set.

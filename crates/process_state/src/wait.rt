@@ -41,6 +41,16 @@ pub fn is_for_normal(wait: Wait) -> bool
     }
 }
 
+/// Whether a wait is one for a mutex.
+pub fn is_for_mutex(wait: Wait) -> bool
+    ensures { result ≡ due_times.is_for_mutex wait }
+{
+    match wait {
+        Wait::At(WaitingSet::MutexWaiters(_), _) => true,
+        _ => false,
+    }
+}
+
 /// When a wait is over, in ticks of its core, if time ends it.
 pub fn time_due(wait: Wait) -> Option<u64>
     ensures { result ≡ ranks.time_due wait }

@@ -244,10 +244,8 @@ impl ProcTable {
             let (old_rank, old_due) = (Rank::of(number, process), DueTime::of(number, process));
             change(process);
             let (rank, due) = (Rank::of(number, process), DueTime::of(number, process));
-            self.ready.take_out(old_rank);
-            self.ready.put_in(rank);
-            self.due.take_out(old_due);
-            self.due.put_in(due);
+            self.ready.replace(old_rank, rank);
+            self.due.replace(old_due, due);
         }
     }
 }

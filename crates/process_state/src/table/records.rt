@@ -1,6 +1,6 @@
 // What a call and a tick make of a table.
 
-ghost use Rattle.std.specs.Prelude.{◌≡◌, ◌++◌, ◌≤◌, ℕ, Some, nat_eq, true, OnOk, OnErr, IsTrue, length, vec_len};
+ghost use Rattle.std.specs.Prelude.{◌≡◌, ◌++◌, ◌≤◌, ℕ, Some, nat_eq, true, IfOk, OnOk, OnErr, IsTrue, length, vec_len};
 ghost use Rattle.apex_machine.specs.Configuration as configured;
 ghost use Rattle.apex_machine.specs.Configuration.{Configuration};
 ghost use Rattle.std.specs.List.{IsDistinct};
@@ -13,6 +13,7 @@ ghost use Rattle.apex_machine.specs.After as after;
 ghost use Rattle.process_state.specs.Changes.{only, with_each};
 ghost use Rattle.process_state.specs.Fellows.{fellow_woken, stopped_by};
 ghost use Rattle.process_state.specs.Gifts.{AreCopies};
+ghost use Rattle.process_state.specs.Prepared.{IsPreparedFor, creates_process};
 ghost use Rattle.process_state.specs.Processes.{processes_of};
 ghost use Rattle.process_state.specs.Settled.{settled};
 ghost use Rattle.process_state.specs.Sound.{IsSound, ReleasesSoundly, is_periodic_wait};
@@ -27,36 +28,49 @@ use crate::gift::gifts_of;
 use crate::moment::Moment;
 use crate::number::claimed_number;
 use crate::order::is_of;
+use crate::prepared::{Prepared, prepared_for};
 use crate::process::next_release;
 use crate::transfer::Transfer;
 use apex_types::{Call, CoreId, Message, PartId, Place, ProcId, Request, Woken};
 use std::alloc::AllocError;
 
 impl ProcTable {
+    /// What a call of one of the partition's processes wants memory for: had before the call changes anything.
+    ///
+    /// AllocError where memory is refused; where the call names nobody and claims no message, it takes none.
+    pub fn prepare(&self, call: &Call) -> Result<Prepared, AllocError>
+        ensures { IfOk result (λ prepared. IsPreparedFor call.now prepared) }
+    {
+        prepared_for(*self.processes.allocator(), call)
+    }
+
     /// A call of one of the partition's processes at this moment: what it sets in the partition, what becomes of its
     /// caller, which process it stops, and whose waits it ends. The period is the partition's, in ticks. A process that it
     /// creates runs on the first core. The transfer is what the call makes of the owners of its mutex; a call of another
     /// service than ACQUIRE_MUTEX and RELEASE_MUTEX makes nothing of owners, and its transfer is not looked at.
     ///
-    /// AllocError where memory is refused; nothing has changed then.
+    /// AllocError where memory for a process that it creates is refused; nothing has changed then. No other call takes memory,
+    /// beside what was prepared.
     pub fn call(
         &mut self,
         first_core: CoreId,
         period: u64,
         moment: &Moment<'_>,
         transfer: Transfer,
+        prepared: Prepared,
         call: &Call,
     ) -> Result<(), AllocError>
         requires timely { IsTimely period moment.now.cores.now }
         requires sound { IsSound self.old.table call.now }
+        requires prepared { IsPreparedFor call.now prepared }
         ensures ok { OnOk result ((configuration : Configuration) (partition : Partition) → configured.first_core configuration call.now.who.part ≡ first_core → configured.period_of configuration call.now.who.part ≡ period → processes_of partition ≡ self.old → (IsTrue (after.is_done call.now.claim.out) → IsTransferOf partition call.now.who.proc call.now.request transfer) → self.new ≡ processes_of (after.partition_called configuration moment.now.cores.now moment.now.place moment.now.core call.now partition)) }
         ensures unchanged { OnErr result (self.new ≡ self.old) }
+        ensures memory { OnErr result (IsTrue (creates_process call.now.request)) }
     {
-        let alloc = *self.processes.allocator();
+        let Prepared { outcome, gifts } = prepared;
         let now = time_at(moment.cores, moment.core);
         let next = self.next_release(call);
-        let settling = settling_of(alloc, moment.place, now, next, call)?;
-        let gifts = gifts_of(alloc, &call.request, call.claim.woken.as_slice().len())?;
+        let settling = settling_of(moment.place, now, next, call, outcome);
         // Looked up before the call creates a process, which a caller that is not there may name as itself.
         let stands = self.proc(call.who.proc).is_some();
         if is_done(call.claim.out) {
@@ -121,6 +135,7 @@ impl ProcTable {
           table = each_item (set_by moment.now.place period moment.now.cores.now partition call.now.who.proc call.now.request) self.old.table ++ after.created_by first_core call.now call.now.request;
         }) }
         ensures unchanged { OnErr result (self.new ≡ self.old) }
+        ensures memory { OnErr result (IsTrue (creates_process call.now.request)) }
     {
         match &call.request {
             Request::CreateProcess {

@@ -25,7 +25,7 @@ returns-clause-ok c = λ configuration partition first_is period_is seen tied.
           _ c.proc.result seen first_is period_is middle c.requires.sound c.proc.ensures (sym c.is_some-stands.ensures ∙ w.if-stands.true)
           (λ process. ap (λ (now : ℕ). caller_after m.place now call process) c.time_at-now.ensures.value)
           (caller-settled m.place c.time_at-now.result a.period a.first_core m.cores.now call partition a.self.now c.if-is_done.self c.if-stands.self c.next_release-next.result _
-          middle c.next_release-next.ensures.distinct c.in_ok-settling.ensures c.next_release-next.ensures.value (w.self-is ∙ w.settle.ensures))
+          middle c.next_release-next.ensures.distinct c.settling_of-settling.ensures c.next_release-next.ensures.value (w.self-is ∙ w.settle.ensures))
           c.stop_fellow.ensures c.wake_fellows.ensures
       | else-stands w ↦
           called-absent-in configuration m.place m.core a.period a.first_core m.cores.now call partition a.self.now c.if-is_done.self c.stop_fellow.new.self c.wake_fellows.new.self

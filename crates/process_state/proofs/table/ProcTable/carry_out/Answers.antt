@@ -29,4 +29,5 @@ returns-in_default c =
           c.in_default.not-CreateProcess c.in_default.not-InitializeProcessCoreAffinity c.in_default.not-Start c.in_default.not-Suspend c.in_default.not-Resume
           c.in_default.not-SetPriority c.in_default.not-SetPartitionMode c.in_default.not-AcquireMutex c.in_default.not-ReleaseMutex;
       unchanged = tt;
+      memory = tt;
     }

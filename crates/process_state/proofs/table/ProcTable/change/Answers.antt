@@ -1,26 +1,26 @@
 -- The one process of the number is changed in place, and its rank and its due time with it.
 use Rattle.std.proofs.Common.{refl, rules}
-use Rattle.process_state.proofs.Kept.{IsKept-written, due_room_left, ready_room_left}
+use Rattle.process_state.proofs.Kept.{IsKept-written, due-stands, due_room_left, rank-stands, ready_room_left}
 use Rattle.process_state.proofs.Tables.{processes-kept, processes-written}
 use Rattle.process_state.proofs.table.ProcTable.change.Goals as goal
 
-pub put_in-requires : goal.put_in-requires
-put_in-requires g c =
-    let taken = rw c.of-old_rank.ensures at c.take_out.ensures.keys in
-    ready_room_left c.args.number c.in-Some.process.now _ _ _ _ c.self.invariant c.in-Some.ensures.value taken c.take_out.ensures.room
+pub replace-requires-clause-stands : goal.replace-requires-clause-stands
+replace-requires-clause-stands g c = rw c.of-old_rank.ensures (rank-stands c.args.number c.in-Some.process.now _ _ _ c.self.invariant c.in-Some.ensures.value)
 
-pub put_in-requires-in-Some : goal.put_in-requires-in-Some
-put_in-requires-in-Some g c =
-    let taken = rw c.of-old_due.ensures at c.take_out-in-Some.ensures.keys in
-    due_room_left c.args.number c.in-Some.process.now _ _ _ _ c.self.invariant c.in-Some.ensures.value taken c.take_out-in-Some.ensures.room
+pub replace-requires-clause-room : goal.replace-requires-clause-room
+replace-requires-clause-room g c = rw c.of-old_rank.ensures (ready_room_left c.args.number c.in-Some.process.now _ _ _ c.self.invariant c.in-Some.ensures.value)
+
+pub replace-requires-in-Some-clause-stands : goal.replace-requires-in-Some-clause-stands
+replace-requires-in-Some-clause-stands g c = rw c.of-old_due.ensures (due-stands c.args.number c.in-Some.process.now _ _ _ c.self.invariant c.in-Some.ensures.value)
+
+pub replace-requires-in-Some-clause-room : goal.replace-requires-in-Some-clause-room
+replace-requires-in-Some-clause-room g c = rw c.of-old_due.ensures (due_room_left c.args.number c.in-Some.process.now _ _ _ c.self.invariant c.in-Some.ensures.value)
 
 pub invariant_of-self : goal.invariant_of-self
 invariant_of-self g c =
-    IsKept-written c.args.number c.in-Some.process.now c.change.new.arg2 _ _ _ _ _ _ _ _ c.self.invariant c.in-Some.ensures.value (c.get_mut.follows.holds c.change.new.arg2).0
-    (rw c.of-old_rank.ensures at c.take_out.ensures.keys) c.take_out.ensures.room
-    (rw c.of-rank.ensures at c.put_in.ensures.keys) c.put_in.ensures.grows
-    (rw c.of-old_due.ensures at c.take_out-in-Some.ensures.keys) c.take_out-in-Some.ensures.room
-    (rw c.of-due.ensures at c.put_in-in-Some.ensures.keys) c.put_in-in-Some.ensures.grows
+    IsKept-written c.args.number c.in-Some.process.now c.change.new.arg2 _ _ _ _ _ _ c.self.invariant c.in-Some.ensures.value (c.get_mut.follows.holds c.change.new.arg2).0
+    (rw (c.of-rank.ensures, c.of-old_rank.ensures) at c.replace.ensures.keys) c.replace.ensures.grows
+    (rw (c.of-due.ensures, c.of-old_due.ensures) at c.replace-in-Some.ensures.keys) c.replace-in-Some.ensures.grows
 
 pub returns-in-Some : goal.returns-in-Some
 returns-in-Some g c = λ becomes agrees.

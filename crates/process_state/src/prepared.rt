@@ -1,0 +1,54 @@
+// What a call wants memory for.
+
+ghost use Rattle.std.specs.Prelude.{◌≡◌, IfOk};
+ghost use Rattle.apex_machine.specs.After as after;
+ghost use Rattle.process_state.specs.Prepared.{IsPreparedFor, outcome_due};
+
+use crate::gift::gifts_of;
+use apex_machine::Outcome;
+use apex_types::{Call, Code, Message, Out};
+use std::alloc::{AllocError, Global};
+use std::marker::Model;
+
+/// What a call wants memory for, had before anything changes: the outcome that becomes due to its caller, if one does, and
+/// a message for each process that the call names.
+#[derive(Drop)]
+pub struct Prepared {
+    pub(crate) outcome: Option<Outcome>,
+    pub(crate) gifts: Vec<Message>,
+}
+
+impl Model for Prepared {
+    ghost use Rattle.process_state.specs.Prepared.{Preparation, preparation_of};
+
+    ghost Value = { Preparation };
+
+    ghost view = { λ prepared. preparation_of prepared.outcome prepared.gifts.items };
+}
+
+/// What is prepared for a call.
+///
+/// AllocError where memory is refused; where the call names nobody and claims no message, it takes none.
+pub fn prepared_for(alloc: Global, call: &Call) -> Result<Prepared, AllocError>
+    ensures { IfOk result (λ prepared. IsPreparedFor call.now prepared) }
+{
+    let outcome = match call.claim.out {
+        Out::Answer(code) => Some(outcome_of(alloc, call, code)?),
+        Out::Waits | Out::Never => None,
+    };
+    let gifts = gifts_of(alloc, &call.request, call.claim.woken.as_slice().len())?;
+    Ok(Prepared { outcome, gifts })
+}
+
+// The outcome that a call claims, with this code.
+fn outcome_of(alloc: Global, call: &Call, code: Code) -> Result<Outcome, AllocError>
+    ensures { IfOk result (λ outcome. outcome ≡ after.outcome_of call.now code) }
+{
+    let bytes = Vec::from_slice(alloc, call.claim.bytes.as_bytes())?;
+    Ok(Outcome {
+        service: call.request.service(),
+        code,
+        val: call.claim.val,
+        bytes: Message::new(bytes),
+    })
+}
