@@ -4,7 +4,7 @@ ghost use Rattle.std.specs.Prelude.{◌≡◌, ◌↔◌, [], None, IfErr, IfOk,
 ghost use Rattle.apex_types.specs.declared.record.Out.TheVariants as out;
 ghost use Rattle.apex_machine.specs.Demands.{AllHold, answer_demands};
 ghost use Rattle.apex_machine.specs.Objects.{board_read, cleared, displayed};
-ghost use Rattle.wait_set.specs.Actors.{Refuses, entry_with};
+ghost use Rattle.wait_set.specs.Actors.{OwesNothing, Refuses, entry_with};
 ghost use Rattle.wait_set.specs.Givens.{answer_given};
 ghost use Rattle.wait_set.specs.Sets.{IsNew};
 ghost use Rattle.blackboard.specs.Blackboards as rules;
@@ -12,7 +12,7 @@ ghost use Rattle.blackboard.specs.Blackboards as rules;
 use apex_types::{Claim, Discipline, Message, Name, Request, Who};
 use std::alloc::Global;
 use std::marker::Model;
-use wait_set::{Actor, ApexObject, Effect, Given, ObjFault, WaitSet, judge_waking_all};
+use wait_set::{Actor, ApexObject, Effect, Given, Named, ObjFault, WaitSet, judge_waking_all};
 
 /// A blackboard: the greatest size of its messages, the message on it, if it isn't empty, and those that wait to read.
 #[derive(Drop)]
@@ -44,13 +44,6 @@ impl Blackboard {
             message: None,
             readers: WaitSet::new(alloc, Discipline::Fifo),
         }
-    }
-
-    /// Its name.
-    pub fn name(&self) -> &Name
-        ensures { result.now ≡ self.now.name }
-    {
-        &self.name
     }
 
     /// The greatest size of its messages, in bytes.
@@ -118,8 +111,18 @@ impl Blackboard {
     }
 }
 
+impl Named for Blackboard {
+    ghost name_of = { λ board. board.name };
+
+    fn name(&self) -> &Name {
+        &self.name
+    }
+}
+
 impl ApexObject for Blackboard {
     ghost serves = { rules.serves };
+
+    ghost owes = { OwesNothing };
 
     ghost answer = { rules.answer };
 

@@ -5,7 +5,7 @@ ghost use Rattle.apex_types.specs.declared.record.Out.TheVariants as out;
 ghost use Rattle.apex_machine.specs.Demands.{AllHold, answer_demands};
 ghost use Rattle.apex_machine.specs.Objects.{buffer_received, buffer_sent};
 ghost use Rattle.apex_machine.specs.Waiting.{first_waiter};
-ghost use Rattle.wait_set.specs.Actors.{Refuses, entry_with};
+ghost use Rattle.wait_set.specs.Actors.{OwesNothing, Refuses, entry_with};
 ghost use Rattle.wait_set.specs.Givens.{answer_given};
 ghost use Rattle.wait_set.specs.Sets.{IsNew};
 ghost use Rattle.buffer.specs.Buffers as rules;
@@ -14,7 +14,7 @@ use apex_types::{Claim, Discipline, Message, Name, Request, Who};
 use circular_buffer::HeapCircularBuffer;
 use std::alloc::{AllocError, Global};
 use std::marker::Model;
-use wait_set::{Actor, ApexObject, Effect, Given, ObjFault, WaitSet};
+use wait_set::{Actor, ApexObject, Effect, Given, Named, ObjFault, WaitSet};
 
 /// A buffer: the greatest size of its messages, the messages that it holds, and those that wait to send and to receive.
 #[derive(Drop)]
@@ -60,13 +60,6 @@ impl Buffer {
             senders: WaitSet::new(alloc, discipline),
             receivers: WaitSet::new(alloc, discipline),
         })
-    }
-
-    /// Its name.
-    pub fn name(&self) -> &Name
-        ensures { result.now ≡ self.now.name }
-    {
-        &self.name
     }
 
     /// The greatest size of its messages, in bytes.
@@ -171,8 +164,18 @@ impl Buffer {
     }
 }
 
+impl Named for Buffer {
+    ghost name_of = { λ buffer. buffer.name };
+
+    fn name(&self) -> &Name {
+        &self.name
+    }
+}
+
 impl ApexObject for Buffer {
     ghost serves = { rules.serves };
+
+    ghost owes = { OwesNothing };
 
     ghost answer = { rules.answer };
 

@@ -1,5 +1,5 @@
 -- What each operation on a mutex gives its caller, and the mutex after it.
-use Rattle.std.specs.Prelude.{ℤ, Bool, List, [], ◌∷◌, true, false, IsTrue}
+use Rattle.std.specs.Prelude.{◌≤◌, ℤ, Bool, List, [], ◌∷◌, true, false, IsTrue}
 use Rattle.apex_types.specs.declared.record.Claim.{Claim}
 use Rattle.apex_types.specs.declared.record.Who.{Who}
 use Rattle.apex_types.specs.declared.request.Request.{Request}
@@ -15,10 +15,16 @@ use Rattle.wait_set.specs.declared.object.ObjFault.TheVariants.{Unlawful, Memory
 use Rattle.wait_set.specs.Actors.{joined_by, left_by}
 use Rattle.wait_set.specs.Sets as waiters
 
--- the operation that owes what the trait asks and no more: ACQUIRE_MUTEX asks that the count is not above its place
+-- the operations on a mutex
 abbrev pub serves : Request → Bool
+serves (AcquireMutex mutex time_out) = true
 serves (ReleaseMutex mutex) = true
 serves _ = false
+
+-- ACQUIRE_MUTEX asks that the count is not above its place: so it can rise by one
+abbrev pub Owes : Actor → Request → Mutex → Type 0
+Owes actor (AcquireMutex mutex time_out) found = found.count ≤ actor.place
+Owes actor _ found = Unit {0}
 
 -- ACQUIRE_MUTEX, by this process
 abbrev pub acquire : Actor → ℤ → Mutex → Effect Mutex

@@ -13,8 +13,8 @@
 //! mutex.release(&waking)?;                 // the claim names process 2, which owns it now, with count 1
 //! ```
 //!
-//! `ApexObject::apply` serves RELEASE_MUTEX alone. An acquisition asks more of its caller than the trait does: the count is
-//! not above the place of the call, so that it can rise by one. It is the method `acquire`.
+//! `ApexObject::apply` serves both. An acquisition owes that the count is not above the place of the call, so that it can rise
+//! by one. The methods `acquire` and `release` say also how far the count rises, and when memory is wanted.
 #![tactic(auto)]
 
 mod mutex;

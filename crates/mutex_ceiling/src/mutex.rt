@@ -13,7 +13,7 @@ ghost use Rattle.mutex_ceiling.specs.Mutexes as rules;
 use apex_types::{Claim, Discipline, Name, ProcId, Request, Who};
 use std::alloc::Global;
 use std::marker::Model;
-use wait_set::{Actor, ApexObject, Effect, Given, ObjFault, WaitSet};
+use wait_set::{Actor, ApexObject, Effect, Given, Named, ObjFault, WaitSet};
 
 /// A mutex: its priority, the process that owns it, how often its owner has acquired it, and those that wait.
 #[derive(Drop)]
@@ -45,13 +45,6 @@ impl Mutex653 {
             count: 0,
             waiters: WaitSet::new(alloc, discipline),
         }
-    }
-
-    /// Its name.
-    pub fn name(&self) -> &Name
-        ensures { result.now ≡ self.now.name }
-    {
-        &self.name
     }
 
     /// The process that owns it, or None where it is free.
@@ -200,8 +193,18 @@ impl Mutex653 {
     }
 }
 
+impl Named for Mutex653 {
+    ghost name_of = { λ mutex. mutex.name };
+
+    fn name(&self) -> &Name {
+        &self.name
+    }
+}
+
 impl ApexObject for Mutex653 {
     ghost serves = { rules.serves };
+
+    ghost owes = { rules.Owes };
 
     ghost answer = { rules.answer };
 
@@ -211,13 +214,15 @@ impl ApexObject for Mutex653 {
 
     ghost without_one = { rules.without_one };
 
+    #[tactic(auto, using(crate::proofs::TimeOuts::as_given))]
     fn apply(
         &mut self,
-        _actor: Actor,
+        actor: Actor,
         request: &Request,
         claim: &Claim,
     ) -> Result<Effect, ObjFault> {
         match request {
+            Request::AcquireMutex { time_out, .. } => self.acquire(actor, *time_out, claim),
             Request::ReleaseMutex { .. } => self.release(claim),
             _ => unreachable!(),
         }

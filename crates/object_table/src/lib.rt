@@ -7,4 +7,4 @@
 
 mod table;
 
-pub use table::{Named, ObjectTable};
+pub use table::ObjectTable;

@@ -1,6 +1,7 @@
 // The table of one kind.
 
 ghost use Rattle.std.specs.Prelude.{◌≡◌, ◌≢◌, ◌↔◌, ◌++◌, ◌∷◌, ℕ, [], None, pos, length, IfErr, IfOk, IfSome, IsTrue, OnErr, OnOk, List};
+ghost use Rattle.std.specs.Map.Iter.{ShowsInOrder, deref_pair};
 ghost use Rattle.std.specs.Option.{option_copied};
 ghost use Rattle.apex_types.specs.declared.record.Out.TheVariants as out;
 ghost use Rattle.apex_machine.specs.Answer.{is_new};
@@ -10,28 +11,17 @@ ghost use Rattle.apex_machine.specs.Demands.{AllHold, answer_demands};
 ghost use Rattle.apex_machine.specs.State.{change_at, given_object, is_free, item_at};
 ghost use Rattle.wait_set.specs.Actors.{Refuses, entry_with};
 ghost use Rattle.wait_set.specs.Sets.{IsNewInEach};
-ghost use Rattle.object_table.specs.Numbers.{number_of};
+ghost use Rattle.object_table.specs.Numbers.{NumbersFit, number_of};
 
 use apex_types::{Claim, Name, Request, Who};
 use indexmap::IndexMap;
+use indexmap::map::Iter;
 use std::alloc::{AllocError, Global};
 use std::marker::Model;
-use wait_set::{Actor, ApexObject, Effect, ObjFault};
+use wait_set::{Actor, ApexObject, Effect, Named, ObjFault};
 
 /// The greatest number of an object.
 const GREATEST_NUMBER: i64 = 2_147_483_647;
-
-/// What has a name.
-pub trait Named {
-    ghost use Rattle.std.specs.Prelude.{ℕ, List};
-
-    // Its name.
-    ghost name_of: { Self → List ℕ };
-
-    /// Its name.
-    fn name(&self) -> &Name
-        ensures { result.now ≡ name_of self.now };
-}
 
 /// The objects of one kind, under their numbers, in the order of their creation.
 #[derive(Drop)]
@@ -77,11 +67,26 @@ impl<Object> ObjectTable<Object> {
         self.objects.get(&number)
     }
 
+    /// Says of a table what each keeps: the numbers of its objects fit 32 bits. It does nothing.
+    pub fn keeps_numbers(&self)
+        ensures { NumbersFit self.now }
+    {
+        let _ = &self.objects;
+    }
+
     /// How many objects there are.
     pub fn len(&self) -> usize
         ensures { result ≡ length self.now }
     {
         self.objects.len()
+    }
+
+    /// The objects with their numbers, in the order of their creation.
+    pub fn iter(&self) -> Iter<'_, u32, Object>
+        ensures rest { result ≡ self.now }
+        ensures runs { ShowsInOrder (deref_pair {K = ℕ} {X = Object}) }
+    {
+        self.objects.iter()
     }
 
     /// Whether a claimed value is a number that a new object can take: 1 to 2,147,483,647, and no object has it.
@@ -136,6 +141,7 @@ impl<Object: ApexObject> ObjectTable<Object> {
         requires served { IsTrue (Object.serves request.now) }
         requires found { given_object self.old number ≢ None }
         requires new { IfSome (given_object self.old number) (λ object. IsNewInEach (entry_with actor []) (Object.sets object)) }
+        requires owed { IfSome (given_object self.old number) (λ object. Object.owes actor request.now object) }
         ensures ok { OnOk result (IfSome (given_object self.old number) (λ object. AllHold (answer_demands (Object.answer actor request.now object) claim.now))) }
         ensures after { OnOk result (self.new ≡ change_at (natural_of number) (Object.after actor request.now claim.now) self.old) }
         ensures waits { IfOk result (λ effect. IsTrue effect.waits ↔ (claim.now.out ≡ out.Waits)) }

@@ -4,14 +4,14 @@ ghost use Rattle.std.specs.Prelude.{◌≡◌, ◌↔◌, [], false, IfErr, IfOk
 ghost use Rattle.apex_types.specs.declared.record.Out.TheVariants as out;
 ghost use Rattle.apex_machine.specs.Demands.{AllHold, answer_demands};
 ghost use Rattle.apex_machine.specs.Objects.{event_reset, event_set, event_waited};
-ghost use Rattle.wait_set.specs.Actors.{Refuses, entry_with};
+ghost use Rattle.wait_set.specs.Actors.{OwesNothing, Refuses, entry_with};
 ghost use Rattle.wait_set.specs.Sets.{IsNew};
 ghost use Rattle.semaphore_event.specs.Events as rules;
 
 use apex_types::{Claim, Discipline, Name, Request, Who};
 use std::alloc::Global;
 use std::marker::Model;
-use wait_set::{Actor, ApexObject, Effect, Given, ObjFault, WaitSet, judge_waking_all};
+use wait_set::{Actor, ApexObject, Effect, Given, Named, ObjFault, WaitSet, judge_waking_all};
 
 /// An event: whether it is up, and those that wait for it.
 #[derive(Drop)]
@@ -39,13 +39,6 @@ impl Event {
             up: false,
             waiters: WaitSet::new(alloc, Discipline::Fifo),
         }
-    }
-
-    /// Its name.
-    pub fn name(&self) -> &Name
-        ensures { result.now ≡ self.now.name }
-    {
-        &self.name
     }
 
     /// Whether it is up.
@@ -105,8 +98,18 @@ impl Event {
     }
 }
 
+impl Named for Event {
+    ghost name_of = { λ event. event.name };
+
+    fn name(&self) -> &Name {
+        &self.name
+    }
+}
+
 impl ApexObject for Event {
     ghost serves = { rules.serves };
+
+    ghost owes = { OwesNothing };
 
     ghost answer = { rules.answer };
 

@@ -4,14 +4,14 @@ ghost use Rattle.std.specs.Prelude.{◌≡◌, ◌↔◌, [], IfErr, IfOk, IsTru
 ghost use Rattle.apex_types.specs.declared.record.Out.TheVariants as out;
 ghost use Rattle.apex_machine.specs.Demands.{AllHold, answer_demands};
 ghost use Rattle.apex_machine.specs.Objects.{semaphore_waited};
-ghost use Rattle.wait_set.specs.Actors.{Refuses, entry_with};
+ghost use Rattle.wait_set.specs.Actors.{OwesNothing, Refuses, entry_with};
 ghost use Rattle.wait_set.specs.Sets.{IsNew};
 ghost use Rattle.semaphore_event.specs.Semaphores as rules;
 
 use apex_types::{Claim, Code, Discipline, Name, Request, Who};
 use std::alloc::Global;
 use std::marker::Model;
-use wait_set::{Actor, ApexObject, Effect, Given, ObjFault, WaitSet};
+use wait_set::{Actor, ApexObject, Effect, Given, Named, ObjFault, WaitSet};
 
 /// A counting semaphore: its value, its maximum, and those that wait.
 #[derive(Drop)]
@@ -47,13 +47,6 @@ impl Semaphore {
             value,
             waiters: WaitSet::new(alloc, discipline),
         }
-    }
-
-    /// Its name.
-    pub fn name(&self) -> &Name
-        ensures { result.now ≡ self.now.name }
-    {
-        &self.name
     }
 
     /// Its value.
@@ -109,8 +102,18 @@ impl Semaphore {
     }
 }
 
+impl Named for Semaphore {
+    ghost name_of = { λ semaphore. semaphore.name };
+
+    fn name(&self) -> &Name {
+        &self.name
+    }
+}
+
 impl ApexObject for Semaphore {
     ghost serves = { rules.serves };
+
+    ghost owes = { OwesNothing };
 
     ghost answer = { rules.answer };
 

@@ -4,6 +4,7 @@ use Rattle.apex_types.specs.declared.cause.Cause.{Cause}
 use Rattle.apex_types.specs.declared.cause.Cause.TheVariants as cause
 use Rattle.apex_types.specs.declared.record.Claim.{Claim}
 use Rattle.apex_types.specs.declared.record.Out.{Out}
+use Rattle.apex_types.specs.declared.request.Request.{Request}
 use Rattle.apex_machine.specs.declared.state.Entry.{Entry}
 use Rattle.apex_machine.specs.Answer.{NamesExactly}
 use Rattle.apex_machine.specs.Demands.{AllHold, Demand, FirstFails}
@@ -16,6 +17,10 @@ use Rattle.wait_set.specs.Sets.{entered, without_named}
 -- the entry of a caller that waits with this message
 abbrev pub entry_with : Actor → List ℕ → Entry
 entry_with actor message = record { who = actor.who; priority = actor.priority; place = actor.place; message = message }
+
+-- an operation asks nothing of its caller and the object
+abbrev pub OwesNothing : {Object : Type 0} → Actor → Request → Object → Type 0
+OwesNothing actor request found = Unit {0}
 
 -- a waiting set after a claim: whose wait ends leaves it
 abbrev pub left_by : Claim → List Entry → List Entry

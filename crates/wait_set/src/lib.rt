@@ -16,5 +16,5 @@ mod set;
 
 pub use given::{Given, judge_waking_all};
 pub use laws::{enters_last, rising_is_roll};
-pub use object::{Actor, ApexObject, Effect, ObjFault};
+pub use object::{Actor, ApexObject, Effect, Named, ObjFault};
 pub use set::{Refused, WaitSet};

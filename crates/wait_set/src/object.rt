@@ -12,7 +12,7 @@ ghost use Rattle.wait_set.specs.declared.object.Actor.{Actor as ActorValue};
 ghost use Rattle.wait_set.specs.Actors.{Refuses, entry_with};
 ghost use Rattle.wait_set.specs.Sets.{IsNewInEach, stands_in_one};
 
-use apex_types::{Cause, Claim, Out, Place, Request, Who};
+use apex_types::{Cause, Claim, Name, Out, Place, Request, Who};
 use thiserror::Error;
 
 /// Who makes a call: the process, its current priority, and the place of the call.
@@ -51,10 +51,25 @@ pub enum ObjFault {
     Memory,
 }
 
+/// What has a name.
+pub trait Named {
+    ghost use Rattle.std.specs.Prelude.{ℕ, List};
+
+    // Its name.
+    ghost name_of: { Self → List ℕ };
+
+    /// Its name.
+    fn name(&self) -> &Name
+        ensures { result.now ≡ name_of self.now };
+}
+
 /// An object of a partition. Its operations are the requests for it. That no error condition holds is judged before.
 pub trait ApexObject {
     // The requests that are operations on it.
     ghost serves: { RequestValue → Bool };
+
+    // What an operation asks of its caller and the object.
+    ghost owes: { ActorValue → RequestValue → Self → Type 0 };
 
     // What an operation gives its caller. It has no value.
     ghost answer: { ActorValue → RequestValue → Self → Answer };
@@ -74,6 +89,7 @@ pub trait ApexObject {
     fn apply(&mut self, actor: Actor, request: &Request, claim: &Claim) -> Result<Effect, ObjFault>
         requires served { IsTrue (serves request.now) }
         requires new { IsNewInEach (entry_with actor []) (sets self.old) }
+        requires owed { owes actor request.now self.old }
         ensures ok { OnOk result (AllHold (answer_demands (answer actor request.now self.old) claim.now)) }
         ensures after { OnOk result (self.new ≡ after actor request.now claim.now self.old) }
         ensures waits { IfOk result (λ effect. IsTrue effect.waits ↔ (claim.now.out ≡ out.Waits)) }

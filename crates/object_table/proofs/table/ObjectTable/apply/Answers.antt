@@ -25,6 +25,12 @@ apply-requires-clause-new g c =
     let number = simp to_z-of_z at (sym c.object_number.ensures ∙ c.in-Some.is) in
     rw (← c.self.view_is, given-found c.self.inside.objects.entries c.args.number c.in-Some.key (Some c.in-Some-get_mut.object.now) number c.in-Some-get_mut.ensures.value) at c.requires.new
 
+pub apply-requires-clause-owed : goal.apply-requires-clause-owed
+apply-requires-clause-owed g c =
+    let fits = c.ranges.number in
+    let number = simp to_z-of_z at (sym c.object_number.ensures ∙ c.in-Some.is) in
+    rw (← c.self.view_is, given-found c.self.inside.objects.entries c.args.number c.in-Some.key (Some c.in-Some-get_mut.object.now) number c.in-Some-get_mut.ensures.value) at c.requires.owed
+
 pub invariant_of-self : goal.invariant_of-self
 invariant_of-self g c =
     rw ((c.get_mut.follows.holds c.apply.new.self).0) (NumbersFit-written (nat_eq c.in-Some.key) c.apply.new.self c.self.inside.objects.entries c.self.invariant)
