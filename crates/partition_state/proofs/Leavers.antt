@@ -1,0 +1,191 @@
+-- Who leaves a waiting set of a partition, and who stands then.
+use Rattle.std.proofs.Common.{◌≡◌, ℕ, ℤ, List, [], ◌∷◌, ◌++◌, if◌then◌else◌, nat_eq, IsTrue, Option, Some, None, Bool, true, false, refl, sym, ap, ◌∙◌, true≢false, ◌⊎◌, inl, inr}
+use Rattle.std.proofs.lemmas.Bool.{and_parts}
+use Rattle.apex_types.specs.declared.record.Call.{Call as CallRecord}
+use Rattle.apex_types.specs.declared.record.Who.{Who}
+use Rattle.apex_types.specs.declared.request.Request.TheVariants as request
+use Rattle.apex_machine.specs.declared.state.Entry.{Entry}
+use Rattle.apex_machine.specs.declared.state.Wait.{Wait}
+use Rattle.apex_machine.specs.declared.state.Wait.TheVariants as wait
+use Rattle.apex_machine.specs.declared.state.WaitingSet.{WaitingSet}
+use Rattle.apex_machine.specs.declared.state.WaitingSet.TheVariants as set
+use Rattle.apex_machine.specs.After.{each_set}
+use Rattle.apex_machine.specs.Answer.{done}
+use Rattle.apex_machine.specs.Demands.{answer_demands, stands_in}
+use Rattle.apex_machine.specs.State.{Buffer, Partition, Table, change_at, is_named, is_same, item_at}
+use Rattle.apex_machine.specs.Waiting.{is_in, waits_at, without}
+use Rattle.apex_laws.specs.Laws.{AllEntries, are_distinct, entries_at}
+use Rattle.apex_laws.specs.PartLaws.{HasDistinctObjects}
+use Rattle.apex_laws.specs.PartObjects.{left_by, without_one}
+use Rattle.apex_laws.specs.PartSets.{left_if_there, named_left}
+use Rattle.apex_laws.proofs.Booleans.{cannot_hold, neither_first, neither_later, other_holds}
+use Rattle.apex_laws.proofs.Objects.{each_set_has}
+use Rattle.apex_laws.proofs.PartSets.{AllStand, all_named_leave}
+use Rattle.apex_laws.proofs.SoundParts.{sets_distinct}
+use Rattle.apex_laws.proofs.Waiters.{all_without}
+use Rattle.apex_laws.proofs.Whos.{same_is, same_itself}
+use Rattle.buffer.specs.Buffers as buffers
+use Rattle.object_table.proofs.Tables.{change-absent}
+use Rattle.wait_set.specs.declared.object.ObjFault.{ObjFault}
+use Rattle.wait_set.specs.Actors.{Refuses}
+use Rattle.partition_state.specs.Calls.{served_demands}
+use Rattle.partition_state.specs.Leaving.{StandsOnlyAt, StandsWhereItWaits}
+use Rattle.partition_state.proofs.Sets.{change_found}
+
+-- one set
+
+same_swap : (one other : Who) → is_same one other ≡ is_same other one
+same_swap one other = by (is_same one other) refl
+  where
+    by : (b : Bool) → is_same one other ≡ b → b ≡ is_same other one
+    by true e = rw (same_is one other e) (sym (same_itself other))
+    by false e = sym (cannot_hold (is_same other one) (λ same. true≢false (sym (rw (same_is other one same) (same_itself one)) ∙ e)))
+
+-- a set stays where a process leaves that does not stand in it
+stays_apart : (who : Who) (entries : List Entry) → stands_in who entries ≡ false → without_one who entries ≡ entries
+stays_apart who [] apart = refl
+stays_apart who (entry ∷ entries) apart =
+    let first : is_same who entry.who ≡ false = neither_first _ _ apart in
+    let swap : is_same entry.who who ≡ is_same who entry.who = same_swap entry.who who in
+    let rest = stays_apart who entries (neither_later _ _ apart) in
+    rw (swap, first) (ap (λ others. entry ∷ others) rest)
+
+-- who leaves both sets of a buffer leaves the one in which it waits to send
+pub senders_leave : (who : Who) (due : Option ℕ) (number : ℕ) (partition : Partition) → are_distinct partition.buffers ≡ true
+    → StandsOnlyAt who (wait.At (set.BufferSenders number) due) partition
+    → change_at number (buffers.without_one who) partition.buffers
+    ≡ change_at number (λ found. record found { senders = without_one who found.senders }) partition.buffers
+senders_leave who due number partition distinct alone = by (item_at partition.buffers number) refl
+  where
+    by : (o : Option Buffer) → item_at partition.buffers number ≡ o
+        → change_at number (buffers.without_one who) partition.buffers
+        ≡ change_at number (λ found. record found { senders = without_one who found.senders }) partition.buffers
+    by None e = change-absent number _ partition.buffers e ∙ sym (change-absent number _ partition.buffers e)
+    by (Some found) e =
+        let apart : stands_in who found.receivers ≡ false =
+        cannot_hold (stands_in who found.receivers) (λ stands. true≢false (sym (alone (set.BufferReceivers number) (rw e stands)))) in
+        let stays = stays_apart who found.receivers apart in
+        change_found number _ _ found partition.buffers distinct e
+        (λ i. record found { senders = without_one who found.senders; receivers = stays i })
+
+-- who leaves both sets of a buffer leaves the one in which it waits to receive
+pub receivers_leave : (who : Who) (due : Option ℕ) (number : ℕ) (partition : Partition) → are_distinct partition.buffers ≡ true
+    → StandsOnlyAt who (wait.At (set.BufferReceivers number) due) partition
+    → change_at number (buffers.without_one who) partition.buffers
+    ≡ change_at number (λ found. record found { receivers = without_one who found.receivers }) partition.buffers
+receivers_leave who due number partition distinct alone = by (item_at partition.buffers number) refl
+  where
+    by : (o : Option Buffer) → item_at partition.buffers number ≡ o
+        → change_at number (buffers.without_one who) partition.buffers
+        ≡ change_at number (λ found. record found { receivers = without_one who found.receivers }) partition.buffers
+    by None e = change-absent number _ partition.buffers e ∙ sym (change-absent number _ partition.buffers e)
+    by (Some found) e =
+        let apart : stands_in who found.senders ≡ false =
+        cannot_hold (stands_in who found.senders) (λ stands. true≢false (sym (alone (set.BufferSenders number) (rw e stands)))) in
+        let stays = stays_apart who found.senders apart in
+        change_found number _ _ found partition.buffers distinct e
+        (λ i. record found { senders = stays i; receivers = without_one who found.receivers })
+
+-- who leaves both sets of the buffer in one of which it waits leaves the set that its wait names
+pub buffer_left : (who : Who) (one : Wait) (wanted : WaitingSet) (due : Option ℕ) (number : ℕ) (partition : Partition) (left : List (ℕ × Buffer))
+    → HasDistinctObjects partition → StandsOnlyAt who one partition → one ≡ wait.At wanted due
+    → (wanted ≡ set.BufferSenders number) ⊎ (wanted ≡ set.BufferReceivers number)
+    → left ≡ change_at number (buffers.without_one who) partition.buffers
+    → record partition { buffers = left } ≡ left_by who one partition
+buffer_left who one wanted due number partition left has alone at (inl here) is =
+    let waits : one ≡ wait.At (set.BufferSenders number) due = at ∙ ap (λ found. wait.At found due) here in
+    rw (waits, is) (ap (λ found. record partition { buffers = found }) (senders_leave who due number partition has.buffers (rw waits at alone)))
+buffer_left who one wanted due number partition left has alone at (inr here) is =
+    let waits : one ≡ wait.At (set.BufferReceivers number) due = at ∙ ap (λ found. wait.At found due) here in
+    rw (waits, is) (ap (λ found. record partition { buffers = found }) (receivers_leave who due number partition has.buffers (rw waits at alone)))
+
+-- who stands waits
+
+-- who stands in a set waits there, where all do that stand in it
+stands_waiting : (number : ℕ) (table : Table) (wanted : WaitingSet) (who : Who) (entries : List Entry)
+    → AllEntries (λ entry. (entry.who.part ≡ number) × IsTrue (waits_at wanted (item_at table entry.who.proc))) entries → stands_in who entries ≡ true
+    → waits_at wanted (item_at table who.proc) ≡ true
+stands_waiting number table wanted who [] all stands = absurd (true≢false (sym stands))
+stands_waiting number table wanted who (entry ∷ entries) all stands =
+    by (is_same who entry.who) refl (stands_waiting number table wanted who entries all.1)
+  where
+    by : (b : Bool) → is_same who entry.who ≡ b → (stands_in who entries ≡ true → waits_at wanted (item_at table who.proc) ≡ true)
+        → waits_at wanted (item_at table who.proc) ≡ true
+    by true e rest = rw (same_is who entry.who e) all.0.1
+    by false e rest = rest (other_holds _ _ stands e)
+
+-- so a process stands in no set but the one in which it waits
+pub where_it_waits : (number : ℕ) (partition : Partition) (who : Who) → AllStand number partition.table partition → StandsWhereItWaits who partition
+where_it_waits number partition who stand process at wanted stands =
+    let waits : waits_at wanted (Some process) ≡ true = rw at at (stands_waiting number partition.table wanted who (entries_at partition wanted) (stand wanted) stands) in
+    (and_parts process.alive (is_in wanted process.wait) waits).1
+
+-- a STOP
+
+-- it is refused by what is demanded of what is done at once
+pub stop_refused : (now : ℕ) (partition : Partition) (call : CallRecord) (process : ℤ) (fault : ObjFault) → call.request ≡ request.Stop process
+    → Refuses (answer_demands done call.claim) fault → Refuses (served_demands now partition call) fault
+stop_refused now partition call process fault asked refuses = rw asked refuses
+
+-- those named, one after another
+
+-- one more that is named leaves last
+named_more : (number : ℕ) (table : Table) (named : List Who) (who : Who) (partition : Partition)
+    → named_left number table (named ++ who ∷ []) partition
+    ≡ (if nat_eq who.part number
+    then left_if_there who (item_at table who.proc) (named_left number table named partition)
+    else named_left number table named partition)
+named_more number table [] who partition = refl
+named_more number table (first ∷ named) who partition =
+    named_more number table named who (if nat_eq first.part number then left_if_there first (item_at table first.proc) partition else partition)
+
+-- while they leave, the processes stay
+named_table : (number : ℕ) (named : List Who) (partition : Partition) → HasDistinctObjects partition → AllStand number partition.table partition
+    → (named_left number partition.table named partition).table ≡ partition.table
+named_table number named partition has stand = rw (all_named_leave number partition.table named partition has stand) refl
+
+-- numbers stay distinct
+pub named_distinct : (number : ℕ) (named : List Who) (partition : Partition) → HasDistinctObjects partition → AllStand number partition.table partition
+    → HasDistinctObjects (named_left number partition.table named partition)
+named_distinct number named partition has stand =
+    rw (all_named_leave number partition.table named partition has stand)
+    (sets_distinct (λ wanted entries. without (λ who. is_named who named) entries) partition has)
+
+-- and who stands waits
+named_stand : (number : ℕ) (named : List Who) (partition : Partition) → HasDistinctObjects partition → AllStand number partition.table partition
+    → AllStand number partition.table (named_left number partition.table named partition)
+named_stand number named partition has stand =
+    rw (all_named_leave number partition.table named partition has stand) (λ wanted. after wanted)
+  where
+    after : AllStand number partition.table (each_set (λ wanted entries. without (λ who. is_named who named) entries) partition)
+    after wanted =
+        let Fact : Entry → Type 0 = λ entry. (entry.who.part ≡ number) × IsTrue (waits_at wanted (item_at partition.table entry.who.proc)) in
+        each_set_has (AllEntries Fact) tt (λ wanted entries. without (λ who. is_named who named) entries) partition wanted
+        (all_without Fact Fact (λ who. is_named who named) (λ entry stays stands. stands) (entries_at partition wanted) (stand wanted))
+
+-- so who is named next stands where it waits
+pub named_where : (number : ℕ) (named : List Who) (partition : Partition) (who : Who) → HasDistinctObjects partition → AllStand number partition.table partition
+    → StandsWhereItWaits who (named_left number partition.table named partition)
+named_where number named partition who has stand =
+    let same = named_table number named partition has stand in
+    let stands = named_stand number named partition has stand in
+    where_it_waits number (named_left number partition.table named partition) who (rw same stands)
+
+-- who is named next, and is of this partition, leaves the set in which it waits as before
+pub next_leaves : (number : ℕ) (named : List Who) (partition : Partition) (who : Who) → HasDistinctObjects partition → AllStand number partition.table partition
+    → nat_eq who.part number ≡ true
+    → left_if_there who (item_at (named_left number partition.table named partition).table who.proc) (named_left number partition.table named partition)
+    ≡ named_left number partition.table (named ++ who ∷ []) partition
+next_leaves number named partition who has stand here =
+    let before : Partition = named_left number partition.table named partition in
+    ap (λ table. left_if_there who (item_at table who.proc) before) (named_table number named partition has stand)
+    ∙ sym (named_more number partition.table named who partition
+    ∙ ap (λ own. if own then left_if_there who (item_at partition.table who.proc) before else before) here)
+
+-- who is named next, and is of another partition, leaves none
+pub next_stays : (number : ℕ) (named : List Who) (partition : Partition) (who : Who) → nat_eq who.part number ≡ false
+    → named_left number partition.table named partition ≡ named_left number partition.table (named ++ who ∷ []) partition
+next_stays number named partition who elsewhere =
+    let before : Partition = named_left number partition.table named partition in
+    sym (named_more number partition.table named who partition
+    ∙ ap (λ own. if own then left_if_there who (item_at partition.table who.proc) before else before) elsewhere)

@@ -1,0 +1,12 @@
+pub mod BlackboardCalls
+pub mod BufferCalls
+pub mod EventCalls
+pub mod Found
+pub mod Leavers
+pub mod MutexCalls
+pub mod MutexOwners
+pub mod SemaphoreCalls
+pub mod Sets
+pub mod Clear
+pub mod Served
+pub mod Sounds

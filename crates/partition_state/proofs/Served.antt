@@ -1,0 +1,104 @@
+-- What a call that was served makes of the objects is what it makes of the partition's.
+use Rattle.std.proofs.Common.{◌≡◌, ℕ, ℤ, List, [], Option, Some, None, Bool, true, false, refl, ap, sym, ◌∙◌}
+use Rattle.apex_types.specs.declared.code.Code.TheVariants as code
+use Rattle.apex_types.specs.declared.record.Call.{Call as CallRecord}
+use Rattle.apex_types.specs.declared.record.Who.{Who}
+use Rattle.apex_types.specs.declared.request.Request.{Request}
+use Rattle.apex_types.specs.declared.request.Request.TheVariants as request
+use Rattle.apex_machine.specs.declared.state.CoreState.{CoreState}
+use Rattle.apex_machine.specs.declared.state.Process.{Process}
+use Rattle.apex_machine.specs.declared.state.Wait.{Wait}
+use Rattle.apex_machine.specs.declared.state.Wait.TheVariants as wait
+use Rattle.apex_machine.specs.declared.state.WaitingSet.TheVariants as set
+use Rattle.apex_machine.specs.After.{objects_called, partition_called}
+use Rattle.apex_machine.specs.Configuration.{Configuration}
+use Rattle.apex_machine.specs.Demands.{AllHold, Demand}
+use Rattle.apex_machine.specs.Services.{fellow, is_built}
+use Rattle.apex_machine.specs.State.{Partition, created, time_of}
+use Rattle.apex_machine.specs.Waiting.{is_no_error}
+use Rattle.apex_laws.specs.PartLaws.{IsOwnCall}
+use Rattle.apex_laws.specs.PartObjects.{left_by, objects_changed}
+use Rattle.apex_laws.specs.PartSets.{left_if_there}
+use Rattle.apex_laws.proofs.LeavingSets.{stopped_leaves}
+use Rattle.apex_laws.proofs.PartObjects.{one_object_changes}
+use Rattle.process_state.specs.Processes.{Processes, processes_of}
+use Rattle.wait_set.specs.declared.object.ObjFault.{ObjFault}
+use Rattle.wait_set.specs.declared.object.ObjFault.TheVariants.{Unlawful, Memory}
+use Rattle.wait_set.specs.Actors.{Refuses}
+use Rattle.partition_state.specs.Calls.{IsClear, RefusesOrWants, objects_served, served_demands}
+use Rattle.partition_state.proofs.Clear.{own_call, target_found}
+
+-- whether a request is STOP
+abbrev pub is_stop : Request → Bool
+is_stop (request.Stop process) = true
+is_stop _ = false
+
+-- the objects after a call
+
+pub served_is_called : (configuration : Configuration) (cores : List CoreState) (place core : ℕ) (partition : Partition) (call : CallRecord)
+    → IsClear configuration cores place core partition call → AllHold (served_demands (time_of cores core) partition call)
+    → (asked : Request) → call.request ≡ asked
+    → objects_called configuration place call partition ≡ objects_served configuration place call asked partition
+served_is_called configuration cores place core partition call clear served (request.Stop process) is =
+    by (created partition.table process) refl
+  where
+    own : IsOwnCall is_built configuration call.who.part place core cores partition call
+    own = own_call configuration cores place core partition call clear served
+
+    by : (target : Option Process) → created partition.table process ≡ target
+        → objects_called configuration place call partition ≡ left_if_there (fellow call.who process) target partition
+    by None e = absurd (target_found configuration call.who partition process (rw is at clear.codes) e)
+    by (Some target) e =
+        let served_now = rw is at served in
+        let done : is_no_error call.claim.out ≡ true = rw served_now.0 refl in
+        (stopped_leaves is_built configuration call.who.part place core cores partition call own process is done target e).2
+served_is_called configuration cores place core partition call clear served asked is =
+    one_object_changes is_built configuration call.who.part place core cores partition call
+    (own_call configuration cores place core partition call clear served) (rw is refl) asked is
+
+-- a service other than STOP changes the one object that it names
+pub changed_is_served : (configuration : Configuration) (place : ℕ) (call : CallRecord) (partition new : Partition) → is_stop call.request ≡ false
+    → new ≡ objects_changed configuration place call call.request partition → new ≡ objects_served configuration place call call.request partition
+changed_is_served configuration place call partition new = by call.request
+  where
+    by : (asked : Request) → is_stop asked ≡ false → new ≡ objects_changed configuration place call asked partition
+        → new ≡ objects_served configuration place call asked partition
+    by (request.Stop process) other e = let never : ◌≡◌ {A = Bool} true false = other in cc
+    by _ other e = e
+
+-- a refusal is one where memory may be wanted too
+pub refuses_or_wants : (demands : List {1} Demand) (fault : ObjFault) → Refuses demands fault → RefusesOrWants demands fault
+refuses_or_wants demands (Unlawful cause) refuses = refuses
+refuses_or_wants demands Memory refuses = tt
+
+-- the mode and the processes stay
+
+left_keeps : (who : Who) (waited : Wait) (partition : Partition) → processes_of (left_by who waited partition) ≡ processes_of partition
+left_keeps who (wait.At (set.BufferSenders number) due) partition = refl
+left_keeps who (wait.At (set.BufferReceivers number) due) partition = refl
+left_keeps who (wait.At (set.BlackboardReaders number) due) partition = refl
+left_keeps who (wait.At (set.SemaphoreWaiters number) due) partition = refl
+left_keeps who (wait.At (set.EventWaiters number) due) partition = refl
+left_keeps who (wait.At (set.MutexWaiters number) due) partition = refl
+left_keeps who (wait.At (set.ChannelSenders channel) due) partition = refl
+left_keeps who (wait.At (set.ChannelReceivers channel) due) partition = refl
+left_keeps who _ partition = refl
+
+pub served_keeps : (configuration : Configuration) (place : ℕ) (call : CallRecord) (partition : Partition) (asked : Request)
+    → processes_of (objects_served configuration place call asked partition) ≡ processes_of partition
+served_keeps configuration place call partition (request.Stop process) = by (created partition.table process)
+  where
+    by : (target : Option Process) → processes_of (left_if_there (fellow call.who process) target partition) ≡ processes_of partition
+    by None = refl
+    by (Some target) = left_keeps (fellow call.who process) target.wait partition
+served_keeps configuration place call partition _ = refl
+
+-- the partition with these processes
+abbrev pub with_processes : Processes → Partition → Partition
+with_processes processes partition = record partition { mode = processes.mode; table = processes.table }
+
+-- with the objects and the processes after a call it is the partition after it
+pub is_called : (configuration : Configuration) (cores : List CoreState) (place core : ℕ) (call : CallRecord) (old new : Partition) (processes : Processes)
+    → new ≡ objects_called configuration place call old → processes ≡ processes_of (partition_called configuration cores place core call old)
+    → with_processes processes new ≡ partition_called configuration cores place core call old
+is_called configuration cores place core call old new processes objects become = rw (objects, become) refl

@@ -1,0 +1,134 @@
+-- The table of processes can hold what a call asks for.
+use Rattle.std.proofs.Common.{◌≡◌, ◌≢◌, ◌<◌, ◌≤◌, ℕ, ℤ, pos, negsuc, List, [], ◌∷◌, ◌++◌, ◌||◌, Option, Some, None, Bool, true, false, not, nat_eq, IsTrue, refl, sym, arith}
+use Rattle.std.proofs.lemmas.Bool.Decides.{nat_tests}
+use Rattle.apex_types.specs.Bounds.{place_count}
+use Rattle.apex_types.specs.declared.code.Code.TheVariants as error
+use Rattle.apex_types.specs.declared.record.Call.{Call as CallRecord}
+use Rattle.apex_types.specs.declared.record.Out.{Out}
+use Rattle.apex_types.specs.declared.record.Out.TheVariants as out
+use Rattle.apex_types.specs.declared.record.Who.{Who}
+use Rattle.apex_types.specs.declared.request.Request.{Request}
+use Rattle.apex_types.specs.declared.request.Request.TheVariants as request
+use Rattle.apex_machine.specs.declared.state.CoreState.{CoreState}
+use Rattle.apex_machine.specs.After.{is_done}
+use Rattle.apex_machine.specs.Answer.{NamesExactly}
+use Rattle.apex_machine.specs.Arguments.{natural_of}
+use Rattle.apex_machine.specs.Configuration.{Configuration, is_core}
+use Rattle.apex_machine.specs.Demands.{AllHold}
+use Rattle.apex_machine.specs.ServiceConditions.{condition_codes}
+use Rattle.apex_machine.specs.State.{Partition, given_object, is_named, is_same, item_at, time_of}
+use Rattle.apex_machine.specs.Waiting.{is_waiting}
+use Rattle.apex_laws.specs.PartBounds.{IsBoundedPart}
+use Rattle.apex_laws.proofs.BoundedParts.{releases_fit}
+use Rattle.module_config.specs.Limits.{CoresAreOfModule}
+use Rattle.object_table.specs.Numbers.{NumbersFit}
+use Rattle.process_state.specs.Sound.{IsSound, AsksSoundly, IsObjectNumber, ReleasesSoundly, WaitsSoundly, is_core_number}
+use Rattle.partition_state.specs.Calls.{IsClear, NumbersAreKept, served_demands}
+use Rattle.partition_state.proofs.Clear.{blackboard_found, buffer_found, event_found, mutex_found, nil_left, nil_right, semaphore_found, when_not}
+
+-- what is asked
+
+-- a list that names nobody is empty
+same_self : (who : Who) → is_same who who ≡ true
+same_self who = grind (arith, nat_tests)
+
+nobody : (named : List Who) → NamesExactly [] named → named ≡ []
+nobody [] exactly = refl
+nobody (who ∷ named) exactly =
+    let none : is_same who who || is_named who named ≡ false = exactly who in
+    let self = rw (same_self who) at none in cc
+
+-- a core of a partition is one
+core_is : (configuration : Configuration) (number : ℕ) (core : ℤ) → configuration.cores ≤ 16 → CoresAreOfModule configuration
+    → IsTrue (is_core configuration number core) → IsTrue (is_core_number core)
+core_is configuration number (pos core) few of_module has =
+    let below : core < configuration.cores = of_module number core has in
+    grind (arith, nat_tests)
+core_is configuration number (negsuc core) few of_module has = cc
+
+asks_soundly : (configuration : Configuration) (now : ℕ) (partition : Partition) (call : CallRecord) (asked : Request)
+    → configuration.cores ≤ 16 → CoresAreOfModule configuration → condition_codes configuration call.who partition asked ≡ [] → call.request ≡ asked
+    → AllHold (served_demands now partition call) → AsksSoundly partition.table call asked
+asks_soundly configuration now partition call (request.CreateProcess name priority period) few of_module none is served =
+    λ done. let given = rw is at served in
+    (given.1.0, when_not _ error.InvalidParam (nil_right _ _ (nil_left _ _ (nil_left _ _ none))), nobody call.claim.woken given.1.1.1.0)
+asks_soundly configuration now partition call (request.SetPriority process priority) few of_module none is served =
+    λ done. when_not _ error.InvalidParam (nil_right _ _ none)
+asks_soundly configuration now partition call (request.InitializeProcessCoreAffinity process core) few of_module none is served =
+    λ done. core_is configuration call.who.part core few of_module (when_not _ error.InvalidConfig (nil_right _ _ none))
+asks_soundly configuration now partition call _ few of_module none is served = tt
+
+-- waits
+
+number_fits : {Object : Type 0} (number : ℕ) (objects : List (ℕ × Object)) → NumbersFit objects → item_at objects number ≢ None → number < 4294967296
+number_fits number [] fit found = absurd (found refl)
+number_fits number (entry ∷ entries) fit found = by (nat_eq number entry.0) refl (number_fits number entries fit.1)
+  where
+    by : (b : Bool) → nat_eq number entry.0 ≡ b → (item_at entries number ≢ None → number < 4294967296) → number < 4294967296
+    by true e rest = let here : entry.0 < 4294967296 = fit.0 in grind (arith, nat_tests)
+    by false e rest = rest (rw e at found)
+
+given_fits : {Object : Type 0} (objects : List (ℕ × Object)) (given : ℤ) → NumbersFit objects → given_object objects given ≢ None → IsObjectNumber given
+given_fits objects (pos n) fit found = number_fits n objects fit found
+given_fits objects (negsuc n) fit found = absurd (found refl)
+
+waits_soundly : (configuration : Configuration) (who : Who) (partition : Partition) (asked : Request) → NumbersAreKept partition
+    → condition_codes configuration who partition asked ≡ [] → WaitsSoundly asked
+waits_soundly configuration who partition (request.SendBuffer buffer length time_out message) kept none =
+    given_fits partition.buffers buffer kept.buffers (buffer_found configuration who partition (request.SendBuffer buffer length time_out message) buffer refl none)
+waits_soundly configuration who partition (request.ReceiveBuffer buffer time_out) kept none =
+    given_fits partition.buffers buffer kept.buffers (buffer_found configuration who partition (request.ReceiveBuffer buffer time_out) buffer refl none)
+waits_soundly configuration who partition (request.ReadBlackboard blackboard time_out) kept none =
+    given_fits partition.blackboards blackboard kept.blackboards (blackboard_found configuration who partition (request.ReadBlackboard blackboard time_out) blackboard refl none)
+waits_soundly configuration who partition (request.WaitSemaphore semaphore time_out) kept none =
+    given_fits partition.semaphores semaphore kept.semaphores (semaphore_found configuration who partition (request.WaitSemaphore semaphore time_out) semaphore refl none)
+waits_soundly configuration who partition (request.WaitEvent event time_out) kept none =
+    given_fits partition.events event kept.events (event_found configuration who partition (request.WaitEvent event time_out) event refl none)
+waits_soundly configuration who partition (request.AcquireMutex mutex time_out) kept none =
+    given_fits partition.mutexes mutex kept.mutexes (mutex_found configuration who partition (request.AcquireMutex mutex time_out) mutex refl none)
+waits_soundly configuration who partition _ kept none = tt
+
+-- releases
+
+releases_soundly : (place : ℕ) (partition : Partition) (caller : ℕ) (asked : Request) → IsBoundedPart place partition → place < place_count
+    → ReleasesSoundly partition.table caller asked
+releases_soundly place partition caller request.PeriodicWait bounded below =
+    λ process at. releases_fit place partition caller process bounded (omega (arith, below)) at
+releases_soundly place partition caller _ bounded below = tt
+
+-- calls that are served
+
+pub sound_served : (configuration : Configuration) (cores : List CoreState) (place core : ℕ) (partition : Partition) (call : CallRecord)
+    → IsClear configuration cores place core partition call → AllHold (served_demands (time_of cores core) partition call)
+    → configuration.cores ≤ 16 → CoresAreOfModule configuration → NumbersAreKept partition → place < place_count → IsSound partition.table call
+sound_served configuration cores place core partition call clear served few of_module kept below = record {
+  asks = asks_soundly configuration (time_of cores core) partition call call.request few of_module clear.codes refl served;
+  waits = λ waiting. waits_soundly configuration call.who partition call.request kept clear.codes;
+  releases = releases_soundly place partition call.who.proc call.request clear.bounded below;
+}
+
+-- calls that are refused
+
+not_waiting : (claimed : Out) → is_done claimed ≡ false → IsTrue (is_waiting claimed) → ⊥
+not_waiting out.Waits not_done waiting = let never : ◌≡◌ {A = Bool} true false = not_done in cc
+not_waiting out.Never not_done waiting = let never : ◌≡◌ {A = Bool} false true = waiting in cc
+not_waiting (out.Answer code) not_done waiting = let never : ◌≡◌ {A = Bool} false true = waiting in cc
+
+pub not_done_and_done : (done : Bool) → done ≡ false → IsTrue done → ⊥
+not_done_and_done true not_done is = let never : ◌≡◌ {A = Bool} true false = not_done in cc
+not_done_and_done false not_done is = let never : ◌≡◌ {A = Bool} false true = is in cc
+
+asks_nothing : (partition : Partition) (call : CallRecord) (asked : Request) → is_done call.claim.out ≡ false → AsksSoundly partition.table call asked
+asks_nothing partition call (request.CreateProcess name priority period) not_done = λ done. absurd (not_done_and_done (is_done call.claim.out) not_done done)
+asks_nothing partition call (request.SetPriority process priority) not_done = λ done. absurd (not_done_and_done (is_done call.claim.out) not_done done)
+asks_nothing partition call (request.InitializeProcessCoreAffinity process core) not_done =
+    λ done. absurd (not_done_and_done (is_done call.claim.out) not_done done)
+asks_nothing partition call _ not_done = tt
+
+pub sound_refused : (place : ℕ) (partition : Partition) (call : CallRecord) → IsBoundedPart place partition → is_done call.claim.out ≡ false
+    → place < place_count → IsSound partition.table call
+sound_refused place partition call bounded not_done below = record {
+  asks = asks_nothing partition call call.request not_done;
+  waits = λ waiting. absurd (not_waiting call.claim.out not_done waiting);
+  releases = releases_soundly place partition call.who.proc call.request bounded below;
+}

@@ -1,0 +1,134 @@
+// Waits that end, and who leaves a waiting set then: by a STOP, at a tick, by a call of another partition; and returns.
+
+ghost use Rattle.std.specs.Prelude.{◌≡◌, ◌≢◌, ℕ, List, None, IfErr, OnErr, OnOk};
+ghost use Rattle.apex_types.specs.declared.record.Body.TheVariants.{Tick};
+ghost use Rattle.apex_types.specs.declared.request.Request.TheVariants as request;
+ghost use Rattle.apex_machine.specs.declared.state.CoreState.{CoreState};
+ghost use Rattle.apex_machine.specs.After.{each_set, partition_by, returned, roused};
+ghost use Rattle.apex_machine.specs.Answer as answer;
+ghost use Rattle.apex_machine.specs.Configuration.{Configuration};
+ghost use Rattle.apex_machine.specs.Demands.{AllHold, answer_demands};
+ghost use Rattle.apex_machine.specs.Services.{fellow};
+ghost use Rattle.apex_machine.specs.State.{created, each_item, item_at};
+ghost use Rattle.apex_machine.specs.Waiting.{set_after};
+ghost use Rattle.apex_laws.specs.PartLaws.{HasDistinctObjects, IsSoundPart};
+ghost use Rattle.apex_laws.specs.PartObjects.{left_by};
+ghost use Rattle.apex_laws.specs.PartSets.{left_if_there};
+ghost use Rattle.wait_set.specs.Actors.{Refuses};
+ghost use Rattle.partition_state.specs.Calls.{IsAtWork, served_demands};
+ghost use Rattle.partition_state.specs.Leaving.{StandsWhereItWaits, StandsOnlyAt};
+
+use crate::state::PartitionState;
+use apex_machine::{Wait, WaitingSet};
+use apex_types::{Call, Claim, PartId, Place, ProcId, Who, Woken};
+use std::alloc::AllocError;
+use wait_set::{Given, ObjFault};
+
+impl PartitionState {
+    /// Takes a process out of the waiting set that this wait names, if it names one. Takes no memory.
+    pub(crate) fn leave_set(&mut self, who: Who, wait: Wait)
+        requires objects { HasDistinctObjects self.old }
+        requires alone { StandsOnlyAt who wait self.old }
+        ensures { self.new ≡ left_by who wait self.old }
+    {
+        let Wait::At(wanted, _) = wait else {
+            return;
+        };
+        match wanted {
+            WaitingSet::BufferSenders(number) | WaitingSet::BufferReceivers(number) => {
+                self.buffers.leave(number, who)
+            }
+            WaitingSet::BlackboardReaders(number) => self.blackboards.leave(number, who),
+            WaitingSet::SemaphoreWaiters(number) => self.semaphores.leave(number, who),
+            WaitingSet::EventWaiters(number) => self.events.leave(number, who),
+            WaitingSet::MutexWaiters(number) => self.mutexes.leave(number, who),
+            WaitingSet::ChannelSenders(_) | WaitingSet::ChannelReceivers(_) => {}
+        }
+    }
+
+    // Takes a process out of the waiting set in which it waits by the table, if there is such a process. Takes no memory.
+    fn leave(&mut self, who: Who)
+        requires objects { HasDistinctObjects self.old }
+        requires alone { StandsWhereItWaits who self.old }
+        ensures { self.new ≡ left_if_there who (item_at self.old.table who.proc) self.old }
+    {
+        if let Some(process) = self.processes.proc(who.proc) {
+            let wait = process.wait;
+            self.leave_set(who, wait);
+        }
+    }
+
+    /// STOP of the process that a caller gives: where the claim is that it is done, the process leaves the waiting set in
+    /// which it waits.
+    ///
+    /// Refused, with nothing changed, where the claim is another.
+    #[tactic(auto, using(crate::proofs::Leavers::stop_refused))]
+    pub(crate) fn stop(&mut self, place: Place, call: &Call, process: i64) -> Result<(), ObjFault>
+        requires asked { call.now.request ≡ request.Stop process }
+        requires at_work { IsAtWork place self.old call.now.who }
+        requires found { created self.old.table process ≢ None }
+        ensures ok { OnOk result ((now : ℕ) → AllHold (served_demands now self.old call.now)) }
+        ensures after { OnOk result (self.new ≡ left_if_there (fellow call.now.who process) (created self.old.table process) self.old) }
+        ensures refused { IfErr result (λ fault. (now : ℕ) → Refuses (served_demands now self.old call.now) fault) }
+        ensures unchanged { OnErr result (self.new ≡ self.old) }
+    {
+        judge_done(&call.claim)?;
+        if let Some(proc) = self.processes.created_number(process) {
+            let target = Who {
+                part: call.who.part,
+                proc,
+            };
+            self.leave(target);
+        }
+        Ok(())
+    }
+
+    /// The processes of this partition that a tick names leave the waiting sets in which they wait. Takes no memory.
+    pub(crate) fn leave_named(&mut self, part: PartId, place: Place, woken: &Woken)
+        requires sound { IsSoundPart part place self.old }
+        ensures { self.new ≡ each_set (set_after place (Tick woken.now)) self.old }
+    {
+        let named = woken.as_slice();
+        for who in named {
+            if who.part == part {
+                self.leave(*who);
+            }
+        }
+    }
+
+    /// A tick at this place that ends the waits of these processes: they leave their waiting sets, and their waits end; those
+    /// of other partitions stay out. Takes no memory.
+    pub fn tick(&mut self, part: PartId, place: Place, woken: &Woken)
+        requires sound { IsSoundPart part place self.old }
+        ensures { (configuration : Configuration) (cores : List CoreState) (core : ℕ) → self.new ≡ partition_by configuration cores place core part (Tick woken.now) self.old }
+    {
+        self.leave_named(part, place, woken);
+        self.processes.tick(part, place, woken);
+    }
+
+    /// A return by this process: the outcome that was due to it is due no more. Takes no memory.
+    pub fn ret(&mut self, number: ProcId)
+        ensures { self.new ≡ record self.old { table = each_item (returned number) self.old.table } }
+    {
+        self.processes.ret(number);
+    }
+
+    /// A call of another partition, at this place, that ends the waits of those that it names of this one: each gets the
+    /// message that the call hands over.
+    ///
+    /// AllocError where memory for the messages is refused; nothing has changed then.
+    pub fn rouse(&mut self, part: PartId, place: Place, call: &Call) -> Result<(), AllocError>
+        ensures ok { OnOk result (self.new ≡ record self.old { table = each_item (λ number process. roused place call.now (record { part = part; proc = number }) process) self.old.table }) }
+        ensures unchanged { OnErr result (self.new ≡ self.old) }
+    {
+        self.processes.rouse(part, place, call)
+    }
+}
+
+// Judges the claim of a call that is done at once, gives no value and ends no wait.
+fn judge_done(claim: &Claim) -> Result<(), ObjFault>
+    ensures ok { OnOk result (AllHold (answer_demands answer.done claim.now)) }
+    ensures refused { IfErr result (Refuses (answer_demands answer.done claim.now)) }
+{
+    Given::done().judge(claim).map_err(ObjFault::Unlawful)
+}

@@ -1,0 +1,166 @@
+// What a call makes of its partition.
+
+ghost use Rattle.std.specs.Prelude.{◌≡◌, ℕ, [], None, false, true, IfErr, IfOk, IsTrue, OnErr, OnOk};
+ghost use Rattle.apex_machine.specs.After.{is_done, partition_called};
+ghost use Rattle.apex_machine.specs.Configuration.{Configuration, period_of};
+ghost use Rattle.apex_machine.specs.Demands.{AllHold, caller_demands, own_call_demands};
+ghost use Rattle.apex_machine.specs.ServiceConditions.{condition_codes};
+ghost use Rattle.apex_machine.specs.Services.{is_built};
+ghost use Rattle.apex_machine.specs.State.{time_of};
+ghost use Rattle.apex_laws.specs.PartBounds.{IsBoundedPart};
+ghost use Rattle.apex_laws.specs.PartLaws.{IsSoundPart};
+ghost use Rattle.process_state.specs.Timely.{TimesFit};
+ghost use Rattle.process_state.specs.Transfers.{IsTransferOf};
+ghost use Rattle.wait_set.specs.Actors.{Refuses};
+ghost use Rattle.partition_state.specs.Calls.{IsClear, RefusesOrWants, is_process_service, mutex_used, objects_served, served_demands};
+
+use crate::state::PartitionState;
+use apex_types::{Call, Place, Request};
+use module_config::Config;
+use process_state::{Moment, Transfer};
+use std::alloc::AllocError;
+use wait_set::ObjFault;
+
+impl PartitionState {
+    /// A call of one of the partition's processes on which no error condition holds and which goes through no channel: what
+    /// it claims is judged by what its service gives, and where the two agree it is carried out.
+    ///
+    /// Refused, with nothing changed, where the claim is another, or where memory is refused.
+    pub fn serve(
+        &mut self,
+        config: &Config,
+        now: u64,
+        moment: &Moment<'_>,
+        call: &Call,
+    ) -> Result<(), ObjFault>
+        requires clear { IsClear config.now moment.now.cores.now moment.now.place moment.now.core self.old call.now }
+        requires times { TimesFit moment.now.cores.now }
+        requires now { now ≡ time_of moment.now.cores.now moment.now.core }
+        ensures ok { OnOk result (AllHold (served_demands now self.old call.now)) }
+        ensures after { OnOk result (self.new ≡ partition_called config.now moment.now.cores.now moment.now.place moment.now.core call.now self.old) }
+        ensures refused { IfErr result (RefusesOrWants (served_demands now self.old call.now)) }
+        ensures unchanged { OnErr result (self.new ≡ self.old) }
+    {
+        config.keeps_limits();
+        self.keep_numbers();
+        let _place = moment.place.number();
+        let first_core = config.first_core(call.who.part);
+        let period = config.period(call.who.part);
+        let Ok(prepared) = self.processes.prepare(call) else {
+            return Err(ObjFault::Memory);
+        };
+        let transfer = self.operate(config, now, moment, call)?;
+        match self
+            .processes
+            .call(first_core, period, moment, transfer, prepared, call)
+        {
+            Ok(()) => Ok(()),
+            Err(_) => Err(ObjFault::Memory),
+        }
+    }
+
+    /// A call of one of the partition's processes that an error condition refused: its outcome is due to its caller, and
+    /// nothing else changes.
+    ///
+    /// AllocError where memory is refused; nothing has changed then.
+    pub fn refuse(
+        &mut self,
+        config: &Config,
+        moment: &Moment<'_>,
+        call: &Call,
+    ) -> Result<(), AllocError>
+        requires sound { IsSoundPart call.now.who.part moment.now.place self.old }
+        requires bounded { IsBoundedPart moment.now.place self.old }
+        requires lawful { AllHold (own_call_demands is_built config.now call.now.who.part moment.now.cores.now self.old moment.now.core call.now) }
+        requires not_done { is_done call.now.claim.out ≡ false }
+        requires times { TimesFit moment.now.cores.now }
+        ensures ok { OnOk result (self.new ≡ partition_called config.now moment.now.cores.now moment.now.place moment.now.core call.now self.old) }
+        ensures unchanged { OnErr result (self.new ≡ self.old) }
+    {
+        config.keeps_limits();
+        let _place = moment.place.number();
+        let first_core = config.first_core(call.who.part);
+        let period = config.period(call.who.part);
+        let prepared = self.processes.prepare(call)?;
+        self.processes.call(first_core, period, moment, Transfer::none(), prepared, call)
+    }
+
+    // What a call claims is judged by what its service gives, and what it makes of the objects is made. It says whose a mutex
+    // is no longer, and whose from now on.
+    #[tactic(auto, using(crate::proofs::Clear::at_work, crate::proofs::Clear::counts_fit, crate::proofs::Served::refuses_or_wants))]
+    fn operate(
+        &mut self,
+        config: &Config,
+        now: u64,
+        moment: &Moment<'_>,
+        call: &Call,
+    ) -> Result<Transfer, ObjFault>
+        requires clear { IsClear config.now moment.now.cores.now moment.now.place moment.now.core self.old call.now }
+        ensures ok { OnOk result (AllHold (served_demands now self.old call.now)) }
+        ensures after { OnOk result (self.new ≡ objects_served config.now moment.now.place call.now call.now.request self.old) }
+        ensures transfer { IfOk result (λ transfer. IsTransferOf self.old call.now.who.proc call.now.request transfer) }
+        ensures refused { IfErr result (RefusesOrWants (served_demands now self.old call.now)) }
+        ensures unchanged { OnErr result (self.new ≡ self.old) }
+    {
+        match &call.request {
+            Request::AcquireMutex { mutex, .. } | Request::ReleaseMutex { mutex } => {
+                self.use_mutex(moment.place, call, *mutex)
+            }
+            _ => match self.operate_on_others(config, now, moment, call) {
+                Ok(()) => Ok(Transfer::none()),
+                Err(fault) => Err(fault),
+            },
+        }
+    }
+
+    // The same for all services but those that change the owner of a mutex.
+    #[tactic(auto, using(crate::proofs::Clear::at_work, crate::proofs::Served::changed_is_served))]
+    fn operate_on_others(
+        &mut self,
+        config: &Config,
+        now: u64,
+        moment: &Moment<'_>,
+        call: &Call,
+    ) -> Result<(), ObjFault>
+        requires others { mutex_used call.now.request ≡ None }
+        requires clear { IsClear config.now moment.now.cores.now moment.now.place moment.now.core self.old call.now }
+        ensures ok { OnOk result (AllHold (served_demands now self.old call.now)) }
+        ensures after { OnOk result (self.new ≡ objects_served config.now moment.now.place call.now call.now.request self.old) }
+        ensures refused { IfErr result (Refuses (served_demands now self.old call.now)) }
+        ensures unchanged { OnErr result (self.new ≡ self.old) }
+    {
+        let place = moment.place;
+        match &call.request {
+            Request::Stop { process } => self.stop(place, call, *process),
+            Request::SendBuffer { buffer, .. } | Request::ReceiveBuffer { buffer, .. } => {
+                self.use_buffer(place, call, *buffer)
+            }
+            Request::DisplayBlackboard { blackboard, .. }
+            | Request::ReadBlackboard { blackboard, .. }
+            | Request::ClearBlackboard { blackboard } => {
+                self.use_blackboard(place, call, *blackboard)
+            }
+            Request::WaitSemaphore { semaphore, .. } | Request::SignalSemaphore { semaphore } =>
+                self.use_semaphore(place, call, *semaphore),
+            Request::SetEvent { event }
+            | Request::ResetEvent { event }
+            | Request::WaitEvent { event, .. } => self.use_event(place, call, *event),
+            Request::CreateBuffer { .. }
+            | Request::CreateBlackboard { .. }
+            | Request::CreateSemaphore { .. }
+            | Request::CreateEvent { .. }
+            | Request::CreateMutex { .. } => self.create(config, call),
+            _ => self.judge_processes(now, call),
+        }
+    }
+
+    // The services of processes change no object.
+    fn judge_processes(&self, now: u64, call: &Call) -> Result<(), ObjFault>
+        requires { is_process_service call.now.request ≡ true }
+        ensures ok { OnOk result (AllHold (served_demands now self.now call.now)) }
+        ensures refused { IfErr result (Refuses (served_demands now self.now call.now)) }
+    {
+        self.judge_process_service(now, call)
+            .map_err(ObjFault::Unlawful)
+    }
+}

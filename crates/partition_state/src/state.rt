@@ -1,0 +1,111 @@
+// A partition, and its parts.
+
+ghost use Rattle.std.specs.Prelude.{◌≡◌, ℕ, IfOk};
+ghost use Rattle.apex_machine.specs.Configuration.{Configuration, first_core as first_core_of};
+ghost use Rattle.apex_machine.specs.State.{cold_partition};
+ghost use Rattle.process_state.specs.Processes.{processes_of};
+ghost use Rattle.partition_state.specs.Calls.{NumbersAreKept};
+
+use apex_types::CoreId;
+use blackboard::Blackboard;
+use buffer::Buffer;
+use mutex_ceiling::Mutex653;
+use object_table::ObjectTable;
+use process_state::ProcTable;
+use semaphore_event::{Event, Semaphore};
+use std::alloc::{AllocError, Global};
+use std::marker::Model;
+
+/// The state of a partition: its mode and its processes, and its objects of each kind under their numbers, in the order of
+/// their creation. It has no port, since no service that creates one is judged yet.
+#[derive(Drop)]
+pub struct PartitionState {
+    pub(crate) alloc: Global,
+    pub(crate) processes: ProcTable,
+    pub(crate) buffers: ObjectTable<Buffer>,
+    pub(crate) blackboards: ObjectTable<Blackboard>,
+    pub(crate) semaphores: ObjectTable<Semaphore>,
+    pub(crate) events: ObjectTable<Event>,
+    pub(crate) mutexes: ObjectTable<Mutex653>,
+}
+
+impl Model for PartitionState {
+    ghost use Rattle.std.specs.Prelude.{[]};
+    ghost use Rattle.apex_machine.specs.State.{Partition};
+
+    ghost Value = { Partition };
+
+    ghost view = { λ state. record { mode = state.processes.mode; table = state.processes.table; buffers = state.buffers; blackboards = state.blackboards; semaphores = state.semaphores; events = state.events; mutexes = state.mutexes; sampling_ports = []; queuing_ports = [] } };
+}
+
+impl PartitionState {
+    /// The partition as it starts cold: its initialising process alone, on its first core, and no object.
+    ///
+    /// AllocError where memory is refused.
+    pub fn new(alloc: Global, first_core: CoreId) -> Result<PartitionState, AllocError>
+        ensures { IfOk result (λ state. (configuration : Configuration) (number : ℕ) → first_core_of configuration number ≡ first_core → state ≡ cold_partition configuration number) }
+    {
+        Ok(PartitionState {
+            alloc,
+            processes: ProcTable::new(alloc, first_core)?,
+            buffers: ObjectTable::new(alloc),
+            blackboards: ObjectTable::new(alloc),
+            semaphores: ObjectTable::new(alloc),
+            events: ObjectTable::new(alloc),
+            mutexes: ObjectTable::new(alloc),
+        })
+    }
+
+    // Says of a state what each keeps: the numbers of its objects fit 32 bits. It does nothing.
+    pub(crate) fn keep_numbers(&self)
+        ensures { NumbersAreKept self.now }
+    {
+        self.buffers.keeps_numbers();
+        self.blackboards.keeps_numbers();
+        self.semaphores.keeps_numbers();
+        self.events.keeps_numbers();
+        self.mutexes.keeps_numbers();
+    }
+
+    /// The mode and the processes.
+    pub fn processes(&self) -> &ProcTable
+        ensures { result.now ≡ processes_of self.now }
+    {
+        &self.processes
+    }
+
+    /// The buffers.
+    pub fn buffers(&self) -> &ObjectTable<Buffer>
+        ensures { result.now ≡ self.now.buffers }
+    {
+        &self.buffers
+    }
+
+    /// The blackboards.
+    pub fn blackboards(&self) -> &ObjectTable<Blackboard>
+        ensures { result.now ≡ self.now.blackboards }
+    {
+        &self.blackboards
+    }
+
+    /// The semaphores.
+    pub fn semaphores(&self) -> &ObjectTable<Semaphore>
+        ensures { result.now ≡ self.now.semaphores }
+    {
+        &self.semaphores
+    }
+
+    /// The events.
+    pub fn events(&self) -> &ObjectTable<Event>
+        ensures { result.now ≡ self.now.events }
+    {
+        &self.events
+    }
+
+    /// The mutexes.
+    pub fn mutexes(&self) -> &ObjectTable<Mutex653>
+        ensures { result.now ≡ self.now.mutexes }
+    {
+        &self.mutexes
+    }
+}
