@@ -8,11 +8,16 @@ use Rattle.apex_types.specs.declared.record.Body.TheVariants.{Call, Ret, Disp, T
 use Rattle.apex_types.specs.declared.record.Ordered.{Ordered}
 use Rattle.apex_machine.specs.declared.state.CoreState.{CoreState}
 use Rattle.apex_machine.specs.Configuration.{Configuration}
-use Rattle.apex_machine.specs.State.{time_of, at_core, cold_core}
+use Rattle.apex_machine.specs.State.{time_of, at_core, cold_core, cold_partition}
 use Rattle.apex_machine.specs.After.{cores_by}
 use Rattle.apex_machine.specs.Pieces.{Part, ChannelPart, ModulePart, PartitionPart, one_more, part_after, times_by}
 use Rattle.process_state.specs.Timely.{TimesFit}
-use Rattle.piece_check.specs.Parts.{HasCores, NoTimeAbove, core_at}
+use Rattle.apex_machine.specs.Demands.{AllHold, demands}
+use Rattle.apex_machine.specs.Services.{is_built}
+use Rattle.apex_laws.specs.PartBounds.{PeriodFits}
+use Rattle.apex_laws.proofs.BoundedParts.{part_stays_bounded}
+use Rattle.apex_laws.proofs.SoundParts.{part_stays_sound}
+use Rattle.piece_check.specs.Parts.{HasCores, IsBehind, IsKeptBefore, KeepsBefore, NoTimeAbove, core_at}
 
 -- cold cores stand at time 0
 pub cold_time : (count core : ℕ) → time_of (replicate count cold_core) core ≤ 0
@@ -79,7 +84,7 @@ HasCores_after count configuration (PartitionPart number cores partition) ordere
 HasCores_after count configuration (ChannelPart number times channel) ordered has =
     length-map (times_by ordered.core ordered.rec.body times) core_at ∙ length-times_by ordered.core ordered.rec.body times ∙ sym (length-map times core_at) ∙ has
 
-pub NoTimeAbove_after : (place : ℕ) (configuration : Configuration) (old : Part) (ordered : Ordered) → NoTimeAbove place old
+NoTimeAbove_after : (place : ℕ) (configuration : Configuration) (old : Part) (ordered : Ordered) → NoTimeAbove place old
     → NoTimeAbove (place + 1) (part_after configuration old ordered)
 NoTimeAbove_after place configuration (ModulePart cores) ordered behind =
     λ core. omega (arith, time_by ordered.core ordered.rec.body cores core, behind core)
@@ -93,3 +98,44 @@ pub TimesFit_behind : (place : ℕ) (cores : List CoreState) → place < place_c
 TimesFit_behind place [] below behind = tt
 TimesFit_behind place (state ∷ cores) below behind =
     (omega (arith, below, behind 0), TimesFit_behind place cores below (λ core. behind (suc core)))
+
+-- what a part keeps
+
+-- a cold partition is sound and bounded
+pub cold_kept : (configuration : Configuration) (number : ℕ) → IsKeptBefore number 0 (cold_partition configuration number)
+cold_kept configuration number = record {
+  sound = part_stays_sound.0 configuration number 0;
+  bounded = part_stays_bounded.0 configuration number 0;
+}
+
+kept_after : (configuration : Configuration) (old : Part) (ordered : Ordered) → IsBehind ordered.pos old → AllHold (demands configuration old ordered)
+    → PeriodFits ordered.rec.body → KeepsBefore (ordered.pos + 1) (part_after configuration old ordered)
+kept_after configuration (ModulePart cores) ordered behind hold fits = tt
+kept_after configuration (PartitionPart number cores partition) ordered behind hold fits = record {
+  sound = part_stays_sound.1 is_built configuration number cores partition ordered behind.kept.sound hold;
+  bounded = part_stays_bounded.1 is_built configuration number cores partition ordered behind.kept.sound behind.kept.bounded behind.times fits hold;
+}
+kept_after configuration (ChannelPart number times channel) ordered behind hold fits = tt
+
+-- a record whose demands hold leaves a part behind the next place
+pub IsBehind_after : (configuration : Configuration) (old : Part) (ordered : Ordered) → IsBehind ordered.pos old → AllHold (demands configuration old ordered)
+    → PeriodFits ordered.rec.body → IsBehind (ordered.pos + 1) (part_after configuration old ordered)
+IsBehind_after configuration old ordered behind hold fits = record {
+  times = NoTimeAbove_after ordered.pos configuration old ordered behind.times;
+  kept = kept_after configuration old ordered behind hold fits;
+}
+
+kept_later : (place later : ℕ) (part : Part) → place ≤ later → KeepsBefore place part → KeepsBefore later part
+kept_later place later (ModulePart cores) below kept = tt
+kept_later place later (PartitionPart number cores partition) below kept = record {
+  sound = part_stays_sound.2 number place later partition below kept.sound;
+  bounded = part_stays_bounded.2 place later partition below kept.bounded;
+}
+kept_later place later (ChannelPart number times channel) below kept = tt
+
+-- a part that is behind one place is behind each later one
+pub IsBehind_later : (place later : ℕ) (part : Part) → place ≤ later → IsBehind place part → IsBehind later part
+IsBehind_later place later part below behind = record {
+  times = λ core. omega (arith, below, behind.times core);
+  kept = kept_later place later part below behind.kept;
+}

@@ -1,28 +1,136 @@
--- The judgement of an outcome, behind what is demanded before it.
-use Rattle.std.proofs.Common.{◌≡◌, ℕ, List, Result, Ok, Err, Some, inr}
+-- The judgement of one of the partition's own calls: what stands before the outcome, and the outcome behind it.
+use Rattle.std.proofs.Common.{◌≡◌, ◌≢◌, ℕ, List, [], ◌∷◌, ◌++◌, Option, None, false, inl, inr, refl, sym, subst}
 use Rattle.apex_types.specs.declared.cause.Cause.{Cause}
+use Rattle.apex_types.specs.declared.cause.Cause.TheVariants as cause
+use Rattle.apex_types.specs.declared.code.Code.{Code}
 use Rattle.apex_types.specs.declared.record.Call.{Call as CallRecord}
+use Rattle.apex_types.specs.declared.record.Claim.{Claim}
+use Rattle.apex_types.specs.declared.request.Request.{Request}
+use Rattle.apex_types.specs.Requested.{service_of}
 use Rattle.apex_machine.specs.declared.state.CoreState.{CoreState}
 use Rattle.apex_machine.specs.Configuration.{Configuration}
-use Rattle.apex_machine.specs.Demands.{IsRunning, outcome_demands, own_call_demands, window_now}
+use Rattle.apex_machine.specs.Demands.{AllHold, Demand, FirstFails, answer_demands, caller_demands, outcome_demands, own_call_demands}
+use Rattle.apex_types.specs.declared.record.Who.{Who}
+use Rattle.apex_machine.specs.After.{is_done}
 use Rattle.apex_machine.specs.Ports.{channel_of}
+use Rattle.apex_machine.specs.Step.{HasCode}
+use Rattle.apex_laws.proofs.Codes.{are_errors, not_done}
 use Rattle.apex_machine.specs.ServiceConditions.{condition_codes}
-use Rattle.apex_machine.specs.Services.{answer_of, is_built}
-use Rattle.apex_machine.specs.State.{Partition, item_at, time_of}
-use Rattle.apex_machine.specs.Step.{HasNoneDue, HasPriority, IsWithinProfile}
-use Rattle.piece_check.specs.Judged.{Judges}
+use Rattle.apex_machine.specs.Services.{Answer, answer_of, is_built}
+use Rattle.apex_machine.specs.State.{Partition, time_of}
+use Rattle.partition_state.specs.Calls.{IsClear, RefusesOrWants, served_demands}
+use Rattle.partition_state.proofs.Clear.{no_channel}
+use Rattle.apex_laws.specs.PartLaws.{IsSoundPart}
+use Rattle.piece_check.specs.Parts.{IsKeptBefore}
+use Rattle.wait_set.specs.declared.object.ObjFault.{ObjFault}
+use Rattle.wait_set.specs.declared.object.ObjFault.TheVariants.{Unlawful, Memory}
 
--- where all holds that is demanded before the outcome, what is judged of the outcome is judged of the call
-pub outcome_last : (configuration : Configuration) (number : ℕ) (cores : List CoreState) (partition : Partition) (core : ℕ) (call : CallRecord)
-    (judgement : Result (Unit {0}) Cause)
-    → window_now configuration cores core ≡ Some number → IsRunning number cores partition.table core call.who
-    → HasNoneDue (item_at partition.table call.who.proc)
-    → IsWithinProfile is_built (condition_codes configuration call.who partition call.request) call.who partition call.request
-    → HasPriority call.claim.prio (item_at partition.table call.who.proc)
-    → Judges (outcome_demands (condition_codes configuration call.who partition call.request) (channel_of partition call.request) number call.request
-    (answer_of (time_of cores core) call.who partition call.request) call.claim) judgement
-    → Judges (own_call_demands is_built configuration number cores partition core call) judgement
-outcome_last configuration number cores partition core call (Ok done) window running none_due within priority judged =
-    (window, (running, (none_due, (within, (priority, judged)))))
-outcome_last configuration number cores partition core call (Err cause) window running none_due within priority judged =
-    inr (window, inr (running, inr (none_due, inr (within, inr (priority, judged)))))
+-- lists of demands
+
+pub AllHold-append : (demands others : List {1} Demand) → AllHold demands → AllHold others → AllHold (demands ++ others)
+AllHold-append [] others hold more = more
+AllHold-append (demand ∷ demands) others hold more = (hold.0, AllHold-append demands others hold.1 more)
+
+pub fails_first : (demands others : List {1} Demand) (why : Cause) → FirstFails demands why → FirstFails (demands ++ others) why
+fails_first [] others why fails = absurd fails
+fails_first (demand ∷ demands) others why fails =
+    elim fails [ inl here ↦ inl here | inr later ↦ inr (later.0, fails_first demands others why later.1) ]
+
+pub fails_later : (demands others : List {1} Demand) (why : Cause) → AllHold demands → FirstFails others why → FirstFails (demands ++ others) why
+fails_later [] others why hold fails = fails
+fails_later (demand ∷ demands) others why hold fails = inr (hold.0, fails_later demands others why hold.1 fails)
+
+-- what fails before the outcome fails of the call
+pub caller_fails : (configuration : Configuration) (number : ℕ) (cores : List CoreState) (partition : Partition) (core : ℕ) (call : CallRecord) (why : Cause)
+    → FirstFails (caller_demands is_built configuration number cores partition core call) why
+    → FirstFails (own_call_demands is_built configuration number cores partition core call) why
+caller_fails configuration number cores partition core call why fails =
+    fails_first (caller_demands is_built configuration number cores partition core call) _ why fails
+
+-- where no error condition holds
+
+-- the call can be served
+pub is_clear : (configuration : Configuration) (number : ℕ) (cores : List CoreState) (place core : ℕ) (partition : Partition) (call : CallRecord)
+    → call.who.part ≡ number → IsKeptBefore number place partition → AllHold (caller_demands is_built configuration number cores partition core call)
+    → condition_codes configuration call.who partition call.request ≡ [] → call.claim.chan ≡ None → IsClear configuration cores place core partition call
+is_clear configuration number cores place core partition call own kept caller none apart = record {
+  sound = subst (λ home. IsSoundPart home place partition) (sym own) kept.sound;
+  bounded = kept.bounded;
+  caller = subst (λ home. AllHold (caller_demands is_built configuration home cores partition core call)) (sym own) caller;
+  codes = none;
+  apart = apart;
+}
+
+-- what is demanded of the outcome, where none holds and no channel is used
+outcome_is : (codes : List Code) (channel : Option ℕ) (number : ℕ) (asked : Request) (answer : Answer) (claim : Claim) → codes ≡ [] → channel ≡ None
+    → outcome_demands codes channel number asked answer claim ≡ record { cause = cause.Chan; holds = claim.chan ≡ None } ∷ answer_demands answer claim
+outcome_is codes channel number asked answer claim none nowhere = rw (none, nowhere) refl
+
+-- the service is judged
+is_judged : (configuration : Configuration) (number : ℕ) (cores : List CoreState) (partition : Partition) (core : ℕ) (call : CallRecord)
+    → AllHold (caller_demands is_built configuration number cores partition core call) → channel_of partition call.request ≡ None
+is_judged configuration number cores partition core call caller = no_channel partition call.request caller.1.1.1.0.0
+
+-- what the claim is judged by holds of the call
+pub served_holds : (configuration : Configuration) (number : ℕ) (cores : List CoreState) (partition : Partition) (core now : ℕ) (call : CallRecord)
+    → AllHold (caller_demands is_built configuration number cores partition core call)
+    → condition_codes configuration call.who partition call.request ≡ [] → call.claim.chan ≡ None → now ≡ time_of cores core
+    → AllHold (served_demands now partition call) → AllHold (own_call_demands is_built configuration number cores partition core call)
+served_holds configuration number cores partition core now call caller none apart at served =
+    AllHold-append (caller_demands is_built configuration number cores partition core call) _ caller
+    (rw (outcome_is (condition_codes configuration call.who partition call.request) (channel_of partition call.request) number call.request
+    (answer_of (time_of cores core) call.who partition call.request) call.claim none (is_judged configuration number cores partition core call caller))
+    (apart, rw at at served))
+
+-- what fails of the claim fails of the call
+pub served_fails : (configuration : Configuration) (number : ℕ) (cores : List CoreState) (partition : Partition) (core now : ℕ) (call : CallRecord) (fault : ObjFault)
+    → AllHold (caller_demands is_built configuration number cores partition core call)
+    → condition_codes configuration call.who partition call.request ≡ [] → call.claim.chan ≡ None → now ≡ time_of cores core
+    → RefusesOrWants (served_demands now partition call) fault → RefusesOrWants (own_call_demands is_built configuration number cores partition core call) fault
+served_fails configuration number cores partition core now call (Unlawful why) caller none apart at fails =
+    fails_later (caller_demands is_built configuration number cores partition core call) _ why caller
+    (rw (outcome_is (condition_codes configuration call.who partition call.request) (channel_of partition call.request) number call.request
+    (answer_of (time_of cores core) call.who partition call.request) call.claim none (is_judged configuration number cores partition core call caller))
+    (inr (apart, rw at at fails)))
+served_fails configuration number cores partition core now call Memory caller none apart at wants = tt
+
+-- a channel that is claimed fails
+pub channel_fails : (configuration : Configuration) (number : ℕ) (cores : List CoreState) (partition : Partition) (core : ℕ) (call : CallRecord)
+    → AllHold (caller_demands is_built configuration number cores partition core call)
+    → condition_codes configuration call.who partition call.request ≡ [] → call.claim.chan ≢ None
+    → FirstFails (own_call_demands is_built configuration number cores partition core call) cause.Chan
+channel_fails configuration number cores partition core call caller none claimed =
+    fails_later (caller_demands is_built configuration number cores partition core call) _ cause.Chan caller
+    (rw (outcome_is (condition_codes configuration call.who partition call.request) (channel_of partition call.request) number call.request
+    (answer_of (time_of cores core) call.who partition call.request) call.claim none (is_judged configuration number cores partition core call caller))
+    (inl (claimed, refl)))
+
+-- where some error condition holds
+
+-- what is demanded of the outcome holds of the call, or fails of it
+pub refused_holds : (configuration : Configuration) (number : ℕ) (cores : List CoreState) (partition : Partition) (core : ℕ) (call : CallRecord) (codes : List Code)
+    → AllHold (caller_demands is_built configuration number cores partition core call)
+    → codes ≡ condition_codes configuration call.who partition call.request
+    → AllHold (outcome_demands codes (channel_of partition call.request) number call.request (answer_of (time_of cores core) call.who partition call.request) call.claim)
+    → AllHold (own_call_demands is_built configuration number cores partition core call)
+refused_holds configuration number cores partition core call codes caller are holds =
+    AllHold-append (caller_demands is_built configuration number cores partition core call) _ caller (rw are at holds)
+
+pub refused_fails : (configuration : Configuration) (number : ℕ) (cores : List CoreState) (partition : Partition) (core : ℕ) (call : CallRecord) (codes : List Code)
+    (why : Cause) → AllHold (caller_demands is_built configuration number cores partition core call)
+    → codes ≡ condition_codes configuration call.who partition call.request
+    → FirstFails (outcome_demands codes (channel_of partition call.request) number call.request (answer_of (time_of cores core) call.who partition call.request) call.claim) why
+    → FirstFails (own_call_demands is_built configuration number cores partition core call) why
+refused_fails configuration number cores partition core call codes why caller are fails =
+    fails_later (caller_demands is_built configuration number cores partition core call) _ why caller (rw are at fails)
+
+-- a call that claims a code of an error condition is not done
+pub refused_not_done : (configuration : Configuration) (who : Who) (partition : Partition) (asked : Request) (codes : List Code) (number : ℕ) (answer : Answer)
+    (claim : Claim) → codes ≡ condition_codes configuration who partition asked → codes ≢ []
+    → AllHold (outcome_demands codes None number asked answer claim) → is_done claim.out ≡ false
+refused_not_done configuration who partition asked codes number answer claim are some hold =
+    not_done codes claim.out (rw are (are_errors configuration who partition asked)) (has_code codes some hold)
+  where
+    has_code : (codes : List Code) → codes ≢ [] → AllHold (outcome_demands codes None number asked answer claim) → HasCode codes claim.out
+    has_code [] some hold = absurd (some refl)
+    has_code (code ∷ codes) some hold = hold.1.0

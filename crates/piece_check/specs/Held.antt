@@ -3,11 +3,10 @@ use Rattle.apex_machine.specs.Pieces.{Part, ModulePart, PartitionPart}
 use Rattle.piece_check.specs.declared.held.Held.{Held}
 use Rattle.piece_check.specs.declared.held.Held.TheVariants.{Module, Partition}
 use Rattle.piece_check.specs.declared.partition_piece.PartitionPiece.{PartitionPiece}
-use Rattle.piece_check.specs.States.{partition_of}
 
 -- the part that the piece of a partition holds
 abbrev pub partition_part : PartitionPiece → Part
-partition_part piece = PartitionPart piece.number piece.clock.cores (partition_of piece.state)
+partition_part piece = PartitionPart piece.number piece.clock.cores piece.state
 
 -- the part that a piece holds
 abbrev pub part_of : Held → Part

@@ -1,6 +1,5 @@
-pub mod Answers
 pub mod Parts
 pub mod Refused
-pub mod States
+pub mod Subjects
 pub mod Held
 pub mod Judged

@@ -3,8 +3,19 @@
 ghost use Rattle.std.specs.Prelude.{◌≡◌, ◌<◌};
 ghost use Rattle.apex_machine.specs.Arguments as numbers;
 
+use apex_types::ProcId;
+
 /// The greatest priority of a process.
 const GREATEST_PRIORITY: i64 = 239;
+
+/// The most bytes that a message has.
+const LONGEST_MESSAGE: i64 = 8_192;
+
+/// The most messages that a buffer holds.
+const MOST_MESSAGES: i64 = 1_024;
+
+/// The greatest maximum of a semaphore.
+const GREATEST_MAXIMUM: i64 = 32_767;
 
 /// Whether a priority is one: 1 to 239.
 pub(crate) fn is_priority(priority: i64) -> bool
@@ -56,9 +67,72 @@ pub(crate) fn is_aperiodic(period: i64) -> bool
     period <= 0
 }
 
-/// Whether a delay is over at once: it is 0.
+/// Whether a delay or a time-out is over at once: it is 0.
 pub(crate) fn is_over(delay: i64) -> bool
     ensures { result ≡ numbers.is_over delay }
 {
     delay == 0
+}
+
+/// Whether a time-out is one: -1, which never falls due, or not below 0.
+pub(crate) fn is_time_out(time_out: i64) -> bool
+    ensures { result ≡ numbers.is_time_out time_out }
+{
+    time_out >= -1
+}
+
+/// Whether a caller's number is that of this process.
+pub(crate) fn is_number(given: i64, process: ProcId) -> bool
+    ensures { result ≡ numbers.is_number given process }
+{
+    given == i64::from(process.number())
+}
+
+/// Whether a message size is one: 1 to 8,192 bytes.
+pub(crate) fn is_size(size: i64) -> bool
+    ensures { result ≡ numbers.is_size size }
+{
+    1 <= size && size <= LONGEST_MESSAGE
+}
+
+/// Whether a capacity is one: 1 to 1,024 messages.
+pub(crate) fn is_capacity(capacity: i64) -> bool
+    ensures { result ≡ numbers.is_capacity capacity }
+{
+    1 <= capacity && capacity <= MOST_MESSAGES
+}
+
+/// Whether a maximum is one of a semaphore: 1 to 32,767.
+pub(crate) fn is_maximum(maximum: i64) -> bool
+    ensures { result ≡ numbers.is_maximum maximum }
+{
+    1 <= maximum && maximum <= GREATEST_MAXIMUM
+}
+
+/// Whether a value suits a semaphore's maximum: it is not below 0, and at most that.
+pub(crate) fn suits_maximum(maximum: i64, value: i64) -> bool
+    ensures { result ≡ numbers.suits_maximum maximum value }
+{
+    0 <= value && value <= maximum
+}
+
+/// Whether a discipline is one: 0 or 1.
+pub(crate) fn is_discipline(given: i64) -> bool
+    ensures { result ≡ numbers.is_discipline given }
+{
+    given == 0 || given == 1
+}
+
+/// Whether a length is above this size, both in bytes.
+pub(crate) fn is_longer(size: u16, length: i64) -> bool
+    ensures { result ≡ numbers.is_longer size length }
+{
+    length > i64::from(size)
+}
+
+/// Whether a length is one of a message: 1 byte at least.
+pub(crate) fn is_length(length: i64) -> bool
+    ensures { result ≡ numbers.is_length length }
+{
+    length > 0
 }

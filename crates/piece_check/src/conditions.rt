@@ -1,23 +1,25 @@
 // The error conditions that hold for a call, as their codes.
 
-ghost use Rattle.std.specs.Prelude.{◌≡◌, ◌<◌, ◌≤◌, ◌+◌, ◌++◌, ◌↔◌, [], IsTrue, length};
-ghost use Rattle.std.specs.Option.{option_copied};
+ghost use Rattle.std.specs.Prelude.{◌≡◌, ◌<◌, ◌≤◌, ◌+◌, ◌++◌, ◌↔◌, [], IsTrue, length, nat_le};
 ghost use Rattle.apex_types.specs.Requested.{service_of};
 ghost use Rattle.apex_machine.specs.Conditions as shared;
-ghost use Rattle.apex_machine.specs.Conditions.{when};
-ghost use Rattle.apex_machine.specs.ProcessConditions as processes;
+ghost use Rattle.apex_machine.specs.Conditions.{time_out_codes, waiting_codes, when};
 ghost use Rattle.apex_machine.specs.ServiceConditions.{condition_codes};
 ghost use Rattle.apex_machine.specs.Services.{is_built};
 ghost use Rattle.apex_machine.specs.Step.{IsAmong, HasCode};
-ghost use Rattle.piece_check.specs.States.{partition_of};
 
-use crate::arguments::{
-    is_mode, is_negative, is_normal_mode, is_period, is_priority, suits_period,
-};
-use crate::partition_state::PartitionState;
-use apex_machine::{Mode, Process};
-use apex_types::{Call, Code, Name, Out, PartId, Request};
+mod creations;
+mod objects;
+mod processes;
+
+use crate::arguments::{is_over, is_time_out};
+use apex_machine::Mode;
+use apex_types::{Call, Code, Out, Request, Who};
+use creations::creation_conditions;
 use module_config::Config;
+use objects::use_conditions;
+use partition_state::PartitionState;
+use processes::process_conditions;
 use std::marker::Model;
 
 /// How many error conditions a service has at most.
@@ -65,6 +67,17 @@ impl Conditions {
         self
     }
 
+    /// These conditions, and those of a wait: a time-out that there is, and a caller that may wait or gives a time-out of 0.
+    fn with_wait(self, who: Who, state: &PartitionState, time_out: i64) -> Conditions
+        requires { length self < 5 }
+        ensures { result ≡ self ++ time_out_codes time_out ++ waiting_codes who state.now time_out }
+    {
+        self.with(!is_time_out(time_out), Code::InvalidParam).with(
+            !is_over(time_out) && may_not_wait(state, who),
+            Code::InvalidMode,
+        )
+    }
+
     /// Whether none holds.
     pub(crate) fn is_empty(&self) -> bool
         ensures { IsTrue result ↔ (self.now ≡ []) }
@@ -103,86 +116,49 @@ fn is_among(codes: &[Code], code: Code) -> bool
 /// The error conditions that hold for a call of one of the partition's processes, of a service that is judged.
 pub(crate) fn conditions_of(config: &Config, state: &PartitionState, call: &Call) -> Conditions
     requires { IsTrue (is_built (service_of call.now.request)) }
-    ensures { result ≡ condition_codes config.now call.now.who (partition_of state.now) call.now.request }
+    ensures { result ≡ condition_codes config.now call.now.who state.now call.now.request }
 {
-    let initialising = call.who.proc.number() == 0;
-    let may_not_wait = initialising || state.owns_mutex(call.who.proc);
-    match &call.request {
-        Request::CreateProcess {
-            name,
-            priority,
-            period,
-        } => create_process(config, call.who.part, state, name, *priority, *period),
-        Request::InitializeProcessCoreAffinity { process, core } => {
-            initialize_affinity(config, call.who.part, state, *process, *core)
-        }
-        Request::Start { process } => start(state.processes.created(*process)),
-        Request::GetMyId => Conditions::none().with(initialising, Code::InvalidMode),
-        Request::TimedWait { delay } => Conditions::none()
-            .with(is_negative(*delay), Code::InvalidParam)
-            .with(may_not_wait, Code::InvalidMode),
-        Request::SetPartitionMode { mode } => Conditions::none()
-            .with(!is_mode(*mode), Code::InvalidParam)
-            .with(
-                is_normal_mode(*mode) && is_normal(state.processes.mode()),
-                Code::NoAction,
-            ),
-        _ => Conditions::none(),
+    let who = call.who;
+    let request = &call.request;
+    match request {
+        Request::CreateBuffer { .. }
+        | Request::CreateBlackboard { .. }
+        | Request::CreateSemaphore { .. }
+        | Request::CreateEvent { .. }
+        | Request::CreateMutex { .. } => creation_conditions(config, state, who, request),
+        Request::SendBuffer { .. }
+        | Request::ReceiveBuffer { .. }
+        | Request::DisplayBlackboard { .. }
+        | Request::ReadBlackboard { .. }
+        | Request::ClearBlackboard { .. }
+        | Request::WaitSemaphore { .. }
+        | Request::SignalSemaphore { .. }
+        | Request::SetEvent { .. }
+        | Request::ResetEvent { .. }
+        | Request::WaitEvent { .. }
+        | Request::AcquireMutex { .. }
+        | Request::ReleaseMutex { .. } => use_conditions(state, who, request),
+        _ => process_conditions(config, state, who, request),
     }
 }
 
-// CREATE_PROCESS: not in NORMAL; a name not yet taken; no more than configured; a priority and a period in range, and a
-// period that suits the partition's.
-fn create_process(
-    config: &Config,
-    number: PartId,
-    state: &PartitionState,
-    name: &Name,
-    priority: i64,
-    period: i64,
-) -> Conditions
-    ensures { result ≡ processes.create_process_codes config.now number (partition_of state.now) name.now priority period }
+// Whether a process may not wait: the initialising one, and the owner of a mutex.
+fn may_not_wait(state: &PartitionState, who: Who) -> bool
+    ensures { result ≡ shared.may_not_wait who state.now }
 {
-    let is_full = config.process_limit(number) as usize <= state.processes.len();
-    let suits = suits_period(config.period(number), period);
-    Conditions::none()
-        .with(is_normal(state.processes.mode()), Code::InvalidMode)
-        .with(state.processes.named(name), Code::NoAction)
-        .with(is_full, Code::InvalidConfig)
-        .with(!is_priority(priority), Code::InvalidParam)
-        .with(!is_period(period), Code::InvalidParam)
-        .with(!suits, Code::InvalidConfig)
+    who.proc.number() == 0 || state.owns_mutex(who.proc)
 }
 
-// INITIALIZE_PROCESS_CORE_AFFINITY: a created process; not in NORMAL; one of the partition's cores.
-fn initialize_affinity(
-    config: &Config,
-    number: PartId,
-    state: &PartitionState,
-    process: i64,
-    core: i64,
-) -> Conditions
-    ensures { result ≡ processes.affinity_codes config.now number (partition_of state.now) process core }
-{
-    let target = state.processes.created(process);
-    Conditions::none()
-        .with(target.is_none(), Code::InvalidParam)
-        .with(is_normal(state.processes.mode()), Code::InvalidMode)
-        .with(!config.has_core(number, core), Code::InvalidConfig)
-}
-
-// START: a created process, and a dormant one.
-fn start(target: Option<&Process>) -> Conditions
-    ensures { result ≡ processes.start_codes (option_copied target.entry) }
-{
-    match target {
-        Some(process) => Conditions::none().with(process.alive, Code::NoAction),
-        None => Conditions::none().with(true, Code::InvalidParam),
-    }
-}
-
+// Whether a mode is NORMAL.
 fn is_normal(mode: Mode) -> bool
     ensures { result ≡ shared.is_normal mode }
 {
     mode == Mode::Normal
+}
+
+// Whether as many are created as are configured.
+fn is_reached(limit: u32, count: usize) -> bool
+    ensures { result ≡ nat_le limit count }
+{
+    limit as usize <= count
 }

@@ -1,20 +1,17 @@
 // What a piece holds: the module's part, or a partition's.
 
-ghost use Rattle.std.specs.Prelude.{◌≡◌, ◌<◌, OnOk, OnErr, length};
+ghost use Rattle.std.specs.Prelude.{◌<◌, IfErr, OnErr, OnOk, ◌≡◌, length};
 ghost use Rattle.apex_types.specs.Bounds.{place_count};
-ghost use Rattle.apex_machine.specs.State.{time_of};
-ghost use Rattle.apex_machine.specs.Demands.{AllHold, demands};
-ghost use Rattle.apex_machine.specs.Pieces.{part_after};
+ghost use Rattle.apex_machine.specs.Demands.{LocalStep, demands};
+ghost use Rattle.partition_state.specs.Calls.{RefusesOrWants};
 ghost use Rattle.piece_check.specs.Held.{part_of};
-ghost use Rattle.piece_check.specs.Judged.{Judges};
-ghost use Rattle.piece_check.specs.Parts.{IsCall, cores_of};
-ghost use Rattle.process_state.specs.Timely.{TimesFit};
+ghost use Rattle.piece_check.specs.Parts.{IsBehind, WantsAtCalls, cores_of};
 
 use crate::module_piece::ModulePiece;
 use crate::partition_piece::PartitionPiece;
-use apex_types::{Cause, Ordered};
+use apex_types::Ordered;
 use module_config::Config;
-use std::alloc::AllocError;
+use wait_set::ObjFault;
 
 /// What a piece holds.
 #[derive(Drop)]
@@ -24,35 +21,22 @@ pub(crate) enum Held {
 }
 
 impl Held {
-    /// Judges a record: the cause is that of the first demand that fails.
-    pub(crate) fn judge(&self, config: &Config, ordered: &Ordered) -> Result<(), Cause>
-        requires { time_of (cores_of (part_of self.now)) ordered.now.core < place_count }
-        ensures { Judges (demands config.now (part_of self.now) ordered.now) result }
-    {
-        match self {
-            Held::Module(piece) => piece.judge(config, ordered),
-            Held::Partition(piece) => piece.judge(config, ordered),
-        }
-    }
-
-    /// Makes the part what a record that was judged lawful makes of it.
+    /// Judges a record, and makes the part what the record makes of it.
     ///
-    /// AllocError where a call was refused memory; nothing is changed then.
-    pub(crate) fn apply(&mut self, config: &Config, ordered: &Ordered) -> Result<(), AllocError>
+    /// Refused, with nothing changed, where a demand fails: the cause is that of the first; or where memory is refused to a
+    /// call.
+    pub(crate) fn step(&mut self, config: &Config, ordered: &Ordered) -> Result<(), ObjFault>
         requires core { ordered.now.core < length (cores_of (part_of self.old)) }
-        requires time { time_of (cores_of (part_of self.old)) ordered.now.core < place_count }
-        requires times { TimesFit (cores_of (part_of self.old)) }
-        requires lawful { AllHold (demands config.now (part_of self.old) ordered.now) }
-        ensures ok { OnOk result (part_of self.new ≡ part_after config.now (part_of self.old) ordered.now) }
+        requires place { ordered.now.pos < place_count }
+        requires behind { IsBehind ordered.now.pos (part_of self.old) }
+        ensures ok { OnOk result (LocalStep config.now (part_of self.old) ordered.now (part_of self.new)) }
+        ensures refused { IfErr result (RefusesOrWants (demands config.now (part_of self.old) ordered.now)) }
         ensures unchanged { OnErr result (self.new ≡ self.old) }
-        ensures memory { OnErr result (IsCall ordered.now.rec.body) }
+        ensures memory { IfErr result (WantsAtCalls ordered.now.rec.body) }
     {
         match self {
-            Held::Module(piece) => {
-                piece.apply(ordered);
-                Ok(())
-            }
-            Held::Partition(piece) => piece.apply(config, ordered),
+            Held::Module(piece) => piece.step(config, ordered),
+            Held::Partition(piece) => piece.step(config, ordered),
         }
     }
 }

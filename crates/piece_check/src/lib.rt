@@ -13,7 +13,6 @@ mod module_piece;
 mod names;
 mod outcome;
 mod partition_piece;
-mod partition_state;
 mod piece;
 mod profile;
 

@@ -1,17 +1,21 @@
 // The piece of the module: configured names, the skew, and idle cores in no window.
 
-ghost use Rattle.std.specs.Prelude.{◌≡◌, ◌<◌, is_none, length};
+ghost use Rattle.std.specs.Prelude.{◌≡◌, ◌<◌, IfErr, OnErr, OnOk, is_none, length};
 ghost use Rattle.apex_types.specs.Bounds.{place_count};
 ghost use Rattle.apex_types.specs.declared.record.Body.TheVariants as body;
 ghost use Rattle.apex_machine.specs.State.{time_of};
 ghost use Rattle.apex_machine.specs.After.{cores_after};
-ghost use Rattle.apex_machine.specs.Demands.{window_now};
+ghost use Rattle.apex_machine.specs.Demands.{LocalStep, demands, window_now};
+ghost use Rattle.apex_machine.specs.Pieces.{ModulePart};
+ghost use Rattle.partition_state.specs.Calls.{RefusesOrWants};
 ghost use Rattle.piece_check.specs.Judged.{Judges, asked_by_module};
+ghost use Rattle.piece_check.specs.Parts.{IsBehind, WantsAtCalls};
 
 use crate::names::{all_configured, channel_configured, one_configured};
 use apex_types::{Body, Call, Cause, CoreId, Ordered, Return, Who, Woken};
 use dispatch_rule::Clock;
 use module_config::Config;
+use wait_set::ObjFault;
 
 /// The piece of the module: the cores.
 #[derive(Debug, Drop)]
@@ -20,8 +24,29 @@ pub(crate) struct ModulePiece {
 }
 
 impl ModulePiece {
-    /// Judges a record: the cause is that of the first demand that fails.
-    pub(crate) fn judge(&self, config: &Config, ordered: &Ordered) -> Result<(), Cause>
+    /// Judges a record, and makes the part what the record makes of it. Takes no memory.
+    ///
+    /// Refused, with nothing changed, where a demand fails: the cause is that of the first.
+    pub(crate) fn step(&mut self, config: &Config, ordered: &Ordered) -> Result<(), ObjFault>
+        requires core { ordered.now.core < length self.old.clock.cores }
+        requires place { ordered.now.pos < place_count }
+        requires behind { IsBehind ordered.now.pos (ModulePart self.old.clock.cores) }
+        ensures ok { OnOk result (LocalStep config.now (ModulePart self.old.clock.cores) ordered.now (ModulePart self.new.clock.cores)) }
+        ensures refused { IfErr result (RefusesOrWants (demands config.now (ModulePart self.old.clock.cores) ordered.now)) }
+        ensures unchanged { OnErr result (self.new ≡ self.old) }
+        ensures memory { IfErr result (WantsAtCalls ordered.now.rec.body) }
+    {
+        match self.judge(config, ordered) {
+            Ok(()) => {
+                self.apply(config, ordered);
+                Ok(())
+            }
+            Err(cause) => Err(ObjFault::Unlawful(cause)),
+        }
+    }
+
+    // Judges a record: the cause is that of the first demand that fails.
+    fn judge(&self, config: &Config, ordered: &Ordered) -> Result<(), Cause>
         requires { time_of self.now.clock.cores ordered.now.core < place_count }
         ensures { Judges (asked_by_module config.now self.now ordered.now.core ordered.now.rec.body) result }
     {
@@ -33,15 +58,15 @@ impl ModulePiece {
         }
     }
 
-    /// Makes the part what a record makes of it: a dispatch and a tick change their core.
-    pub(crate) fn apply(&mut self, ordered: &Ordered)
+    // Makes the part what a record makes of it: a dispatch and a tick change their core.
+    fn apply(&mut self, config: &Config, ordered: &Ordered)
         requires core { ordered.now.core < length self.old.clock.cores }
         requires time { time_of self.old.clock.cores ordered.now.core < place_count }
         ensures { self.new.clock.cores ≡ cores_after ordered.now self.old.clock.cores }
     {
         match &ordered.rec.body {
             Body::Disp(who) => self.clock.dispatch(ordered.core, *who),
-            Body::Tick(_) => self.clock.advance(ordered.core),
+            Body::Tick(_) => self.clock.advance(config, ordered.core),
             Body::Call(_) | Body::Ret(_) => {}
         }
     }
@@ -105,6 +130,6 @@ impl ModulePiece {
     fn is_in_no_window(&self, config: &Config, core: CoreId) -> bool
         ensures { result ≡ is_none (window_now config.now self.now.clock.cores core) }
     {
-        config.window_at(core, self.clock.now(core)).is_none()
+        self.clock.window_now(config, core).is_none()
     }
 }

@@ -1,8 +1,7 @@
 // The partitions and channels that a record names.
 
-ghost use Rattle.std.specs.Prelude.{◌≡◌, ◌↔◌, [], IsTrue, nat_eq};
+ghost use Rattle.std.specs.Prelude.{◌≡◌, ◌↔◌, IsTrue, nat_eq};
 ghost use Rattle.std.specs.List.{list_all, list_any};
-ghost use Rattle.apex_machine.specs.Answer.{NamesExactly};
 ghost use Rattle.apex_machine.specs.Configuration.{has_partition};
 ghost use Rattle.apex_machine.specs.State.{names_one_of};
 ghost use Rattle.apex_machine.specs.Step.{AllConfigured, OneConfigured, ChannelConfigured};
@@ -41,13 +40,6 @@ pub(crate) fn channel_configured(config: &Config, named: Option<ChanId>) -> bool
         Some(channel) => config.has_channel(channel),
         None => true,
     }
-}
-
-/// Whether these are no processes at all.
-pub(crate) fn names_nobody(named: &[Who]) -> bool
-    ensures { IsTrue result ↔ NamesExactly [] named.now }
-{
-    named.is_empty()
 }
 
 /// Whether one of these processes is of this partition.

@@ -1,26 +1,23 @@
 // The piece of a partition: its windows, its choices, and the claims of its own calls and returns.
 
-ghost use Rattle.std.specs.Prelude.{◌≡◌, ◌<◌, ◌↔◌, IsTrue, Some, OnOk, OnErr, length, false};
+ghost use Rattle.std.specs.Prelude.{◌≡◌, ◌≢◌, ◌<◌, ◌↔◌, [], nat_eq, IfErr, IfOk, IsTrue, Some, OnOk, OnErr, length, false};
 ghost use Rattle.std.specs.Option.{option_copied};
 ghost use Rattle.apex_types.specs.Bounds.{place_count};
-ghost use Rattle.apex_types.specs.Requested.{service_of};
 ghost use Rattle.apex_types.specs.declared.record.Body.TheVariants as body;
 ghost use Rattle.apex_machine.specs.State.{item_at, time_of};
 ghost use Rattle.apex_machine.specs.Step.{HasNoneDue, HasPriority, due_of};
-ghost use Rattle.apex_machine.specs.Demands.{AllHold, IsRunning, WakesHere, own_call_demands, foreign_call_demands, window_now};
+ghost use Rattle.apex_machine.specs.Demands.{AllHold, FirstFails, IsRunning, LocalStep, WakesHere, demands, foreign_call_demands, window_now};
 ghost use Rattle.apex_machine.specs.After.{partition_by};
 ghost use Rattle.apex_machine.specs.Pieces.{PartitionPart, part_after};
-ghost use Rattle.apex_machine.specs.Services.{is_built};
+ghost use Rattle.apex_machine.specs.ServiceConditions.{condition_codes};
+ghost use Rattle.apex_laws.specs.PartLaws.{IsSoundPart};
+ghost use Rattle.partition_state.specs.Calls.{RefusesOrWants};
 ghost use Rattle.piece_check.specs.Held.{partition_part};
-ghost use Rattle.piece_check.specs.Judged.{Judges, asked_by_partition};
-ghost use Rattle.piece_check.specs.Parts.{IsCall};
-ghost use Rattle.piece_check.specs.States.{partition_of};
-ghost use Rattle.process_state.specs.Sound.{IsSound};
-ghost use Rattle.process_state.specs.Timely.{TimesFit};
+ghost use Rattle.piece_check.specs.Judged.{Judges, asked_by_partition, own_caller_demands, own_demands, part_called};
+ghost use Rattle.piece_check.specs.Parts.{IsBehind, IsCall, WantsAtCalls};
 
-use crate::conditions::conditions_of;
-use crate::outcome::judge_outcome;
-use crate::partition_state::PartitionState;
+use crate::conditions::{Conditions, conditions_of};
+use crate::outcome::judge_refused;
 use crate::profile::{is_built, is_within};
 use apex_machine::{Outcome, WaitingSet};
 use apex_types::{
@@ -28,8 +25,9 @@ use apex_types::{
 };
 use dispatch_rule::{Clock, owns_window};
 use module_config::Config;
-use process_state::{Moment, Transfer};
-use std::alloc::AllocError;
+use partition_state::PartitionState;
+use process_state::Moment;
+use wait_set::ObjFault;
 
 /// The piece of a partition: its number, the cores, and its state.
 #[derive(Drop)]
@@ -40,124 +38,65 @@ pub(crate) struct PartitionPiece {
 }
 
 impl PartitionPiece {
-    /// Judges a record: the cause is that of the first demand that fails.
-    pub(crate) fn judge(&self, config: &Config, ordered: &Ordered) -> Result<(), Cause>
-        requires { time_of self.now.clock.cores ordered.now.core < place_count }
-        ensures { Judges (asked_by_partition config.now self.now ordered.now.core ordered.now.rec.body) result }
+    /// Judges a record, and makes the part what the record makes of it.
+    ///
+    /// Refused, with nothing changed, where a demand fails: the cause is that of the first; or where memory is refused to a
+    /// call.
+    pub(crate) fn step(&mut self, config: &Config, ordered: &Ordered) -> Result<(), ObjFault>
+        requires core { ordered.now.core < length self.old.clock.cores }
+        requires place { ordered.now.pos < place_count }
+        requires behind { IsBehind ordered.now.pos (partition_part self.old) }
+        ensures ok { OnOk result (LocalStep config.now (partition_part self.old) ordered.now (partition_part self.new)) }
+        ensures refused { IfErr result (RefusesOrWants (demands config.now (partition_part self.old) ordered.now)) }
+        ensures unchanged { OnErr result (self.new ≡ self.old) }
+        ensures memory { IfErr result (WantsAtCalls ordered.now.rec.body) }
     {
         match &ordered.rec.body {
             Body::Call(call) => {
                 if call.who.part == self.number {
-                    self.judge_own_call(config, ordered.core, call)
+                    self.own_call(config, ordered, call)
                 } else {
-                    self.judge_foreign_call(config, ordered.core, call)
+                    self.foreign_call(config, ordered, call)
                 }
             }
-            Body::Ret(ret) => self.judge_return(config, ordered.core, ret),
-            Body::Disp(who) => self.judge_dispatch(config, ordered.core, *who),
-            Body::Tick(woken) => self.judge_tick(config, ordered.core, woken),
+            Body::Ret(_) | Body::Disp(_) | Body::Tick(_) => match self.judge(config, ordered) {
+                Ok(()) => {
+                    self.apply(config, ordered);
+                    Ok(())
+                }
+                Err(cause) => Err(ObjFault::Unlawful(cause)),
+            },
         }
     }
 
-    /// Makes the part what a record that was judged lawful makes of it.
-    ///
-    /// AllocError where a call was refused memory; nothing is changed then.
-    pub(crate) fn apply(&mut self, config: &Config, ordered: &Ordered) -> Result<(), AllocError>
-        requires core { ordered.now.core < length self.old.clock.cores }
-        requires time { time_of self.old.clock.cores ordered.now.core < place_count }
-        requires times { TimesFit self.old.clock.cores }
-        requires lawful { AllHold (asked_by_partition config.now self.old ordered.now.core ordered.now.rec.body) }
-        ensures ok { OnOk result (partition_part self.new ≡ part_after config.now (partition_part self.old) ordered.now) }
+    // A call of one of the partition's own processes: what stands before its outcome is judged, then the outcome, and the call
+    // is carried out.
+    fn own_call(&mut self, config: &Config, ordered: &Ordered, call: &Call) -> Result<(), ObjFault>
+        requires own { call.now.who.part ≡ self.old.number }
+        requires place { ordered.now.pos < place_count }
+        requires behind { IsBehind ordered.now.pos (partition_part self.old) }
+        ensures ok { OnOk result (AllHold (own_demands config.now self.old ordered.now.core call.now)) }
+        ensures after { OnOk result (partition_part self.new ≡ part_called config.now self.old ordered.now call.now) }
+        ensures refused { IfErr result (RefusesOrWants (own_demands config.now self.old ordered.now.core call.now)) }
         ensures unchanged { OnErr result (self.new ≡ self.old) }
-        ensures memory { OnErr result (IsCall ordered.now.rec.body) }
     {
-        config.keeps_limits();
-        match &ordered.rec.body {
-            Body::Call(call) => {
-                self.apply_call(config, ordered, call)?;
-            }
-            Body::Ret(ret) => {
-                if ret.who.part == self.number {
-                    self.state.processes.ret(ret.who.proc);
+        match self.judge_caller(config, ordered.core, call) {
+            Ok(conditions) => {
+                if conditions.is_empty() {
+                    self.serve(config, ordered, call)
+                } else {
+                    self.refuse(config, ordered, call, &conditions)
                 }
             }
-            Body::Disp(who) => self.clock.dispatch(ordered.core, *who),
-            Body::Tick(woken) => {
-                self.state.processes.tick(self.number, ordered.pos, woken);
-                self.clock.advance(ordered.core);
-            }
-        }
-        Ok(())
-    }
-
-    // What a call makes of the processes: one of the partition's own sets what it sets, another ends the waits of those
-    // that it names.
-    fn apply_call(
-        &mut self,
-        config: &Config,
-        ordered: &Ordered,
-        call: &Call,
-    ) -> Result<(), AllocError>
-        requires times { TimesFit self.old.clock.cores }
-        requires judged { call.now.who.part ≡ self.old.number → IsTrue (is_built (service_of call.now.request)) }
-        requires sound { call.now.who.part ≡ self.old.number → IsSound self.old.state.processes.table call.now }
-        ensures ok { OnOk result (partition_part self.new ≡ PartitionPart self.old.number self.old.clock.cores (partition_by config.now self.old.clock.cores ordered.now.pos ordered.now.core self.old.number (body.Call call.now) (partition_of self.old.state))) }
-        ensures unchanged { OnErr result (self.new ≡ self.old) }
-    {
-        if call.who.part == self.number {
-            let first_core = config.first_core(self.number);
-            let period = config.period(self.number);
-            let moment = Moment {
-                place: ordered.pos,
-                core: ordered.core,
-                cores: self.clock.states(),
-            };
-            self.state
-                .processes
-                .call(first_core, period, &moment, Transfer::none(), call)
-        } else {
-            self.state.processes.rouse(self.number, ordered.pos, call)
+            Err(cause) => Err(ObjFault::Unlawful(cause)),
         }
     }
 
-    // In the partition's windows a dispatch names its choice.
-    fn judge_dispatch(&self, config: &Config, core: CoreId, who: Option<Who>) -> Result<(), Cause>
-        ensures { Judges (asked_by_partition config.now self.now core (body.Disp who)) result }
-    {
-        if self.is_in_window(config, core)
-            && self.state.processes.ready_on(self.number, core) != who
-        {
-            return Err(Cause::Choice);
-        }
-        Ok(())
-    }
-
-    // In the partition's windows a tick comes where the occupant is its choice. It names, of the partition, those that
-    // fall due.
-    fn judge_tick(&self, config: &Config, core: CoreId, woken: &Woken) -> Result<(), Cause>
-        requires { time_of self.now.clock.cores core < place_count }
-        ensures { Judges (asked_by_partition config.now self.now core (body.Tick woken.now)) result }
-    {
-        let occupant = self.clock.on(core);
-        if self.is_in_window(config, core)
-            && self.state.processes.ready_on(self.number, core) != occupant
-        {
-            return Err(Cause::Choice);
-        }
-        let next = self.clock.now(core) + 1;
-        if !self
-            .state
-            .processes
-            .names_those_due(self.number, core, next, woken)
-        {
-            return Err(Cause::Woken);
-        }
-        Ok(())
-    }
-
-    // A call of one of the partition's processes.
-    fn judge_own_call(&self, config: &Config, core: CoreId, call: &Call) -> Result<(), Cause>
-        ensures { Judges (own_call_demands is_built config.now self.now.number self.now.clock.cores (partition_of self.now.state) core call.now) result }
+    // Judges what stands before the outcome of one of the partition's own calls, and gives the error conditions that hold.
+    fn judge_caller(&self, config: &Config, core: CoreId, call: &Call) -> Result<Conditions, Cause>
+        ensures ok { OnOk result (AllHold (own_caller_demands config.now self.now core call.now)) }
+        ensures conditions { IfOk result (λ conditions. conditions ≡ condition_codes config.now call.now.who self.now.state call.now.request) }
+        ensures refused { IfErr result (FirstFails (own_caller_demands config.now self.now core call.now)) }
     {
         if !self.is_in_window(config, core) {
             return Err(Cause::Window);
@@ -178,12 +117,165 @@ impl PartitionPiece {
         if !self.has_priority(call.who.proc, call.claim.prio) {
             return Err(Cause::Prio);
         }
-        judge_outcome(&conditions, &self.state, self.clock.now(core), call)
+        Ok(conditions)
+    }
+
+    // An own call on which no error condition holds: it goes through no channel, and its partition serves it.
+    fn serve(&mut self, config: &Config, ordered: &Ordered, call: &Call) -> Result<(), ObjFault>
+        requires own { call.now.who.part ≡ self.old.number }
+        requires place { ordered.now.pos < place_count }
+        requires behind { IsBehind ordered.now.pos (partition_part self.old) }
+        requires caller { AllHold (own_caller_demands config.now self.old ordered.now.core call.now) }
+        requires clear { condition_codes config.now call.now.who self.old.state call.now.request ≡ [] }
+        ensures ok { OnOk result (AllHold (own_demands config.now self.old ordered.now.core call.now)) }
+        ensures after { OnOk result (partition_part self.new ≡ part_called config.now self.old ordered.now call.now) }
+        ensures refused { IfErr result (RefusesOrWants (own_demands config.now self.old ordered.now.core call.now)) }
+        ensures unchanged { OnErr result (self.new ≡ self.old) }
+    {
+        if call.claim.chan.is_some() {
+            return Err(ObjFault::Unlawful(Cause::Chan));
+        }
+        let now = self.clock.now(ordered.core);
+        let moment = Moment {
+            place: ordered.pos,
+            core: ordered.core,
+            cores: self.clock.states(),
+        };
+        self.state.serve(config, now, &moment, call)
+    }
+
+    // An own call on which these error conditions hold: it claims one of their codes and nothing else.
+    fn refuse(
+        &mut self,
+        config: &Config,
+        ordered: &Ordered,
+        call: &Call,
+        conditions: &Conditions,
+    ) -> Result<(), ObjFault>
+        requires own { call.now.who.part ≡ self.old.number }
+        requires place { ordered.now.pos < place_count }
+        requires behind { IsBehind ordered.now.pos (partition_part self.old) }
+        requires caller { AllHold (own_caller_demands config.now self.old ordered.now.core call.now) }
+        requires conditions { conditions.now ≡ condition_codes config.now call.now.who self.old.state call.now.request }
+        requires some { conditions.now ≢ [] }
+        ensures ok { OnOk result (AllHold (own_demands config.now self.old ordered.now.core call.now)) }
+        ensures after { OnOk result (partition_part self.new ≡ part_called config.now self.old ordered.now call.now) }
+        ensures refused { IfErr result (RefusesOrWants (own_demands config.now self.old ordered.now.core call.now)) }
+        ensures unchanged { OnErr result (self.new ≡ self.old) }
+    {
+        match judge_refused(conditions, &call.claim) {
+            Ok(()) => {
+                let moment = Moment {
+                    place: ordered.pos,
+                    core: ordered.core,
+                    cores: self.clock.states(),
+                };
+                match self.state.refuse(config, &moment, call) {
+                    Ok(()) => Ok(()),
+                    Err(_) => Err(ObjFault::Memory),
+                }
+            }
+            Err(cause) => Err(ObjFault::Unlawful(cause)),
+        }
+    }
+
+    // A call of another partition's process: it is judged, and the waits of those that it names of this one end.
+    fn foreign_call(
+        &mut self,
+        config: &Config,
+        ordered: &Ordered,
+        call: &Call,
+    ) -> Result<(), ObjFault>
+        requires foreign { nat_eq call.now.who.part self.old.number ≡ false }
+        ensures ok { OnOk result (AllHold (foreign_call_demands config.now self.old.number self.old.clock.cores self.old.state ordered.now.core call.now)) }
+        ensures after { OnOk result (partition_part self.new ≡ PartitionPart self.old.number self.old.clock.cores (partition_by config.now self.old.clock.cores ordered.now.pos ordered.now.core self.old.number (body.Call call.now) self.old.state)) }
+        ensures refused { IfErr result (RefusesOrWants (foreign_call_demands config.now self.old.number self.old.clock.cores self.old.state ordered.now.core call.now)) }
+        ensures unchanged { OnErr result (self.new ≡ self.old) }
+    {
+        match self.judge_foreign_call(config, ordered.core, call) {
+            Ok(()) => match self.state.rouse(self.number, ordered.pos, call) {
+                Ok(()) => Ok(()),
+                Err(_) => Err(ObjFault::Memory),
+            },
+            Err(cause) => Err(ObjFault::Unlawful(cause)),
+        }
+    }
+
+    // Judges a record that is no call: the cause is that of the first demand that fails.
+    fn judge(&self, config: &Config, ordered: &Ordered) -> Result<(), Cause>
+        requires kind { IsCall ordered.now.rec.body → ⊥ }
+        requires time { time_of self.now.clock.cores ordered.now.core < place_count }
+        ensures { Judges (asked_by_partition config.now self.now ordered.now.core ordered.now.rec.body) result }
+    {
+        match &ordered.rec.body {
+            Body::Call(_) => unreachable!(),
+            Body::Ret(ret) => self.judge_return(config, ordered.core, ret),
+            Body::Disp(who) => self.judge_dispatch(config, ordered.core, *who),
+            Body::Tick(woken) => self.judge_tick(config, ordered.core, woken),
+        }
+    }
+
+    // Makes the part what a record makes of it that is no call and was judged lawful. Takes no memory.
+    fn apply(&mut self, config: &Config, ordered: &Ordered)
+        requires kind { IsCall ordered.now.rec.body → ⊥ }
+        requires core { ordered.now.core < length self.old.clock.cores }
+        requires time { time_of self.old.clock.cores ordered.now.core < place_count }
+        requires sound { IsSoundPart self.old.number ordered.now.pos self.old.state }
+        ensures { partition_part self.new ≡ part_after config.now (partition_part self.old) ordered.now }
+    {
+        match &ordered.rec.body {
+            Body::Call(_) => unreachable!(),
+            Body::Ret(ret) => {
+                if ret.who.part == self.number {
+                    self.state.ret(ret.who.proc);
+                }
+            }
+            Body::Disp(who) => self.clock.dispatch(ordered.core, *who),
+            Body::Tick(woken) => {
+                self.state.tick(self.number, ordered.pos, woken);
+                self.clock.advance(config, ordered.core);
+            }
+        }
+    }
+
+    // In the partition's windows a dispatch names its choice.
+    fn judge_dispatch(&self, config: &Config, core: CoreId, who: Option<Who>) -> Result<(), Cause>
+        ensures { Judges (asked_by_partition config.now self.now core (body.Disp who)) result }
+    {
+        if self.is_in_window(config, core)
+            && self.state.processes().ready_on(self.number, core) != who
+        {
+            return Err(Cause::Choice);
+        }
+        Ok(())
+    }
+
+    // In the partition's windows a tick comes where the occupant is its choice. It names, of the partition, those that
+    // fall due.
+    fn judge_tick(&self, config: &Config, core: CoreId, woken: &Woken) -> Result<(), Cause>
+        requires { time_of self.now.clock.cores core < place_count }
+        ensures { Judges (asked_by_partition config.now self.now core (body.Tick woken.now)) result }
+    {
+        let occupant = self.clock.on(core);
+        if self.is_in_window(config, core)
+            && self.state.processes().ready_on(self.number, core) != occupant
+        {
+            return Err(Cause::Choice);
+        }
+        let next = self.clock.now(core) + 1;
+        if !self
+            .state
+            .processes()
+            .names_those_due(self.number, core, next, woken)
+        {
+            return Err(Cause::Woken);
+        }
+        Ok(())
     }
 
     // A call of another partition's process ends only waits at the end of a queuing channel that is this partition's.
     fn judge_foreign_call(&self, config: &Config, core: CoreId, call: &Call) -> Result<(), Cause>
-        ensures { Judges (foreign_call_demands config.now self.now.number self.now.clock.cores (partition_of self.now.state) core call.now) result }
+        ensures { Judges (foreign_call_demands config.now self.now.number self.now.clock.cores self.now.state core call.now) result }
     {
         if self.is_in_window(config, core) && !self.is_running(core, call.who) {
             return Err(Cause::Choice);
@@ -197,7 +289,7 @@ impl PartitionPiece {
     // Whether a call of another partition ends only waits at its channel: a send of those that wait to receive, a receive
     // of those that wait to send.
     fn wakes_here(&self, call: &Call) -> bool
-        ensures { IsTrue result ↔ WakesHere call.now.request call.now.claim.chan self.now.number self.now.state.processes.table call.now.claim.woken }
+        ensures { IsTrue result ↔ WakesHere call.now.request call.now.claim.chan self.now.number self.now.state.table call.now.claim.woken }
     {
         let Some(channel) = call.claim.chan else {
             return false;
@@ -208,7 +300,7 @@ impl PartitionPiece {
             _ => return false,
         };
         self.state
-            .processes
+            .processes()
             .all_wait_at(wanted, self.number, call.claim.woken.as_slice())
     }
 
@@ -249,18 +341,18 @@ impl PartitionPiece {
 
     // Whether this process is the core's occupant and the partition's choice.
     fn is_running(&self, core: CoreId, who: Who) -> bool
-        ensures { IsTrue result ↔ IsRunning self.now.number self.now.clock.cores self.now.state.processes.table core who }
+        ensures { IsTrue result ↔ IsRunning self.now.number self.now.clock.cores self.now.state.table core who }
     {
         let running = Some(who);
         self.clock.on(core) == running
-            && self.state.processes.ready_on(self.number, core) == running
+            && self.state.processes().ready_on(self.number, core) == running
     }
 
     // The outcome that is due to the process, if it is there and one is.
     fn due_to(&self, number: ProcId) -> Option<&Outcome>
-        ensures { option_copied result ≡ due_of (item_at self.now.state.processes.table number) }
+        ensures { option_copied result ≡ due_of (item_at self.now.state.table number) }
     {
-        match self.state.processes.proc(number) {
+        match self.state.processes().proc(number) {
             Some(process) => process.due.as_ref(),
             None => None,
         }
@@ -268,9 +360,9 @@ impl PartitionPiece {
 
     // Whether the process is there and no outcome is due to it.
     fn has_none_due(&self, number: ProcId) -> bool
-        ensures { IsTrue result ↔ HasNoneDue (item_at self.now.state.processes.table number) }
+        ensures { IsTrue result ↔ HasNoneDue (item_at self.now.state.table number) }
     {
-        match self.state.processes.proc(number) {
+        match self.state.processes().proc(number) {
             Some(process) => process.due.is_none(),
             None => false,
         }
@@ -278,9 +370,9 @@ impl PartitionPiece {
 
     // Whether the process is there and has this current priority.
     fn has_priority(&self, number: ProcId, priority: u8) -> bool
-        ensures { IsTrue result ↔ HasPriority priority (item_at self.now.state.processes.table number) }
+        ensures { IsTrue result ↔ HasPriority priority (item_at self.now.state.table number) }
     {
-        match self.state.processes.proc(number) {
+        match self.state.processes().proc(number) {
             Some(process) => process.current_priority == priority,
             None => false,
         }

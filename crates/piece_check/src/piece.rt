@@ -5,7 +5,8 @@ ghost use Rattle.apex_machine.specs.State.{cold_state};
 ghost use Rattle.apex_machine.specs.Configuration.{Configuration};
 ghost use Rattle.apex_machine.specs.Demands.{LocalStep, demands};
 ghost use Rattle.apex_machine.specs.Pieces.{OfPartition, part, pieces, touched_by, touches};
-ghost use Rattle.piece_check.specs.Parts.{HasCores, IsCall, NoTimeAbove, piece_at};
+ghost use Rattle.apex_laws.specs.PartBounds.{PeriodFits};
+ghost use Rattle.piece_check.specs.Parts.{HasCores, IsBehind, IsCall, piece_at};
 ghost use Rattle.piece_check.specs.Refused.{IsRefused, refusal_for};
 
 use crate::fault::PieceFault;
@@ -13,13 +14,13 @@ use crate::held::Held;
 use crate::module_piece::ModulePiece;
 use crate::names::names_one_of;
 use crate::partition_piece::PartitionPiece;
-use crate::partition_state::PartitionState;
-use apex_types::{Body, Cause, Ordered, PartId, Place};
+use apex_types::{Body, Cause, Ordered, PartId, Place, Request};
 use dispatch_rule::Clock;
 use module_config::Config;
-use process_state::ProcTable;
+use partition_state::PartitionState;
 use std::alloc::{AllocError, Global};
 use std::marker::Model;
+use wait_set::ObjFault;
 
 /// A piece: the module, or a partition. It judges the records that touch it, each at its place.
 #[derive(Drop)]
@@ -81,7 +82,7 @@ impl Piece {
         ensures part { IfOk result (λ started. started.part ≡ part (piece_at config.now piece) (cold_state config.now)) }
         ensures fresh { IfOk result (λ started. started.spent ≡ false) }
         ensures cores { IfOk result (λ started. HasCores config.now.cores started.part) }
-        ensures behind { IfOk result (λ started. NoTimeAbove 0 started.part) }
+        ensures behind { IfOk result (λ started. IsBehind 0 started.part) }
     {
         config.keeps_limits();
         let clock = Clock::new(config.cores(), config.skew());
@@ -90,11 +91,11 @@ impl Piece {
             return Ok(Piece { held, spent: false });
         }
         let number = config.partition_number(piece - 1);
-        let processes = ProcTable::new(alloc, config.first_core(number))?;
+        let state = PartitionState::new(alloc, config.first_core(number))?;
         let held = Held::Partition(PartitionPiece {
             number,
             clock,
-            state: PartitionState { processes },
+            state,
         });
         Ok(Piece { held, spent: false })
     }
@@ -106,7 +107,7 @@ impl Piece {
     pub fn step(&mut self, config: &Config, ordered: &Ordered) -> Result<(), PieceFault>
         requires core { ordered.now.core < config.now.cores }
         requires cores { HasCores config.now.cores self.old.part }
-        requires behind { NoTimeAbove ordered.now.pos self.old.part }
+        requires behind { IsBehind ordered.now.pos self.old.part }
         ensures ok { OnOk result (LocalStep config.now self.old.part ordered.now self.new.part) }
         ensures refused { IfErr result (λ fault. IsRefused (demands config.now self.old.part ordered.now) ordered.now.pos fault) }
         ensures unchanged { OnErr result (self.new.part ≡ self.old.part) }
@@ -114,21 +115,31 @@ impl Piece {
         ensures stays_spent { IsTrue self.old.spent → result ≡ Err PieceFault.Memory }
         ensures memory { result ≡ Err PieceFault.Memory → IsTrue self.old.spent ⊎ IsCall ordered.now.rec.body }
         ensures cores { OnOk result (HasCores config.now.cores self.new.part) }
-        ensures behind { OnOk result (NoTimeAbove (ordered.now.pos + 1) self.new.part) }
+        ensures behind { OnOk result (IsBehind (ordered.now.pos + 1) self.new.part) }
     {
         if self.spent {
             return Err(PieceFault::Memory);
         }
         let _place = ordered.pos.number();
-        if let Err(cause) = self.held.judge(config, ordered) {
-            return Err(refusal(ordered.pos, cause));
-        }
-        match self.held.apply(config, ordered) {
+        gives_period(&ordered.rec.body);
+        match self.held.step(config, ordered) {
             Ok(()) => Ok(()),
-            Err(_) => {
+            Err(ObjFault::Unlawful(cause)) => Err(refusal(ordered.pos, cause)),
+            Err(ObjFault::Memory) => {
                 self.spent = true;
                 Err(PieceFault::Memory)
             }
+        }
+    }
+}
+
+// Says of a record that the period that it gives fits 63 bits, as each number of a caller does. It does nothing.
+fn gives_period(body: &Body)
+    ensures { PeriodFits body.now }
+{
+    if let Body::Call(call) = body {
+        if let Request::CreateProcess { period, .. } = &call.request {
+            let _period: i64 = *period;
         }
     }
 }

@@ -6,7 +6,7 @@ use Rattle.apex_machine.specs.Pieces.{Part, pieces}
 use Rattle.apex_machine.specs.Runs.{ArePlaced, PieceRun, Refuses}
 use Rattle.apex_machine.specs.Services.{is_built}
 use Rattle.apex_laws.proofs.Joins.{runs_join}
-use Rattle.piece_check.specs.Parts.{HasCores, NoTimeAbove, piece_at}
+use Rattle.piece_check.specs.Parts.{HasCores, IsBehind, piece_at}
 use Rattle.verdict_merge.specs.declared.finding.Finding.{Finding}
 use Rattle.verdict_merge.specs.Findings.{IsLeastWith, IsLesser}
 use Rattle.verdict_merge.specs.Rounds.{AllRun, HasGone, IsNo, IsRound, Judging, RefusesAmong, Runs, holding_at, parts_of}
@@ -225,7 +225,7 @@ found_more configuration old records number least (Some next) after part (one, i
 pub round_is : (configuration : Configuration) (start now next : Judging) (records : List Ordered) (least : Option Finding) → ArePlaced start.count records
     → next.pieces ≡ now.pieces → next.count ≡ start.count + length records → length now.pieces ≡ length (pieces configuration)
     → ((number : ℕ) → number < length (pieces configuration) → HasCores configuration.cores (parts_of now number))
-    → ((number : ℕ) → number < length (pieces configuration) → NoTimeAbove (start.count + length records) (parts_of now number))
+    → ((number : ℕ) → number < length (pieces configuration) → IsBehind (start.count + length records) (parts_of now number))
     → ((number : ℕ) → number < length (pieces configuration) → HasBeen configuration (parts_of start) records (parts_of now) least number)
     → IsFound configuration (parts_of start) records (length (pieces configuration)) least
     → IsRound configuration start records least next
@@ -237,7 +237,7 @@ round_is configuration start now next records None placed pieces_same counted wh
       record {
         whole = ap length pieces_same ∙ whole;
         known = λ number within. subst (HasCores configuration.cores) (same number) (known number within);
-        behind = λ number within. subst (NoTimeAbove next.count) (same number) (subst (λ place. NoTimeAbove place (parts_of now number)) (sym counted) (behind number within));
+        behind = λ number within. subst (IsBehind next.count) (same number) (subst (λ place. IsBehind place (parts_of now number)) (sym counted) (behind number within));
       },
     )
 round_is configuration start now next records (Some least) placed pieces_same counted whole known behind been found =

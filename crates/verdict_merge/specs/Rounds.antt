@@ -6,7 +6,7 @@ use Rattle.apex_machine.specs.Configuration.{Configuration}
 use Rattle.apex_machine.specs.Pieces.{ModulePart, Part, Piece, part, pieces}
 use Rattle.apex_machine.specs.Runs.{ArePlaced, PieceRun, Refuses}
 use Rattle.apex_machine.specs.State.{cold_state}
-use Rattle.piece_check.specs.Parts.{HasCores, Holding, NoTimeAbove, piece_at}
+use Rattle.piece_check.specs.Parts.{HasCores, Holding, IsBehind, piece_at}
 use Rattle.verdict_merge.specs.declared.finding.Finding.{Finding}
 
 -- the parts of all pieces by their numbers, as they are before the first record
@@ -54,7 +54,7 @@ pub record IsGoing (cores : ℕ) (records : List Ordered) (part : Part) : Type 0
   pub place : ℕ
   pub placed : ArePlaced place records
   pub known : HasCores cores part
-  pub behind : NoTimeAbove place part
+  pub behind : IsBehind place part
 
 -- all pieces together
 
@@ -77,7 +77,7 @@ parts_of judging number = (holding_at judging.pieces number).part
 pub record IsReady (configuration : Configuration) (judging : Judging) : Type 0 where
   pub whole : length judging.pieces ≡ length (pieces configuration)
   pub known : (number : ℕ) → number < length (pieces configuration) → HasCores configuration.cores (parts_of judging number)
-  pub behind : (number : ℕ) → number < length (pieces configuration) → NoTimeAbove judging.count (parts_of judging number)
+  pub behind : (number : ℕ) → number < length (pieces configuration) → IsBehind judging.count (parts_of judging number)
 
 -- a round: where nothing is found each piece ran over the records, and may go on; else the finding is a No among them
 abbrev pub IsRound : Configuration → Judging → List Ordered → Option Finding → Judging → Type 0

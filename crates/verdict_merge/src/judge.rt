@@ -3,7 +3,7 @@
 ghost use Rattle.std.specs.Prelude.{◌≡◌, ◌≢◌, ◌<◌, ◌+◌, ℕ, IfOk, OnErr, IsTrue, length};
 ghost use Rattle.apex_machine.specs.Pieces.{pieces};
 ghost use Rattle.apex_machine.specs.Runs.{ArePlaced, AreOfCores};
-ghost use Rattle.piece_check.specs.Parts.{HasCores, NoTimeAbove};
+ghost use Rattle.piece_check.specs.Parts.{HasCores, IsBehind};
 ghost use Rattle.verdict_merge.specs.Rounds.{HasGone, IsGoing, IsReady, IsRound, IsSpent, cold_parts, holding_at, parts_of};
 
 use crate::finding::{Finding, finding_from, least_with};
@@ -97,7 +97,7 @@ impl Judge {
         requires going { IsGoing config.now.cores records.now (parts_of self.old number) }
         requires cores { AreOfCores config.now.cores records.now }
         ensures gone { IfOk result (λ found. HasGone config.now number (parts_of self.old number) records.now found (parts_of self.new number)) }
-        ensures kept { IfOk result (λ _. (place : ℕ) → ArePlaced place records.now → NoTimeAbove place (parts_of self.old number) → NoTimeAbove (place + length records.now) (parts_of self.new number)) }
+        ensures kept { IfOk result (λ _. (place : ℕ) → ArePlaced place records.now → IsBehind place (parts_of self.old number) → IsBehind (place + length records.now) (parts_of self.new number)) }
         ensures cores { IfOk result (λ _. HasCores config.now.cores (parts_of self.new number)) }
         ensures others { (other : ℕ) → other ≢ number → holding_at self.new.pieces other ≡ holding_at self.old.pieces other }
         ensures count { self.new.count ≡ self.old.count }
@@ -130,7 +130,7 @@ fn go_over(
     requires going { IsGoing config.now.cores records.now piece.old.part }
     requires cores { AreOfCores config.now.cores records.now }
     ensures gone { IfOk result (λ found. HasGone config.now number piece.old.part records.now found piece.new.part) }
-    ensures kept { IfOk result (λ _. (place : ℕ) → ArePlaced place records.now → NoTimeAbove place piece.old.part → NoTimeAbove (place + length records.now) piece.new.part) }
+    ensures kept { IfOk result (λ _. (place : ℕ) → ArePlaced place records.now → IsBehind place piece.old.part → IsBehind (place + length records.now) piece.new.part) }
     ensures cores { IfOk result (λ _. HasCores config.now.cores piece.new.part) }
     ensures memory { OnErr result (IsTrue piece.new.spent) }
 {

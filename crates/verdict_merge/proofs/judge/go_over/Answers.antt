@@ -5,7 +5,8 @@ use Rattle.apex_types.specs.declared.record.Ordered.{Ordered}
 use Rattle.apex_machine.specs.Demands.{LocalStep}
 use Rattle.apex_machine.specs.Pieces.{touches}
 use Rattle.apex_machine.specs.Runs.{ArePlaced, AreOfCores, PieceRun}
-use Rattle.piece_check.specs.Parts.{HasCores, NoTimeAbove, piece_at}
+use Rattle.piece_check.proofs.Parting.{IsBehind_later}
+use Rattle.piece_check.specs.Parts.{HasCores, IsBehind, piece_at}
 use Rattle.verdict_merge.proofs.Going.{passes_by, refuses_here, steps_over}
 use Rattle.verdict_merge.proofs.judge.go_over.Goals as goal
 use Rattle.verdict_merge.proofs.judge.go_over.Goals.{then-touches+in_default, else-touches}
@@ -43,7 +44,7 @@ loop-ordered-preserved c =
     take_more records index ordered (omega arith) ∙ ap (λ x. take index records ++ x ∷ []) (sym c.ordered-item.is) in
     let behind : drop (suc index) records ≡ drop (index + 1) records = ap (λ n. drop n records) (sym (add-one index)) in
     let cores = subst (AreOfCores config.cores) behind (subst (AreOfCores config.cores) cut c.loop-ordered.invariant.of_cores).1 in
-    let places : (place : ℕ) → ArePlaced place records → NoTimeAbove place old → (ordered.pos ≡ place + index) × ArePlaced (place + (index + 1)) (drop (index + 1) records) =
+    let places : (place : ℕ) → ArePlaced place records → IsBehind place old → (ordered.pos ≡ place + index) × ArePlaced (place + (index + 1)) (drop (index + 1) records) =
     λ place placed above.
     let here = subst (ArePlaced (place + index)) cut (c.loop-ordered.invariant.behind place placed above).0 in
     let same : suc (place + index) ≡ place + (index + 1) = omega arith in
@@ -58,7 +59,7 @@ loop-ordered-preserved c =
             cores = subst (λ held. HasCores config.cores held.part) (sym w.piece-is) w.in_default.ensures.cores;
             behind = λ place placed above.
                 let on = places place placed above in
-                (on.1, λ core. omega (arith, on.0, subst (λ held. NoTimeAbove (ordered.pos + 1) held.part) (sym w.piece-is) w.in_default.ensures.behind core));
+                (on.1, IsBehind_later (ordered.pos + 1) (place + (index + 1)) next (omega (arith, on.0)) (subst (λ held. IsBehind (ordered.pos + 1) held.part) (sym w.piece-is) w.in_default.ensures.behind));
           }
       | else-touches w ↦
           let untouched : touches config piece ordered ≡ false = cc in
@@ -69,7 +70,17 @@ loop-ordered-preserved c =
             cores = subst (λ held. HasCores config.cores held.part) (sym w.piece-is) c.loop-ordered.invariant.cores;
             behind = λ place placed above.
                 let on = places place placed above in
-                let earlier : NoTimeAbove (place + index) next = subst (λ held. NoTimeAbove (place + index) held.part) (sym w.piece-is) (c.loop-ordered.invariant.behind place placed above).1 in
-                (on.1, λ core. omega (arith, earlier core));
+                let earlier : IsBehind (place + index) next = subst (λ held. IsBehind (place + index) held.part) (sym w.piece-is) (c.loop-ordered.invariant.behind place placed above).1 in
+                (on.1, IsBehind_later (place + index) (place + (index + 1)) next (omega arith) earlier);
           }
     ]
+
+pub returns-in-Some-clause-kept : goal.returns-in-Some-clause-kept
+returns-in-Some-clause-kept c = λ place placed above.
+    let index = c.loop-ordered.ordered-index in
+    let records = c.args.records.now in
+    let next = c.step.new.self.part in
+    let unchanged : next ≡ c.loop-ordered.piece.part = c.in-Err.ensures.unchanged in
+    let earlier : IsBehind (place + index) next = subst (IsBehind (place + index)) (sym unchanged) (c.loop-ordered.invariant.behind place placed above).1 in
+    let within : index < length records = omega arith in
+    IsBehind_later (place + index) (place + length records) next (omega (arith, within)) earlier

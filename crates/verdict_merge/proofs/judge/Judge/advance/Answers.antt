@@ -1,7 +1,7 @@
 use Rattle.std.proofs.Common.{◌<◌, ◌+◌, ◌∙◌, ℕ, length, sym, ap, subst, arith}
 use Rattle.std.specs.Prelude.{IfOk}
 use Rattle.apex_machine.specs.Runs.{ArePlaced}
-use Rattle.piece_check.specs.Parts.{HasCores, NoTimeAbove}
+use Rattle.piece_check.specs.Parts.{HasCores, IsBehind}
 use Rattle.verdict_merge.specs.Rounds.{HasGone, IsGoing, holding_at, parts_of}
 use Rattle.verdict_merge.proofs.Holdings.{holding_at-get, holding_at-other, holding_at-set, on_err, part_moves}
 use Rattle.verdict_merge.proofs.judge.Judge.advance.Goals as goal
@@ -28,7 +28,7 @@ returns-clause-kept c =
     let items = c.self.inside.pieces.items in
     let within : c.args.number < length items = omega (arith, c.requires.piece, ap (λ judging. length judging.pieces) c.self.view_is) in
     rw (← c.self.view_is)
-    (part_moves (λ old new. IfOk c.go_over.result (λ x. (place : ℕ) → ArePlaced place c.args.records.now → NoTimeAbove place old → NoTimeAbove (place + length c.args.records.now) new)) items c.args.number
+    (part_moves (λ old new. IfOk c.go_over.result (λ x. (place : ℕ) → ArePlaced place c.args.records.now → IsBehind place old → IsBehind (place + length c.args.records.now) new)) items c.args.number
     c.index_mut.result.now c.go_over.new.piece within c.index_mut.ensures.value c.go_over.ensures.kept)
 
 pub returns-clause-cores : goal.returns-clause-cores

@@ -1,6 +1,6 @@
 use Rattle.std.proofs.Common.{◌≡◌, ◌<◌, ◌+◌, ◌∙◌, ℕ, length, inl, inr, sym, ap, subst, arith}
 use Rattle.apex_machine.specs.Pieces.{pieces}
-use Rattle.piece_check.specs.Parts.{HasCores, NoTimeAbove}
+use Rattle.piece_check.specs.Parts.{HasCores, IsBehind}
 use Rattle.verdict_merge.specs.Rounds.{HasGone, parts_of}
 use Rattle.verdict_merge.proofs.Rounds.{IsFound, been_more, found_more, round_is}
 use Rattle.verdict_merge.proofs.Splits.{same_or, up_to}
@@ -28,9 +28,9 @@ pieces-preserved c =
         | inl is ↦ subst (λ n. HasCores config.cores (parts_of next n)) (sym is) c.in-Ok.ensures.cores
         | inr apart ↦ subst (HasCores config.cores) (sym (ap (λ holding. holding.part) (others one apart))) (before.known one inside)
       ];
-      behind = up_to (λ one. NoTimeAbove (start.count + length records) (parts_of next one)) number
-          (λ one less. subst (NoTimeAbove (start.count + length records)) (sym (same one less)) (before.behind one less))
-          (c.in-Ok.ensures.kept start.count c.requires.placed (subst (NoTimeAbove start.count) (sym old) (c.requires.ready.behind number within)));
+      behind = up_to (λ one. IsBehind (start.count + length records) (parts_of next one)) number
+          (λ one less. subst (IsBehind (start.count + length records)) (sym (same one less)) (before.behind one less))
+          (c.in-Ok.ensures.kept start.count c.requires.placed (subst (IsBehind start.count) (sym old) (c.requires.ready.behind number within)));
       been = been_more config (parts_of start) (parts_of now) (parts_of next) records c.pieces.least c.in-Ok.found c.least_with-least.result number c.least_with-least.ensures before.been same gone;
       found = found_more config (parts_of start) records number c.pieces.least c.in-Ok.found c.least_with-least.result (parts_of next number) c.least_with-least.ensures before.found gone;
     }

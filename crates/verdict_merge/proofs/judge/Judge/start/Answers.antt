@@ -1,7 +1,8 @@
 use Rattle.std.proofs.Common.{◌≡◌, ◌<◌, ◌+◌, ◌++◌, ◌∷◌, ◌∙◌, [], ℕ, length, true, refl, sym, ap, subst, rules, arith}
 use Rattle.std.specs.Result.{is_ok}
 use Rattle.std.proofs.lemmas.List.{length-append}
-use Rattle.piece_check.specs.Parts.{HasCores, NoTimeAbove}
+use Rattle.apex_machine.specs.Pieces.{pieces}
+use Rattle.piece_check.specs.Parts.{HasCores, IsBehind}
 use Rattle.verdict_merge.specs.Rounds.{cold_parts, holding_at}
 use Rattle.verdict_merge.proofs.Holdings.{holding_at-front, holding_at-last}
 use Rattle.verdict_merge.proofs.Splits.{up_to}
@@ -23,5 +24,19 @@ pieces-preserved c =
           (λ one less. ap (λ holding. holding.part) (holding_at-front items piece one (omega (arith, less, c.pieces.invariant.count))) ∙ c.pieces.invariant.cold one less)
           (ap (λ holding. holding.part) last ∙ c.in-Ok.ensures.part));
       known = up_to (λ one. HasCores config.cores (cold_parts config one)) number c.pieces.invariant.known (subst (HasCores config.cores) c.in-Ok.ensures.part c.in-Ok.ensures.cores);
-      behind = up_to (λ one. NoTimeAbove 0 (cold_parts config one)) number c.pieces.invariant.behind (subst (NoTimeAbove 0) c.in-Ok.ensures.part c.in-Ok.ensures.behind);
+      behind = up_to (λ one. IsBehind 0 (cold_parts config one)) number c.pieces.invariant.behind (subst (IsBehind 0) c.in-Ok.ensures.part c.in-Ok.ensures.behind);
+    }
+
+pub returns-clause-ready : goal.returns-clause-ready
+returns-clause-ready c =
+    let config = c.args.config.now in
+    let all : c.pieces.number ≡ length (pieces config) = search rules in
+    record {
+      whole = c.pieces.invariant.count ∙ all;
+      known = λ number within.
+          let less : number < c.pieces.number = omega (arith, within, all) in
+          subst (HasCores config.cores) (sym (c.pieces.invariant.cold number less)) (c.pieces.invariant.known number less);
+      behind = λ number within.
+          let less : number < c.pieces.number = omega (arith, within, all) in
+          subst (IsBehind 0) (sym (c.pieces.invariant.cold number less)) (c.pieces.invariant.behind number less);
     }

@@ -1,0 +1,246 @@
+// The error conditions of processes, their waits and the partition's mode.
+
+ghost use Rattle.std.specs.Prelude.{◌≡◌, IsTrue, false};
+ghost use Rattle.std.specs.Option.{option_copied};
+ghost use Rattle.apex_types.specs.Requested.{service_of};
+ghost use Rattle.apex_machine.specs.Conditions as shared;
+ghost use Rattle.apex_machine.specs.DueTimes as due_times;
+ghost use Rattle.apex_machine.specs.ProcessConditions as processes;
+ghost use Rattle.apex_machine.specs.ServiceConditions.{condition_codes};
+ghost use Rattle.apex_machine.specs.Services.{is_built};
+ghost use Rattle.piece_check.specs.Subjects.{creates_object, uses_object};
+
+use super::{Conditions, is_normal, is_reached, may_not_wait};
+use crate::arguments::{
+    is_mode, is_negative, is_normal_mode, is_number, is_period, is_priority, is_time_out,
+    suits_period,
+};
+use apex_machine::{Mode, Process, Wait};
+use apex_types::{Code, Name, PartId, Request, Who};
+use module_config::Config;
+use partition_state::PartitionState;
+
+/// The error conditions that hold for a call of a service of processes, of a wait or of the mode.
+pub(super) fn process_conditions(
+    config: &Config,
+    state: &PartitionState,
+    who: Who,
+    request: &Request,
+) -> Conditions
+    requires judged { IsTrue (is_built (service_of request.now)) }
+    requires no_creation { creates_object (service_of request.now) ≡ false }
+    requires no_use { uses_object (service_of request.now) ≡ false }
+    ensures { result ≡ condition_codes config.now who state.now request.now }
+{
+    let processes = state.processes();
+    match request {
+        Request::CreateProcess {
+            name,
+            priority,
+            period,
+        } => create_process(config, who.part, state, name, *priority, *period),
+        Request::InitializeProcessCoreAffinity { process, core } => {
+            initialize_affinity(config, who.part, state, *process, *core)
+        }
+        Request::Start { process } => start(processes.created(*process)),
+        Request::Stop { process } => stop(who, processes.created(*process), *process),
+        Request::Suspend { process } => suspend(who, processes.created(*process), *process),
+        Request::SuspendSelf { time_out } => suspend_self(who, state, *time_out),
+        Request::Resume { process } => resume(who, processes.created(*process), *process),
+        Request::SetPriority { process, priority } => {
+            set_priority(processes.created(*process), *priority)
+        }
+        Request::GetMyId => get_my_id(who),
+        Request::TimedWait { delay } => timed_wait(who, state, *delay),
+        Request::PeriodicWait => periodic_wait(who, state),
+        Request::SetPartitionMode { mode } => set_mode(processes.mode(), *mode),
+        Request::StopSelf | Request::GetTime => Conditions::none(),
+        _ => unreachable!(),
+    }
+}
+
+// CREATE_PROCESS: not in NORMAL; a name not yet taken; no more than configured; a priority and a period in range, and a
+// period that suits the partition's.
+fn create_process(
+    config: &Config,
+    number: PartId,
+    state: &PartitionState,
+    name: &Name,
+    priority: i64,
+    period: i64,
+) -> Conditions
+    ensures { result ≡ processes.create_process_codes config.now number state.now name.now priority period }
+{
+    let processes = state.processes();
+    let is_full = is_reached(config.process_limit(number), processes.len());
+    let suits = suits_period(config.period(number), period);
+    Conditions::none()
+        .with(is_normal(processes.mode()), Code::InvalidMode)
+        .with(processes.named(name), Code::NoAction)
+        .with(is_full, Code::InvalidConfig)
+        .with(!is_priority(priority), Code::InvalidParam)
+        .with(!is_period(period), Code::InvalidParam)
+        .with(!suits, Code::InvalidConfig)
+}
+
+// INITIALIZE_PROCESS_CORE_AFFINITY: a created process; not in NORMAL; one of the partition's cores.
+fn initialize_affinity(
+    config: &Config,
+    number: PartId,
+    state: &PartitionState,
+    process: i64,
+    core: i64,
+) -> Conditions
+    ensures { result ≡ processes.affinity_codes config.now number state.now process core }
+{
+    let target = state.processes().created(process);
+    Conditions::none()
+        .with(target.is_none(), Code::InvalidParam)
+        .with(is_normal(state.processes().mode()), Code::InvalidMode)
+        .with(!config.has_core(number, core), Code::InvalidConfig)
+}
+
+// START: a created process, and a dormant one.
+fn start(target: Option<&Process>) -> Conditions
+    ensures { result ≡ processes.start_codes (option_copied target.entry) }
+{
+    match target {
+        Some(process) => Conditions::none().with(process.alive, Code::NoAction),
+        None => Conditions::none().with(true, Code::InvalidParam),
+    }
+}
+
+// STOP: a created process, not the caller, and not a dormant one.
+fn stop(who: Who, target: Option<&Process>, process: i64) -> Conditions
+    ensures { result ≡ processes.stop_codes who (option_copied target.entry) process }
+{
+    let of_target = match target {
+        Some(found) => Conditions::none().with(!found.alive, Code::NoAction),
+        None => Conditions::none().with(true, Code::InvalidParam),
+    };
+    of_target.with(is_number(process, who.proc), Code::InvalidParam)
+}
+
+// SUSPEND: a created process, not the caller, neither dormant nor periodic, and not yet suspended.
+fn suspend(who: Who, target: Option<&Process>, process: i64) -> Conditions
+    ensures { result ≡ processes.suspend_codes who (option_copied target.entry) process }
+{
+    let of_target = match target {
+        Some(found) => Conditions::none()
+            .with(!found.alive || is_periodic(found), Code::InvalidMode)
+            .with(is_suspended(found), Code::NoAction),
+        None => Conditions::none().with(true, Code::InvalidParam),
+    };
+    of_target.with(is_number(process, who.proc), Code::InvalidParam)
+}
+
+// RESUME: a created process, not the caller, neither dormant nor periodic, and a suspended one.
+fn resume(who: Who, target: Option<&Process>, process: i64) -> Conditions
+    ensures { result ≡ processes.resume_codes who (option_copied target.entry) process }
+{
+    let of_target = match target {
+        Some(found) => Conditions::none()
+            .with(!found.alive || is_periodic(found), Code::InvalidMode)
+            .with(found.alive && !is_suspended(found), Code::NoAction),
+        None => Conditions::none().with(true, Code::InvalidParam),
+    };
+    of_target.with(is_number(process, who.proc), Code::InvalidParam)
+}
+
+// SET_PRIORITY: a created process, and not a dormant one; a priority in range.
+fn set_priority(target: Option<&Process>, priority: i64) -> Conditions
+    ensures { result ≡ processes.set_priority_codes (option_copied target.entry) priority }
+{
+    let of_target = match target {
+        Some(found) => Conditions::none().with(!found.alive, Code::InvalidMode),
+        None => Conditions::none().with(true, Code::InvalidParam),
+    };
+    of_target.with(!is_priority(priority), Code::InvalidParam)
+}
+
+// GET_MY_ID: not the initialising process.
+fn get_my_id(who: Who) -> Conditions
+    ensures { result ≡ processes.get_my_id_codes who }
+{
+    Conditions::none().with(who.proc.number() == 0, Code::InvalidMode)
+}
+
+// SUSPEND_SELF: a time-out that there is; an aperiodic process that may wait.
+fn suspend_self(who: Who, state: &PartitionState, time_out: i64) -> Conditions
+    ensures { result ≡ processes.suspend_self_codes who state.now time_out }
+{
+    Conditions::none()
+        .with(!is_time_out(time_out), Code::InvalidParam)
+        .with(
+            has_period(state.processes().proc(who.proc)),
+            Code::InvalidMode,
+        )
+        .with(may_not_wait(state, who), Code::InvalidMode)
+}
+
+// TIMED_WAIT: a delay not below 0; a process that may wait.
+fn timed_wait(who: Who, state: &PartitionState, delay: i64) -> Conditions
+    ensures { result ≡ processes.timed_wait_codes who state.now delay }
+{
+    Conditions::none()
+        .with(is_negative(delay), Code::InvalidParam)
+        .with(may_not_wait(state, who), Code::InvalidMode)
+}
+
+// PERIODIC_WAIT: a periodic process that may wait.
+fn periodic_wait(who: Who, state: &PartitionState) -> Conditions
+    ensures { result ≡ processes.periodic_wait_codes who state.now }
+{
+    Conditions::none()
+        .with(
+            !has_period(state.processes().proc(who.proc)),
+            Code::InvalidMode,
+        )
+        .with(may_not_wait(state, who), Code::InvalidMode)
+}
+
+// SET_PARTITION_MODE: a mode that there is; not NORMAL in NORMAL.
+fn set_mode(current: Mode, mode: i64) -> Conditions
+    ensures { result ≡ processes.set_mode_codes current mode }
+{
+    Conditions::none()
+        .with(!is_mode(mode), Code::InvalidParam)
+        .with(is_normal_mode(mode) && is_normal(current), Code::NoAction)
+}
+
+fn is_periodic(process: &Process) -> bool
+    ensures { result ≡ processes.is_periodic process.now }
+{
+    process.period.is_some()
+}
+
+// Whether there is a process that has a period.
+fn has_period(process: Option<&Process>) -> bool
+    ensures { result ≡ shared.of_caller processes.is_periodic (option_copied process.entry) }
+{
+    match process {
+        Some(found) => is_periodic(found),
+        None => false,
+    }
+}
+
+// Whether another suspended the process, or it suspended itself.
+fn is_suspended(process: &Process) -> bool
+    ensures { result ≡ processes.is_suspended process.now }
+{
+    process.suspended || suspends_itself(process.wait)
+}
+
+fn suspends_itself(wait: Wait) -> bool
+    ensures { result ≡ due_times.is_suspension wait }
+{
+    match wait {
+        Wait::Suspended(_) => true,
+        Wait::Nothing
+        | Wait::NormalMode
+        | Wait::FirstRelease(_)
+        | Wait::Until(_)
+        | Wait::PeriodicRelease(_)
+        | Wait::At(..) => false,
+    }
+}
