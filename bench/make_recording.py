@@ -5,7 +5,8 @@
 
 writes config.toml, a recording for each core (core0.csv and on) and order.csv to FOLDER. Without CORES there is one core.
 The recordings have exactly RECORDS records together. Any number is lawful, since each first part of a lawful recording
-is one.
+is one. They are lawful too under many_windows.toml, in which 4,096 windows of ten ticks, shared out among the cores, fill
+the major frame.
 
 The module has one partition, whose windows are the whole major frame on each core. The initialising process creates
 eight processes for each core, puts them on their cores, starts them and sets the partition to NORMAL. From then on each
@@ -32,7 +33,7 @@ SKEW = 10
 MOST_CORES = 128 // len(PRIORITIES)
 
 CONFIGURATION = """cores = {cores}
-frame = 10
+frame = {frame}
 skew = {skew}
 
 [[partition]]
@@ -51,9 +52,13 @@ WINDOW = """
 [[window]]
 core = {core}
 partition = 0
-start = 0
-length = 10
+start = {start}
+length = {length}
 """
+
+# How many ticks a window has, and how many windows a module has at most.
+LENGTH = 10
+MOST_WINDOWS = 4096
 
 
 class Process:
@@ -210,12 +215,13 @@ class Module:
                 self.turn(core)
 
 
-def write_configuration(folder, cores):
-    """The configuration of a module with so many cores."""
-    with open(os.path.join(folder, "config.toml"), "w") as text:
-        text.write(CONFIGURATION.format(cores=cores, skew=SKEW, list=list(range(cores)), processes=cores * len(PRIORITIES)))
+def write_configuration(folder, name, cores, windows):
+    """The configuration of a module with so many cores, on each of which so many windows fill the major frame."""
+    with open(os.path.join(folder, name), "w") as text:
+        text.write(CONFIGURATION.format(cores=cores, frame=windows * LENGTH, skew=SKEW, list=list(range(cores)), processes=cores * len(PRIORITIES)))
         for core in range(cores):
-            text.write(WINDOW.format(core=core))
+            for window in range(windows):
+                text.write(WINDOW.format(core=core, start=window * LENGTH, length=LENGTH))
 
 
 def main():
@@ -226,7 +232,8 @@ def main():
         sys.exit(__doc__)
     records, folder, count = int(words[0]), words[1], int(words[2])
     os.makedirs(folder, exist_ok=True)
-    write_configuration(folder, count)
+    write_configuration(folder, "config.toml", count, 1)
+    write_configuration(folder, "many_windows.toml", count, MOST_WINDOWS // count)
     files = [open(os.path.join(folder, "core%d.csv" % number), "w") for number in range(count)]
     with open(os.path.join(folder, "order.csv"), "w") as order:
         module = Module(records, [Core(number, rows) for number, rows in enumerate(files)], order)

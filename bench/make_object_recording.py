@@ -1,0 +1,175 @@
+#!/usr/bin/env python3
+"""Makes lawful recordings of a module whose processes use objects of every kind, with their configuration and their
+certificate.
+
+    make_object_recording.py RECORDS FOLDER [CORES [OBJECTS]]
+
+writes config.toml, a recording for each core (core0.csv and on) and order.csv to FOLDER. Without CORES there is one core;
+without OBJECTS the partition creates one object of each kind, and else so many.
+The recordings have exactly RECORDS records together.
+
+The module is that of make_recording.py. Each process in turn sends to a buffer and receives from it, displays a message
+and reads it, signals a semaphore and waits for it, acquires a mutex and releases it, waits for an event with a time-out,
+and now and then sets an event, which ends the waits of all who wait for it, and resets it.
+"""
+import os
+import sys
+
+from make_recording import CONFIGURATION, LENGTH, MOST_CORES, PRIORITIES, SKEW, WINDOW, Core, Enough, Module
+
+# The priority of each mutex: above all processes.
+CEILING = 50
+
+# The message of each buffer and blackboard, in hexadecimal digits, and how many bytes it has.
+MESSAGE, SIZE = "0123456789abcdef", 8
+
+# What each process does, again and again; the second of a pair follows its first.
+STEPS = ["send", "receive", "wait", "display", "read", "wait", "signal", "take", "wait", "acquire", "release", "wait",
+         "set", "reset", "wait"]
+
+# How long a process waits for an event.
+DELAYS = [3, 1, 7, 2, 5, 4, 1, 6, 9]
+
+
+class ObjectModule(Module):
+    """A module whose processes use so many objects of each kind."""
+
+    def __init__(self, records, cores, order, objects):
+        super().__init__(records, cores, order)
+        self.objects = objects
+        self.up = [False] * (objects + 1)
+        self.waiting = [[] for _ in range(objects + 1)]
+
+    def set_up(self):
+        """Creates the objects, and then the processes."""
+        first = self.cores[0]
+        self.put(first, "disp", part=0, proc=0)
+        for number in range(1, self.objects + 1):
+            self.call_and_return("CREATE_BUFFER", val=number, n1=SIZE, n2=64, n3=0, name="B%d" % number)
+            self.call_and_return("CREATE_BLACKBOARD", val=number, n1=SIZE, name="D%d" % number)
+            self.call_and_return("CREATE_SEMAPHORE", val=number, n1=1, n2=1000, n3=0, name="S%d" % number)
+            self.call_and_return("CREATE_EVENT", val=number, name="E%d" % number)
+            self.call_and_return("CREATE_MUTEX", val=number, n1=CEILING, n2=0, name="M%d" % number)
+        first.occupant = 0
+        put = self.put
+        # The dispatch of the initialising process stands already.
+        self.put = lambda core, kind, **fields: None if kind == "disp" else put(core, kind, **fields)
+        super_set_up = Module.set_up
+        super_set_up(self)
+        self.put = put
+
+    def object_of(self, core, process):
+        """The number of the objects that a process uses: no process of another core uses them, where there are enough."""
+        own = max(1, self.objects // len(self.cores))
+        return (core.number * own + process.number % own) % self.objects + 1
+
+    def give_back(self, core, process):
+        service, code, data = process.outcome
+        self.put(core, "ret", part=0, proc=process.number, service=service, out=code, data=data)
+        process.outcome = None
+
+    def tick(self, core):
+        due = [p for p in core.processes if p.due_time is not None and p.due_time <= core.time + 1]
+        place = self.put(core, "tick", woken=";".join("0:%d" % p.number for p in due))
+        core.time += 1
+        for process in due:
+            process.due_time = None
+            process.ready_position = place
+            process.outcome = ("WAIT_EVENT", "TIMED_OUT", "")
+            self.waiting[process.event].remove(process)
+
+    def call(self, core, process):
+        number, step = self.object_of(core, process), STEPS[process.calls % len(STEPS)]
+        held = step == "release"
+        fields = dict(part=0, proc=process.number, prio=CEILING if held else process.priority, n1=number)
+        getattr(self, step)(core, process, number, fields)
+        process.calls += 1
+
+    def at_once(self, core, process, service, data="", **fields):
+        """A call that answers NO_ERROR at once."""
+        self.put(core, "call", service=service, out="NO_ERROR", data=data, **fields)
+        process.outcome = (service, "NO_ERROR", data)
+
+    def send(self, core, process, number, fields):
+        self.at_once(core, process, "SEND_BUFFER", n2=SIZE, n3=0, msg=MESSAGE, **fields)
+
+    def receive(self, core, process, number, fields):
+        self.at_once(core, process, "RECEIVE_BUFFER", data=MESSAGE, n2=0, **fields)
+
+    def display(self, core, process, number, fields):
+        self.at_once(core, process, "DISPLAY_BLACKBOARD", n2=SIZE, msg=MESSAGE, **fields)
+
+    def read(self, core, process, number, fields):
+        self.at_once(core, process, "READ_BLACKBOARD", data=MESSAGE, n2=0, **fields)
+
+    def signal(self, core, process, number, fields):
+        self.at_once(core, process, "SIGNAL_SEMAPHORE", **fields)
+
+    def take(self, core, process, number, fields):
+        self.at_once(core, process, "WAIT_SEMAPHORE", n2=0, **fields)
+
+    def acquire(self, core, process, number, fields):
+        self.at_once(core, process, "ACQUIRE_MUTEX", n2=0, **fields)
+        process.priority, process.own = CEILING, process.priority
+
+    def release(self, core, process, number, fields):
+        self.at_once(core, process, "RELEASE_MUTEX", **fields)
+        process.priority = process.own
+
+    def set(self, core, process, number, fields):
+        woken = sorted(self.waiting[number], key=lambda p: p.number)
+        self.waiting[number] = []
+        names = ";".join("0:%d" % p.number for p in woken)
+        place = self.put(core, "call", service="SET_EVENT", out="NO_ERROR", woken=names, **fields)
+        process.outcome = ("SET_EVENT", "NO_ERROR", "")
+        self.up[number] = True
+        for other in woken:
+            other.due_time = None
+            other.ready_position = place
+            other.outcome = ("WAIT_EVENT", "NO_ERROR", "")
+
+    def reset(self, core, process, number, fields):
+        self.at_once(core, process, "RESET_EVENT", **fields)
+        self.up[number] = False
+
+    def wait(self, core, process, number, fields):
+        if self.up[number]:
+            self.at_once(core, process, "WAIT_EVENT", n2=0, **fields)
+            return
+        delay = DELAYS[(process.calls + process.number) % len(DELAYS)]
+        self.put(core, "call", service="WAIT_EVENT", n2=delay, out="wait", **fields)
+        process.ready_position = None
+        process.due_time = core.time + delay
+        process.event = number
+        self.waiting[number].append(process)
+
+
+def main():
+    words = sys.argv[1:] + ["1", "1"][len(sys.argv) - 3:] if len(sys.argv) >= 3 else []
+    if len(words) != 4 or not all(word.isdigit() for word in (words[0], words[2], words[3])) \
+            or not 1 <= int(words[2]) <= MOST_CORES or not 1 <= int(words[3]) <= 64:
+        sys.exit(__doc__)
+    records, folder, count, objects = int(words[0]), words[1], int(words[2]), int(words[3])
+    os.makedirs(folder, exist_ok=True)
+    kinds = ["buffers", "blackboards", "semaphores", "events", "mutexes"]
+    with open(os.path.join(folder, "config.toml"), "w") as text:
+        configuration = CONFIGURATION
+        for kind in kinds:
+            configuration = configuration.replace("%s = 0" % kind, "%s = %d" % (kind, objects))
+        text.write(configuration.format(cores=count, frame=LENGTH, skew=SKEW, list=list(range(count)), processes=count * len(PRIORITIES)))
+        for core in range(count):
+            text.write(WINDOW.format(core=core, start=0, length=LENGTH))
+    files = [open(os.path.join(folder, "core%d.csv" % number), "w") for number in range(count)]
+    with open(os.path.join(folder, "order.csv"), "w") as order:
+        module = ObjectModule(records, [Core(number, rows) for number, rows in enumerate(files)], order, objects)
+        try:
+            module.set_up()
+            module.run()
+        except Enough:
+            pass
+    for rows in files:
+        rows.close()
+
+
+if __name__ == "__main__":
+    main()
