@@ -2,10 +2,12 @@
 """Makes lawful recordings of a module whose processes use objects of every kind, with their configuration and their
 certificate.
 
-    make_object_recording.py RECORDS FOLDER [CORES [OBJECTS]]
+    make_object_recording.py RECORDS FOLDER [CORES [OBJECTS [KIND]]]
 
-writes config.toml, a recording for each core (core0.csv and on) and order.csv to FOLDER. Without CORES there is one core;
-without OBJECTS the partition creates one object of each kind, and else so many.
+writes config.toml, a recording for each core (core0.csv and on) and order.csv to FOLDER. Without CORES there is one core.
+The partition creates so many objects of each kind, at least one for each core, which is what it creates without OBJECTS: no
+core uses another's. With a KIND (buffer, blackboard, semaphore, event or mutex) the processes use objects of that kind alone,
+and events to wait.
 The recordings have exactly RECORDS records together.
 
 The module is that of make_recording.py. Each process in turn sends to a buffer and receives from it, displays a message
@@ -23,9 +25,9 @@ CEILING = 50
 # The message of each buffer and blackboard, in hexadecimal digits, and how many bytes it has.
 MESSAGE, SIZE = "0123456789abcdef", 8
 
-# What each process does, again and again; the second of a pair follows its first.
-STEPS = ["send", "receive", "wait", "display", "read", "wait", "signal", "take", "wait", "acquire", "release", "wait",
-         "set", "reset", "wait"]
+# What each process does with objects of each kind, before it waits.
+PAIRS = {"buffer": ["send", "receive"], "blackboard": ["display", "read"], "semaphore": ["signal", "take"],
+         "mutex": ["acquire", "release"], "event": ["set", "reset"]}
 
 # How long a process waits for an event.
 DELAYS = [3, 1, 7, 2, 5, 4, 1, 6, 9]
@@ -34,9 +36,10 @@ DELAYS = [3, 1, 7, 2, 5, 4, 1, 6, 9]
 class ObjectModule(Module):
     """A module whose processes use so many objects of each kind."""
 
-    def __init__(self, records, cores, order, objects):
+    def __init__(self, records, cores, order, objects, kinds):
         super().__init__(records, cores, order)
         self.objects = objects
+        self.steps = [step for kind in kinds for step in PAIRS[kind] + ["wait"]]
         self.up = [False] * (objects + 1)
         self.waiting = [[] for _ in range(objects + 1)]
 
@@ -59,8 +62,8 @@ class ObjectModule(Module):
         self.put = put
 
     def object_of(self, core, process):
-        """The number of the objects that a process uses: no process of another core uses them, where there are enough."""
-        own = max(1, self.objects // len(self.cores))
+        """The number of the objects that a process uses: no process of another core uses them."""
+        own = self.objects // len(self.cores)
         return (core.number * own + process.number % own) % self.objects + 1
 
     def give_back(self, core, process):
@@ -79,7 +82,7 @@ class ObjectModule(Module):
             self.waiting[process.event].remove(process)
 
     def call(self, core, process):
-        number, step = self.object_of(core, process), STEPS[process.calls % len(STEPS)]
+        number, step = self.object_of(core, process), self.steps[process.calls % len(self.steps)]
         held = step == "release"
         fields = dict(part=0, proc=process.number, prio=CEILING if held else process.priority, n1=number)
         getattr(self, step)(core, process, number, fields)
@@ -145,23 +148,29 @@ class ObjectModule(Module):
 
 
 def main():
-    words = sys.argv[1:] + ["1", "1"][len(sys.argv) - 3:] if len(sys.argv) >= 3 else []
-    if len(words) != 4 or not all(word.isdigit() for word in (words[0], words[2], words[3])) \
-            or not 1 <= int(words[2]) <= MOST_CORES or not 1 <= int(words[3]) <= 64:
+    words = sys.argv[1:]
+    if len(words) == 2:
+        words.append("1")
+    if len(words) == 3:
+        words.append(words[2])
+    if len(words) == 4:
+        words.append("")
+    if len(words) != 5 or not all(word.isdigit() for word in (words[0], words[2], words[3])) or words[4] not in ["", *PAIRS]:
         sys.exit(__doc__)
-    records, folder, count, objects = int(words[0]), words[1], int(words[2]), int(words[3])
+    records, folder, count, objects, kind = int(words[0]), words[1], int(words[2]), int(words[3]), words[4]
+    if not 1 <= count <= min(MOST_CORES, objects) or objects > 64:
+        sys.exit(__doc__)
     os.makedirs(folder, exist_ok=True)
-    kinds = ["buffers", "blackboards", "semaphores", "events", "mutexes"]
     with open(os.path.join(folder, "config.toml"), "w") as text:
         configuration = CONFIGURATION
-        for kind in kinds:
-            configuration = configuration.replace("%s = 0" % kind, "%s = %d" % (kind, objects))
+        for limit in ["buffers", "blackboards", "semaphores", "events", "mutexes"]:
+            configuration = configuration.replace("%s = 0" % limit, "%s = %d" % (limit, objects))
         text.write(configuration.format(cores=count, frame=LENGTH, skew=SKEW, list=list(range(count)), processes=count * len(PRIORITIES)))
         for core in range(count):
             text.write(WINDOW.format(core=core, start=0, length=LENGTH))
     files = [open(os.path.join(folder, "core%d.csv" % number), "w") for number in range(count)]
     with open(os.path.join(folder, "order.csv"), "w") as order:
-        module = ObjectModule(records, [Core(number, rows) for number, rows in enumerate(files)], order, objects)
+        module = ObjectModule(records, [Core(number, rows) for number, rows in enumerate(files)], order, objects, [kind] if kind else list(PAIRS))
         try:
             module.set_up()
             module.run()
