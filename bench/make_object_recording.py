@@ -17,7 +17,7 @@ and now and then sets an event, which ends the waits of all who wait for it, and
 import os
 import sys
 
-from make_recording import CONFIGURATION, LENGTH, MOST_CORES, PRIORITIES, SKEW, WINDOW, Core, Enough, Module
+from make_recording import MOST_CORES, Module, write_configuration, write_recordings
 
 # The priority of each mutex: above all processes.
 CEILING = 50
@@ -43,23 +43,14 @@ class ObjectModule(Module):
         self.up = [False] * (objects + 1)
         self.waiting = [[] for _ in range(objects + 1)]
 
-    def set_up(self):
-        """Creates the objects, and then the processes."""
-        first = self.cores[0]
-        self.put(first, "disp", part=0, proc=0)
+    def create_objects(self):
+        """Creates so many objects of each kind."""
         for number in range(1, self.objects + 1):
             self.call_and_return("CREATE_BUFFER", val=number, n1=SIZE, n2=64, n3=0, name="B%d" % number)
             self.call_and_return("CREATE_BLACKBOARD", val=number, n1=SIZE, name="D%d" % number)
             self.call_and_return("CREATE_SEMAPHORE", val=number, n1=1, n2=1000, n3=0, name="S%d" % number)
             self.call_and_return("CREATE_EVENT", val=number, name="E%d" % number)
             self.call_and_return("CREATE_MUTEX", val=number, n1=CEILING, n2=0, name="M%d" % number)
-        first.occupant = 0
-        put = self.put
-        # The dispatch of the initialising process stands already.
-        self.put = lambda core, kind, **fields: None if kind == "disp" else put(core, kind, **fields)
-        super_set_up = Module.set_up
-        super_set_up(self)
-        self.put = put
 
     def object_of(self, core, process):
         """The number of the objects that a process uses: no process of another core uses them."""
@@ -83,8 +74,7 @@ class ObjectModule(Module):
 
     def call(self, core, process):
         number, step = self.object_of(core, process), self.steps[process.calls % len(self.steps)]
-        held = step == "release"
-        fields = dict(part=0, proc=process.number, prio=CEILING if held else process.priority, n1=number)
+        fields = dict(part=0, proc=process.number, prio=process.priority, n1=number)
         getattr(self, step)(core, process, number, fields)
         process.calls += 1
 
@@ -161,23 +151,9 @@ def main():
     if not 1 <= count <= min(MOST_CORES, objects) or objects > 64:
         sys.exit(__doc__)
     os.makedirs(folder, exist_ok=True)
-    with open(os.path.join(folder, "config.toml"), "w") as text:
-        configuration = CONFIGURATION
-        for limit in ["buffers", "blackboards", "semaphores", "events", "mutexes"]:
-            configuration = configuration.replace("%s = 0" % limit, "%s = %d" % (limit, objects))
-        text.write(configuration.format(cores=count, frame=LENGTH, skew=SKEW, list=list(range(count)), processes=count * len(PRIORITIES)))
-        for core in range(count):
-            text.write(WINDOW.format(core=core, start=0, length=LENGTH))
-    files = [open(os.path.join(folder, "core%d.csv" % number), "w") for number in range(count)]
-    with open(os.path.join(folder, "order.csv"), "w") as order:
-        module = ObjectModule(records, [Core(number, rows) for number, rows in enumerate(files)], order, objects, [kind] if kind else list(PAIRS))
-        try:
-            module.set_up()
-            module.run()
-        except Enough:
-            pass
-    for rows in files:
-        rows.close()
+    write_configuration(folder, "config.toml", count, 1, objects)
+    kinds = [kind] if kind else list(PAIRS)
+    write_recordings(folder, count, lambda cores, order: ObjectModule(records, cores, order, objects, kinds))
 
 
 if __name__ == "__main__":

@@ -41,11 +41,11 @@ number = 0
 period = 10
 cores = {list}
 processes = {processes}
-buffers = 0
-blackboards = 0
-semaphores = 0
-events = 0
-mutexes = 0
+buffers = {objects}
+blackboards = {objects}
+semaphores = {objects}
+events = {objects}
+mutexes = {objects}
 """
 
 WINDOW = """
@@ -122,10 +122,14 @@ class Module:
         self.put(first, "call", part=0, proc=0, service=service, prio=0, out="NO_ERROR", val=val, **fields)
         self.put(first, "ret", part=0, proc=0, service=service, out="NO_ERROR", val=val)
 
+    def create_objects(self):
+        """Creates what the processes use: nothing here."""
+
     def set_up(self):
         """Creates the processes of each core and starts them. With NORMAL all of them become ready, at one place."""
         first = self.cores[0]
         self.put(first, "disp", part=0, proc=0)
+        self.create_objects()
         numbers = iter(range(1, len(self.cores) * len(PRIORITIES) + 1))
         for core in self.cores:
             for priority in PRIORITIES:
@@ -215,13 +219,29 @@ class Module:
                 self.turn(core)
 
 
-def write_configuration(folder, name, cores, windows):
-    """The configuration of a module with so many cores, on each of which so many windows fill the major frame."""
+def write_configuration(folder, name, cores, windows, objects=0):
+    """The configuration of a module with so many cores, on each of which so many windows fill the major frame, and with so
+    many objects of each kind."""
     with open(os.path.join(folder, name), "w") as text:
-        text.write(CONFIGURATION.format(cores=cores, frame=windows * LENGTH, skew=SKEW, list=list(range(cores)), processes=cores * len(PRIORITIES)))
+        text.write(CONFIGURATION.format(cores=cores, frame=windows * LENGTH, skew=SKEW, list=list(range(cores)),
+                                        processes=cores * len(PRIORITIES), objects=objects))
         for core in range(cores):
             for window in range(windows):
                 text.write(WINDOW.format(core=core, start=window * LENGTH, length=LENGTH))
+
+
+def write_recordings(folder, count, module_of):
+    """The recordings of so many cores and the order, by the module that is made of the cores and the order's file."""
+    files = [open(os.path.join(folder, "core%d.csv" % number), "w") for number in range(count)]
+    with open(os.path.join(folder, "order.csv"), "w") as order:
+        module = module_of([Core(number, rows) for number, rows in enumerate(files)], order)
+        try:
+            module.set_up()
+            module.run()
+        except Enough:
+            pass
+    for rows in files:
+        rows.close()
 
 
 def main():
@@ -234,16 +254,7 @@ def main():
     os.makedirs(folder, exist_ok=True)
     write_configuration(folder, "config.toml", count, 1)
     write_configuration(folder, "many_windows.toml", count, MOST_WINDOWS // count)
-    files = [open(os.path.join(folder, "core%d.csv" % number), "w") for number in range(count)]
-    with open(os.path.join(folder, "order.csv"), "w") as order:
-        module = Module(records, [Core(number, rows) for number, rows in enumerate(files)], order)
-        try:
-            module.set_up()
-            module.run()
-        except Enough:
-            pass
-    for rows in files:
-        rows.close()
+    write_recordings(folder, count, lambda cores, order: Module(records, cores, order))
 
 
 if __name__ == "__main__":
