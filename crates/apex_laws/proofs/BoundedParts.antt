@@ -11,7 +11,6 @@ use Rattle.apex_types.specs.declared.record.Out.TheVariants as out
 use Rattle.apex_types.specs.declared.record.Who.{Who}
 use Rattle.apex_types.specs.declared.request.Request.{Request}
 use Rattle.apex_types.specs.declared.request.Request.TheVariants as request
-use Rattle.apex_types.specs.declared.service.Service.{Service}
 use Rattle.apex_machine.specs.declared.state.CoreState.{CoreState}
 use Rattle.apex_machine.specs.declared.state.Entry.{Entry}
 use Rattle.apex_machine.specs.declared.state.Process.{Process}
@@ -419,14 +418,14 @@ ticked_bounded place now core number table woken most due process x at bounded =
     ] refl
 
 -- the table of a partition after a record
-bounded_after : (judged : Service → Bool) (configuration : Configuration) (number : ℕ) (cores : List CoreState) (partition : Partition) (place core : ℕ) (body : Body)
-    → IsSoundPart number place partition → time_of cores core ≤ place → PeriodFits body → AllHold (partition_demands judged configuration number cores partition core body)
+bounded_after : (configuration : Configuration) (number : ℕ) (cores : List CoreState) (partition : Partition) (place core : ℕ) (body : Body)
+    → IsSoundPart number place partition → time_of cores core ≤ place → PeriodFits body → AllHold (partition_demands configuration number cores partition core body)
     → AllFound (IsBounded place) partition.table → AllFound (IsBounded (place + 1)) (partition_by configuration cores place core number body partition).table
-bounded_after judged configuration number cores partition place core (Disp who) sound most fits hold all = λ process x at. bounded_later place x (all process x at)
-bounded_after judged configuration number cores partition place core (Tick woken) sound most fits hold all =
+bounded_after configuration number cores partition place core (Disp who) sound most fits hold all = λ process x at. bounded_later place x (all process x at)
+bounded_after configuration number cores partition place core (Tick woken) sound most fits hold all =
     each_has (IsBounded (place + 1)) (ticked place number woken) partition.table
     (λ process x at. ticked_bounded place (time_of cores core) core number partition.table woken most hold.1.0 process x at (all process x at))
-bounded_after judged configuration number cores partition place core (Ret ret) sound most fits hold all =
+bounded_after configuration number cores partition place core (Ret ret) sound most fits hold all =
     let Fact = IsBounded (place + 1) in
     elim (nat_eq ret.who.part number) as (λ own. AllFound Fact (cond own (record partition { table = each_item (returned ret.who.proc) partition.table }) partition).table) [
       | true ↦ each_has Fact (returned ret.who.proc) partition.table
@@ -434,7 +433,7 @@ bounded_after judged configuration number cores partition place core (Ret ret) s
           (bounded_later place x (all process x at)))
       | false ↦ λ process x at. bounded_later place x (all process x at)
     ]
-bounded_after judged configuration number cores partition place core (Call call) sound most fits hold all =
+bounded_after configuration number cores partition place core (Call call) sound most fits hold all =
     let Fact = IsBounded (place + 1) in
     let now = time_of cores core in
     let period = period_of configuration call.who.part in
@@ -442,13 +441,13 @@ bounded_after judged configuration number cores partition place core (Call call)
     elim (nat_eq call.who.part number) as (λ own. nat_eq call.who.part number ≡ own → AllFound Fact (cond own
     (partition_called configuration cores place core call partition) (record partition { table = each_item foreign partition.table })).table) [
       | true ↦ λ own.
-          let demands = own_holds judged configuration number core cores partition call own hold in
+          let demands = own_holds configuration number core cores partition call own hold in
           joined_has Fact (each_item (called place now period cores partition call) partition.table) (created_by (first_core configuration call.who.part) call call.request)
           (each_has Fact (called place now period cores partition call) partition.table
           (λ process x at. called_bounded configuration number place now cores partition call sound (eqb-true call.who.part number own) most demands.1.1.1.1.1 period process x at (all process x at)))
           (created_bounded (place + 1) (first_core configuration call.who.part) call call.request fits)
       | false ↦ λ elsewhere.
-          let demands = subst (λ one. AllHold (call_demands one judged configuration number cores partition core call)) elsewhere hold in
+          let demands = subst (λ one. AllHold (call_demands one configuration number cores partition core call)) elsewhere hold in
           each_has Fact foreign partition.table
           (λ process x at. bounded_later place (foreign process x) (bounded_kept place x (foreign process x)
           (roused_keeps place call (record { part = number; proc = process }) x
@@ -468,12 +467,12 @@ cold_bounded configuration number place =
       periods = λ process x period at is. (all process x at).1 period is;
     }
 
-stays_bounded : (judged : Service → Bool) (configuration : Configuration) (number : ℕ) (cores : List CoreState) (partition : Partition) (place core : ℕ) (body : Body)
+stays_bounded : (configuration : Configuration) (number : ℕ) (cores : List CoreState) (partition : Partition) (place core : ℕ) (body : Body)
     → IsSoundPart number place partition → IsBoundedPart place partition → time_of cores core ≤ place → PeriodFits body
-    → AllHold (partition_demands judged configuration number cores partition core body)
+    → AllHold (partition_demands configuration number cores partition core body)
     → IsBoundedPart (place + 1) (partition_by configuration cores place core number body partition)
-stays_bounded judged configuration number cores partition place core body sound bounded most fits hold =
-    let all = bounded_after judged configuration number cores partition place core body sound most fits hold
+stays_bounded configuration number cores partition place core body sound bounded most fits hold =
+    let all = bounded_after configuration number cores partition place core body sound most fits hold
     (λ process x at. (bounded.releases process x at, λ period is. bounded.periods process x period at is)) in record {
       counts = counts_after configuration cores place core number body partition bounded.counts;
       releases = λ process x at. (all process x at).0;
@@ -490,8 +489,8 @@ later_bounded place later partition most bounded = record {
 pub part_stays_bounded : PartStaysBounded
 part_stays_bounded = (
   cold_bounded,
-  λ judged configuration number cores partition ordered sound bounded times fits hold.
-      stays_bounded judged configuration number cores partition ordered.pos ordered.core ordered.rec.body sound bounded (times ordered.core) fits hold,
+  λ configuration number cores partition ordered sound bounded times fits hold.
+      stays_bounded configuration number cores partition ordered.pos ordered.core ordered.rec.body sound bounded (times ordered.core) fits hold,
   later_bounded,
 )
 

@@ -29,7 +29,7 @@ use Rattle.apex_machine.specs.PortConditions.{both_number, is_queuing_port, is_s
 use Rattle.apex_machine.specs.ProcessConditions.{is_periodic, is_suspended}
 use Rattle.apex_machine.specs.State.{Mutex, Partition, Table, created, given_object, item_at}
 use Rattle.apex_laws.specs.ConditionSentences.{IsCalledByPeriodic, IsCoreOf, IsDirection, IsDirectionAndDiscipline, IsFrom, IsMultipleOf, IsObject, IsPeriodic, IsPriority, IsProcess, IsQueuingPort, IsSamplingPort, IsSuspended, MayNotWait, NamesNoProcess, NamesNone, OneIsNamed, Owns}
-use Rattle.apex_laws.proofs.Booleans.{cannot_hold, is_itself}
+use Rattle.apex_laws.proofs.Booleans.{is_itself}
 
 -- a test tells a fact: it holds exactly where the fact does
 abbrev pub Tells : Bool → Type 0 → Type 0
@@ -93,11 +93,6 @@ not_negative n = (at_most 0 n).0 ((at_most_tells 0 n).1 (omega arith))
 
 above_none : (n : ℕ) → pos 0 <ℤ pos (suc n)
 above_none n = (below 0 (suc n)).0 ((below_tells 0 (suc n)).1 (omega arith))
-
--- a number that is not 0 is above it
-pub positive_tells : (n : ℕ) → (nat_eq n 0 ≡ false → pos 0 <ℤ pos n) × (pos 0 <ℤ pos n → nat_eq n 0 ≡ false)
-positive_tells zero = (λ differs. absurd (true≢false (sym (is_itself 0) ∙ differs)), λ above. absurd (let none : 0 < 0 = (below_tells 0 0).0 ((below 0 0).1 above) in omega arith))
-positive_tells (suc n) = (λ differs. above_none n, λ above. cannot_hold (nat_eq (suc n) 0) (λ same. let none : suc n ≡ 0 = eqb-true (suc n) 0 same in omega arith))
 
 not_above : (one other : ℕ) → other ≤ one → ¬ (pos one <ℤ pos other)
 not_above one other most fact = let less : one < other = (below_tells one other).0 ((below one other).1 fact) in omega arith

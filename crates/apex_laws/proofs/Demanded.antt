@@ -11,14 +11,13 @@ use Rattle.apex_types.specs.declared.record.Return.{Return}
 use Rattle.apex_types.specs.declared.record.Who.{Who}
 use Rattle.apex_types.specs.declared.request.Request.{Request}
 use Rattle.apex_types.specs.declared.request.Request.TheVariants as request
-use Rattle.apex_types.specs.declared.service.Service.{Service}
 use Rattle.apex_machine.specs.declared.state.Entry.{Entry}
 use Rattle.apex_machine.specs.declared.state.WaitingSet.{WaitingSet}
 use Rattle.apex_machine.specs.declared.state.WaitingSet.TheVariants as set
 use Rattle.apex_machine.specs.After.{is_channel}
 use Rattle.apex_machine.specs.Channels.{EndsAreApart, is_receiver, is_sender}
 use Rattle.apex_machine.specs.Configuration.{Configuration, has_partition}
-use Rattle.apex_machine.specs.Demands.{AllHold, AllWaitAt, InWindowOf, IsRunning, WakesHere, call_demands, channel_demands, demands_judging, module_demands, outcome_demands, own_call_demands, partition_demands, stands_in, used_demands, window_now}
+use Rattle.apex_machine.specs.Demands.{AllHold, AllWaitAt, InWindowOf, IsRunning, WakesHere, call_demands, channel_demands, demands, module_demands, outcome_demands, own_call_demands, partition_demands, stands_in, used_demands, window_now}
 use Rattle.apex_machine.specs.Pieces.{Module, OfChannel, OfPartition, Piece, is_configured, part, touched_by, touches}
 use Rattle.apex_machine.specs.Ports.{channel_of, suits_use, use_of}
 use Rattle.apex_machine.specs.ServiceConditions.{condition_codes}
@@ -41,16 +40,16 @@ use Rattle.apex_laws.proofs.Woken.{found, woken}
 -- the module
 
 -- a lawful record meets the demands of the module
-pub module_demanded : (judged : Service → Bool) (configuration : Configuration) (state : State) (core : ℕ) (body : Body) → IsLawfulBody judged configuration state core body
+pub module_demanded : (configuration : Configuration) (state : State) (core : ℕ) (body : Body) → IsLawfulBody configuration state core body
     → AllHold (module_demands configuration state.cores core body)
-module_demanded judged configuration state core (Disp who) law =
+module_demanded configuration state core (Disp who) law =
     (law.names, (idle_choice (window_now configuration state.cores core) state.partitions core who law.choice, tt))
-module_demanded judged configuration state core (Tick woken) law =
+module_demanded configuration state core (Tick woken) law =
     (law.names, (law.skew, (idle_choice (window_now configuration state.cores core) state.partitions core (occupant_of state.cores core) law.choice, tt)))
-module_demanded judged configuration state core (Call call) law =
+module_demanded configuration state core (Call call) law =
     let chosen = choice_is (window_now configuration state.cores core) state.partitions core call.who law.choice in
     (law.names, (not_idle (window_now configuration state.cores core) state.partitions core call.who chosen, tt))
-module_demanded judged configuration state core (Ret ret) law =
+module_demanded configuration state core (Ret ret) law =
     let chosen = choice_is (window_now configuration state.cores core) state.partitions core ret.who law.choice in
     (law.names, (not_idle (window_now configuration state.cores core) state.partitions core ret.who chosen, tt))
 
@@ -122,10 +121,10 @@ fellows configuration state core call ends tied [] is channel of has =
     (λ other some through. wakes_no_fellow configuration state (time_of state.cores core) call.who call.request call.claim other ends tied is (of ∙ some) through) has
 
 -- the partition of the caller
-own_call_demanded : (judged : Service → Bool) (configuration : Configuration) (state : State) (core : ℕ) (call : CallRecord) → EndsAreApart configuration → AreTied configuration state
-    → IsLawfulCall judged configuration state core call
-    → AllHold (own_call_demands judged configuration call.who.part state.cores (state.partitions call.who.part) core call)
-own_call_demanded judged configuration state core call ends tied law =
+own_call_demanded : (configuration : Configuration) (state : State) (core : ℕ) (call : CallRecord) → EndsAreApart configuration → AreTied configuration state
+    → IsLawfulCall configuration state core call
+    → AllHold (own_call_demands configuration call.who.part state.cores (state.partitions call.who.part) core call)
+own_call_demanded configuration state core call ends tied law =
     let chosen = choice_is (window_now configuration state.cores core) state.partitions core call.who law.choice in (
       chosen.of,
       (
@@ -190,14 +189,14 @@ foreign_window (Some partition) partitions core who number Demanded chosen forei
     absurd (true≢false (sym (eq-eqb who.part number (sym own ∙ same)) ∙ foreign)))
 
 -- each partition that a call touches
-call_demanded : (judged : Service → Bool) (configuration : Configuration) (state : State) (core : ℕ) (call : CallRecord) → EndsAreApart configuration → AreTied configuration state
-    → IsLawfulCall judged configuration state core call
+call_demanded : (configuration : Configuration) (state : State) (core : ℕ) (call : CallRecord) → EndsAreApart configuration → AreTied configuration state
+    → IsLawfulCall configuration state core call
     → (number : ℕ) (own : Bool) → nat_eq call.who.part number ≡ own → (own || names_one_of number call.claim.woken) ≡ true
-    → AllHold (call_demands own judged configuration number state.cores (state.partitions number) core call)
-call_demanded judged configuration state core call ends tied law number true is touched =
-    subst (λ of. AllHold (own_call_demands judged configuration of state.cores (state.partitions of) core call))
-    (eqb-true call.who.part number is) (own_call_demanded judged configuration state core call ends tied law)
-call_demanded judged configuration state core call ends tied law number false is touched = (
+    → AllHold (call_demands own configuration number state.cores (state.partitions number) core call)
+call_demanded configuration state core call ends tied law number true is touched =
+    subst (λ of. AllHold (own_call_demands configuration of state.cores (state.partitions of) core call))
+    (eqb-true call.who.part number is) (own_call_demanded configuration state core call ends tied law)
+call_demanded configuration state core call ends tied law number false is touched = (
   foreign_window (window_now configuration state.cores core) state.partitions core call.who number
       (IsRunning number state.cores (state.partitions number).table core call.who)
       (choice_is (window_now configuration state.cores core) state.partitions core call.who law.choice) is,
@@ -210,9 +209,9 @@ call_demanded judged configuration state core call ends tied law number false is
 )
 
 -- the partition of the returner
-return_demanded : (judged : Service → Bool) (configuration : Configuration) (state : State) (core : ℕ) (ret : Return) → IsLawfulReturn configuration state core ret
-    → AllHold (partition_demands judged configuration ret.who.part state.cores (state.partitions ret.who.part) core (Ret ret))
-return_demanded judged configuration state core ret law =
+return_demanded : (configuration : Configuration) (state : State) (core : ℕ) (ret : Return) → IsLawfulReturn configuration state core ret
+    → AllHold (partition_demands configuration ret.who.part state.cores (state.partitions ret.who.part) core (Ret ret))
+return_demanded configuration state core ret law =
     let due = due_of (item_at (state.partitions ret.who.part).table ret.who.proc) in
     let chosen = choice_is (window_now configuration state.cores core) state.partitions core ret.who law.choice in (
       chosen.of,
@@ -232,44 +231,44 @@ return_demanded judged configuration state core ret law =
     )
 
 -- a lawful record meets the demands of each partition that it touches
-partition_demanded : (judged : Service → Bool) (configuration : Configuration) (state : State) (core : ℕ) (body : Body) → EndsAreApart configuration → AreTied configuration state
-    → IsLawfulBody judged configuration state core body
+partition_demanded : (configuration : Configuration) (state : State) (core : ℕ) (body : Body) → EndsAreApart configuration → AreTied configuration state
+    → IsLawfulBody configuration state core body
     → (number : ℕ) → IsTrue (has_partition configuration number) → IsTrue (touched_by configuration body (OfPartition number))
-    → AllHold (partition_demands judged configuration number state.cores (state.partitions number) core body)
-partition_demanded judged configuration state core (Disp who) ends tied law number is touched =
+    → AllHold (partition_demands configuration number state.cores (state.partitions number) core body)
+partition_demanded configuration state core (Disp who) ends tied law number is touched =
     (own_choice (window_now configuration state.cores core) state.partitions core who number law.choice, tt)
-partition_demanded judged configuration state core (Tick woken) ends tied law number is touched =
+partition_demanded configuration state core (Tick woken) ends tied law number is touched =
     (own_choice (window_now configuration state.cores core) state.partitions core (occupant_of state.cores core) number law.choice, (law.due number is, tt))
-partition_demanded judged configuration state core (Call call) ends tied law number is touched =
-    call_demanded judged configuration state core call ends tied law number (nat_eq call.who.part number) refl touched
-partition_demanded judged configuration state core (Ret ret) ends tied law number is touched =
-    subst (λ of. AllHold (partition_demands judged configuration of state.cores (state.partitions of) core (Ret ret)))
-    (eqb-true ret.who.part number touched) (return_demanded judged configuration state core ret law)
+partition_demanded configuration state core (Call call) ends tied law number is touched =
+    call_demanded configuration state core call ends tied law number (nat_eq call.who.part number) refl touched
+partition_demanded configuration state core (Ret ret) ends tied law number is touched =
+    subst (λ of. AllHold (partition_demands configuration of state.cores (state.partitions of) core (Ret ret)))
+    (eqb-true ret.who.part number touched) (return_demanded configuration state core ret law)
 
 -- the channels
 
 -- the caller of a lawful call waits in no set
-pub caller_stands_not : (judged : Service → Bool) (configuration : Configuration) (state : State) (core : ℕ) (call : CallRecord) → AreTied configuration state
-    → IsLawfulCall judged configuration state core call → (Home : ℕ → Type 0) (wanted : WaitingSet) (entries : List Entry) → AllEntries (IsTied Home wanted state.partitions) entries
+pub caller_stands_not : (configuration : Configuration) (state : State) (core : ℕ) (call : CallRecord) → AreTied configuration state
+    → IsLawfulCall configuration state core call → (Home : ℕ → Type 0) (wanted : WaitingSet) (entries : List Entry) → AllEntries (IsTied Home wanted state.partitions) entries
     → stands_in call.who entries ≡ false
-caller_stands_not judged configuration state core call tied law Home wanted entries all =
+caller_stands_not configuration state core call tied law Home wanted entries all =
     let ready = chosen_stands (window_now configuration state.cores core) state.partitions core call.who (tied.distinct call.who.part) law.choice in
     stands_not (λ who. Home who.part × IsTrue (waits_at wanted (found state.partitions who))) call.who
     (λ waits. ready_waits_not core (found state.partitions call.who) wanted ready waits.1) entries all
 
 -- the channel that a call claims, and another
-used_demanded : (judged : Service → Bool) (configuration : Configuration) (state : State) (core : ℕ) (call : CallRecord) → AreTied configuration state
-    → IsLawfulCall judged configuration state core call → (number : ℕ) (goes : Bool) → is_channel number call.claim.chan ≡ goes
+used_demanded : (configuration : Configuration) (state : State) (core : ℕ) (call : CallRecord) → AreTied configuration state
+    → IsLawfulCall configuration state core call → (number : ℕ) (goes : Bool) → is_channel number call.claim.chan ≡ goes
     → AllHold (used_demands goes configuration (time_of state.cores core) number (state.channels number) call)
-used_demanded judged configuration state core call tied law number false is = tt
-used_demanded judged configuration state core call tied law number true is =
+used_demanded configuration state core call tied law number false is = tt
+used_demanded configuration state core call tied law number true is =
     let through = through_claimed (condition_codes configuration call.who (state.partitions call.who.part) call.request)
     (channel_of (state.partitions call.who.part) call.request) (answer_of (time_of state.cores core) call.who (state.partitions call.who.part) call.request)
     (λ number. suits_use (use_of call.request) (state.channels number))
     (channel_answer configuration (time_of state.cores core) call.request state.channels) call.claim number (goes_to call.claim.chan is) law.outcome in (
       neither (stands_in call.who (state.channels number).senders) (stands_in call.who (state.channels number).receivers)
-          (caller_stands_not judged configuration state core call tied law (λ home. IsTrue (is_sender configuration number home)) (set.ChannelSenders number) (state.channels number).senders (tied.senders number))
-          (caller_stands_not judged configuration state core call tied law (λ home. IsTrue (is_receiver configuration number home)) (set.ChannelReceivers number) (state.channels number).receivers (tied.receivers number)),
+          (caller_stands_not configuration state core call tied law (λ home. IsTrue (is_sender configuration number home)) (set.ChannelSenders number) (state.channels number).senders (tied.senders number))
+          (caller_stands_not configuration state core call tied law (λ home. IsTrue (is_receiver configuration number home)) (set.ChannelReceivers number) (state.channels number).receivers (tied.receivers number)),
       (through.kind, (through.out, (through.val, (through.bytes, (through.woken, tt))))),
     )
   where
@@ -278,22 +277,22 @@ used_demanded judged configuration state core call tied law number true is =
     goes_to (Some channel) is = ap Some (eqb-true channel number is)
 
 -- a lawful record meets the demands of each channel
-channel_demanded : (judged : Service → Bool) (configuration : Configuration) (state : State) (core : ℕ) (body : Body) → AreTied configuration state
-    → IsLawfulBody judged configuration state core body → (number : ℕ)
+channel_demanded : (configuration : Configuration) (state : State) (core : ℕ) (body : Body) → AreTied configuration state
+    → IsLawfulBody configuration state core body → (number : ℕ)
     → AllHold (channel_demands configuration (time_of state.cores core) number (state.channels number) body)
-channel_demanded judged configuration state core (Call call) tied law number = used_demanded judged configuration state core call tied law number (is_channel number call.claim.chan) refl
-channel_demanded judged configuration state core (Disp who) tied law number = tt
-channel_demanded judged configuration state core (Tick woken) tied law number = tt
-channel_demanded judged configuration state core (Ret ret) tied law number = tt
+channel_demanded configuration state core (Call call) tied law number = used_demanded configuration state core call tied law number (is_channel number call.claim.chan) refl
+channel_demanded configuration state core (Disp who) tied law number = tt
+channel_demanded configuration state core (Tick woken) tied law number = tt
+channel_demanded configuration state core (Ret ret) tied law number = tt
 
 -- a lawful record meets the demands of each piece that it touches
-pub demanded : (judged : Service → Bool) (configuration : Configuration) (state : State) (ordered : Ordered) → EndsAreApart configuration → AreTied configuration state
-    → IsLawful judged configuration state ordered
+pub demanded : (configuration : Configuration) (state : State) (ordered : Ordered) → EndsAreApart configuration → AreTied configuration state
+    → IsLawful configuration state ordered
     → (piece : Piece) → IsTrue (is_configured configuration piece) → IsTrue (touches configuration piece ordered)
-    → AllHold (demands_judging judged configuration (part piece state) ordered)
-demanded judged configuration state ordered ends tied law Module is touched = module_demanded judged configuration state ordered.core ordered.rec.body law.claims
-demanded judged configuration state ordered ends tied law (OfPartition number) is touched =
-    partition_demanded judged configuration state ordered.core ordered.rec.body ends tied law.claims number is touched
-demanded judged configuration state ordered ends tied law (OfChannel number) is touched =
+    → AllHold (demands configuration (part piece state) ordered)
+demanded configuration state ordered ends tied law Module is touched = module_demanded configuration state ordered.core ordered.rec.body law.claims
+demanded configuration state ordered ends tied law (OfPartition number) is touched =
+    partition_demanded configuration state ordered.core ordered.rec.body ends tied law.claims number is touched
+demanded configuration state ordered ends tied law (OfChannel number) is touched =
     subst (λ now. AllHold (channel_demands configuration now number (state.channels number) ordered.rec.body)) (sym (same_time state.cores ordered.core))
-    (channel_demanded judged configuration state ordered.core ordered.rec.body tied law.claims number)
+    (channel_demanded configuration state ordered.core ordered.rec.body tied law.claims number)

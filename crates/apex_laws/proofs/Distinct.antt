@@ -10,7 +10,6 @@ use Rattle.apex_types.specs.declared.record.Call.{Call as CallRecord}
 use Rattle.apex_types.specs.declared.record.Claim.{Claim}
 use Rattle.apex_types.specs.declared.request.Request.{Request}
 use Rattle.apex_types.specs.declared.request.Request.TheVariants as request
-use Rattle.apex_types.specs.declared.service.Service.{Service}
 use Rattle.apex_machine.specs.declared.state.CoreState.{CoreState}
 use Rattle.apex_machine.specs.declared.state.Process.{Process}
 use Rattle.apex_machine.specs.After.{called, created_by, is_done, numbered, partition_by, partition_called, returned, roused, ticked}
@@ -116,9 +115,9 @@ answered [] (Some channel) answer suited through claim none off has = let no : �
 answered (code ∷ codes) channel answer suited through claim none off has = cc
 
 -- a lawful call claims the value of its service
-lawful_value : (judged : Service → Bool) (configuration : Configuration) (state : State) (core : ℕ) (call : CallRecord) → IsLawfulCall judged configuration state core call
+lawful_value : (configuration : Configuration) (state : State) (core : ℕ) (call : CallRecord) → IsLawfulCall configuration state core call
     → ClaimsValue (state.partitions call.who.part) (time_of state.cores core) call call.request
-lawful_value judged configuration state core call law done off =
+lawful_value configuration state core call law done off =
     let partition = state.partitions call.who.part in
     let codes : List Code = condition_codes configuration call.who partition call.request in
     let answer = answer_of (time_of state.cores core) call.who partition call.request in
@@ -127,9 +126,9 @@ lawful_value judged configuration state core call law done off =
     let none = done_is_lawful codes (channel_of partition call.request) answer suited through call.claim (are_errors configuration call.who partition call.request) law.outcome done in
     (answered codes (channel_of partition call.request) answer suited through call.claim none off law.outcome).val
 
-pub lawful_values : (judged : Service → Bool) (configuration : Configuration) (state : State) (core : ℕ) (body : Body) → IsLawfulBody judged configuration state core body
+pub lawful_values : (configuration : Configuration) (state : State) (core : ℕ) (body : Body) → IsLawfulBody configuration state core body
     → (number : ℕ) → CallsClaimValues number (time_of state.cores core) body (state.partitions number)
-lawful_values judged configuration state core (Call call) law number =
+lawful_values configuration state core (Call call) law number =
     λ own. subst (λ part. ClaimsValue (state.partitions part) (time_of state.cores core) call call.request) (eqb-true call.who.part number own)
-    (lawful_value judged configuration state core call law)
-lawful_values judged configuration state core _ law number = tt
+    (lawful_value configuration state core call law)
+lawful_values configuration state core _ law number = tt

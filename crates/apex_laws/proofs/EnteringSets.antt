@@ -133,7 +133,7 @@ names_as_answered number asked answer claim (code ∷ codes) channel none off ho
 -- sets
 
 pub only_done_lets_go : OnlyDoneLetsGo
-only_done_lets_go judged configuration number place core cores partition call is not_done wanted =
+only_done_lets_go configuration number place core cores partition call is not_done wanted =
     let stays : without (ends_wait call) (entries_at partition wanted) ≡ entries_at partition wanted =
     none_leaves (Stands number wanted partition) (ends_wait call)
     (λ entry stands. neither (is_named entry.who call.claim.woken) (stops call entry.who)
@@ -150,7 +150,7 @@ not_waiting out.Never is = refl
 not_waiting (out.Answer code) is = refl
 
 pub lets_go_as_answered : LetsGoAsAnswered
-lets_go_as_answered judged configuration number place core cores partition call is no_error no_stop no_channel wanted =
+lets_go_as_answered configuration number place core cores partition call is no_error no_stop no_channel wanted =
     let answer = answer_of (time_of cores core) call.who partition call.request in
     let codes = condition_codes configuration call.who partition call.request in
     let none : codes ≡ [] = demands_none codes (channel_of partition call.request) number call.request answer call.claim (are_errors configuration call.who partition call.request)
@@ -171,10 +171,10 @@ not_done_waits_not out.Never off = refl
 not_done_waits_not (out.Answer code) off = refl
 
 pub refused_leaves_objects : RefusedLeavesObjects
-refused_leaves_objects judged configuration number place core cores partition call is not_done =
+refused_leaves_objects configuration number place core cores partition call is not_done =
     let not_ok : is_no_error call.claim.out ≡ false = cannot_hold (is_no_error call.claim.out) (λ ok. true≢false (sym (no_error_is_done call.claim.out ok) ∙ not_done)) in
     let leaves : (wanted : WaitingSet) → Leaves (set_after place (Call call)) partition wanted =
-    λ wanted. only_done_lets_go judged configuration number place core cores partition call is not_ok wanted
+    λ wanted. only_done_lets_go configuration number place core cores partition call is not_ok wanted
     ∙ (λ i. cond (not_first (is_waiting call.claim.out) (is_the_set wanted (set_of call.request call.claim.chan)) (not_done_waits_not call.claim.out not_done) i)
     (entries_at partition wanted ++ entry_of place call ∷ []) (entries_at partition wanted)) in
     (λ i. each_set (set_after place (Call call)) (cond (not_done i) (objects_by configuration call.who call.claim.val call.request partition) partition))

@@ -10,7 +10,6 @@ use Rattle.apex_types.specs.declared.record.Out.TheVariants as out
 use Rattle.apex_types.specs.declared.record.Who.{Who}
 use Rattle.apex_types.specs.declared.request.Request.{Request}
 use Rattle.apex_types.specs.declared.request.Request.TheVariants as request
-use Rattle.apex_types.specs.declared.service.Service.{Service}
 use Rattle.apex_machine.specs.declared.state.CoreState.{CoreState}
 use Rattle.apex_machine.specs.declared.state.Entry.{Entry}
 use Rattle.apex_machine.specs.declared.state.Process.{Process}
@@ -23,7 +22,7 @@ use Rattle.apex_machine.specs.Demands.{stands_in}
 use Rattle.apex_machine.specs.Objects.{acquired, buffer_received, buffer_sent, semaphore_waited}
 use Rattle.apex_machine.specs.ServiceConditions.{condition_codes}
 use Rattle.apex_machine.specs.State.{Buffer, Partition, State, change_at, cold_state, each_item, given_object, initialising_process, is_named, is_same, item_at}
-use Rattle.apex_machine.specs.Step.{IsLawfulBody, RunJudging, StepJudging}
+use Rattle.apex_machine.specs.Step.{IsLawfulBody, Run, Step}
 use Rattle.apex_machine.specs.Waiting.{ends_wait, enters, entry_of, is_the_set, is_waiting, set_after, set_of, waits_at, without}
 use Rattle.apex_laws.specs.PartLaws.{is_of_channel}
 use Rattle.apex_laws.specs.Laws.{AreTied, WaitersStand, WhoWaitsStands, entries_at, entries_in, entries_of}
@@ -259,52 +258,52 @@ object_stands configuration cores place core body partition who wanted ready off
 -- the whole state
 
 -- who waits in a set of a channel after a record stands there
-channel_stands : (judged : Service → Bool) (configuration : Configuration) (state : State) (place core : ℕ) (body : Body) → AreTied configuration state
-    → IsLawfulBody judged configuration state core body → (who : Who) (wanted : WaitingSet) (entries : List Entry)
+channel_stands : (configuration : Configuration) (state : State) (place core : ℕ) (body : Body) → AreTied configuration state
+    → IsLawfulBody configuration state core body → (who : Who) (wanted : WaitingSet) (entries : List Entry)
     → (waits_at wanted (found state.partitions who) ≡ true → stands_in who entries ≡ true)
     → waits_at wanted (item_at (partition_by configuration state.cores place core who.part body (state.partitions who.part)).table who.proc) ≡ true
     → stands_in who (set_after place body wanted entries) ≡ true
-channel_stands judged configuration state place core body tied law who wanted entries before waits =
-    elim (who_waits configuration state.cores place core body (state.partitions who.part) who wanted (calls_ready judged configuration state core body tied law who.part) waits) [
+channel_stands configuration state place core body tied law who wanted entries before waits =
+    elim (who_waits configuration state.cores place core body (state.partitions who.part) who wanted (calls_ready configuration state core body tied law who.part) waits) [
       | inl goes ↦ set_keeps place body who wanted entries goes.0 (before goes.1)
       | inr enters ↦ entering_stands place body who wanted entries enters
     ]
 
-next_stands : (judged : Service → Bool) (configuration : Configuration) (state : State) (ordered : Ordered) → AreTied configuration state → WaitersStand state
-    → IsLawfulBody judged configuration state ordered.core ordered.rec.body → WaitersStand (after configuration state ordered)
-next_stands judged configuration state ordered tied stand law who (set.ChannelSenders channel) waits =
-    channel_stands judged configuration state ordered.pos ordered.core ordered.rec.body tied law who (set.ChannelSenders channel) (state.channels channel).senders (stand who (set.ChannelSenders channel)) waits
-next_stands judged configuration state ordered tied stand law who (set.ChannelReceivers channel) waits =
-    channel_stands judged configuration state ordered.pos ordered.core ordered.rec.body tied law who (set.ChannelReceivers channel) (state.channels channel).receivers (stand who (set.ChannelReceivers channel)) waits
-next_stands judged configuration state ordered tied stand law who (set.BufferSenders number) waits =
+next_stands : (configuration : Configuration) (state : State) (ordered : Ordered) → AreTied configuration state → WaitersStand state
+    → IsLawfulBody configuration state ordered.core ordered.rec.body → WaitersStand (after configuration state ordered)
+next_stands configuration state ordered tied stand law who (set.ChannelSenders channel) waits =
+    channel_stands configuration state ordered.pos ordered.core ordered.rec.body tied law who (set.ChannelSenders channel) (state.channels channel).senders (stand who (set.ChannelSenders channel)) waits
+next_stands configuration state ordered tied stand law who (set.ChannelReceivers channel) waits =
+    channel_stands configuration state ordered.pos ordered.core ordered.rec.body tied law who (set.ChannelReceivers channel) (state.channels channel).receivers (stand who (set.ChannelReceivers channel)) waits
+next_stands configuration state ordered tied stand law who (set.BufferSenders number) waits =
     object_stands configuration state.cores ordered.pos ordered.core ordered.rec.body (state.partitions who.part) who (set.BufferSenders number)
-    (calls_ready judged configuration state ordered.core ordered.rec.body tied law who.part) refl (stand who (set.BufferSenders number)) waits
-next_stands judged configuration state ordered tied stand law who (set.BufferReceivers number) waits =
+    (calls_ready configuration state ordered.core ordered.rec.body tied law who.part) refl (stand who (set.BufferSenders number)) waits
+next_stands configuration state ordered tied stand law who (set.BufferReceivers number) waits =
     object_stands configuration state.cores ordered.pos ordered.core ordered.rec.body (state.partitions who.part) who (set.BufferReceivers number)
-    (calls_ready judged configuration state ordered.core ordered.rec.body tied law who.part) refl (stand who (set.BufferReceivers number)) waits
-next_stands judged configuration state ordered tied stand law who (set.BlackboardReaders number) waits =
+    (calls_ready configuration state ordered.core ordered.rec.body tied law who.part) refl (stand who (set.BufferReceivers number)) waits
+next_stands configuration state ordered tied stand law who (set.BlackboardReaders number) waits =
     object_stands configuration state.cores ordered.pos ordered.core ordered.rec.body (state.partitions who.part) who (set.BlackboardReaders number)
-    (calls_ready judged configuration state ordered.core ordered.rec.body tied law who.part) refl (stand who (set.BlackboardReaders number)) waits
-next_stands judged configuration state ordered tied stand law who (set.SemaphoreWaiters number) waits =
+    (calls_ready configuration state ordered.core ordered.rec.body tied law who.part) refl (stand who (set.BlackboardReaders number)) waits
+next_stands configuration state ordered tied stand law who (set.SemaphoreWaiters number) waits =
     object_stands configuration state.cores ordered.pos ordered.core ordered.rec.body (state.partitions who.part) who (set.SemaphoreWaiters number)
-    (calls_ready judged configuration state ordered.core ordered.rec.body tied law who.part) refl (stand who (set.SemaphoreWaiters number)) waits
-next_stands judged configuration state ordered tied stand law who (set.EventWaiters number) waits =
+    (calls_ready configuration state ordered.core ordered.rec.body tied law who.part) refl (stand who (set.SemaphoreWaiters number)) waits
+next_stands configuration state ordered tied stand law who (set.EventWaiters number) waits =
     object_stands configuration state.cores ordered.pos ordered.core ordered.rec.body (state.partitions who.part) who (set.EventWaiters number)
-    (calls_ready judged configuration state ordered.core ordered.rec.body tied law who.part) refl (stand who (set.EventWaiters number)) waits
-next_stands judged configuration state ordered tied stand law who (set.MutexWaiters number) waits =
+    (calls_ready configuration state ordered.core ordered.rec.body tied law who.part) refl (stand who (set.EventWaiters number)) waits
+next_stands configuration state ordered tied stand law who (set.MutexWaiters number) waits =
     object_stands configuration state.cores ordered.pos ordered.core ordered.rec.body (state.partitions who.part) who (set.MutexWaiters number)
-    (calls_ready judged configuration state ordered.core ordered.rec.body tied law who.part) refl (stand who (set.MutexWaiters number)) waits
+    (calls_ready configuration state ordered.core ordered.rec.body tied law who.part) refl (stand who (set.MutexWaiters number)) waits
 
-step_stands : (judged : Service → Bool) (configuration : Configuration) (state : State) (ordered : Ordered) (next : State)
-    → AreTied configuration state → WaitersStand state → StepJudging judged configuration state ordered next → WaitersStand next
-step_stands judged configuration state ordered next tied stand step = subst WaitersStand (sym step.1) (next_stands judged configuration state ordered tied stand step.0.claims)
+step_stands : (configuration : Configuration) (state : State) (ordered : Ordered) (next : State)
+    → AreTied configuration state → WaitersStand state → Step configuration state ordered next → WaitersStand next
+step_stands configuration state ordered next tied stand step = subst WaitersStand (sym step.1) (next_stands configuration state ordered tied stand step.0.claims)
 
-run_stands : (judged : Service → Bool) (configuration : Configuration) (records : List Ordered) (state final : State)
-    → AreTied configuration state → WaitersStand state → RunJudging judged configuration state records final → WaitersStand final
-run_stands judged configuration [] state final tied stand run = subst WaitersStand (sym run) stand
-run_stands judged configuration (ordered ∷ others) state final tied stand run =
-    run_stands judged configuration others run.0 final (step_tied judged configuration state ordered run.0 tied run.1)
-    (step_stands judged configuration state ordered run.0 tied stand run.1) run.2
+run_stands : (configuration : Configuration) (records : List Ordered) (state final : State)
+    → AreTied configuration state → WaitersStand state → Run configuration state records final → WaitersStand final
+run_stands configuration [] state final tied stand run = subst WaitersStand (sym run) stand
+run_stands configuration (ordered ∷ others) state final tied stand run =
+    run_stands configuration others run.0 final (step_tied configuration state ordered run.0 tied run.1)
+    (step_stands configuration state ordered run.0 tied stand run.1) run.2
 
 -- nobody waits in the cold state
 cold_stands : (configuration : Configuration) → WaitersStand (cold_state configuration)

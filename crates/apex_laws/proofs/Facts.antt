@@ -61,7 +61,7 @@ lawful_facts = record {
       occupant = refl;
       choice = refl;
       due = refl;
-      profile = (refl, refl);
+      profile = refl;
       prio = refl;
       outcome = record { chan = refl; out = refl; val = refl; bytes = refl; woken = λ who. refl };
     };
@@ -73,7 +73,7 @@ lawful_facts = record {
       occupant = refl;
       choice = refl;
       due = refl;
-      profile = (refl, refl);
+      profile = refl;
       prio = refl;
       outcome = record { chan = refl; kind = refl; out = refl; val = refl; bytes = refl; woken = λ who. refl };
     };
@@ -85,7 +85,7 @@ lawful_facts = record {
       occupant = refl;
       choice = refl;
       due = refl;
-      profile = (refl, refl);
+      profile = refl;
       prio = refl;
       outcome = record { chan = refl; kind = refl; out = refl; val = refl; bytes = refl; woken = λ who. refl };
     };
@@ -97,7 +97,7 @@ lawful_facts = record {
       occupant = refl;
       choice = refl;
       due = refl;
-      profile = (refl, refl);
+      profile = refl;
       prio = refl;
       outcome = record { chan = refl; kind = refl; out = refl; val = refl; bytes = refl; woken = λ who. refl };
     };
@@ -199,7 +199,6 @@ condition_facts = record {
   may_stop_itself = refl;
   no_restart = refl;
   normal_mode = refl;
-  periodic_wants_its_wait = refl;
-  aperiodic_wants_none = refl;
-  periodic_judged = refl;
+  aperiodic_is_inside = refl;
+  periodic_is_inside = refl;
 }

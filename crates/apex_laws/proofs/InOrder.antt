@@ -5,7 +5,6 @@ use Rattle.apex_types.specs.declared.record.Body.{Body}
 use Rattle.apex_types.specs.declared.record.Body.TheVariants.{Call, Ret, Disp, Tick}
 use Rattle.apex_types.specs.declared.record.Ordered.{Ordered}
 use Rattle.apex_types.specs.declared.record.Who.{Who}
-use Rattle.apex_types.specs.declared.service.Service.{Service}
 use Rattle.apex_machine.specs.declared.state.CoreState.{CoreState}
 use Rattle.apex_machine.specs.declared.state.Entry.{Entry}
 use Rattle.apex_machine.specs.declared.state.WaitingSet.{WaitingSet}
@@ -15,7 +14,7 @@ use Rattle.apex_machine.specs.Channels.{is_receiver, is_sender}
 use Rattle.apex_machine.specs.Configuration.{Configuration}
 use Rattle.apex_machine.specs.Demands.{stands_in}
 use Rattle.apex_machine.specs.State.{Partition, State, cold_state, is_named, is_same}
-use Rattle.apex_machine.specs.Step.{IsLawfulBody, RunJudging, StepJudging}
+use Rattle.apex_machine.specs.Step.{IsLawfulBody, Run, Step}
 use Rattle.apex_machine.specs.Waiting.{ends_wait, enters, entry_of, set_after, without}
 use Rattle.apex_laws.specs.Laws.{AllEntries, AllPairs, SetsAreInOrder, AreTied, IsEarlier, IsInOrder, IsTied, StaysInOrder, entries_at}
 use Rattle.apex_laws.specs.ObjectLaws.{AreApart, OrderIsApart}
@@ -111,13 +110,13 @@ none_in_order count = record { pairs = tt; below = tt }
 -- every set
 
 -- the caller of a lawful call stands in no set of a partition
-new_here : (judged : Service → Bool) (configuration : Configuration) (state : State) (core : ℕ) (body : Body) → AreTied configuration state
-    → IsLawfulBody judged configuration state core body → (Home : ℕ → Type 0) (wanted : WaitingSet) (entries : List Entry)
+new_here : (configuration : Configuration) (state : State) (core : ℕ) (body : Body) → AreTied configuration state
+    → IsLawfulBody configuration state core body → (Home : ℕ → Type 0) (wanted : WaitingSet) (entries : List Entry)
     → AllEntries (IsTied Home wanted state.partitions) entries → EntersNew body entries
-new_here judged configuration state core (Call call) tied law Home wanted entries all = caller_stands_not judged configuration state core call tied law Home wanted entries all
-new_here judged configuration state core (Disp who) tied law Home wanted entries all = tt
-new_here judged configuration state core (Tick woken) tied law Home wanted entries all = tt
-new_here judged configuration state core (Ret ret) tied law Home wanted entries all = tt
+new_here configuration state core (Call call) tied law Home wanted entries all = caller_stands_not configuration state core call tied law Home wanted entries all
+new_here configuration state core (Disp who) tied law Home wanted entries all = tt
+new_here configuration state core (Tick woken) tied law Home wanted entries all = tt
+new_here configuration state core (Ret ret) tied law Home wanted entries all = tt
 
 -- a set of a partition after a record, if its own caller stands in it not yet
 pub set_stays_in_order : (configuration : Configuration) (cores : List CoreState) (count place core number : ℕ) (body : Body) (partition : Partition) (wanted : WaitingSet) → place ≡ count
@@ -131,9 +130,9 @@ set_stays_in_order configuration cores count place core number body partition wa
 
 -- the whole state
 
-pub step_in_order : (judged : Service → Bool) (configuration : Configuration) (state : State) (ordered : Ordered) (next : State)
-    → AreTied configuration state → SetsAreInOrder state → StepJudging judged configuration state ordered next → SetsAreInOrder next
-step_in_order judged configuration state ordered next tied order step =
+pub step_in_order : (configuration : Configuration) (state : State) (ordered : Ordered) (next : State)
+    → AreTied configuration state → SetsAreInOrder state → Step configuration state ordered next → SetsAreInOrder next
+step_in_order configuration state ordered next tied order step =
     let place = ordered.pos in
     let core = ordered.core in
     let body = ordered.rec.body in
@@ -141,22 +140,22 @@ step_in_order judged configuration state ordered next tied order step =
     let at = step.0.placed in
     subst SetsAreInOrder (sym step.1) (record {
       objects = λ number wanted. set_stays_in_order configuration state.cores state.count place core number body (state.partitions number) wanted at
-          (λ own. new_here judged configuration state core body tied law (λ home. home ≡ number) wanted (entries_at (state.partitions number) wanted) (tied.objects number wanted))
+          (λ own. new_here configuration state core body tied law (λ home. home ≡ number) wanted (entries_at (state.partitions number) wanted) (tied.objects number wanted))
           (order.objects number wanted);
       senders = λ number. set_in_order state.count place body (set.ChannelSenders number) (state.channels number).senders at
-          (new_here judged configuration state core body tied law (λ home. IsTrue (is_sender configuration number home)) (set.ChannelSenders number) (state.channels number).senders (tied.senders number))
+          (new_here configuration state core body tied law (λ home. IsTrue (is_sender configuration number home)) (set.ChannelSenders number) (state.channels number).senders (tied.senders number))
           (order.senders number);
       receivers = λ number. set_in_order state.count place body (set.ChannelReceivers number) (state.channels number).receivers at
-          (new_here judged configuration state core body tied law (λ home. IsTrue (is_receiver configuration number home)) (set.ChannelReceivers number) (state.channels number).receivers (tied.receivers number))
+          (new_here configuration state core body tied law (λ home. IsTrue (is_receiver configuration number home)) (set.ChannelReceivers number) (state.channels number).receivers (tied.receivers number))
           (order.receivers number);
     })
 
-pub run_in_order : (judged : Service → Bool) (configuration : Configuration) (records : List Ordered) (state final : State)
-    → AreTied configuration state → SetsAreInOrder state → RunJudging judged configuration state records final → SetsAreInOrder final
-run_in_order judged configuration [] state final tied order run = subst SetsAreInOrder (sym run) order
-run_in_order judged configuration (ordered ∷ others) state final tied order run =
-    run_in_order judged configuration others run.0 final (step_tied judged configuration state ordered run.0 tied run.1)
-    (step_in_order judged configuration state ordered run.0 tied order run.1) run.2
+pub run_in_order : (configuration : Configuration) (records : List Ordered) (state final : State)
+    → AreTied configuration state → SetsAreInOrder state → Run configuration state records final → SetsAreInOrder final
+run_in_order configuration [] state final tied order run = subst SetsAreInOrder (sym run) order
+run_in_order configuration (ordered ∷ others) state final tied order run =
+    run_in_order configuration others run.0 final (step_tied configuration state ordered run.0 tied run.1)
+    (step_in_order configuration state ordered run.0 tied order run.1) run.2
 
 cold_in_order : (configuration : Configuration) (number : ℕ) (wanted : WaitingSet) → IsInOrder 0 (entries_at ((cold_state configuration).partitions number) wanted)
 cold_in_order configuration number (set.BufferSenders object) = none_in_order 0

@@ -10,7 +10,6 @@ use Rattle.apex_types.specs.declared.record.Out.TheVariants as out
 use Rattle.apex_types.specs.declared.record.Who.{Who}
 use Rattle.apex_types.specs.declared.request.Request.{Request}
 use Rattle.apex_types.specs.declared.request.Request.TheVariants as request
-use Rattle.apex_types.specs.declared.service.Service.{Service}
 use Rattle.apex_machine.specs.declared.state.CoreState.{CoreState}
 use Rattle.apex_machine.specs.declared.state.Process.{Process}
 use Rattle.apex_machine.specs.declared.state.Wait.{Wait}
@@ -170,9 +169,9 @@ CallsReady configuration core number (Call call) partition = nat_eq call.who.par
 CallsReady configuration core number _ partition = Unit {0}
 
 -- a lawful call is one
-pub ready_call : (judged : Service → Bool) (configuration : Configuration) (state : State) (core : ℕ) (call : CallRecord) → AreTied configuration state
-    → IsLawfulCall judged configuration state core call → IsReadyCall configuration (state.partitions call.who.part) core call
-ready_call judged configuration state core call tied law = record {
+pub ready_call : (configuration : Configuration) (state : State) (core : ℕ) (call : CallRecord) → AreTied configuration state
+    → IsLawfulCall configuration state core call → IsReadyCall configuration (state.partitions call.who.part) core call
+ready_call configuration state core call tied law = record {
   ready = chosen_stands (window_now configuration state.cores core) state.partitions core call.who (tied.distinct call.who.part) law.choice;
   none = λ done. done_is_lawful (condition_codes configuration call.who (state.partitions call.who.part) call.request) (channel_of (state.partitions call.who.part) call.request)
       (answer_of (time_of state.cores core) call.who (state.partitions call.who.part) call.request) (λ number. suits_use (use_of call.request) (state.channels number))
@@ -180,11 +179,11 @@ ready_call judged configuration state core call tied law = record {
       (are_errors configuration call.who (state.partitions call.who.part) call.request) law.outcome done;
 }
 
-pub calls_ready : (judged : Service → Bool) (configuration : Configuration) (state : State) (core : ℕ) (body : Body) → AreTied configuration state
-    → IsLawfulBody judged configuration state core body → (number : ℕ) → CallsReady configuration core number body (state.partitions number)
-calls_ready judged configuration state core (Call call) tied law number =
-    λ own. subst (λ part. IsReadyCall configuration (state.partitions part) core call) (eqb-true call.who.part number own) (ready_call judged configuration state core call tied law)
-calls_ready judged configuration state core _ tied law number = tt
+pub calls_ready : (configuration : Configuration) (state : State) (core : ℕ) (body : Body) → AreTied configuration state
+    → IsLawfulBody configuration state core body → (number : ℕ) → CallsReady configuration core number body (state.partitions number)
+calls_ready configuration state core (Call call) tied law number =
+    λ own. subst (λ part. IsReadyCall configuration (state.partitions part) core call) (eqb-true call.who.part number own) (ready_call configuration state core call tied law)
+calls_ready configuration state core _ tied law number = tt
 
 -- what such a call sets leaves a waiting process alive and waiting
 adjusted_waits : (configuration : Configuration) (cores : List CoreState) (partition : Partition) (place period core : ℕ) (call : CallRecord) → IsReadyCall configuration partition core call

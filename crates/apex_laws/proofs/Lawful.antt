@@ -1,17 +1,16 @@
 -- Where each piece that a record touches finds all its demands met, the record is lawful.
-use Rattle.std.proofs.Common.{◌≡◌, ℕ, Bool, true, Option, None, Some, IsTrue, subst, refl, ap, ◌∙◌}
+use Rattle.std.proofs.Common.{◌≡◌, ℕ, true, Option, None, Some, IsTrue, subst, refl, ap, ◌∙◌}
 use Rattle.apex_types.specs.declared.record.Body.{Body}
 use Rattle.apex_types.specs.declared.record.Body.TheVariants.{Call, Ret, Disp, Tick}
 use Rattle.apex_types.specs.declared.record.Call.{Call as CallRecord}
 use Rattle.apex_types.specs.declared.record.Ordered.{Ordered}
 use Rattle.apex_types.specs.declared.record.Return.{Return}
 use Rattle.apex_types.specs.declared.record.Who.{Who}
-use Rattle.apex_types.specs.declared.service.Service.{Service}
 use Rattle.apex_machine.specs.After.{is_channel}
 use Rattle.apex_machine.specs.Channels.{has_channel}
 use Rattle.apex_machine.specs.Choice.{choice_in, choice_of}
 use Rattle.apex_machine.specs.Configuration.{Configuration, WindowsAreConfigured, has_partition}
-use Rattle.apex_machine.specs.Demands.{AllHold, InNoWindow, InWindowOf, call_demands, channel_demands, demands_judging, module_demands, own_call_demands, partition_demands, used_demands, window_now}
+use Rattle.apex_machine.specs.Demands.{AllHold, InNoWindow, InWindowOf, call_demands, channel_demands, demands, module_demands, own_call_demands, partition_demands, used_demands, window_now}
 use Rattle.apex_machine.specs.Pieces.{Module, OfChannel, OfPartition, Piece, is_configured, part, touched_by, touches}
 use Rattle.apex_machine.specs.Ports.{channel_of, suits_use, use_of}
 use Rattle.apex_machine.specs.ServiceConditions.{condition_codes}
@@ -24,10 +23,10 @@ use Rattle.apex_laws.proofs.Outcomes.{ChannelSays, has_outcome, returned_is_due}
 use Rattle.apex_laws.proofs.Parts.{same_time}
 
 -- each configured partition that the record touches finds its demands met
-abbrev PartitionsAgree : (Service → Bool) → Configuration → State → ℕ → Body → Type 0
-PartitionsAgree judged configuration state core body =
+abbrev PartitionsAgree : Configuration → State → ℕ → Body → Type 0
+PartitionsAgree configuration state core body =
     (number : ℕ) → IsTrue (has_partition configuration number) → IsTrue (touched_by configuration body (OfPartition number))
-    → AllHold (partition_demands judged configuration number state.cores (state.partitions number) core body)
+    → AllHold (partition_demands configuration number state.cores (state.partitions number) core body)
 
 -- each configured channel that the record touches finds its demands met
 abbrev ChannelsAgree : Configuration → State → ℕ → Body → Type 0
@@ -61,13 +60,13 @@ claimed_configured configuration (Some other) channel is names =
     subst (λ one. IsTrue (has_channel configuration one)) same names
 
 -- a call that the module, the caller's partition and the channel agree to
-lawful_call : (judged : Service → Bool) (configuration : Configuration) (state : State) (core : ℕ) (call : CallRecord)
+lawful_call : (configuration : Configuration) (state : State) (core : ℕ) (call : CallRecord)
     → AllHold (module_demands configuration state.cores core (Call call))
-    → AllHold (own_call_demands judged configuration call.who.part state.cores (state.partitions call.who.part) core call)
+    → AllHold (own_call_demands configuration call.who.part state.cores (state.partitions call.who.part) core call)
     → ((channel : ℕ) → call.claim.chan ≡ Some channel
     → ChannelSays (suits_use (use_of call.request) (state.channels channel)) (channel_answer configuration (time_of state.cores core) call.request state.channels channel) call.claim)
-    → IsLawfulCall judged configuration state core call
-lawful_call judged configuration state core call of_module own of_channel = record {
+    → IsLawfulCall configuration state core call
+lawful_call configuration state core call of_module own of_channel = record {
   names = of_module.0;
   occupant = own.1.0.0;
   choice = choice_from (window_now configuration state.cores core) state.partitions core call.who own.0 own.1.0.1;
@@ -82,11 +81,11 @@ lawful_call judged configuration state core call of_module own of_channel = reco
 }
 
 -- a return that the module and the returner's partition agree to
-lawful_return : (judged : Service → Bool) (configuration : Configuration) (state : State) (core : ℕ) (ret : Return)
+lawful_return : (configuration : Configuration) (state : State) (core : ℕ) (ret : Return)
     → AllHold (module_demands configuration state.cores core (Ret ret))
-    → AllHold (partition_demands judged configuration ret.who.part state.cores (state.partitions ret.who.part) core (Ret ret))
+    → AllHold (partition_demands configuration ret.who.part state.cores (state.partitions ret.who.part) core (Ret ret))
     → IsLawfulReturn configuration state core ret
-lawful_return judged configuration state core ret of_module own = record {
+lawful_return configuration state core ret of_module own = record {
   names = of_module.0;
   occupant = own.1.0.0;
   choice = choice_from (window_now configuration state.cores core) state.partitions core ret.who own.0 own.1.0.1;
@@ -94,43 +93,43 @@ lawful_return judged configuration state core ret of_module own = record {
 }
 
 -- any record
-lawful_body : (judged : Service → Bool) (configuration : Configuration) (state : State) (core : ℕ) (body : Body) → WindowsAreConfigured configuration
-    → AllHold (module_demands configuration state.cores core body) → PartitionsAgree judged configuration state core body
-    → ChannelsAgree configuration state core body → IsLawfulBody judged configuration state core body
-lawful_body judged configuration state core (Disp who) windows of_module agree channels = record {
+lawful_body : (configuration : Configuration) (state : State) (core : ℕ) (body : Body) → WindowsAreConfigured configuration
+    → AllHold (module_demands configuration state.cores core body) → PartitionsAgree configuration state core body
+    → ChannelsAgree configuration state core body → IsLawfulBody configuration state core body
+lawful_body configuration state core (Disp who) windows of_module agree channels = record {
   names = of_module.0;
   choice = choice_of_all configuration state core who windows of_module.1.0 (λ number is. (agree number is refl).0);
 }
-lawful_body judged configuration state core (Tick woken) windows of_module agree channels = record {
+lawful_body configuration state core (Tick woken) windows of_module agree channels = record {
   names = of_module.0;
   skew = of_module.1.0;
   choice = choice_of_all configuration state core (occupant_of state.cores core) windows of_module.1.1.0 (λ number is. (agree number is refl).0);
   due = λ number is. (agree number is refl).1.0;
 }
-lawful_body judged configuration state core (Ret ret) windows of_module agree channels =
-    lawful_return judged configuration state core ret of_module (agree ret.who.part of_module.0 (is_itself ret.who.part))
-lawful_body judged configuration state core (Call call) windows of_module agree channels =
+lawful_body configuration state core (Ret ret) windows of_module agree channels =
+    lawful_return configuration state core ret of_module (agree ret.who.part of_module.0 (is_itself ret.who.part))
+lawful_body configuration state core (Call call) windows of_module agree channels =
     let own = agree call.who.part of_module.0.0 (first_holds _ _ (is_itself call.who.part)) in
-    lawful_call judged configuration state core call of_module
-    (subst (λ one. AllHold (call_demands one judged configuration call.who.part state.cores (state.partitions call.who.part) core call)) (is_itself call.who.part) own)
+    lawful_call configuration state core call of_module
+    (subst (λ one. AllHold (call_demands one configuration call.who.part state.cores (state.partitions call.who.part) core call)) (is_itself call.who.part) own)
     (λ channel is. says configuration state core call channel is
     (channels channel (claimed_configured configuration call.claim.chan channel is of_module.0.2)
     (first_holds _ _ (ap (is_channel channel) is ∙ is_itself channel))))
 
 -- a channel's demands, at the times that it holds
-at_same_time : (judged : Service → Bool) (configuration : Configuration) (state : State) (ordered : Ordered) (number : ℕ)
-    → AllHold (demands_judging judged configuration (part (OfChannel number) state) ordered)
+at_same_time : (configuration : Configuration) (state : State) (ordered : Ordered) (number : ℕ)
+    → AllHold (demands configuration (part (OfChannel number) state) ordered)
     → AllHold (channel_demands configuration (time_of state.cores ordered.core) number (state.channels number) ordered.rec.body)
-at_same_time judged configuration state ordered number hold =
+at_same_time configuration state ordered number hold =
     subst (λ now. AllHold (channel_demands configuration now number (state.channels number) ordered.rec.body)) (same_time state.cores ordered.core) hold
 
 -- a record at the next place that all pieces agree to is lawful
-pub lawful : (judged : Service → Bool) (configuration : Configuration) (state : State) (ordered : Ordered) → WindowsAreConfigured configuration → ordered.pos ≡ state.count
-    → ((piece : Piece) → IsTrue (is_configured configuration piece) → IsTrue (touches configuration piece ordered) → AllHold (demands_judging judged configuration (part piece state) ordered))
-    → IsLawful judged configuration state ordered
-lawful judged configuration state ordered windows placed hold = record {
+pub lawful : (configuration : Configuration) (state : State) (ordered : Ordered) → WindowsAreConfigured configuration → ordered.pos ≡ state.count
+    → ((piece : Piece) → IsTrue (is_configured configuration piece) → IsTrue (touches configuration piece ordered) → AllHold (demands configuration (part piece state) ordered))
+    → IsLawful configuration state ordered
+lawful configuration state ordered windows placed hold = record {
   placed = placed;
-  claims = lawful_body judged configuration state ordered.core ordered.rec.body windows (hold Module refl refl)
+  claims = lawful_body configuration state ordered.core ordered.rec.body windows (hold Module refl refl)
       (λ number is touched. hold (OfPartition number) is touched)
-      (λ number is touched. at_same_time judged configuration state ordered number (hold (OfChannel number) is touched));
+      (λ number is touched. at_same_time configuration state ordered number (hold (OfChannel number) is touched));
 }

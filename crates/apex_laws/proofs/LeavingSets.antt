@@ -146,7 +146,7 @@ one_leaves change partition who (wait.At wanted due) has becomes leaves =
 one_leaves change partition who _ has becomes leaves = sets_stay change partition has (λ wanted off. leaves wanted refl)
 
 pub stopped_leaves : StoppedLeaves
-stopped_leaves judged configuration number place core cores partition call is process asked no_error target found =
+stopped_leaves configuration number place core cores partition call is process asked no_error target found =
     let change = set_after place (Call call) in
     let who = fellow call.who process in
     let at = created_is partition.table process target found in

@@ -89,7 +89,7 @@ named_uses number place now partition caller asked claim sound [] None hold want
     who (sym (hold.1.1.1.1.0 who) ∙ named) waits
 
 pub other_sets_stay : OtherSetsStay
-other_sets_stay judged configuration number place core cores partition call is not_stop wanted unused =
+other_sets_stay configuration number place core cores partition call is not_stop wanted unused =
     set_stays (Stands number wanted partition) place call wanted (entries_at partition wanted) (is.sound.stands wanted) (enters_no_other call wanted unused)
     (λ entry stands. neither (is_named entry.who call.claim.woken) (stops call entry.who)
     (cannot_hold (is_named entry.who call.claim.woken) (λ named. named_uses number place (time_of cores core) partition call.who call.request call.claim is.sound

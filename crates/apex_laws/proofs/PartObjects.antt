@@ -322,9 +322,9 @@ changed_by configuration place call partition _ has leaves empty =
 
 -- any own call
 pub one_object_changes : OneObjectChanges
-one_object_changes judged configuration number place core cores partition call is not_stop asked same =
+one_object_changes configuration number place core cores partition call is not_stop asked same =
     let change = set_after place (Call call) in
     ap (λ one. each_set change (cond (is_done call.claim.out) (objects_by configuration call.who call.claim.val one partition) partition)) same
     ∙ changed_by configuration place call partition asked is.sound.objects
-    (λ wanted unused. other_sets_stay judged configuration number place core cores partition call is not_stop wanted (ap (λ one. is_set_used one wanted) same ∙ unused))
+    (λ wanted unused. other_sets_stay configuration number place core cores partition call is not_stop wanted (ap (λ one. is_set_used one wanted) same ∙ unused))
     (λ wanted unused. (let off = enters_no_other call wanted (ap (λ one. is_set_used one wanted) same ∙ unused) in rw off refl))

@@ -1,27 +1,19 @@
 -- A call is not in the profile exactly where a sentence puts it outside.
-use Rattle.std.proofs.Common.{◌≡◌, ◌⊎◌, ℕ, ℤ, pos, negsuc, Option, Bool, true, false, not, ◌&&◌, ◌||◌, nat_eq, refl, sym, ap, ◌∙◌, inl, inr, true≢false}
-use Rattle.std.specs.Prelude.{◌<ℤ◌}
+use Rattle.std.proofs.Common.{◌≡◌, ◌⊎◌, ℕ, Option, Bool, true, false, not, ◌&&◌, nat_eq, refl, sym, ap, ◌∙◌, inl, inr, true≢false}
 use Rattle.apex_types.specs.declared.record.Who.{Who}
 use Rattle.apex_types.specs.declared.request.Request.{Request}
 use Rattle.apex_types.specs.declared.request.Request.TheVariants as request
-use Rattle.apex_types.specs.declared.service.Service.{Service}
-use Rattle.apex_types.specs.declared.service.Service.TheVariants as service
 use Rattle.apex_machine.specs.declared.state.Wait.{Wait}
 use Rattle.apex_machine.specs.declared.state.Wait.TheVariants as wait
 use Rattle.apex_machine.specs.declared.state.WaitingSet.TheVariants as set
-use Rattle.apex_machine.specs.Arguments.{is_aperiodic, is_normal_mode, natural_of}
+use Rattle.apex_machine.specs.Arguments.{is_normal_mode, natural_of}
 use Rattle.apex_machine.specs.Conditions.{owns_mutex}
 use Rattle.apex_machine.specs.DueTimes.{is_for_mutex}
 use Rattle.apex_machine.specs.Services.{in_profile, waits_for_mutex}
 use Rattle.apex_machine.specs.State.{Partition, item_at}
 use Rattle.apex_laws.specs.ProfileLaws.{AwaitsMutex, IsOutsideProfile, ProfileIsTheSentence}
 use Rattle.apex_laws.proofs.Booleans.{cannot_hold}
-use Rattle.apex_laws.proofs.ConditionTests.{Tells, caller_tells, equal_tells, normal_mode_tells, owns_tells, positive_tells}
-
--- the failure of a test
-fails : (test : Bool) → not test ≡ true → test ≡ false
-fails true is = absurd (true≢false (sym is))
-fails false is = refl
+use Rattle.apex_laws.proofs.ConditionTests.{Tells, caller_tells, equal_tells, normal_mode_tells, owns_tells}
 
 -- one of two tests that don't both hold
 one_fails : (one other : Bool) → (not one && not other) ≡ false → (one ≡ true) ⊎ (other ≡ true)
@@ -43,23 +35,6 @@ not_fails : (test : Bool) → not test ≡ false → test ≡ true
 not_fails true is = refl
 not_fails false is = absurd (true≢false is)
 
-both_fail : (one other : Bool) → (one || other) ≡ false → (one ≡ false) × (other ≡ false)
-both_fail true other is = absurd (true≢false is)
-both_fail false other is = (refl, is)
-
-neither_holds : (one other : Bool) → one ≡ false → other ≡ false → (one || other) ≡ false
-neither_holds true other first second = absurd (true≢false first)
-neither_holds false other first second = second
-
--- a period above 0
-above_is : (period : ℤ) → is_aperiodic period ≡ false → pos 0 <ℤ period
-above_is (pos n) is = (positive_tells n).0 is
-above_is (negsuc n) is = absurd (true≢false is)
-
-above_by : (period : ℤ) → pos 0 <ℤ period → is_aperiodic period ≡ false
-above_by (pos n) above = (positive_tells n).1 above
-above_by (negsuc n) above = absurd above.lt
-
 -- a wait for a mutex
 for_mutex_tells : (one : Wait) → Tells (is_for_mutex one) ((mutex : ℕ) × (due : Option ℕ) × (one ≡ wait.At (set.MutexWaiters mutex) due))
 for_mutex_tells (wait.At (set.MutexWaiters mutex) due) = (λ holds. (mutex, due, refl), λ fact. refl)
@@ -73,10 +48,8 @@ awaits_tells partition number =
       λ fact. found.1 (fact.process, fact.stands, (fact.mutex, fact.due, fact.waits)),
     )
 
-module _ (judged : Service → Bool) (who : Who) (partition : Partition) where
-  outside : (asked : Request) → in_profile judged who partition asked ≡ false → IsOutsideProfile judged who partition asked
-  outside (request.CreateProcess name priority period) is =
-      let both = both_fail (is_aperiodic period) (judged service.PeriodicWait) is in IsOutsideProfile.periodic_process (above_is period both.0) both.1
+module _ (who : Who) (partition : Partition) where
+  outside : (asked : Request) → in_profile who partition asked ≡ false → IsOutsideProfile who partition asked
   outside (request.Stop process) is = IsOutsideProfile.owner_is_stopped ((owns_tells partition (natural_of process)).0 (not_fails (owns_mutex partition.mutexes (natural_of process)) is))
   outside request.StopSelf is =
       elim (one_fails (nat_eq who.proc 0) (owns_mutex partition.mutexes who.proc) is) [
@@ -96,8 +69,7 @@ module _ (judged : Service → Bool) (who : Who) (partition : Partition) where
   outside (request.SetPartitionMode next) is = IsOutsideProfile.other_mode (λ three. true≢false (sym ((normal_mode_tells next).1 three) ∙ is))
   outside _ is = absurd (true≢false is)
 
-  stands_out : {asked : Request} → IsOutsideProfile judged who partition asked → in_profile judged who partition asked ≡ false
-  stands_out (IsOutsideProfile.periodic_process {period = period} above not_judged) = neither_holds (is_aperiodic period) (judged service.PeriodicWait) (above_by period above) not_judged
+  stands_out : {asked : Request} → IsOutsideProfile who partition asked → in_profile who partition asked ≡ false
   stands_out (IsOutsideProfile.owner_is_stopped {process = process} owns) = ap not ((owns_tells partition (natural_of process)).1 owns)
   stands_out (IsOutsideProfile.initialising_stops none) = first_fails (nat_eq who.proc 0) (owns_mutex partition.mutexes who.proc) ((equal_tells who.proc 0).1 none)
   stands_out (IsOutsideProfile.owner_stops owns) = second_fails (nat_eq who.proc 0) (owns_mutex partition.mutexes who.proc) ((owns_tells partition who.proc).1 owns)
@@ -112,4 +84,4 @@ module _ (judged : Service → Bool) (who : Who) (partition : Partition) where
   stands_out (IsOutsideProfile.other_mode {next = next} other) = cannot_hold (is_normal_mode next) (λ holds. other ((normal_mode_tells next).0 holds))
 
 pub profile_is_the_sentence : ProfileIsTheSentence
-profile_is_the_sentence judged who partition asked = (outside judged who partition asked, stands_out judged who partition)
+profile_is_the_sentence who partition asked = (outside who partition asked, stands_out who partition)

@@ -31,17 +31,17 @@ use Rattle.apex_laws.proofs.Whos.{due_stands, same_is, same_who}
 -- dispatches
 
 pub dispatch_is_the_sentence : DispatchIsTheSentence
-dispatch_is_the_sentence judged configuration state ordered who next step is within =
+dispatch_is_the_sentence configuration state ordered who next step is within =
     let core = ordered.core in
     let change : CoreState → CoreState = λ one. record one { occupant = who } in
-    let cores = next_cores judged configuration state ordered next (Disp who) step is in
+    let cores = next_cores configuration state ordered next (Disp who) step is in
     record {
       occupant = subst (λ one. occupant_of one core ≡ who) (sym cores) (occupant_changes change who core state.cores within (λ one. refl));
       occupants = λ other differs. subst (λ one. occupant_of one other ≡ occupant_of state.cores other) (sym cores) (other_occupants change core state.cores other differs);
       times = λ other. subst (λ one. time_of one other ≡ time_of state.cores other) (sym cores) (times_stay change (λ one. refl) core state.cores other);
       count = subst (λ one. length one ≡ length state.cores) (sym cores) (count_stays change core state.cores);
-      partitions = next_partition judged configuration state ordered next (Disp who) step is;
-      channels = next_channel judged configuration state ordered next (Disp who) step is;
+      partitions = next_partition configuration state ordered next (Disp who) step is;
+      channels = next_channel configuration state ordered next (Disp who) step is;
     }
 
 -- processes
@@ -63,9 +63,9 @@ stays_each change table number leaves = at_each change table number ∙ by (item
 -- returns
 
 pub return_is_the_sentence : ReturnIsTheSentence
-return_is_the_sentence judged configuration state ordered ret next step is =
-    let law = lawful_body judged configuration state ordered next (Ret ret) step is in
-    let partitions = next_partition judged configuration state ordered next (Ret ret) step is in
+return_is_the_sentence configuration state ordered ret next step is =
+    let law = lawful_body configuration state ordered next (Ret ret) step is in
+    let partitions = next_partition configuration state ordered next (Ret ret) step is in
     let old = due_stands (process_in state ret.who) (outcome_returned ret) law.due in
     let table = (state.partitions ret.who.part).table in
     let own : next.partitions ret.who.part ≡ record (state.partitions ret.who.part) { table = each_item (returned ret.who.proc) table } =
@@ -90,8 +90,8 @@ return_is_the_sentence judged configuration state ordered ret next step is =
             | inr elsewhere ↦ rw elsewhere refl
           ];
       rest = λ number. by number (partitions number);
-      channels = next_channel judged configuration state ordered next (Ret ret) step is;
-      cores = next_cores judged configuration state ordered next (Ret ret) step is;
+      channels = next_channel configuration state ordered next (Ret ret) step is;
+      cores = next_cores configuration state ordered next (Ret ret) step is;
     }
   where
     by : (number : ℕ) → next.partitions number ≡ partition_by configuration state.cores ordered.pos ordered.core number (Ret ret) (state.partitions number)
@@ -180,13 +180,13 @@ ticked_set place number woken state wanted =
     ∙ sets_changed (set_after place (Tick woken)) (state.partitions number) (λ one. refl) wanted
 
 pub tick_is_the_sentence : TickIsTheSentence
-tick_is_the_sentence judged configuration state ordered woken next step is within =
+tick_is_the_sentence configuration state ordered woken next step is within =
     let core = ordered.core in
     let place = ordered.pos in
-    let law = lawful_body judged configuration state ordered next (Tick woken) step is in
-    let partitions = next_partition judged configuration state ordered next (Tick woken) step is in
-    let channels = next_channel judged configuration state ordered next (Tick woken) step is in
-    let cores = next_cores judged configuration state ordered next (Tick woken) step is in
+    let law = lawful_body configuration state ordered next (Tick woken) step is in
+    let partitions = next_partition configuration state ordered next (Tick woken) step is in
+    let channels = next_channel configuration state ordered next (Tick woken) step is in
+    let cores = next_cores configuration state ordered next (Tick woken) step is in
     let change : CoreState → CoreState = λ one. record one { time = one.time + 1 } in
     let Falls : Who → Type 0 = FallsDue configuration state core (time_of state.cores core + 1) in
     let goes : (who : Who) → is_named who woken ≡ true → Falls who = named_due configuration state core woken law in

@@ -156,12 +156,12 @@ foreign_rest configuration place core call state next number is elsewhere =
     there ∙ ap (λ (found : Partition). let back : Partition = record (state.partitions number) { table = found.table } in back) (sym there)
 
 pub refusal_is_the_sentence : RefusalIsTheSentence
-refusal_is_the_sentence judged configuration state ordered call next step is some =
+refusal_is_the_sentence configuration state ordered call next step is some =
     let core = ordered.core in
     let place = ordered.pos in
     let now = time_of state.cores core in
-    let law = lawful_body judged configuration state ordered next (Call call) step is in
-    let partitions = next_partition judged configuration state ordered next (Call call) step is in
+    let law = lawful_body configuration state ordered next (Call call) step is in
+    let partitions = next_partition configuration state ordered next (Call call) step is in
     let codes = condition_codes configuration call.who (state.partitions call.who.part) call.request in
     let refusal = refused codes _ _ _ _ call.claim some law.outcome in
     let one = has_one_of codes call.claim.out refusal.out in
@@ -205,11 +205,11 @@ refusal_is_the_sentence judged configuration state ordered call next step is som
               ∙ ap (λ (found : Partition). let back : Partition = record (state.partitions call.who.part) { table = found.table } in back) (sym own))
           | inr elsewhere ↦ foreign_rest configuration place core call state next number (partitions number) elsewhere
         ];
-        channels = λ number. next_channel judged configuration state ordered next (Call call) step is number ∙ (λ i. record {
+        channels = λ number. next_channel configuration state ordered next (Call call) step is number ∙ (λ i. record {
           content = ap (λ chan. cond (is_channel number chan) (channel_effect configuration now number (use_of call.request) (state.channels number)).next (state.channels number).content) refusal.chan i;
           senders = set_left place call not_so refusal.woken (set.ChannelSenders number) (state.channels number).senders i;
           receivers = set_left place call not_so refusal.woken (set.ChannelReceivers number) (state.channels number).receivers i;
         });
-        cores = next_cores judged configuration state ordered next (Call call) step is;
+        cores = next_cores configuration state ordered next (Call call) step is;
       };
     }

@@ -2,12 +2,11 @@
 use Rattle.std.proofs.Common.{◌≡◌, suc, List, [], ◌∷◌, Bool, true, false, IsTrue, IsFalse, refl, sym, ap, subst, ◌∙◌, inl, inr}
 use Rattle.std.proofs.lemmas.Bool.{cases_Bool}
 use Rattle.apex_types.specs.declared.record.Ordered.{Ordered}
-use Rattle.apex_types.specs.declared.service.Service.{Service}
 use Rattle.apex_machine.specs.After.{after}
 use Rattle.apex_machine.specs.Configuration.{Configuration}
-use Rattle.apex_machine.specs.Demands.{LocalStepJudging}
+use Rattle.apex_machine.specs.Demands.{LocalStep}
 use Rattle.apex_machine.specs.Pieces.{Part, Piece, is_configured, part, touches}
-use Rattle.apex_machine.specs.Runs.{ArePlaced, GoesJudging, PieceRunJudging}
+use Rattle.apex_machine.specs.Runs.{ArePlaced, Goes, PieceRun}
 use Rattle.apex_machine.specs.State.{State}
 use Rattle.apex_laws.specs.Laws.{AtMostOneNextState, OneRun, PiecesCompose, PiecesFollow, RunOfEach}
 use Rattle.apex_laws.proofs.Demanded.{demanded}
@@ -20,42 +19,42 @@ use Rattle.apex_laws.proofs.Untouched.{untouched_part}
 
 -- the next state is the one that the claims give
 pub at_most_one : AtMostOneNextState
-at_most_one judged configuration state ordered one other step also = step.1 ∙ sym also.1
+at_most_one configuration state ordered one other step also = step.1 ∙ sym also.1
 
 -- local steps of the touched pieces are a step of the machine
 pub pieces_compose : PiecesCompose
-pieces_compose judged configuration state ordered reached windows tied placed steps =
-    let law = lawful judged configuration state ordered windows placed (λ piece is touched. (steps piece is touched).0) in (
+pieces_compose configuration state ordered reached windows tied placed steps =
+    let law = lawful configuration state ordered windows placed (λ piece is touched. (steps piece is touched).0) in (
       after configuration state ordered,
       (law, refl),
       λ piece is touched. part_of_after configuration state ordered piece ∙ sym (steps piece is touched).1,
-      λ piece is off. untouched_part judged configuration state ordered tied law piece off,
+      λ piece is off. untouched_part configuration state ordered tied law piece off,
     )
 
 -- a step of the machine is a local step of each touched piece
 pub pieces_follow : PiecesFollow
-pieces_follow judged configuration state ordered next ends tied step piece is touched =
-    (demanded judged configuration state ordered ends tied step.0 piece is touched, ap (part piece) step.1 ∙ part_of_after configuration state ordered piece)
+pieces_follow configuration state ordered next ends tied step piece is touched =
+    (demanded configuration state ordered ends tied step.0 piece is touched, ap (part piece) step.1 ∙ part_of_after configuration state ordered piece)
 
 -- a record in the run of a piece, by whether it touches the piece
 
 -- a record that touches the piece is its step
-pub goes_by_step : (touched : Bool) (judged : Service → Bool) (configuration : Configuration) (old : Part) (ordered : Ordered) (new : Part)
-    → IsTrue touched → GoesJudging touched judged configuration old ordered new → LocalStepJudging judged configuration old ordered new
-goes_by_step true judged configuration old ordered new is goes = goes
-goes_by_step false judged configuration old ordered new is goes = cc
+pub goes_by_step : (touched : Bool) (configuration : Configuration) (old : Part) (ordered : Ordered) (new : Part)
+    → IsTrue touched → Goes touched configuration old ordered new → LocalStep configuration old ordered new
+goes_by_step true configuration old ordered new is goes = goes
+goes_by_step false configuration old ordered new is goes = cc
 
 -- another leaves its part
-pub goes_nowhere : (touched : Bool) (judged : Service → Bool) (configuration : Configuration) (old : Part) (ordered : Ordered) (new : Part)
-    → IsFalse touched → GoesJudging touched judged configuration old ordered new → new ≡ old
-goes_nowhere true judged configuration old ordered new off goes = cc
-goes_nowhere false judged configuration old ordered new off goes = goes
+pub goes_nowhere : (touched : Bool) (configuration : Configuration) (old : Part) (ordered : Ordered) (new : Part)
+    → IsFalse touched → Goes touched configuration old ordered new → new ≡ old
+goes_nowhere true configuration old ordered new off goes = cc
+goes_nowhere false configuration old ordered new off goes = goes
 
 -- the two cases joined
-goes_from : (touched : Bool) (judged : Service → Bool) (configuration : Configuration) (old : Part) (ordered : Ordered) (new : Part)
-    → (IsTrue touched → LocalStepJudging judged configuration old ordered new) → (IsFalse touched → new ≡ old) → GoesJudging touched judged configuration old ordered new
-goes_from true judged configuration old ordered new step stays = step refl
-goes_from false judged configuration old ordered new step stays = stays refl
+goes_from : (touched : Bool) (configuration : Configuration) (old : Part) (ordered : Ordered) (new : Part)
+    → (IsTrue touched → LocalStep configuration old ordered new) → (IsFalse touched → new ≡ old) → Goes touched configuration old ordered new
+goes_from true configuration old ordered new step stays = step refl
+goes_from false configuration old ordered new step stays = stays refl
 
 -- runs
 
@@ -66,38 +65,38 @@ part_or_spare true Fact spare found = let one = found refl in (one.0, λ is. one
 part_or_spare false Fact spare found = (spare, λ is. cc)
 
 -- what a piece does at a record, and from there on
-abbrev GoesOn : (Service → Bool) → Configuration → State → Ordered → List Ordered → (Piece → Part) → Piece → Part → Type 0
-GoesOn judged configuration state ordered others reached piece next =
-    GoesJudging (touches configuration piece ordered) judged configuration (part piece state) ordered next × PieceRunJudging judged configuration piece next others (reached piece)
+abbrev GoesOn : Configuration → State → Ordered → List Ordered → (Piece → Part) → Piece → Part → Type 0
+GoesOn configuration state ordered others reached piece next =
+    Goes (touches configuration piece ordered) configuration (part piece state) ordered next × PieceRun configuration piece next others (reached piece)
 
 -- runs of all pieces are a run of the machine, record by record
 pub one_run : OneRun
-one_run judged configuration state [] reached windows tied placed runs = (state, refl, λ piece is. sym (runs piece is))
-one_run judged configuration state (ordered ∷ others) reached windows tied placed runs =
-    let nexts : (piece : Piece) → (next : Part) × (IsTrue (is_configured configuration piece) → GoesOn judged configuration state ordered others reached piece next) =
-    λ piece. part_or_spare (is_configured configuration piece) (GoesOn judged configuration state ordered others reached piece) (part piece state)
+one_run configuration state [] reached windows tied placed runs = (state, refl, λ piece is. sym (runs piece is))
+one_run configuration state (ordered ∷ others) reached windows tied placed runs =
+    let nexts : (piece : Piece) → (next : Part) × (IsTrue (is_configured configuration piece) → GoesOn configuration state ordered others reached piece next) =
+    λ piece. part_or_spare (is_configured configuration piece) (GoesOn configuration state ordered others reached piece) (part piece state)
     (λ is. let run = runs piece is in (run.0, (run.1, run.2))) in
-    let step = pieces_compose judged configuration state ordered (λ piece. (nexts piece).0) windows tied placed.0
-    (λ piece is touched. goes_by_step (touches configuration piece ordered) judged configuration (part piece state) ordered (nexts piece).0 touched ((nexts piece).1 is).0) in
+    let step = pieces_compose configuration state ordered (λ piece. (nexts piece).0) windows tied placed.0
+    (λ piece is touched. goes_by_step (touches configuration piece ordered) configuration (part piece state) ordered (nexts piece).0 touched ((nexts piece).1 is).0) in
     let arrives : (piece : Piece) → IsTrue (is_configured configuration piece) → part piece step.0 ≡ (nexts piece).0 =
     λ piece is. elim (cases_Bool (touches configuration piece ordered)) [
       | inl touched ↦ step.2 piece is touched
-      | inr off ↦ step.3 piece is off ∙ sym (goes_nowhere (touches configuration piece ordered) judged configuration (part piece state) ordered (nexts piece).0 off ((nexts piece).1 is).0)
+      | inr off ↦ step.3 piece is off ∙ sym (goes_nowhere (touches configuration piece ordered) configuration (part piece state) ordered (nexts piece).0 off ((nexts piece).1 is).0)
     ] in
     let count : suc state.count ≡ step.0.count = sym (ap (λ one. one.count) step.1.1) in
-    let rest = one_run judged configuration step.0 others reached windows (step_tied judged configuration state ordered step.0 tied step.1) (subst (λ place. ArePlaced place others) count placed.1)
-    (λ piece is. subst (λ old. PieceRunJudging judged configuration piece old others (reached piece)) (sym (arrives piece is)) ((nexts piece).1 is).1) in
+    let rest = one_run configuration step.0 others reached windows (step_tied configuration state ordered step.0 tied step.1) (subst (λ place. ArePlaced place others) count placed.1)
+    (λ piece is. subst (λ old. PieceRun configuration piece old others (reached piece)) (sym (arrives piece is)) ((nexts piece).1 is).1) in
     (rest.0, (step.0, step.1, rest.1), rest.2)
 
 -- a run of the machine is a run of each piece, record by record
 pub run_of_each : RunOfEach
-run_of_each judged configuration state [] final ends tied run piece is = ap (part piece) run
-run_of_each judged configuration state (ordered ∷ others) final ends tied run piece is =
+run_of_each configuration state [] final ends tied run piece is = ap (part piece) run
+run_of_each configuration state (ordered ∷ others) final ends tied run piece is =
     let next = run.0 in
     let step = run.1 in (
       part piece next,
-      goes_from (touches configuration piece ordered) judged configuration (part piece state) ordered (part piece next)
-          (λ touched. pieces_follow judged configuration state ordered next ends tied step piece is touched)
-          (λ off. ap (part piece) step.1 ∙ untouched_part judged configuration state ordered tied step.0 piece off),
-      run_of_each judged configuration next others final ends (step_tied judged configuration state ordered next tied step) run.2 piece is,
+      goes_from (touches configuration piece ordered) configuration (part piece state) ordered (part piece next)
+          (λ touched. pieces_follow configuration state ordered next ends tied step piece is touched)
+          (λ off. ap (part piece) step.1 ∙ untouched_part configuration state ordered tied step.0 piece off),
+      run_of_each configuration next others final ends (step_tied configuration state ordered next tied step) run.2 piece is,
     )

@@ -1,5 +1,5 @@
 -- A partition stays sound, by its own demands.
-use Rattle.std.proofs.Common.{◌≡◌, ℕ, suc, ◌+◌, ◌<◌, ◌≤◌, List, [], ◌∷◌, ◌++◌, Bool, true, false, cond, nat_eq, ℤ, Option, Some, None, IsTrue, refl, sym, ap, subst, ◌∙◌, inl, inr, arith, true≢false}
+use Rattle.std.proofs.Common.{◌≡◌, ℕ, suc, ◌+◌, ◌<◌, ◌≤◌, List, [], ◌∷◌, ◌++◌, true, false, cond, nat_eq, ℤ, Option, Some, None, IsTrue, refl, sym, ap, subst, ◌∙◌, inl, inr, arith, true≢false}
 use Rattle.std.proofs.lemmas.Bool.{cases_Bool, eqb-true}
 use Rattle.std.proofs.lemmas.List.{append-nil}
 use Rattle.apex_types.specs.declared.code.Code.{Code}
@@ -10,7 +10,6 @@ use Rattle.apex_types.specs.declared.record.Claim.{Claim}
 use Rattle.apex_types.specs.declared.record.Who.{Who}
 use Rattle.apex_types.specs.declared.request.Request.{Request}
 use Rattle.apex_types.specs.declared.request.Request.TheVariants as request
-use Rattle.apex_types.specs.declared.service.Service.{Service}
 use Rattle.apex_machine.specs.declared.state.CoreState.{CoreState}
 use Rattle.apex_machine.specs.declared.state.Entry.{Entry}
 use Rattle.apex_machine.specs.declared.state.Mode.{Mode}
@@ -59,19 +58,19 @@ demands_value [] (Some channel) number asked answer claim none off hold = let no
 demands_value (code ∷ codes) channel number asked answer claim none off hold = cc
 
 -- so the caller is ready, and where the call is done no error condition holds
-pub own_ready : (judged : Service → Bool) (configuration : Configuration) (number core : ℕ) (cores : List CoreState) (partition : Partition) (call : CallRecord)
-    → are_distinct partition.table ≡ true → AllHold (own_call_demands judged configuration number cores partition core call) → IsReadyCall configuration partition core call
-own_ready judged configuration number core cores partition call distinct hold = record {
+pub own_ready : (configuration : Configuration) (number core : ℕ) (cores : List CoreState) (partition : Partition) (call : CallRecord)
+    → are_distinct partition.table ≡ true → AllHold (own_call_demands configuration number cores partition core call) → IsReadyCall configuration partition core call
+own_ready configuration number core cores partition call distinct hold = record {
   ready = choice_stands number core partition.table call.who distinct hold.1.0.1;
   none = λ done. demands_none (condition_codes configuration call.who partition call.request) (channel_of partition call.request) number call.request
       (answer_of (time_of cores core) call.who partition call.request) call.claim (are_errors configuration call.who partition call.request) hold.1.1.1.1.1 done;
 }
 
 -- and the value is the service's
-own_value : (judged : Service → Bool) (configuration : Configuration) (number core : ℕ) (cores : List CoreState) (partition : Partition) (call : CallRecord)
-    → AllHold (own_call_demands judged configuration number cores partition core call) → is_done call.claim.out ≡ true → channel_of partition call.request ≡ None
+own_value : (configuration : Configuration) (number core : ℕ) (cores : List CoreState) (partition : Partition) (call : CallRecord)
+    → AllHold (own_call_demands configuration number cores partition core call) → is_done call.claim.out ≡ true → channel_of partition call.request ≡ None
     → HasValue (answer_of (time_of cores core) call.who partition call.request).val call.claim.val
-own_value judged configuration number core cores partition call hold done off =
+own_value configuration number core cores partition call hold done off =
     let codes = condition_codes configuration call.who partition call.request in
     let answer = answer_of (time_of cores core) call.who partition call.request in
     demands_value codes (channel_of partition call.request) number call.request answer call.claim
@@ -79,16 +78,16 @@ own_value judged configuration number core cores partition call hold done off =
     off hold.1.1.1.1.1
 
 -- the demands of a call of one of these processes
-pub own_holds : (judged : Service → Bool) (configuration : Configuration) (number core : ℕ) (cores : List CoreState) (partition : Partition) (call : CallRecord) → nat_eq call.who.part number ≡ true
-    → AllHold (partition_demands judged configuration number cores partition core (Call call)) → AllHold (own_call_demands judged configuration number cores partition core call)
-own_holds judged configuration number core cores partition call own hold = subst (λ one. AllHold (call_demands one judged configuration number cores partition core call)) own hold
+pub own_holds : (configuration : Configuration) (number core : ℕ) (cores : List CoreState) (partition : Partition) (call : CallRecord) → nat_eq call.who.part number ≡ true
+    → AllHold (partition_demands configuration number cores partition core (Call call)) → AllHold (own_call_demands configuration number cores partition core call)
+own_holds configuration number core cores partition call own hold = subst (λ one. AllHold (call_demands one configuration number cores partition core call)) own hold
 
 -- a record's own calls are of ready callers
-calls_ready : (judged : Service → Bool) (configuration : Configuration) (number core : ℕ) (cores : List CoreState) (partition : Partition) (body : Body) → are_distinct partition.table ≡ true
-    → AllHold (partition_demands judged configuration number cores partition core body) → CallsReady configuration core number body partition
-calls_ready judged configuration number core cores partition (Call call) distinct hold =
-    λ own. own_ready judged configuration number core cores partition call distinct (own_holds judged configuration number core cores partition call own hold)
-calls_ready judged configuration number core cores partition _ distinct hold = tt
+calls_ready : (configuration : Configuration) (number core : ℕ) (cores : List CoreState) (partition : Partition) (body : Body) → are_distinct partition.table ≡ true
+    → AllHold (partition_demands configuration number cores partition core body) → CallsReady configuration core number body partition
+calls_ready configuration number core cores partition (Call call) distinct hold =
+    λ own. own_ready configuration number core cores partition call distinct (own_holds configuration number core cores partition call own hold)
+calls_ready configuration number core cores partition _ distinct hold = tt
 
 -- calls of other partitions, by their demands
 
@@ -115,12 +114,12 @@ wakes_at_channel (request.ReceiveQueuingMessage port time_out) (Some channel) nu
 wakes_at_channel _ chan number table others wakes who here named wanted waits not_sending not_receiving = absurd wakes
 
 -- so a call of another partition ends none of their waits
-foreign_stays : (judged : Service → Bool) (configuration : Configuration) (number core : ℕ) (cores : List CoreState) (partition : Partition) (call : CallRecord) → nat_eq call.who.part number ≡ false
-    → AllHold (partition_demands judged configuration number cores partition core (Call call)) → (wanted : WaitingSet)
+foreign_stays : (configuration : Configuration) (number core : ℕ) (cores : List CoreState) (partition : Partition) (call : CallRecord) → nat_eq call.who.part number ≡ false
+    → AllHold (partition_demands configuration number cores partition core (Call call)) → (wanted : WaitingSet)
     → ((other : ℕ) → ¬ (wanted ≡ set.ChannelSenders other)) → ((other : ℕ) → ¬ (wanted ≡ set.ChannelReceivers other))
     → (who : Who) → who.part ≡ number → waits_at wanted (item_at partition.table who.proc) ≡ true → ends_wait call who ≡ false
-foreign_stays judged configuration number core cores partition call elsewhere hold wanted not_sending not_receiving who here waits =
-    let foreign = subst (λ one. AllHold (call_demands one judged configuration number cores partition core call)) elsewhere hold in
+foreign_stays configuration number core cores partition call elsewhere hold wanted not_sending not_receiving who here waits =
+    let foreign = subst (λ one. AllHold (call_demands one configuration number cores partition core call)) elsewhere hold in
     neither (is_named who call.claim.woken) (stops call who)
     (cannot_hold (is_named who call.claim.woken) (λ named.
     wakes_at_channel call.request call.claim.chan number partition.table call.claim.woken foreign.1.0 who here named wanted waits not_sending not_receiving))
@@ -332,16 +331,16 @@ enters_standing configuration cores place core number (Call call) partition want
 enters_standing configuration cores place core number _ partition wanted ready own = tt
 
 -- an entry at a call of another partition
-foreign_standing : (judged : Service → Bool) (configuration : Configuration) (cores : List CoreState) (place core number : ℕ) (body : Body) (partition : Partition) (wanted : WaitingSet)
-    → CallsReady configuration core number body partition → AllHold (partition_demands judged configuration number cores partition core body) → IsElsewhere number body
+foreign_standing : (configuration : Configuration) (cores : List CoreState) (place core number : ℕ) (body : Body) (partition : Partition) (wanted : WaitingSet)
+    → CallsReady configuration core number body partition → AllHold (partition_demands configuration number cores partition core body) → IsElsewhere number body
     → AllEntries (Stands number wanted partition) (entries_at partition wanted)
     → AllEntries (Stands number wanted (partition_by configuration cores place core number body partition)) (entries_at partition wanted)
-foreign_standing judged configuration cores place core number (Call call) partition wanted ready hold elsewhere all =
+foreign_standing configuration cores place core number (Call call) partition wanted ready hold elsewhere all =
     let Then : Entry → Type 0 = Stands number wanted (partition_by configuration cores place core number (Call call) partition) in
     of_objects Then partition wanted (λ not_sending not_receiving. all_weaker (Stands number wanted partition) Then
     (λ entry is. stays_standing configuration cores place core number (Call call) partition wanted ready entry
-    (foreign_stays judged configuration number core cores partition call elsewhere hold wanted not_sending not_receiving entry.who is.0 is.1) is) (entries_at partition wanted) all)
-foreign_standing judged configuration cores place core number _ partition wanted ready hold elsewhere all = absurd elsewhere
+    (foreign_stays configuration number core cores partition call elsewhere hold wanted not_sending not_receiving entry.who is.0 is.1) is) (entries_at partition wanted) all)
+foreign_standing configuration cores place core number _ partition wanted ready hold elsewhere all = absurd elsewhere
 
 -- who is ready stands in no set
 pub stands_nowhere : (number place core : ℕ) (partition : Partition) (who : Who) → IsSoundPart number place partition → StandsReady core (item_at partition.table who.proc)
@@ -359,22 +358,22 @@ own_caller_new configuration number place core _ partition sound ready wanted ow
 -- the whole partition
 
 -- a record's own calls claim their values
-calls_claim : (judged : Service → Bool) (configuration : Configuration) (number core : ℕ) (cores : List CoreState) (partition : Partition) (body : Body)
-    → AllHold (partition_demands judged configuration number cores partition core body) → CallsClaimValues number (time_of cores core) body partition
-calls_claim judged configuration number core cores partition (Call call) hold =
-    λ own done off. own_value judged configuration number core cores partition call (own_holds judged configuration number core cores partition call own hold) done off
-calls_claim judged configuration number core cores partition _ hold = tt
+calls_claim : (configuration : Configuration) (number core : ℕ) (cores : List CoreState) (partition : Partition) (body : Body)
+    → AllHold (partition_demands configuration number cores partition core body) → CallsClaimValues number (time_of cores core) body partition
+calls_claim configuration number core cores partition (Call call) hold =
+    λ own done off. own_value configuration number core cores partition call (own_holds configuration number core cores partition call own hold) done off
+calls_claim configuration number core cores partition _ hold = tt
 
 -- one place later
 next_place : (place : ℕ) → suc place ≡ place + 1
 next_place place = omega arith
 
-sound_after : (judged : Service → Bool) (configuration : Configuration) (number : ℕ) (cores : List CoreState) (partition : Partition) (place core : ℕ) (body : Body)
-    → IsSoundPart number place partition → AllHold (partition_demands judged configuration number cores partition core body)
+sound_after : (configuration : Configuration) (number : ℕ) (cores : List CoreState) (partition : Partition) (place core : ℕ) (body : Body)
+    → IsSoundPart number place partition → AllHold (partition_demands configuration number cores partition core body)
     → IsSoundPart number (place + 1) (partition_by configuration cores place core number body partition)
-sound_after judged configuration number cores partition place core body sound hold =
-    let ready = calls_ready judged configuration number core cores partition body sound.distinct hold in
-    let claims = calls_claim judged configuration number core cores partition body hold in
+sound_after configuration number cores partition place core body sound hold =
+    let ready = calls_ready configuration number core cores partition body sound.distinct hold in
+    let claims = calls_claim configuration number core cores partition body hold in
     let next = partition_by configuration cores place core number body partition in record {
       distinct = distinct_by configuration cores place core number body partition claims sound.distinct;
       objects = objects_distinct configuration cores place core number body partition claims sound.objects;
@@ -382,7 +381,7 @@ sound_after judged configuration number cores partition place core body sound ho
           (λ own entries all. each_entry (Stands number wanted partition) (Stands number wanted next) place body wanted
           (stays_standing configuration cores place core number body partition wanted ready)
           (enters_standing configuration cores place core number body partition wanted ready own) entries all)
-          (λ elsewhere all. foreign_standing judged configuration cores place core number body partition wanted ready hold elsewhere all) (sound.stands wanted);
+          (λ elsewhere all. foreign_standing configuration cores place core number body partition wanted ready hold elsewhere all) (sound.stands wanted);
       order = λ wanted. subst (λ count. IsInOrder count (entries_at next wanted)) (next_place place)
           (set_stays_in_order configuration cores place place core number body partition wanted refl
           (own_caller_new configuration number place core body partition sound ready wanted) (sound.order wanted));
@@ -437,7 +436,7 @@ cold_sound configuration number place = record {
 pub part_stays_sound : PartStaysSound
 part_stays_sound = (
   cold_sound,
-  λ judged configuration number cores partition ordered sound hold. sound_after judged configuration number cores partition ordered.pos ordered.core ordered.rec.body sound hold,
+  λ configuration number cores partition ordered sound hold. sound_after configuration number cores partition ordered.pos ordered.core ordered.rec.body sound hold,
   sound_later,
 )
 

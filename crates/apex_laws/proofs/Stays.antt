@@ -1,5 +1,5 @@
 -- A step keeps a state tied, and so does a run.
-use Rattle.std.proofs.Common.{◌≡◌, ℕ, List, [], ◌∷◌, Bool, true, false, cond, nat_eq, Option, Some, None, IsTrue, refl, sym, subst, ◌∙◌, true≢false, ◌&&◌}
+use Rattle.std.proofs.Common.{◌≡◌, ℕ, List, [], ◌∷◌, true, false, cond, nat_eq, Option, Some, None, IsTrue, refl, sym, subst, ◌∙◌, true≢false, ◌&&◌}
 use Rattle.std.proofs.lemmas.Bool.{and_parts, eqb-true, eq-eqb}
 use Rattle.apex_types.specs.declared.code.Code.{Code}
 use Rattle.apex_types.specs.declared.record.Body.{Body}
@@ -9,7 +9,6 @@ use Rattle.apex_types.specs.declared.record.Ordered.{Ordered}
 use Rattle.apex_types.specs.declared.record.Who.{Who}
 use Rattle.apex_types.specs.declared.request.Request.{Request}
 use Rattle.apex_types.specs.declared.request.Request.TheVariants as request
-use Rattle.apex_types.specs.declared.service.Service.{Service}
 use Rattle.apex_machine.specs.declared.state.Entry.{Entry}
 use Rattle.apex_machine.specs.declared.state.Process.{Process}
 use Rattle.apex_machine.specs.declared.state.WaitingSet.{WaitingSet}
@@ -22,7 +21,7 @@ use Rattle.apex_machine.specs.Ports.{channel_of, suits_use, use_of}
 use Rattle.apex_machine.specs.ServiceConditions.{condition_codes}
 use Rattle.apex_machine.specs.Services.{answer_of}
 use Rattle.apex_machine.specs.State.{Partition, State, cold_state, each_item, is_named, time_of}
-use Rattle.apex_machine.specs.Step.{HasOutcome, IsLawfulBody, IsLawfulCall, RunJudging, StepJudging, channel_answer}
+use Rattle.apex_machine.specs.Step.{HasOutcome, IsLawfulBody, IsLawfulCall, Run, Step, channel_answer}
 use Rattle.apex_machine.specs.Waiting.{ends_wait, enters, is_no_error, is_target, is_the_set, is_waiting, set_after, set_of, stop_of, stops, waits_at}
 use Rattle.apex_laws.specs.Laws.{AllEntries, AllPorts, AreTied, IsAtEnd, IsTied, StaysTied, entries_at}
 use Rattle.apex_laws.proofs.Booleans.{cannot_hold, holds_if, neither, not_first, not_second}
@@ -44,13 +43,13 @@ abbrev Next : Configuration → State → ℕ → ℕ → Body → ℕ → Parti
 Next configuration state place core body number = partition_by configuration state.cores place core number body (state.partitions number)
 
 -- an entry whose wait goes on is tied afterwards
-tied_after : (judged : Service → Bool) (configuration : Configuration) (state : State) (place core : ℕ) (body : Body) → AreTied configuration state
-    → IsLawfulBody judged configuration state core body → (Home : ℕ → Type 0) (wanted : WaitingSet) (entry : Entry) → leaves body entry.who ≡ false
+tied_after : (configuration : Configuration) (state : State) (place core : ℕ) (body : Body) → AreTied configuration state
+    → IsLawfulBody configuration state core body → (Home : ℕ → Type 0) (wanted : WaitingSet) (entry : Entry) → leaves body entry.who ≡ false
     → IsTied Home wanted state.partitions entry → IsTied Home wanted (Next configuration state place core body) entry
-tied_after judged configuration state place core body tied law Home wanted entry stays is = (
+tied_after configuration state place core body tied law Home wanted entry stays is = (
   is.0,
   keeps_waiting configuration state.cores place core body (state.partitions entry.who.part) entry.who wanted
-      (calls_ready judged configuration state core body tied law entry.who.part) stays is.1,
+      (calls_ready configuration state core body tied law entry.who.part) stays is.1,
 )
 
 -- a caller that enters is at home there
@@ -59,21 +58,21 @@ EntersAtHome (Call call) Home wanted = enters call wanted ≡ true → Home call
 EntersAtHome _ Home wanted = Unit {0}
 
 -- it waits there
-enters_tied : (judged : Service → Bool) (configuration : Configuration) (state : State) (place core : ℕ) (body : Body) → AreTied configuration state
-    → IsLawfulBody judged configuration state core body → (Home : ℕ → Type 0) (wanted : WaitingSet) → EntersAtHome body Home wanted
+enters_tied : (configuration : Configuration) (state : State) (place core : ℕ) (body : Body) → AreTied configuration state
+    → IsLawfulBody configuration state core body → (Home : ℕ → Type 0) (wanted : WaitingSet) → EntersAtHome body Home wanted
     → EntersWith place body wanted (IsTied Home wanted (Next configuration state place core body))
-enters_tied judged configuration state place core (Call call) tied law Home wanted home =
-    λ here. (home here, entered_waits configuration state.cores place core call (state.partitions call.who.part) (ready_call judged configuration state core call tied law) wanted here)
-enters_tied judged configuration state place core _ tied law Home wanted home = tt
+enters_tied configuration state place core (Call call) tied law Home wanted home =
+    λ here. (home here, entered_waits configuration state.cores place core call (state.partitions call.who.part) (ready_call configuration state core call tied law) wanted here)
+enters_tied configuration state place core _ tied law Home wanted home = tt
 
 -- those who stand in a set after a record are tied
-set_tied : (judged : Service → Bool) (configuration : Configuration) (state : State) (place core : ℕ) (body : Body) → AreTied configuration state
-    → IsLawfulBody judged configuration state core body → (Home : ℕ → Type 0) (wanted : WaitingSet) → EntersAtHome body Home wanted
+set_tied : (configuration : Configuration) (state : State) (place core : ℕ) (body : Body) → AreTied configuration state
+    → IsLawfulBody configuration state core body → (Home : ℕ → Type 0) (wanted : WaitingSet) → EntersAtHome body Home wanted
     → (entries : List Entry) → AllEntries (IsTied Home wanted state.partitions) entries
     → AllEntries (IsTied Home wanted (Next configuration state place core body)) (set_after place body wanted entries)
-set_tied judged configuration state place core body tied law Home wanted home entries all =
+set_tied configuration state place core body tied law Home wanted home entries all =
     each_entry (IsTied Home wanted state.partitions) (IsTied Home wanted (Next configuration state place core body)) place body wanted
-    (tied_after judged configuration state place core body tied law Home wanted) (enters_tied judged configuration state place core body tied law Home wanted home) entries all
+    (tied_after configuration state place core body tied law Home wanted) (enters_tied configuration state place core body tied law Home wanted home) entries all
 
 -- a call of another partition ends no wait in a set of this one
 
@@ -102,11 +101,11 @@ not_named_here configuration state now call number tied elsewhere [] (Some chann
     (across configuration state now channel call.request tied has.kind who (sym (has.woken who) ∙ named))
 
 -- an entry of a set of this partition stays
-stays_here : (judged : Service → Bool) (configuration : Configuration) (state : State) (core : ℕ) (call : CallRecord) → AreTied configuration state
-    → IsLawfulCall judged configuration state core call → (number : ℕ) → nat_eq call.who.part number ≡ false
+stays_here : (configuration : Configuration) (state : State) (core : ℕ) (call : CallRecord) → AreTied configuration state
+    → IsLawfulCall configuration state core call → (number : ℕ) → nat_eq call.who.part number ≡ false
     → (wanted : WaitingSet) → ((other : ℕ) → ¬ (wanted ≡ set.ChannelSenders other)) → ((other : ℕ) → ¬ (wanted ≡ set.ChannelReceivers other))
     → (entry : Entry) → IsTied (λ home. home ≡ number) wanted state.partitions entry → ends_wait call entry.who ≡ false
-stays_here judged configuration state core call tied law number elsewhere wanted not_sending not_receiving entry is =
+stays_here configuration state core call tied law number elsewhere wanted not_sending not_receiving entry is =
     neither (is_named entry.who call.claim.woken) (stops call entry.who)
     (cannot_hold (is_named entry.who call.claim.woken) (λ named.
     not_named_here configuration state (time_of state.cores core) call number tied elsewhere
@@ -117,17 +116,17 @@ stays_here judged configuration state core call tied law number elsewhere wanted
     (cannot_hold (nat_eq entry.who.part call.who.part) (λ same.
     true≢false (sym (eq-eqb call.who.part number (sym (eqb-true entry.who.part call.who.part same) ∙ is.0)) ∙ elsewhere)))))
 
-foreign_set : (judged : Service → Bool) (configuration : Configuration) (state : State) (place core : ℕ) (body : Body) → AreTied configuration state
-    → IsLawfulBody judged configuration state core body → (number : ℕ) → IsElsewhere number body → (wanted : WaitingSet)
+foreign_set : (configuration : Configuration) (state : State) (place core : ℕ) (body : Body) → AreTied configuration state
+    → IsLawfulBody configuration state core body → (number : ℕ) → IsElsewhere number body → (wanted : WaitingSet)
     → AllEntries (IsTied (λ home. home ≡ number) wanted state.partitions) (entries_at (state.partitions number) wanted)
     → AllEntries (IsTied (λ home. home ≡ number) wanted (Next configuration state place core body)) (entries_at (state.partitions number) wanted)
-foreign_set judged configuration state place core (Call call) tied law number elsewhere wanted all =
+foreign_set configuration state place core (Call call) tied law number elsewhere wanted all =
     let Then : Entry → Type 0 = IsTied (λ home. home ≡ number) wanted (Next configuration state place core (Call call)) in
     of_objects Then (state.partitions number) wanted (λ not_sending not_receiving.
     all_weaker (IsTied (λ home. home ≡ number) wanted state.partitions) Then
-    (λ entry is. tied_after judged configuration state place core (Call call) tied law (λ home. home ≡ number) wanted entry
-    (stays_here judged configuration state core call tied law number elsewhere wanted not_sending not_receiving entry is) is) (entries_at (state.partitions number) wanted) all)
-foreign_set judged configuration state place core _ tied law number elsewhere wanted all = absurd elsewhere
+    (λ entry is. tied_after configuration state place core (Call call) tied law (λ home. home ≡ number) wanted entry
+    (stays_here configuration state core call tied law number elsewhere wanted not_sending not_receiving entry is) is) (entries_at (state.partitions number) wanted) all)
+foreign_set configuration state place core _ tied law number elsewhere wanted all = absurd elsewhere
 
 -- a caller that enters a set of its partition is at home there
 at_home : (body : Body) (number : ℕ) (wanted : WaitingSet) → (IsElsewhere number body → ⊥) → EntersAtHome body (λ home. home ≡ number) wanted
@@ -135,21 +134,21 @@ at_home (Call call) number wanted own = λ here. eqb-true call.who.part number (
 at_home _ number wanted own = tt
 
 -- who stands in a set of a partition after a record
-own_set : (judged : Service → Bool) (configuration : Configuration) (state : State) (place core : ℕ) (body : Body) → AreTied configuration state
-    → IsLawfulBody judged configuration state core body → (number : ℕ) (wanted : WaitingSet)
+own_set : (configuration : Configuration) (state : State) (place core : ℕ) (body : Body) → AreTied configuration state
+    → IsLawfulBody configuration state core body → (number : ℕ) (wanted : WaitingSet)
     → AllEntries (IsTied (λ home. home ≡ number) wanted (Next configuration state place core body)) (entries_at (Next configuration state place core body number) wanted)
-own_set judged configuration state place core body tied law number wanted =
+own_set configuration state place core body tied law number wanted =
     one_set_after (AllEntries (IsTied (λ home. home ≡ number) wanted state.partitions)) (AllEntries (IsTied (λ home. home ≡ number) wanted (Next configuration state place core body)))
     configuration state.cores place core number body (state.partitions number) wanted tt
-    (λ own entries all. set_tied judged configuration state place core body tied law (λ home. home ≡ number) wanted (at_home body number wanted own) entries all)
-    (λ elsewhere all. foreign_set judged configuration state place core body tied law number elsewhere wanted all) (tied.objects number wanted)
+    (λ own entries all. set_tied configuration state place core body tied law (λ home. home ≡ number) wanted (at_home body number wanted own) entries all)
+    (λ elsewhere all. foreign_set configuration state place core body tied law number elsewhere wanted all) (tied.objects number wanted)
 
 -- the sets of a channel
 
 -- the end at which a caller enters a channel's set
-home_of : (judged : Service → Bool) (configuration : Configuration) (state : State) (core : ℕ) (call : CallRecord) → AreTied configuration state
-    → IsLawfulCall judged configuration state core call → (channel : ℕ) → call.claim.chan ≡ Some channel → StandsAtEnd call.request configuration channel call.who.part
-home_of judged configuration state core call tied law channel is =
+home_of : (configuration : Configuration) (state : State) (core : ℕ) (call : CallRecord) → AreTied configuration state
+    → IsLawfulCall configuration state core call → (channel : ℕ) → call.claim.chan ≡ Some channel → StandsAtEnd call.request configuration channel call.who.part
+home_of configuration state core call tied law channel is =
     by (condition_codes configuration call.who (state.partitions call.who.part) call.request) refl (channel_of (state.partitions call.who.part) call.request) refl law.outcome
   where
     by : (codes : List Code) → condition_codes configuration call.who (state.partitions call.who.part) call.request ≡ codes
@@ -199,25 +198,25 @@ receiving_call (request.WaitEvent event time_out) chan number configuration part
 receiving_call (request.AcquireMutex mutex time_out) chan number configuration partition is stands = let both : set.MutexWaiters (natural_of mutex) ≡ set.ChannelReceivers number = cc in cc
 receiving_call _ chan number configuration partition is stands = let none : ◌≡◌ {A = Option WaitingSet} None (Some (set.ChannelReceivers number)) = is in cc
 
-enters_at_source : (judged : Service → Bool) (configuration : Configuration) (state : State) (core : ℕ) (body : Body) → AreTied configuration state → IsLawfulBody judged configuration state core body
+enters_at_source : (configuration : Configuration) (state : State) (core : ℕ) (body : Body) → AreTied configuration state → IsLawfulBody configuration state core body
     → (number : ℕ) → EntersAtHome body (λ home. IsTrue (is_sender configuration number home)) (set.ChannelSenders number)
-enters_at_source judged configuration state core (Call call) tied law number = λ here.
+enters_at_source configuration state core (Call call) tied law number = λ here.
     sending_call call.request call.claim.chan number configuration call.who.part
     (found_set (set.ChannelSenders number) (set_of call.request call.claim.chan) (and_parts (is_waiting call.claim.out) (is_the_set (set.ChannelSenders number) (set_of call.request call.claim.chan)) here).1)
-    (λ channel is. home_of judged configuration state core call tied law channel is)
-enters_at_source judged configuration state core (Disp who) tied law number = tt
-enters_at_source judged configuration state core (Tick woken) tied law number = tt
-enters_at_source judged configuration state core (Ret ret) tied law number = tt
+    (λ channel is. home_of configuration state core call tied law channel is)
+enters_at_source configuration state core (Disp who) tied law number = tt
+enters_at_source configuration state core (Tick woken) tied law number = tt
+enters_at_source configuration state core (Ret ret) tied law number = tt
 
-enters_at_destination : (judged : Service → Bool) (configuration : Configuration) (state : State) (core : ℕ) (body : Body) → AreTied configuration state → IsLawfulBody judged configuration state core body
+enters_at_destination : (configuration : Configuration) (state : State) (core : ℕ) (body : Body) → AreTied configuration state → IsLawfulBody configuration state core body
     → (number : ℕ) → EntersAtHome body (λ home. IsTrue (is_receiver configuration number home)) (set.ChannelReceivers number)
-enters_at_destination judged configuration state core (Call call) tied law number = λ here.
+enters_at_destination configuration state core (Call call) tied law number = λ here.
     receiving_call call.request call.claim.chan number configuration call.who.part
     (found_set (set.ChannelReceivers number) (set_of call.request call.claim.chan) (and_parts (is_waiting call.claim.out) (is_the_set (set.ChannelReceivers number) (set_of call.request call.claim.chan)) here).1)
-    (λ channel is. home_of judged configuration state core call tied law channel is)
-enters_at_destination judged configuration state core (Disp who) tied law number = tt
-enters_at_destination judged configuration state core (Tick woken) tied law number = tt
-enters_at_destination judged configuration state core (Ret ret) tied law number = tt
+    (λ channel is. home_of configuration state core call tied law channel is)
+enters_at_destination configuration state core (Disp who) tied law number = tt
+enters_at_destination configuration state core (Tick woken) tied law number = tt
+enters_at_destination configuration state core (Ret ret) tied law number = tt
 
 -- the ports
 
@@ -253,29 +252,29 @@ ports_by configuration state place core (Call call) number all =
 -- the whole state
 
 -- a step keeps a state tied
-pub step_tied : (judged : Service → Bool) (configuration : Configuration) (state : State) (ordered : Ordered) (next : State)
-    → AreTied configuration state → StepJudging judged configuration state ordered next → AreTied configuration next
-step_tied judged configuration state ordered next tied step =
+pub step_tied : (configuration : Configuration) (state : State) (ordered : Ordered) (next : State)
+    → AreTied configuration state → Step configuration state ordered next → AreTied configuration next
+step_tied configuration state ordered next tied step =
     let place = ordered.pos in
     let core = ordered.core in
     let body = ordered.rec.body in
     let law = step.0.claims in
     subst (AreTied configuration) (sym step.1) (record {
-      distinct = λ number. distinct_by configuration state.cores place core number body (state.partitions number) (lawful_values judged configuration state core body law number) (tied.distinct number);
-      objects = λ number wanted. own_set judged configuration state place core body tied law number wanted;
-      senders = λ number. set_tied judged configuration state place core body tied law (λ home. IsTrue (is_sender configuration number home)) (set.ChannelSenders number)
-          (enters_at_source judged configuration state core body tied law number) (state.channels number).senders (tied.senders number);
-      receivers = λ number. set_tied judged configuration state place core body tied law (λ home. IsTrue (is_receiver configuration number home)) (set.ChannelReceivers number)
-          (enters_at_destination judged configuration state core body tied law number) (state.channels number).receivers (tied.receivers number);
+      distinct = λ number. distinct_by configuration state.cores place core number body (state.partitions number) (lawful_values configuration state core body law number) (tied.distinct number);
+      objects = λ number wanted. own_set configuration state place core body tied law number wanted;
+      senders = λ number. set_tied configuration state place core body tied law (λ home. IsTrue (is_sender configuration number home)) (set.ChannelSenders number)
+          (enters_at_source configuration state core body tied law number) (state.channels number).senders (tied.senders number);
+      receivers = λ number. set_tied configuration state place core body tied law (λ home. IsTrue (is_receiver configuration number home)) (set.ChannelReceivers number)
+          (enters_at_destination configuration state core body tied law number) (state.channels number).receivers (tied.receivers number);
       ports = λ number. ports_by configuration state place core body number (tied.ports number);
     })
 
 -- so does a run
-pub run_tied : (judged : Service → Bool) (configuration : Configuration) (records : List Ordered) (state final : State)
-    → AreTied configuration state → RunJudging judged configuration state records final → AreTied configuration final
-run_tied judged configuration [] state final tied run = subst (AreTied configuration) (sym run) tied
-run_tied judged configuration (ordered ∷ others) state final tied run =
-    run_tied judged configuration others run.0 final (step_tied judged configuration state ordered run.0 tied run.1) run.2
+pub run_tied : (configuration : Configuration) (records : List Ordered) (state final : State)
+    → AreTied configuration state → Run configuration state records final → AreTied configuration final
+run_tied configuration [] state final tied run = subst (AreTied configuration) (sym run) tied
+run_tied configuration (ordered ∷ others) state final tied run =
+    run_tied configuration others run.0 final (step_tied configuration state ordered run.0 tied run.1) run.2
 
 -- no entry stands in a set of a cold partition
 cold_sets : (configuration : Configuration) (number : ℕ) (wanted : WaitingSet) (Fact : Entry → Type 0) → AllEntries Fact (entries_at ((cold_state configuration).partitions number) wanted)

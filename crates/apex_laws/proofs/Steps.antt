@@ -1,25 +1,24 @@
 -- What a step says, where the record's body is known.
-use Rattle.std.proofs.Common.{◌≡◌, Bool, ℕ, ap, subst, ◌∙◌}
+use Rattle.std.proofs.Common.{◌≡◌, ℕ, ap, subst, ◌∙◌}
 use Rattle.apex_types.specs.declared.record.Body.{Body}
 use Rattle.apex_types.specs.declared.record.Ordered.{Ordered}
-use Rattle.apex_types.specs.declared.service.Service.{Service}
 use Rattle.apex_machine.specs.declared.state.WaitingSet.TheVariants as set
 use Rattle.apex_machine.specs.After.{content_by, cores_by, partition_by}
 use Rattle.apex_machine.specs.Configuration.{Configuration}
 use Rattle.apex_machine.specs.State.{Channel, State, time_of}
-use Rattle.apex_machine.specs.Step.{IsLawfulBody, StepJudging}
+use Rattle.apex_machine.specs.Step.{IsLawfulBody, Step}
 use Rattle.apex_machine.specs.Waiting.{set_after}
 
 -- the body is lawful
-pub lawful_body : (judged : Service → Bool) (configuration : Configuration) (state : State) (ordered : Ordered) (next : State) (body : Body)
-    → StepJudging judged configuration state ordered next → ordered.rec.body ≡ body → IsLawfulBody judged configuration state ordered.core body
-lawful_body judged configuration state ordered next body step is = subst (IsLawfulBody judged configuration state ordered.core) is step.0.claims
+pub lawful_body : (configuration : Configuration) (state : State) (ordered : Ordered) (next : State) (body : Body)
+    → Step configuration state ordered next → ordered.rec.body ≡ body → IsLawfulBody configuration state ordered.core body
+lawful_body configuration state ordered next body step is = subst (IsLawfulBody configuration state ordered.core) is step.0.claims
 
 -- the partitions of the next state
-pub next_partition : (judged : Service → Bool) (configuration : Configuration) (state : State) (ordered : Ordered) (next : State) (body : Body)
-    → StepJudging judged configuration state ordered next → ordered.rec.body ≡ body → (number : ℕ)
+pub next_partition : (configuration : Configuration) (state : State) (ordered : Ordered) (next : State) (body : Body)
+    → Step configuration state ordered next → ordered.rec.body ≡ body → (number : ℕ)
     → next.partitions number ≡ partition_by configuration state.cores ordered.pos ordered.core number body (state.partitions number)
-next_partition judged configuration state ordered next body step is number =
+next_partition configuration state ordered next body step is number =
     ap (λ one. one.partitions number) step.1
     ∙ ap (λ one. partition_by configuration state.cores ordered.pos ordered.core number one (state.partitions number)) is
 
@@ -32,13 +31,13 @@ channel_by configuration state place core number body = record {
 }
 
 -- the channels of the next state
-pub next_channel : (judged : Service → Bool) (configuration : Configuration) (state : State) (ordered : Ordered) (next : State) (body : Body)
-    → StepJudging judged configuration state ordered next → ordered.rec.body ≡ body → (number : ℕ)
+pub next_channel : (configuration : Configuration) (state : State) (ordered : Ordered) (next : State) (body : Body)
+    → Step configuration state ordered next → ordered.rec.body ≡ body → (number : ℕ)
     → next.channels number ≡ channel_by configuration state ordered.pos ordered.core number body
-next_channel judged configuration state ordered next body step is number =
+next_channel configuration state ordered next body step is number =
     ap (λ one. one.channels number) step.1 ∙ ap (channel_by configuration state ordered.pos ordered.core number) is
 
 -- the cores of the next state
-pub next_cores : (judged : Service → Bool) (configuration : Configuration) (state : State) (ordered : Ordered) (next : State) (body : Body)
-    → StepJudging judged configuration state ordered next → ordered.rec.body ≡ body → next.cores ≡ cores_by ordered.core body state.cores
-next_cores judged configuration state ordered next body step is = ap (λ one. one.cores) step.1 ∙ ap (λ one. cores_by ordered.core one state.cores) is
+pub next_cores : (configuration : Configuration) (state : State) (ordered : Ordered) (next : State) (body : Body)
+    → Step configuration state ordered next → ordered.rec.body ≡ body → next.cores ≡ cores_by ordered.core body state.cores
+next_cores configuration state ordered next body step is = ap (λ one. one.cores) step.1 ∙ ap (λ one. cores_by ordered.core one state.cores) is

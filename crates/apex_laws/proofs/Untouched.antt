@@ -8,7 +8,6 @@ use Rattle.apex_types.specs.declared.record.Ordered.{Ordered}
 use Rattle.apex_types.specs.declared.record.Who.{Who}
 use Rattle.apex_types.specs.declared.request.Request.{Request}
 use Rattle.apex_types.specs.declared.request.Request.TheVariants as request
-use Rattle.apex_types.specs.declared.service.Service.{Service}
 use Rattle.apex_machine.specs.declared.state.CoreState.{CoreState}
 use Rattle.apex_machine.specs.declared.state.Entry.{Entry}
 use Rattle.apex_machine.specs.declared.state.Process.{Process}
@@ -100,10 +99,10 @@ receiver_at_end configuration number partition receives =
     ]
 
 -- who waits at another channel isn't named
-not_woken : (configuration : Configuration) (state : State) (core : ℕ) (call : CallRecord) (judged : Service → Bool) → AreTied configuration state
-    → IsLawfulCall judged configuration state core call → (number : ℕ) → is_channel number call.claim.chan ≡ false → (who : Who)
+not_woken : (configuration : Configuration) (state : State) (core : ℕ) (call : CallRecord) → AreTied configuration state
+    → IsLawfulCall configuration state core call → (number : ℕ) → is_channel number call.claim.chan ≡ false → (who : Who)
     → (IsWokenBy state.partitions call.who.part call.claim.chan who → call.claim.chan ≡ Some number) → is_named who call.claim.woken ≡ false
-not_woken configuration state core call judged tied law number off who through =
+not_woken configuration state core call tied law number off who through =
     elim (cases_Bool (is_named who call.claim.woken)) [
       | inl named ↦
           let by = woken configuration state (time_of state.cores core) call.who call.request call.claim tied
@@ -118,12 +117,12 @@ pub set_stays : (Fact : Entry → Type 0) (place : ℕ) (call : CallRecord) (wan
 set_stays Fact place call wanted entries all off stays = rw off (none_leaves Fact (ends_wait call) stays entries all)
 
 -- a lawful call that doesn't touch a channel leaves it
-channel_untouched : (judged : Service → Bool) (configuration : Configuration) (state : State) (place core : ℕ) (call : CallRecord) → AreTied configuration state
-    → IsLawfulCall judged configuration state core call → (number : ℕ) → (is_channel number call.claim.chan || stops_at_end configuration number call) ≡ false
+channel_untouched : (configuration : Configuration) (state : State) (place core : ℕ) (call : CallRecord) → AreTied configuration state
+    → IsLawfulCall configuration state core call → (number : ℕ) → (is_channel number call.claim.chan || stops_at_end configuration number call) ≡ false
     → (content_by configuration (time_of state.cores core) number (Call call) (state.channels number) ≡ (state.channels number).content)
     × (set_after place (Call call) (set.ChannelSenders number) (state.channels number).senders ≡ (state.channels number).senders)
     × (set_after place (Call call) (set.ChannelReceivers number) (state.channels number).receivers ≡ (state.channels number).receivers)
-channel_untouched judged configuration state place core call tied law number off =
+channel_untouched configuration state place core call tied law number off =
     let away : is_channel number call.claim.chan ≡ false = neither_first _ _ off in
     let unstopped : stops_at_end configuration number call ≡ false = neither_later _ _ off in (
       rw away refl,
@@ -131,36 +130,36 @@ channel_untouched judged configuration state place core call tied law number off
           (state.channels number).senders (tied.senders number)
           (not_second (is_waiting call.claim.out) _ (not_sending number call.request call.claim.chan away))
           (λ entry there. stays_there configuration call number entry.who (sender_at_end configuration number entry.who.part there.0) unstopped
-          (not_woken configuration state core call judged tied law number away entry.who (λ by. by.sending number there.1))),
+          (not_woken configuration state core call tied law number away entry.who (λ by. by.sending number there.1))),
       set_stays (IsTied (λ home. IsTrue (is_receiver configuration number home)) (set.ChannelReceivers number) state.partitions) place call (set.ChannelReceivers number)
           (state.channels number).receivers (tied.receivers number)
           (not_second (is_waiting call.claim.out) _ (not_receiving number call.request call.claim.chan away))
           (λ entry there. stays_there configuration call number entry.who (receiver_at_end configuration number entry.who.part there.0) unstopped
-          (not_woken configuration state core call judged tied law number away entry.who (λ by. by.receiving number there.1))),
+          (not_woken configuration state core call tied law number away entry.who (λ by. by.receiving number there.1))),
     )
 
 -- the channel's part after a record that doesn't touch it
-channel_part : (judged : Service → Bool) (configuration : Configuration) (state : State) (place core : ℕ) (body : Body) → AreTied configuration state
-    → IsLawfulBody judged configuration state core body → (number : ℕ) → IsFalse (touched_by configuration body (OfChannel number))
+channel_part : (configuration : Configuration) (state : State) (place core : ℕ) (body : Body) → AreTied configuration state
+    → IsLawfulBody configuration state core body → (number : ℕ) → IsFalse (touched_by configuration body (OfChannel number))
     → (times_of (cores_by core body state.cores) ≡ times_of state.cores)
     × (content_by configuration (time_of state.cores core) number body (state.channels number) ≡ (state.channels number).content)
     × (set_after place body (set.ChannelSenders number) (state.channels number).senders ≡ (state.channels number).senders)
     × (set_after place body (set.ChannelReceivers number) (state.channels number).receivers ≡ (state.channels number).receivers)
-channel_part judged configuration state place core (Disp who) tied law number off = (times_after core (Disp who) state.cores, refl, refl, refl)
-channel_part judged configuration state place core (Ret ret) tied law number off = (refl, refl, refl, refl)
-channel_part judged configuration state place core (Tick woken) tied law number off = absurd (true≢false off)
-channel_part judged configuration state place core (Call call) tied law number off =
-    let stays = channel_untouched judged configuration state place core call tied law number off in
+channel_part configuration state place core (Disp who) tied law number off = (times_after core (Disp who) state.cores, refl, refl, refl)
+channel_part configuration state place core (Ret ret) tied law number off = (refl, refl, refl, refl)
+channel_part configuration state place core (Tick woken) tied law number off = absurd (true≢false off)
+channel_part configuration state place core (Call call) tied law number off =
+    let stays = channel_untouched configuration state place core call tied law number off in
     (refl, stays.0, stays.1, stays.2)
 
 -- the part of a piece that a lawful record doesn't touch stays
-pub untouched_part : (judged : Service → Bool) (configuration : Configuration) (state : State) (ordered : Ordered) → AreTied configuration state
-    → IsLawful judged configuration state ordered → (piece : Piece)
+pub untouched_part : (configuration : Configuration) (state : State) (ordered : Ordered) → AreTied configuration state
+    → IsLawful configuration state ordered → (piece : Piece)
     → IsFalse (touches configuration piece ordered) → part piece (after configuration state ordered) ≡ part piece state
-untouched_part judged configuration state ordered tied law Module off = absurd (true≢false off)
-untouched_part judged configuration state ordered tied law (OfPartition number) off =
+untouched_part configuration state ordered tied law Module off = absurd (true≢false off)
+untouched_part configuration state ordered tied law (OfPartition number) off =
     let same = partition_untouched configuration state.cores ordered.pos ordered.core number ordered.rec.body (state.partitions number) off in
     λ i. PartitionPart number (same.0 i) (same.1 i)
-untouched_part judged configuration state ordered tied law (OfChannel number) off =
-    let same = channel_part judged configuration state ordered.pos ordered.core ordered.rec.body tied law.claims number off in
+untouched_part configuration state ordered tied law (OfChannel number) off =
+    let same = channel_part configuration state ordered.pos ordered.core ordered.rec.body tied law.claims number off in
     λ i. ChannelPart number (same.0 i) (record { content = same.1 i; senders = same.2 i; receivers = same.3 i })

@@ -11,7 +11,6 @@ use Rattle.apex_types.specs.declared.record.Out.TheVariants as out
 use Rattle.apex_types.specs.declared.record.Who.{Who}
 use Rattle.apex_types.specs.declared.request.Request.{Request}
 use Rattle.apex_types.specs.declared.request.Request.TheVariants as request
-use Rattle.apex_types.specs.declared.service.Service.{Service}
 use Rattle.apex_machine.specs.declared.state.CoreState.{CoreState}
 use Rattle.apex_machine.specs.declared.state.Entry.{Entry}
 use Rattle.apex_machine.specs.declared.state.Process.{Process}
@@ -164,9 +163,9 @@ through_begun now channel request.GetMyId process given waits can = absurd (subs
 through_begun now channel request.GetTime process given waits can = absurd (subst (CanHave request.GetTime) waits can)
 
 -- a lawful call that waits
-begun : (judged : Service → Bool) (configuration : Configuration) (state : State) (core : ℕ) (call : CallRecord) → IsLawfulCall judged configuration state core call → (process : Process)
+begun : (configuration : Configuration) (state : State) (core : ℕ) (call : CallRecord) → IsLawfulCall configuration state core call → (process : Process)
     → is_waiting call.claim.out ≡ true → IsBegun (time_of state.cores core) call.request call.claim.chan process (wait_of call.request call.claim.chan (time_of state.cores core) process)
-begun judged configuration state core call law process waits =
+begun configuration state core call law process waits =
     by (condition_codes configuration call.who (state.partitions call.who.part) call.request) refl (channel_of (state.partitions call.who.part) call.request) law.outcome
   where
     is_waits : (given : Out) → is_waiting given ≡ true → given ≡ out.Waits
@@ -269,10 +268,10 @@ not_started configuration now who partition (request.Start process) suited throu
 not_started configuration now who partition _ suited through claim has one named number = tt
 
 -- what the call sets leaves the wait of a process that it names
-named_keeps : (judged : Service → Bool) (configuration : Configuration) (state : State) (place core : ℕ) (call : CallRecord) → IsLawfulCall judged configuration state core call
+named_keeps : (configuration : Configuration) (state : State) (place core : ℕ) (call : CallRecord) → IsLawfulCall configuration state core call
     → (one : Who) → is_named one call.claim.woken ≡ true → (number : ℕ) (old : Process) → WaitsForOther old.wait
     → WaitsForOther (adjusted place (period_of configuration call.who.part) state.cores (state.partitions call.who.part) call number old).wait
-named_keeps judged configuration state place core call law one named number old waits =
+named_keeps configuration state place core call law one named number old waits =
     let set : Process = set_by place (period_of configuration call.who.part) state.cores (state.partitions call.who.part) call.who.proc call.request number old in
     let starts = not_started configuration (time_of state.cores core) call.who (state.partitions call.who.part) call.request (λ number. suits_use (use_of call.request) (state.channels number))
     (channel_answer configuration (time_of state.cores core) call.request state.channels) call.claim law.outcome one named number in
@@ -368,7 +367,7 @@ goes_through configuration state now call answer codes channel number next order
 -- the whole
 
 pub call_is_the_sentence : CallIsTheSentence
-call_is_the_sentence judged configuration state ordered call next above tied order step is =
+call_is_the_sentence configuration state ordered call next above tied order step is =
     let core = ordered.core in
     let place = ordered.pos in
     let now = time_of state.cores core in
@@ -376,9 +375,9 @@ call_is_the_sentence judged configuration state ordered call next above tied ord
     let partition = state.partitions part in
     let table = partition.table in
     let period = period_of configuration part in
-    let law = lawful_body judged configuration state ordered next (Call call) step is in
-    let partitions = next_partition judged configuration state ordered next (Call call) step is in
-    let channels = next_channel judged configuration state ordered next (Call call) step is in
+    let law = lawful_body configuration state ordered next (Call call) step is in
+    let partitions = next_partition configuration state ordered next (Call call) step is in
+    let channels = next_channel configuration state ordered next (Call call) step is in
     let change : ℕ → Process → Process = called place now period state.cores partition call in
     let more = created_by (first_core configuration part) call call.request in
     let sets : ℕ → Process → Process = adjusted place period state.cores partition call in
@@ -406,7 +405,7 @@ call_is_the_sentence judged configuration state ordered call next above tied ord
           set = sets call.who.proc caller.0;
           first = set_first configuration state place call call.who.proc caller.0 (above part);
           second = (caller_is_the_sentence place now call (sets call.who.proc caller.0) (caller_after place now call (sets call.who.proc caller.0))
-              (λ waits. begun judged configuration state core call law (sets call.who.proc caller.0) waits)).0 refl;
+              (λ waits. begun configuration state core call law (sets call.who.proc caller.0) waits)).0 refl;
         };
       };
       stopped = λ who old here differs at stopping. record {
@@ -432,7 +431,7 @@ call_is_the_sentence judged configuration state ordered call next above tied ord
           set = sets who.proc old;
           first = set_first configuration state place call who.proc old (above part);
           second = (waking_is_the_sentence place (gift_of call.request) (sets who.proc old) (woken_by place (gift_of call.request) (sets who.proc old))
-              (named_keeps judged configuration state place core call law who named who.proc old
+              (named_keeps configuration state place core call law who named who.proc old
               (named_waits configuration state now call.who call.request call.claim tied (condition_codes configuration call.who partition call.request) (channel_of partition call.request) law.outcome who named old at))).0 refl;
         };
       };
@@ -488,7 +487,7 @@ call_is_the_sentence judged configuration state ordered call next above tied ord
       contents = λ number differs. ap (λ one. one.content) (channels number)
           ∙ ap (λ test. cond test (channel_effect configuration now number (use_of call.request) (state.channels number)).next (state.channels number).content)
           (cannot_hold (is_channel number call.claim.chan) (λ goes. differs (goes_to number call.claim.chan goes)));
-      cores = next_cores judged configuration state ordered next (Call call) step is;
+      cores = next_cores configuration state ordered next (Call call) step is;
     }
   where
     goes_to : (number : ℕ) (chan : Option ℕ) → is_channel number chan ≡ true → chan ≡ Some number

@@ -4,9 +4,8 @@ use Rattle.apex_types.specs.declared.record.Ordered.{Ordered}
 use Rattle.apex_machine.specs.declared.state.Outcome.{Outcome}
 use Rattle.apex_machine.specs.After.{after}
 use Rattle.apex_machine.specs.State.{State, cold_state}
-use Rattle.apex_machine.specs.Step.{IsLawful, RunJudging}
+use Rattle.apex_machine.specs.Step.{IsLawful, Run}
 use Rattle.apex_laws.specs.Worked.{two_partitions}
-use Rattle.apex_laws.specs.WorkedFacts.{all}
 use Rattle.apex_laws.specs.WorkedRun.{WorkedRun, before_return, in_places, recording, message_returns}
 
 -- the second byte of a message
@@ -22,14 +21,14 @@ byte_due _ = 0
 -- some final state and a run to it
 record Goes (state : State) (records : List Ordered) : Type 0 where
   final : State
-  run : RunJudging all two_partitions state records final
+  run : Run two_partitions state records final
 
 -- no more records
 done : (state : State) → Goes state []
 done state = record { final = state; run = refl }
 
 -- one more step
-step : (state : State) (ordered : Ordered) (others : List Ordered) → IsLawful all two_partitions state ordered → Goes (after two_partitions state ordered) others → Goes state (ordered ∷ others)
+step : (state : State) (ordered : Ordered) (others : List Ordered) → IsLawful two_partitions state ordered → Goes (after two_partitions state ordered) others → Goes state (ordered ∷ others)
 step state ordered others law goes = record { final = goes.final; run = (after two_partitions state ordered, (law, refl), goes.run) }
 
 -- the state after some records
@@ -38,24 +37,24 @@ ends state [] = state
 ends state (ordered ∷ others) = ends (after two_partitions state ordered) others
 
 -- where the last record is not lawful there is no run
-no_run : (state : State) (records : List Ordered) (last : Ordered) (final : State) → ¬ IsLawful all two_partitions (ends state records) last
-    → ¬ RunJudging all two_partitions state (records ++ last ∷ []) final
+no_run : (state : State) (records : List Ordered) (last : Ordered) (final : State) → ¬ IsLawful two_partitions (ends state records) last
+    → ¬ Run two_partitions state (records ++ last ∷ []) final
 no_run state [] last final fails run = fails run.1.0
 no_run state (ordered ∷ others) last final fails run =
     no_run (after two_partitions state ordered) others last final fails
-    (subst (λ next. RunJudging all two_partitions next (others ++ last ∷ []) final) run.1.1 run.2)
+    (subst (λ next. Run two_partitions next (others ++ last ∷ []) final) run.1.1 run.2)
 
 -- the return of another message
 other_return : Ordered
 other_return = record { pos = 22; core = 1; rec = record { seq = 0; body = (message_returns (202 ∷ 255 ∷ [])).body } }
 
 -- it is not what is due
-no_return : ¬ IsLawful all two_partitions (ends (cold_state two_partitions) (in_places 0 before_return)) other_return
+no_return : ¬ IsLawful two_partitions (ends (cold_state two_partitions) (in_places 0 before_return)) other_return
 unfolding byte_due second_byte other_return
 no_return law = let same : ◌≡◌ {A = ℕ} 254 255 = ap byte_due law.claims.due in omega arith
 
 -- so there is no run with it
-no_other : (final : State) → ¬ RunJudging all two_partitions (cold_state two_partitions) (recording (202 ∷ 255 ∷ [])) final
+no_other : (final : State) → ¬ Run two_partitions (cold_state two_partitions) (recording (202 ∷ 255 ∷ [])) final
 unfolding other_return
 no_other final = no_run (cold_state two_partitions) (in_places 0 before_return) other_return final no_return
 
@@ -63,26 +62,26 @@ no_other final = no_run (cold_state two_partitions) (in_places 0 before_return) 
 goes : Goes (cold_state two_partitions) (recording (202 ∷ 254 ∷ []))
 goes =
     step _ _ _ (record { placed = refl; claims = record { names = refl; choice = refl } }) (
-    step _ _ _ (record { placed = refl; claims = record { names = (refl, tt, tt); occupant = refl; choice = refl; due = refl; profile = (refl, refl); prio = refl; outcome = record { chan = refl; out = refl; val = refl; bytes = refl; woken = λ who. refl } } }) (
+    step _ _ _ (record { placed = refl; claims = record { names = (refl, tt, tt); occupant = refl; choice = refl; due = refl; profile = refl; prio = refl; outcome = record { chan = refl; out = refl; val = refl; bytes = refl; woken = λ who. refl } } }) (
     step _ _ _ (record { placed = refl; claims = record { names = refl; occupant = refl; choice = refl; due = refl } }) (
-    step _ _ _ (record { placed = refl; claims = record { names = (refl, tt, tt); occupant = refl; choice = refl; due = refl; profile = (refl, refl); prio = refl; outcome = record { chan = refl; out = refl; val = refl; bytes = refl; woken = λ who. refl } } }) (
+    step _ _ _ (record { placed = refl; claims = record { names = (refl, tt, tt); occupant = refl; choice = refl; due = refl; profile = refl; prio = refl; outcome = record { chan = refl; out = refl; val = refl; bytes = refl; woken = λ who. refl } } }) (
     step _ _ _ (record { placed = refl; claims = record { names = refl; occupant = refl; choice = refl; due = refl } }) (
-    step _ _ _ (record { placed = refl; claims = record { names = (refl, tt, tt); occupant = refl; choice = refl; due = refl; profile = (refl, refl); prio = refl; outcome = record { chan = refl; out = refl; val = refl; bytes = refl; woken = λ who. refl } } }) (
+    step _ _ _ (record { placed = refl; claims = record { names = (refl, tt, tt); occupant = refl; choice = refl; due = refl; profile = refl; prio = refl; outcome = record { chan = refl; out = refl; val = refl; bytes = refl; woken = λ who. refl } } }) (
     step _ _ _ (record { placed = refl; claims = record { names = refl; occupant = refl; choice = refl; due = refl } }) (
-    step _ _ _ (record { placed = refl; claims = record { names = (refl, tt, tt); occupant = refl; choice = refl; due = refl; profile = (refl, refl); prio = refl; outcome = record { chan = refl; out = refl; val = refl; bytes = refl; woken = λ who. refl } } }) (
+    step _ _ _ (record { placed = refl; claims = record { names = (refl, tt, tt); occupant = refl; choice = refl; due = refl; profile = refl; prio = refl; outcome = record { chan = refl; out = refl; val = refl; bytes = refl; woken = λ who. refl } } }) (
     step _ _ _ (record { placed = refl; claims = record { names = refl; choice = refl } }) (
-    step _ _ _ (record { placed = refl; claims = record { names = (refl, tt, tt); occupant = refl; choice = refl; due = refl; profile = (refl, refl); prio = refl; outcome = record { chan = refl; out = refl; val = refl; bytes = refl; woken = λ who. refl } } }) (
+    step _ _ _ (record { placed = refl; claims = record { names = (refl, tt, tt); occupant = refl; choice = refl; due = refl; profile = refl; prio = refl; outcome = record { chan = refl; out = refl; val = refl; bytes = refl; woken = λ who. refl } } }) (
     step _ _ _ (record { placed = refl; claims = record { names = refl; occupant = refl; choice = refl; due = refl } }) (
-    step _ _ _ (record { placed = refl; claims = record { names = (refl, tt, tt); occupant = refl; choice = refl; due = refl; profile = (refl, refl); prio = refl; outcome = record { chan = refl; out = refl; val = refl; bytes = refl; woken = λ who. refl } } }) (
+    step _ _ _ (record { placed = refl; claims = record { names = (refl, tt, tt); occupant = refl; choice = refl; due = refl; profile = refl; prio = refl; outcome = record { chan = refl; out = refl; val = refl; bytes = refl; woken = λ who. refl } } }) (
     step _ _ _ (record { placed = refl; claims = record { names = refl; occupant = refl; choice = refl; due = refl } }) (
-    step _ _ _ (record { placed = refl; claims = record { names = (refl, tt, tt); occupant = refl; choice = refl; due = refl; profile = (refl, refl); prio = refl; outcome = record { chan = refl; out = refl; val = refl; bytes = refl; woken = λ who. refl } } }) (
+    step _ _ _ (record { placed = refl; claims = record { names = (refl, tt, tt); occupant = refl; choice = refl; due = refl; profile = refl; prio = refl; outcome = record { chan = refl; out = refl; val = refl; bytes = refl; woken = λ who. refl } } }) (
     step _ _ _ (record { placed = refl; claims = record { names = refl; occupant = refl; choice = refl; due = refl } }) (
-    step _ _ _ (record { placed = refl; claims = record { names = (refl, tt, tt); occupant = refl; choice = refl; due = refl; profile = (refl, refl); prio = refl; outcome = record { chan = refl; out = refl; val = refl; bytes = refl; woken = λ who. refl } } }) (
+    step _ _ _ (record { placed = refl; claims = record { names = (refl, tt, tt); occupant = refl; choice = refl; due = refl; profile = refl; prio = refl; outcome = record { chan = refl; out = refl; val = refl; bytes = refl; woken = λ who. refl } } }) (
     step _ _ _ (record { placed = refl; claims = record { names = refl; choice = refl } }) (
-    step _ _ _ (record { placed = refl; claims = record { names = (refl, tt, refl); occupant = refl; choice = refl; due = refl; profile = (refl, refl); prio = refl; outcome = record { chan = refl; kind = refl; out = refl; val = refl; bytes = refl; woken = λ who. refl } } }) (
+    step _ _ _ (record { placed = refl; claims = record { names = (refl, tt, refl); occupant = refl; choice = refl; due = refl; profile = refl; prio = refl; outcome = record { chan = refl; kind = refl; out = refl; val = refl; bytes = refl; woken = λ who. refl } } }) (
     step _ _ _ (record { placed = refl; claims = record { names = tt; choice = refl } }) (
     step _ _ _ (record { placed = refl; claims = record { names = refl; choice = refl } }) (
-    step _ _ _ (record { placed = refl; claims = record { names = (refl, (refl, tt), refl); occupant = refl; choice = refl; due = refl; profile = (refl, refl); prio = refl; outcome = record { chan = refl; kind = refl; out = refl; val = refl; bytes = refl; woken = λ who. refl } } }) (
+    step _ _ _ (record { placed = refl; claims = record { names = (refl, (refl, tt), refl); occupant = refl; choice = refl; due = refl; profile = refl; prio = refl; outcome = record { chan = refl; kind = refl; out = refl; val = refl; bytes = refl; woken = λ who. refl } } }) (
     step _ _ _ (record { placed = refl; claims = record { names = refl; choice = refl } }) (
     step _ _ _ (record { placed = refl; claims = record { names = refl; occupant = refl; choice = refl; due = refl } }) (done _)))))))))))))))))))))))
 

@@ -12,7 +12,7 @@ use Rattle.apex_machine.specs.Services.{in_profile}
 use Rattle.apex_machine.specs.State.{State, cold_state}
 use Rattle.apex_machine.specs.DueTimes.{falls_due}
 use Rattle.apex_laws.specs.Worked.{aperiodic, at, codes_for, creates, does, normal, one_partition, play, played, process_of, start, ticks, two_partitions, waits}
-use Rattle.apex_laws.specs.WorkedFacts.{all, connected, none, one, semaphore, there, three_processes, two}
+use Rattle.apex_laws.specs.WorkedFacts.{connected, one, semaphore, there, three_processes, two}
 
 -- the initialising process
 abbrev pub initialiser : Who
@@ -175,16 +175,15 @@ pub record ConditionFacts : Type 0 where
   pub not_yet_due : falls_due 0 4 (at waits_later one) ≡ false
   pub due_then : falls_due 0 5 (at waits_later one) ≡ true
   -- inside and outside the profile
-  pub may_be_suspended : in_profile all two (at_work.partitions 0) (request.Suspend (pos 1)) ≡ true
-  pub owner_is_not_suspended : in_profile all two (owning.partitions 0) (request.Suspend (pos 1)) ≡ false
-  pub owner_keeps_its_priority : in_profile all two (owning.partitions 0) (request.SetPriority (pos 1) (pos 5)) ≡ false
-  pub who_wants_it_too : in_profile all one (wanting.partitions 0) (request.SetPriority (pos 2) (pos 5)) ≡ false
-  pub owner_is_not_stopped : in_profile all two (owning.partitions 0) (request.Stop (pos 1)) ≡ false
-  pub who_wants_it_may_be_stopped : in_profile all one (wanting.partitions 0) (request.Stop (pos 2)) ≡ true
-  pub initialiser_stays : in_profile all initialiser (furnished.partitions 0) request.StopSelf ≡ false
-  pub may_stop_itself : in_profile all one (at_work.partitions 0) request.StopSelf ≡ true
-  pub no_restart : in_profile all one (at_work.partitions 0) (request.SetPartitionMode (pos 2)) ≡ false
-  pub normal_mode : in_profile all initialiser (furnished.partitions 0) (request.SetPartitionMode (pos 3)) ≡ true
-  pub periodic_wants_its_wait : in_profile none initialiser (furnished.partitions 0) (request.CreateProcess (codes "D") (pos 10) (pos 20)) ≡ false
-  pub aperiodic_wants_none : in_profile none initialiser (furnished.partitions 0) (request.CreateProcess (codes "D") (pos 10) (negsuc 0)) ≡ true
-  pub periodic_judged : in_profile all initialiser (furnished.partitions 0) (request.CreateProcess (codes "D") (pos 10) (pos 20)) ≡ true
+  pub may_be_suspended : in_profile two (at_work.partitions 0) (request.Suspend (pos 1)) ≡ true
+  pub owner_is_not_suspended : in_profile two (owning.partitions 0) (request.Suspend (pos 1)) ≡ false
+  pub owner_keeps_its_priority : in_profile two (owning.partitions 0) (request.SetPriority (pos 1) (pos 5)) ≡ false
+  pub who_wants_it_too : in_profile one (wanting.partitions 0) (request.SetPriority (pos 2) (pos 5)) ≡ false
+  pub owner_is_not_stopped : in_profile two (owning.partitions 0) (request.Stop (pos 1)) ≡ false
+  pub who_wants_it_may_be_stopped : in_profile one (wanting.partitions 0) (request.Stop (pos 2)) ≡ true
+  pub initialiser_stays : in_profile initialiser (furnished.partitions 0) request.StopSelf ≡ false
+  pub may_stop_itself : in_profile one (at_work.partitions 0) request.StopSelf ≡ true
+  pub no_restart : in_profile one (at_work.partitions 0) (request.SetPartitionMode (pos 2)) ≡ false
+  pub normal_mode : in_profile initialiser (furnished.partitions 0) (request.SetPartitionMode (pos 3)) ≡ true
+  pub aperiodic_is_inside : in_profile initialiser (furnished.partitions 0) (request.CreateProcess (codes "D") (pos 10) (negsuc 0)) ≡ true
+  pub periodic_is_inside : in_profile initialiser (furnished.partitions 0) (request.CreateProcess (codes "D") (pos 10) (pos 20)) ≡ true

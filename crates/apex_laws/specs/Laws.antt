@@ -1,9 +1,7 @@
--- The laws that tie the pieces to the machine, for any services that are judged. Each is the contract of a function in
--- `src/lib.rt`.
+-- The laws that tie the pieces to the machine. Each is the contract of a function in `src/lib.rt`.
 use Rattle.std.specs.Prelude.{◌<◌, ◌≡◌, ◌↔◌, ℕ, List, [], ◌∷◌, Option, Some, None, IsTrue, IsFalse, Contains, not, is_some, ◌&&◌, Bool, true}
 use Rattle.apex_types.specs.declared.record.Ordered.{Ordered}
 use Rattle.apex_types.specs.declared.record.Who.{Who}
-use Rattle.apex_types.specs.declared.service.Service.{Service}
 use Rattle.apex_machine.specs.declared.state.Direction.{Direction}
 use Rattle.apex_machine.specs.declared.state.Direction.TheVariants as direction
 use Rattle.apex_machine.specs.declared.state.Entry.{Entry}
@@ -15,11 +13,11 @@ use Rattle.apex_machine.specs.Channels.{is_receiver, is_sender}
 use Rattle.apex_machine.specs.Choice.{IsChosen, IsReady, foremost, ready_entries}
 use Rattle.apex_machine.specs.Configuration.{Configuration}
 pub use Rattle.apex_machine.specs.Configuration.{WindowsAreConfigured}
-use Rattle.apex_machine.specs.Demands.{LocalStepJudging, stands_in}
+use Rattle.apex_machine.specs.Demands.{LocalStep, stands_in}
 use Rattle.apex_machine.specs.Pieces.{Part, Piece, is_configured, part, touches}
-use Rattle.apex_machine.specs.Runs.{ArePlaced, FindsJudging, PieceRunJudging, Refusal}
+use Rattle.apex_machine.specs.Runs.{ArePlaced, Finds, PieceRun, Refusal}
 use Rattle.apex_machine.specs.State.{Blackboard, Buffer, Event, Mutex, Partition, Port, Semaphore, State, Table, cold_state, is_same, item_at}
-use Rattle.apex_machine.specs.Step.{RunJudging, StepJudging}
+use Rattle.apex_machine.specs.Step.{Run, Step}
 use Rattle.apex_machine.specs.Views.{judge, view_in, view_of}
 use Rattle.apex_machine.specs.Waiting.{waits_at}
 
@@ -83,10 +81,10 @@ pub record AreTied (configuration : Configuration) (state : State) : Type 0 wher
 abbrev pub StaysTied : Type 0
 StaysTied =
     ((configuration : Configuration) → AreTied configuration (cold_state configuration))
-    × ((judged : Service → Bool) (configuration : Configuration) (state : State) (ordered : Ordered) (next : State)
-    → AreTied configuration state → StepJudging judged configuration state ordered next → AreTied configuration next)
-    × ((judged : Service → Bool) (configuration : Configuration) (records : List Ordered) (state final : State)
-    → AreTied configuration state → RunJudging judged configuration state records final → AreTied configuration final)
+    × ((configuration : Configuration) (state : State) (ordered : Ordered) (next : State)
+    → AreTied configuration state → Step configuration state ordered next → AreTied configuration next)
+    × ((configuration : Configuration) (records : List Ordered) (state final : State)
+    → AreTied configuration state → Run configuration state records final → AreTied configuration final)
 
 -- the order of the entries in the waiting sets of the states that a run reaches
 
@@ -115,10 +113,10 @@ pub record SetsAreInOrder (state : State) : Type 0 where
 abbrev pub StaysInOrder : Type 0
 StaysInOrder =
     ((configuration : Configuration) → SetsAreInOrder (cold_state configuration))
-    × ((judged : Service → Bool) (configuration : Configuration) (state : State) (ordered : Ordered) (next : State)
-    → AreTied configuration state → SetsAreInOrder state → StepJudging judged configuration state ordered next → SetsAreInOrder next)
-    × ((judged : Service → Bool) (configuration : Configuration) (records : List Ordered) (state final : State)
-    → AreTied configuration state → SetsAreInOrder state → RunJudging judged configuration state records final → SetsAreInOrder final)
+    × ((configuration : Configuration) (state : State) (ordered : Ordered) (next : State)
+    → AreTied configuration state → SetsAreInOrder state → Step configuration state ordered next → SetsAreInOrder next)
+    × ((configuration : Configuration) (records : List Ordered) (state final : State)
+    → AreTied configuration state → SetsAreInOrder state → Run configuration state records final → SetsAreInOrder final)
 
 -- who waits in a set stands in it
 
@@ -136,62 +134,62 @@ WaitersStand state = (who : Who) (wanted : WaitingSet) → IsTrue (waits_at want
 abbrev pub WhoWaitsStands : Type 0
 WhoWaitsStands =
     ((configuration : Configuration) → WaitersStand (cold_state configuration))
-    × ((judged : Service → Bool) (configuration : Configuration) (state : State) (ordered : Ordered) (next : State)
-    → AreTied configuration state → WaitersStand state → StepJudging judged configuration state ordered next → WaitersStand next)
-    × ((judged : Service → Bool) (configuration : Configuration) (records : List Ordered) (state final : State)
-    → AreTied configuration state → WaitersStand state → RunJudging judged configuration state records final → WaitersStand final)
+    × ((configuration : Configuration) (state : State) (ordered : Ordered) (next : State)
+    → AreTied configuration state → WaitersStand state → Step configuration state ordered next → WaitersStand next)
+    × ((configuration : Configuration) (records : List Ordered) (state final : State)
+    → AreTied configuration state → WaitersStand state → Run configuration state records final → WaitersStand final)
 
 -- steps
 
 -- a record leads from a state to at most one next state
 abbrev pub AtMostOneNextState : Type 0
 AtMostOneNextState =
-    (judged : Service → Bool) (configuration : Configuration) (state : State) (ordered : Ordered) (one other : State)
-    → StepJudging judged configuration state ordered one → StepJudging judged configuration state ordered other → one ≡ other
+    (configuration : Configuration) (state : State) (ordered : Ordered) (one other : State)
+    → Step configuration state ordered one → Step configuration state ordered other → one ≡ other
 
 -- where each piece that the next record touches makes its local step, the machine has a step, to the state whose parts the
 -- pieces reached; the parts of the other pieces stay
 abbrev pub PiecesCompose : Type 0
 PiecesCompose =
-    (judged : Service → Bool) (configuration : Configuration) (state : State) (ordered : Ordered) (reached : Piece → Part)
+    (configuration : Configuration) (state : State) (ordered : Ordered) (reached : Piece → Part)
     → WindowsAreConfigured configuration → AreTied configuration state → ordered.pos ≡ state.count
     → ((piece : Piece) → IsTrue (is_configured configuration piece) → IsTrue (touches configuration piece ordered)
-    → LocalStepJudging judged configuration (part piece state) ordered (reached piece))
-    → (next : State) × StepJudging judged configuration state ordered next
+    → LocalStep configuration (part piece state) ordered (reached piece))
+    → (next : State) × Step configuration state ordered next
     × ((piece : Piece) → IsTrue (is_configured configuration piece) → IsTrue (touches configuration piece ordered) → part piece next ≡ reached piece)
     × ((piece : Piece) → IsTrue (is_configured configuration piece) → IsFalse (touches configuration piece ordered) → part piece next ≡ part piece state)
 
 -- where the machine has a step, each piece that the record touches makes its local step
 abbrev pub PiecesFollow : Type 0
 PiecesFollow =
-    (judged : Service → Bool) (configuration : Configuration) (state : State) (ordered : Ordered) (next : State)
-    → EndsAreApart configuration → AreTied configuration state → StepJudging judged configuration state ordered next
+    (configuration : Configuration) (state : State) (ordered : Ordered) (next : State)
+    → EndsAreApart configuration → AreTied configuration state → Step configuration state ordered next
     → (piece : Piece) → IsTrue (is_configured configuration piece) → IsTrue (touches configuration piece ordered)
-    → LocalStepJudging judged configuration (part piece state) ordered (part piece next)
+    → LocalStep configuration (part piece state) ordered (part piece next)
 
 -- runs
 
 -- runs of all pieces over the records that touch them are one run of the machine, whose parts the pieces reached
 abbrev pub OneRun : Type 0
 OneRun =
-    (judged : Service → Bool) (configuration : Configuration) (state : State) (records : List Ordered) (reached : Piece → Part)
+    (configuration : Configuration) (state : State) (records : List Ordered) (reached : Piece → Part)
     → WindowsAreConfigured configuration → AreTied configuration state → ArePlaced state.count records
-    → ((piece : Piece) → IsTrue (is_configured configuration piece) → PieceRunJudging judged configuration piece (part piece state) records (reached piece))
-    → (final : State) × RunJudging judged configuration state records final
+    → ((piece : Piece) → IsTrue (is_configured configuration piece) → PieceRun configuration piece (part piece state) records (reached piece))
+    → (final : State) × Run configuration state records final
     × ((piece : Piece) → IsTrue (is_configured configuration piece) → part piece final ≡ reached piece)
 
 -- a run of the machine is a run of each piece
 abbrev pub RunOfEach : Type 0
 RunOfEach =
-    (judged : Service → Bool) (configuration : Configuration) (state : State) (records : List Ordered) (final : State)
-    → EndsAreApart configuration → AreTied configuration state → RunJudging judged configuration state records final
-    → (piece : Piece) → IsTrue (is_configured configuration piece) → PieceRunJudging judged configuration piece (part piece state) records (part piece final)
+    (configuration : Configuration) (state : State) (records : List Ordered) (final : State)
+    → EndsAreApart configuration → AreTied configuration state → Run configuration state records final
+    → (piece : Piece) → IsTrue (is_configured configuration piece) → PieceRun configuration piece (part piece state) records (part piece final)
 
 -- a piece has at most one first refusal
 abbrev pub OneFirstRefusal : Type 0
 OneFirstRefusal =
-    (judged : Service → Bool) (configuration : Configuration) (piece : Piece) (old : Part) (records : List Ordered) (one other : Option Refusal)
-    → FindsJudging judged configuration piece old records one → FindsJudging judged configuration piece old records other → one ≡ other
+    (configuration : Configuration) (piece : Piece) (old : Part) (records : List Ordered) (one other : Option Refusal)
+    → Finds configuration piece old records one → Finds configuration piece old records other → one ≡ other
 
 -- views
 

@@ -1,12 +1,11 @@
 -- The bounds of the numbers that a partition holds, for code that counts in machine words. Each law is the contract of a function
 -- in `src/lib.rt`.
-use Rattle.std.specs.Prelude.{◌≡◌, ◌≤◌, ◌<◌, ℕ, ◌+◌, List, Some, Bool, pos}
+use Rattle.std.specs.Prelude.{◌≡◌, ◌≤◌, ◌<◌, ℕ, ◌+◌, List, Some, pos}
 use Rattle.apex_types.specs.declared.record.Body.{Body}
 use Rattle.apex_types.specs.declared.record.Body.TheVariants.{Call}
 use Rattle.apex_types.specs.declared.record.Ordered.{Ordered}
 use Rattle.apex_types.specs.declared.request.Request.{Request}
 use Rattle.apex_types.specs.declared.request.Request.TheVariants as request
-use Rattle.apex_types.specs.declared.service.Service.{Service}
 use Rattle.apex_machine.specs.declared.state.CoreState.{CoreState}
 use Rattle.apex_machine.specs.declared.state.Process.{Process}
 use Rattle.apex_machine.specs.After.{partition_after}
@@ -50,9 +49,9 @@ PeriodFits _ = Unit {0}
 abbrev pub PartStaysBounded : Type 0
 PartStaysBounded =
     ((configuration : Configuration) (number place : ℕ) → IsBoundedPart place (cold_partition configuration number))
-    × ((judged : Service → Bool) (configuration : Configuration) (number : ℕ) (cores : List CoreState) (partition : Partition) (ordered : Ordered)
+    × ((configuration : Configuration) (number : ℕ) (cores : List CoreState) (partition : Partition) (ordered : Ordered)
     → IsSoundPart number ordered.pos partition → IsBoundedPart ordered.pos partition → ((core : ℕ) → time_of cores core ≤ ordered.pos) → PeriodFits ordered.rec.body
-    → AllHold (partition_demands judged configuration number cores partition ordered.core ordered.rec.body)
+    → AllHold (partition_demands configuration number cores partition ordered.core ordered.rec.body)
     → IsBoundedPart (ordered.pos + 1) (partition_after configuration cores number ordered partition))
     × ((place later : ℕ) (partition : Partition) → place ≤ later → IsBoundedPart place partition → IsBoundedPart later partition)
 

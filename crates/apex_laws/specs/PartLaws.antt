@@ -8,7 +8,6 @@ use Rattle.apex_types.specs.declared.record.Return.{Return}
 use Rattle.apex_types.specs.declared.record.Who.{Who}
 use Rattle.apex_types.specs.declared.request.Request.{Request}
 use Rattle.apex_types.specs.declared.request.Request.TheVariants as request
-use Rattle.apex_types.specs.declared.service.Service.{Service}
 use Rattle.apex_machine.specs.declared.state.CoreState.{CoreState}
 use Rattle.apex_machine.specs.declared.state.WaitingSet.{WaitingSet}
 use Rattle.apex_machine.specs.declared.state.WaitingSet.TheVariants as set
@@ -56,8 +55,8 @@ pub record IsSoundPart (number place : ℕ) (partition : Partition) : Type 0 whe
 abbrev pub PartStaysSound : Type 0
 PartStaysSound =
     ((configuration : Configuration) (number place : ℕ) → IsSoundPart number place (cold_partition configuration number))
-    × ((judged : Service → Bool) (configuration : Configuration) (number : ℕ) (cores : List CoreState) (partition : Partition) (ordered : Ordered)
-    → IsSoundPart number ordered.pos partition → AllHold (partition_demands judged configuration number cores partition ordered.core ordered.rec.body)
+    × ((configuration : Configuration) (number : ℕ) (cores : List CoreState) (partition : Partition) (ordered : Ordered)
+    → IsSoundPart number ordered.pos partition → AllHold (partition_demands configuration number cores partition ordered.core ordered.rec.body)
     → IsSoundPart number (ordered.pos + 1) (partition_after configuration cores number ordered partition))
     × ((number place later : ℕ) (partition : Partition) → place ≤ later → IsSoundPart number place partition → IsSoundPart number later partition)
 
@@ -72,10 +71,10 @@ RunningStandsNowhere =
     → (wanted : WaitingSet) → IsFalse (stands_in who (entries_at partition wanted)) × AllEntries (λ entry. entry.place < place) (entries_at partition wanted)
 
 -- a call of one of a sound partition's own processes, all of whose demands hold
-pub record IsOwnCall (judged : Service → Bool) (configuration : Configuration) (number place core : ℕ) (cores : List CoreState) (partition : Partition) (call : CallRecord) : Type 0 where
+pub record IsOwnCall (configuration : Configuration) (number place core : ℕ) (cores : List CoreState) (partition : Partition) (call : CallRecord) : Type 0 where
   pub sound : IsSoundPart number place partition
   pub own : call.who.part ≡ number
-  pub demands : AllHold (own_call_demands judged configuration number cores partition core call)
+  pub demands : AllHold (own_call_demands configuration number cores partition core call)
 
 -- whether a waiting set is one of the two of a buffer
 abbrev pub is_of_buffer : ℕ → WaitingSet → Bool
@@ -105,16 +104,16 @@ is_stop_done call = is_some (stop_of call.request) && is_no_error call.claim.out
 -- an own call that is no STOP, or one that is refused, leaves every waiting set that its request doesn't use
 abbrev pub OtherSetsStay : Type 0
 OtherSetsStay =
-    (judged : Service → Bool) (configuration : Configuration) (number place core : ℕ) (cores : List CoreState) (partition : Partition) (call : CallRecord)
-    → IsOwnCall judged configuration number place core cores partition call → IsFalse (is_stop_done call)
+    (configuration : Configuration) (number place core : ℕ) (cores : List CoreState) (partition : Partition) (call : CallRecord)
+    → IsOwnCall configuration number place core cores partition call → IsFalse (is_stop_done call)
     → (wanted : WaitingSet) → IsFalse (is_set_used call.request wanted) → set_after place (Call call) wanted (entries_at partition wanted) ≡ entries_at partition wanted
 
 -- an own call that doesn't answer NO_ERROR ends no wait in the partition: a caller that waits enters its set at the end, and all
 -- else stays
 abbrev pub OnlyDoneLetsGo : Type 0
 OnlyDoneLetsGo =
-    (judged : Service → Bool) (configuration : Configuration) (number place core : ℕ) (cores : List CoreState) (partition : Partition) (call : CallRecord)
-    → IsOwnCall judged configuration number place core cores partition call → IsFalse (is_no_error call.claim.out)
+    (configuration : Configuration) (number place core : ℕ) (cores : List CoreState) (partition : Partition) (call : CallRecord)
+    → IsOwnCall configuration number place core cores partition call → IsFalse (is_no_error call.claim.out)
     → (wanted : WaitingSet) → set_after place (Call call) wanted (entries_at partition wanted)
     ≡ (if enters call wanted then entries_at partition wanted ++ entry_of place call ∷ [] else entries_at partition wanted)
 
@@ -122,8 +121,8 @@ OnlyDoneLetsGo =
 -- leave, and nobody enters
 abbrev pub LetsGoAsAnswered : Type 0
 LetsGoAsAnswered =
-    (judged : Service → Bool) (configuration : Configuration) (number place core : ℕ) (cores : List CoreState) (partition : Partition) (call : CallRecord)
-    → IsOwnCall judged configuration number place core cores partition call → IsTrue (is_no_error call.claim.out) → stop_of call.request ≡ None
+    (configuration : Configuration) (number place core : ℕ) (cores : List CoreState) (partition : Partition) (call : CallRecord)
+    → IsOwnCall configuration number place core cores partition call → IsTrue (is_no_error call.claim.out) → stop_of call.request ≡ None
     → channel_of partition call.request ≡ None
     → (wanted : WaitingSet) → set_after place (Call call) wanted (entries_at partition wanted)
     ≡ without (λ who. is_named who (answer_of (time_of cores core) call.who partition call.request).woken) (entries_at partition wanted)

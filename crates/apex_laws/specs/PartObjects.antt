@@ -1,12 +1,11 @@
 -- What a call makes of the objects of its caller's partition: the one object that it names changes, with its waiting sets, and all
 -- others stay as they are.
-use Rattle.std.specs.Prelude.{◌≡◌, ℕ, ℤ, Bool, IsFalse, IsTrue, List, [], ◌∷◌, ◌++◌, Some, if◌then◌else◌}
+use Rattle.std.specs.Prelude.{◌≡◌, ℕ, ℤ, IsFalse, IsTrue, List, [], ◌∷◌, ◌++◌, Some, if◌then◌else◌}
 use Rattle.apex_types.specs.declared.record.Body.TheVariants.{Call, Tick}
 use Rattle.apex_types.specs.declared.record.Call.{Call as CallRecord}
 use Rattle.apex_types.specs.declared.record.Who.{Who}
 use Rattle.apex_types.specs.declared.request.Request.{Request}
 use Rattle.apex_types.specs.declared.request.Request.TheVariants as request
-use Rattle.apex_types.specs.declared.service.Service.{Service}
 use Rattle.apex_machine.specs.declared.state.CoreState.{CoreState}
 use Rattle.apex_machine.specs.declared.state.Entry.{Entry}
 use Rattle.apex_machine.specs.declared.state.Process.{Process}
@@ -127,15 +126,15 @@ objects_changed configuration place call _ partition = partition
 -- leaves all other objects and ports
 abbrev pub OneObjectChanges : Type 0
 OneObjectChanges =
-    (judged : Service → Bool) (configuration : Configuration) (number place core : ℕ) (cores : List CoreState) (partition : Partition) (call : CallRecord)
-    → IsOwnCall judged configuration number place core cores partition call → IsFalse (is_stop_done call)
+    (configuration : Configuration) (number place core : ℕ) (cores : List CoreState) (partition : Partition) (call : CallRecord)
+    → IsOwnCall configuration number place core cores partition call → IsFalse (is_stop_done call)
     → (asked : Request) → call.request ≡ asked → objects_called configuration place call partition ≡ objects_changed configuration place call asked partition
 
 -- an own call that isn't done leaves all objects, waiting sets and ports
 abbrev pub RefusedLeavesObjects : Type 0
 RefusedLeavesObjects =
-    (judged : Service → Bool) (configuration : Configuration) (number place core : ℕ) (cores : List CoreState) (partition : Partition) (call : CallRecord)
-    → IsOwnCall judged configuration number place core cores partition call → IsFalse (is_done call.claim.out) → objects_called configuration place call partition ≡ partition
+    (configuration : Configuration) (number place core : ℕ) (cores : List CoreState) (partition : Partition) (call : CallRecord)
+    → IsOwnCall configuration number place core cores partition call → IsFalse (is_done call.claim.out) → objects_called configuration place call partition ≡ partition
 
 -- a STOP that is done
 
@@ -169,8 +168,8 @@ left_by who _ partition = partition
 -- sets, objects and ports stay
 abbrev pub StoppedLeaves : Type 0
 StoppedLeaves =
-    (judged : Service → Bool) (configuration : Configuration) (number place core : ℕ) (cores : List CoreState) (partition : Partition) (call : CallRecord)
-    → IsOwnCall judged configuration number place core cores partition call → (process : ℤ) → call.request ≡ request.Stop process → IsTrue (is_no_error call.claim.out)
+    (configuration : Configuration) (number place core : ℕ) (cores : List CoreState) (partition : Partition) (call : CallRecord)
+    → IsOwnCall configuration number place core cores partition call → (process : ℤ) → call.request ≡ request.Stop process → IsTrue (is_no_error call.claim.out)
     → (target : Process) → created partition.table process ≡ Some target
     → ((wanted : WaitingSet) → set_after place (Call call) wanted (entries_at partition wanted) ≡ without_one (fellow call.who process) (entries_at partition wanted))
     × ((wanted : WaitingSet) → IsFalse (is_in wanted target.wait) → set_after place (Call call) wanted (entries_at partition wanted) ≡ entries_at partition wanted)

@@ -1,10 +1,8 @@
 -- Which calls stand outside the profile, in sentences.
-use Rattle.std.specs.Prelude.{◌≡◌, ◌↔◌, ℕ, ℤ, pos, List, Option, Some, Bool, false, IsFalse, ◌<ℤ◌}
+use Rattle.std.specs.Prelude.{◌≡◌, ◌↔◌, ℕ, ℤ, pos, Option, Some, false}
 use Rattle.apex_types.specs.declared.record.Who.{Who}
 use Rattle.apex_types.specs.declared.request.Request.{Request}
 use Rattle.apex_types.specs.declared.request.Request.TheVariants as request
-use Rattle.apex_types.specs.declared.service.Service.{Service}
-use Rattle.apex_types.specs.declared.service.Service.TheVariants as service
 use Rattle.apex_machine.specs.declared.state.Process.{Process}
 use Rattle.apex_machine.specs.declared.state.Wait.TheVariants as wait
 use Rattle.apex_machine.specs.declared.state.WaitingSet.TheVariants as set
@@ -26,10 +24,8 @@ pub record AwaitsMutex (partition : Partition) (number : ℕ) : Type 0 where
   pub waits : process.wait ≡ wait.At (set.MutexWaiters mutex) due
 
 -- a call stands outside the profile, where no error condition holds for it
-module _ (judged : Service → Bool) (who : Who) (partition : Partition) where
+module _ (who : Who) (partition : Partition) where
   pub data IsOutsideProfile : Request → Type 0 where
-    -- the creation of a periodic process, where PERIODIC_WAIT is not judged
-    periodic_process : {name : List ℕ} {priority period : ℤ} → pos 0 <ℤ period → IsFalse (judged service.PeriodicWait) → IsOutsideProfile (request.CreateProcess name priority period)
     -- the stop of the owner of a mutex
     owner_is_stopped : {process : ℤ} → IsOwner partition (natural_of process) → IsOutsideProfile (request.Stop process)
     -- the initialising process, or the owner of a mutex, stops itself
@@ -47,5 +43,5 @@ module _ (judged : Service → Bool) (who : Who) (partition : Partition) where
 -- a call is not in the profile exactly where a sentence puts it outside
 abbrev pub ProfileIsTheSentence : Type 0
 ProfileIsTheSentence =
-    (judged : Service → Bool) (who : Who) (partition : Partition) (asked : Request)
-    → (in_profile judged who partition asked ≡ false) ↔ IsOutsideProfile judged who partition asked
+    (who : Who) (partition : Partition) (asked : Request)
+    → (in_profile who partition asked ≡ false) ↔ IsOutsideProfile who partition asked

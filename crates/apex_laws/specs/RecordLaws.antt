@@ -1,18 +1,17 @@
--- What every lawful record does is what the sentences say, for any services that are judged.
-use Rattle.std.specs.Prelude.{◌≡◌, ◌↔◌, ℕ, ◌<◌, List, [], Option, Bool, length}
+-- What every lawful record does is what the sentences say.
+use Rattle.std.specs.Prelude.{◌≡◌, ◌↔◌, ℕ, ◌<◌, List, [], Option, length}
 use Rattle.apex_types.specs.declared.record.Body.TheVariants.{Call, Disp, Ret, Tick}
 use Rattle.apex_types.specs.declared.record.Call.{Call as CallRecord}
 use Rattle.apex_types.specs.declared.record.Ordered.{Ordered}
 use Rattle.apex_types.specs.declared.record.Return.{Return}
 use Rattle.apex_types.specs.declared.record.Who.{Who}
-use Rattle.apex_types.specs.declared.service.Service.{Service}
 use Rattle.apex_types.specs.Requested.{service_of}
 use Rattle.apex_machine.specs.declared.state.Entry.{Entry}
 use Rattle.apex_machine.specs.declared.state.WaitingSet.{WaitingSet}
 use Rattle.apex_machine.specs.Configuration.{Configuration, period_of}
 use Rattle.apex_machine.specs.ServiceConditions.{condition_codes}
 use Rattle.apex_machine.specs.State.{State, time_of}
-use Rattle.apex_machine.specs.Step.{StepJudging}
+use Rattle.apex_machine.specs.Step.{Step}
 use Rattle.apex_machine.specs.Waiting.{set_after}
 use Rattle.apex_laws.specs.Laws.{SetsAreInOrder, AreTied}
 use Rattle.apex_laws.specs.RecordSentences.{HasReturned, IsCallOf, IsDispatchOf, IsRefusedCallOf, IsSetAfterCall, IsTickOf, OnlyChanges}
@@ -20,28 +19,28 @@ use Rattle.apex_laws.specs.RecordSentences.{HasReturned, IsCallOf, IsDispatchOf,
 -- a dispatch of one of the cores
 abbrev pub DispatchIsTheSentence : Type 0
 DispatchIsTheSentence =
-    (judged : Service → Bool) (configuration : Configuration) (state : State) (ordered : Ordered) (who : Option Who) (next : State)
-    → StepJudging judged configuration state ordered next → ordered.rec.body ≡ Disp who → ordered.core < length state.cores
+    (configuration : Configuration) (state : State) (ordered : Ordered) (who : Option Who) (next : State)
+    → Step configuration state ordered next → ordered.rec.body ≡ Disp who → ordered.core < length state.cores
     → IsDispatchOf ordered.core who state next
 
 -- a tick of one of the cores
 abbrev pub TickIsTheSentence : Type 0
 TickIsTheSentence =
-    (judged : Service → Bool) (configuration : Configuration) (state : State) (ordered : Ordered) (woken : List Who) (next : State)
-    → StepJudging judged configuration state ordered next → ordered.rec.body ≡ Tick woken → ordered.core < length state.cores
+    (configuration : Configuration) (state : State) (ordered : Ordered) (woken : List Who) (next : State)
+    → Step configuration state ordered next → ordered.rec.body ≡ Tick woken → ordered.core < length state.cores
     → IsTickOf configuration ordered.core ordered.pos state next
 
 -- a return
 abbrev pub ReturnIsTheSentence : Type 0
 ReturnIsTheSentence =
-    (judged : Service → Bool) (configuration : Configuration) (state : State) (ordered : Ordered) (ret : Return) (next : State)
-    → StepJudging judged configuration state ordered next → ordered.rec.body ≡ Ret ret → OnlyChanges HasReturned ret.who state next
+    (configuration : Configuration) (state : State) (ordered : Ordered) (ret : Return) (next : State)
+    → Step configuration state ordered next → ordered.rec.body ≡ Ret ret → OnlyChanges HasReturned ret.who state next
 
 -- a call with an error condition
 abbrev pub RefusalIsTheSentence : Type 0
 RefusalIsTheSentence =
-    (judged : Service → Bool) (configuration : Configuration) (state : State) (ordered : Ordered) (call : CallRecord) (next : State)
-    → StepJudging judged configuration state ordered next → ordered.rec.body ≡ Call call
+    (configuration : Configuration) (state : State) (ordered : Ordered) (call : CallRecord) (next : State)
+    → Step configuration state ordered next → ordered.rec.body ≡ Call call
     → ¬ (condition_codes configuration call.who (state.partitions call.who.part) call.request ≡ [])
     → IsRefusedCallOf call.who (service_of call.request) (condition_codes configuration call.who (state.partitions call.who.part) call.request)
     (time_of state.cores ordered.core) state next
@@ -55,7 +54,7 @@ SetIsTheSentence =
 -- any call, in a tied state whose waiting sets are in order, as every state of a run is; the partitions' periods are above 0
 abbrev pub CallIsTheSentence : Type 0
 CallIsTheSentence =
-    (judged : Service → Bool) (configuration : Configuration) (state : State) (ordered : Ordered) (call : CallRecord) (next : State)
+    (configuration : Configuration) (state : State) (ordered : Ordered) (call : CallRecord) (next : State)
     → ((number : ℕ) → 0 < period_of configuration number) → AreTied configuration state → SetsAreInOrder state
-    → StepJudging judged configuration state ordered next → ordered.rec.body ≡ Call call
+    → Step configuration state ordered next → ordered.rec.body ≡ Call call
     → IsCallOf configuration ordered.pos (time_of state.cores ordered.core) call state next

@@ -1,25 +1,24 @@
 -- The views over a whole recording: those that the judging pieces give are those of the machine's run.
-use Rattle.std.specs.Prelude.{◌≡◌, List, [], ◌∷◌, Option, Some, None, Bool, IsTrue}
+use Rattle.std.specs.Prelude.{◌≡◌, List, [], ◌∷◌, Option, Some, None, IsTrue}
 use Rattle.apex_types.specs.declared.record.Ordered.{Ordered}
-use Rattle.apex_types.specs.declared.service.Service.{Service}
 use Rattle.apex_machine.specs.Configuration.{Configuration, WindowsAreConfigured}
 use Rattle.apex_machine.specs.Pieces.{Part, Piece, is_configured, part}
-use Rattle.apex_machine.specs.Runs.{ArePlaced, PieceRunJudging}
+use Rattle.apex_machine.specs.Runs.{ArePlaced, PieceRun}
 use Rattle.apex_machine.specs.State.{State}
-use Rattle.apex_machine.specs.Step.{RunJudging}
+use Rattle.apex_machine.specs.Step.{Run}
 use Rattle.apex_machine.specs.Views.{View, judge, view_in, view_of}
 use Rattle.apex_laws.specs.Laws.{AreTied}
 
 -- the views of the records of a run, each from the state before its record
-abbrev pub run_views : (judged : Service → Bool) (configuration : Configuration) (state : State) (records : List Ordered) (final : State) → RunJudging judged configuration state records final → List View
-run_views judged configuration state [] final run = []
-run_views judged configuration state (ordered ∷ others) final run = view_of state ordered ∷ run_views judged configuration run.0 others final run.2
+abbrev pub run_views : (configuration : Configuration) (state : State) (records : List Ordered) (final : State) → Run configuration state records final → List View
+run_views configuration state [] final run = []
+run_views configuration state (ordered ∷ others) final run = view_of state ordered ∷ run_views configuration run.0 others final run.2
 
 -- what a piece gives over the records of its run, each from its part before the record
-abbrev pub piece_views : (judged : Service → Bool) (configuration : Configuration) (piece : Piece) (old : Part) (records : List Ordered) (final : Part)
-    → PieceRunJudging judged configuration piece old records final → List (Option View)
-piece_views judged configuration piece old [] final run = []
-piece_views judged configuration piece old (ordered ∷ others) final run = view_in old ordered ∷ piece_views judged configuration piece run.0 others final run.2
+abbrev pub piece_views : (configuration : Configuration) (piece : Piece) (old : Part) (records : List Ordered) (final : Part)
+    → PieceRun configuration piece old records final → List (Option View)
+piece_views configuration piece old [] final run = []
+piece_views configuration piece old (ordered ∷ others) final run = view_in old ordered ∷ piece_views configuration piece run.0 others final run.2
 
 -- record by record, a piece gives the view of each record that it judges, and none of any other
 abbrev pub AreOfItsRecords : Piece → List Ordered → List View → List (Option View) → Type 0
@@ -37,12 +36,12 @@ AreJudged configuration (ordered ∷ others) = IsTrue (is_configured configurati
 -- each record one configured piece gives the view, the one that judges it, and no other piece gives one
 abbrev pub ViewsAreOfTheRun : Type 0
 ViewsAreOfTheRun =
-    (judged : Service → Bool) (configuration : Configuration) (state : State) (records : List Ordered) (reached : Piece → Part)
+    (configuration : Configuration) (state : State) (records : List Ordered) (reached : Piece → Part)
     → WindowsAreConfigured configuration → AreTied configuration state → ArePlaced state.count records
-    → (runs : (piece : Piece) → IsTrue (is_configured configuration piece) → PieceRunJudging judged configuration piece (part piece state) records (reached piece))
-    → (final : State) × (run : RunJudging judged configuration state records final)
+    → (runs : (piece : Piece) → IsTrue (is_configured configuration piece) → PieceRun configuration piece (part piece state) records (reached piece))
+    → (final : State) × (run : Run configuration state records final)
     × ((piece : Piece) → IsTrue (is_configured configuration piece) → part piece final ≡ reached piece)
     × AreJudged configuration records
     × ((piece : Piece) (is : IsTrue (is_configured configuration piece))
-    → AreOfItsRecords piece records (run_views judged configuration state records final run)
-    (piece_views judged configuration piece (part piece state) records (reached piece) (runs piece is)))
+    → AreOfItsRecords piece records (run_views configuration state records final run)
+    (piece_views configuration piece (part piece state) records (reached piece) (runs piece is)))

@@ -1,10 +1,9 @@
 -- Worked facts: what the definitions make of small recordings. Process k of partition 0 is `one`, `two`, `three`.
-use Rattle.std.specs.Prelude.{◌≡◌, ℕ, List, [], ◌∷◌, ◌++◌, Option, Some, None, Bool, true, false, ℤ, pos, negsuc, codes, option_map}
+use Rattle.std.specs.Prelude.{◌≡◌, ℕ, List, [], ◌∷◌, ◌++◌, Option, Some, None, true, false, ℤ, pos, negsuc, codes, option_map}
 use Rattle.apex_types.specs.declared.code.Code.TheVariants as code
 use Rattle.apex_types.specs.declared.record.Out.TheVariants as out
 use Rattle.apex_types.specs.declared.record.Who.{Who}
 use Rattle.apex_types.specs.declared.request.Request.TheVariants as request
-use Rattle.apex_types.specs.declared.service.Service.{Service}
 use Rattle.apex_types.specs.declared.service.Service.TheVariants as service
 use Rattle.apex_machine.specs.Answer.{Answer, Number, answering, done, giving, waiting, waking}
 use Rattle.apex_machine.specs.Choice.{choice}
@@ -29,14 +28,6 @@ three = process_of 0 3
 -- the receiver in the other partition
 abbrev pub there : Who
 there = process_of 1 1
-
--- all services are judged
-abbrev pub all : Service → Bool
-all service = true
-
--- no service is judged
-abbrev pub none : Service → Bool
-none service = false
 
 -- set-ups
 
@@ -179,7 +170,7 @@ pub record WorkedFacts : Type 0 where
   -- two error conditions at once: an owner that acquires another mutex with a time-out below -1
   pub two_conditions : codes_for one_partition owned three (request.AcquireMutex (pos 2) (negsuc 4)) ≡ code.InvalidParam ∷ code.InvalidParam ∷ code.InvalidMode ∷ []
   -- the owner of a mutex that stops itself stands outside the profile
-  pub owner_stops : in_profile all three (owned.partitions 0) request.StopSelf ≡ false
+  pub owner_stops : in_profile three (owned.partitions 0) request.StopSelf ≡ false
   -- a full buffer: a receiver gets the oldest message, the sender wakes, and its message is the next
   pub oldest_first : gets full_buffer two (request.ReceiveBuffer (pos 1) (pos 0)) ≡ giving (170 ∷ []) (one ∷ [])
   pub sender_moves_up : gets (play one_partition full_buffer (wakes two (request.ReceiveBuffer (pos 1) (pos 0)) (one ∷ []) ∷ [])) one (request.ReceiveBuffer (pos 1) (pos 0)) ≡ giving (187 ∷ []) []
@@ -212,7 +203,7 @@ pub record WorkedFacts : Type 0 where
   pub still_valid : reading (play two_partitions sampled_once (idle_ticks 1 5)) ≡ record { out = out.Answer code.NoError; val = Number (pos 1); bytes = 17 ∷ []; woken = [] }
   pub no_longer_valid : reading (play two_partitions sampled_once (idle_ticks 1 6)) ≡ record { out = out.Answer code.NoError; val = Number (pos 0); bytes = 17 ∷ []; woken = [] }
 
--- lawful calls: records of all services have steps
+-- lawful calls: records that have steps
 
 -- process 3 runs, and process 2 waits for its mutex
 abbrev pub owner_at_work : State
@@ -242,9 +233,9 @@ reader_at_work = play two_partitions sampled_once (runs there ∷ [])
 abbrev pub reading_of_it : Happening
 reading_of_it = claims 1 there 10 (request.ReadSamplingMessage (pos 1)) (out.Answer code.NoError) (Some (pos 1)) (17 ∷ []) (Some 1) []
 
--- these calls are lawful where all services are judged
+-- these calls are lawful
 pub record LawfulFacts : Type 0 where
-  pub hands_on : IsLawful all one_partition owner_at_work (placed owner_at_work last_release)
-  pub sends : IsLawful all two_partitions sender_at_work (placed sender_at_work (sends (there ∷ [])))
-  pub waits : IsLawful all two_partitions sender_at_full (placed sender_at_full send_that_waits)
-  pub reads : IsLawful all two_partitions reader_at_work (placed reader_at_work reading_of_it)
+  pub hands_on : IsLawful one_partition owner_at_work (placed owner_at_work last_release)
+  pub sends : IsLawful two_partitions sender_at_work (placed sender_at_work (sends (there ∷ [])))
+  pub waits : IsLawful two_partitions sender_at_full (placed sender_at_full send_that_waits)
+  pub reads : IsLawful two_partitions reader_at_work (placed reader_at_work reading_of_it)

@@ -8,9 +8,9 @@ use Rattle.apex_types.specs.declared.request.Request.TheVariants as request
 use Rattle.apex_types.specs.declared.service.Service.{Service}
 use Rattle.apex_types.specs.declared.service.Service.TheVariants as service
 use Rattle.apex_machine.specs.State.{State, cold_state}
-use Rattle.apex_machine.specs.Step.{RunJudging}
+use Rattle.apex_machine.specs.Step.{Run}
 use Rattle.apex_laws.specs.Worked.{Happening, aperiodic, claims, creates, normal, process_of, returns, runs, start, two_partitions}
-use Rattle.apex_laws.specs.WorkedFacts.{all, one, sends, there}
+use Rattle.apex_laws.specs.WorkedFacts.{one, sends, there}
 
 -- the return of a creation under number 1
 abbrev pub returns_one : ℕ → Service → Happening
@@ -55,7 +55,7 @@ in_places place (happening ∷ others) = record { pos = place; core = happening.
 abbrev pub recording : List ℕ → List Ordered
 recording message = in_places 0 (before_return ++ message_returns message ∷ [])
 
--- the 23 records are a run from the cold state, where all services are judged; with another message at the return they are none
+-- the 23 records are a run from the cold state; with another message at the return they are none
 pub record WorkedRun : Type 0 where
-  pub run : (final : State) × RunJudging all two_partitions (cold_state two_partitions) (recording (202 ∷ 254 ∷ [])) final
-  pub no_other : (final : State) → ¬ RunJudging all two_partitions (cold_state two_partitions) (recording (202 ∷ 255 ∷ [])) final
+  pub run : (final : State) × Run two_partitions (cold_state two_partitions) (recording (202 ∷ 254 ∷ [])) final
+  pub no_other : (final : State) → ¬ Run two_partitions (cold_state two_partitions) (recording (202 ∷ 255 ∷ [])) final

@@ -1,8 +1,7 @@
 //! The laws over the definitions: the pieces that judge a recording side by side are together the machine, and what the
 //! machine does is what plain sentences say.
 //!
-//! Each law is the contract of a function without code. The laws that tie the pieces to the machine hold for any services
-//! that are judged: for those of today, and for all.
+//! Each law is the contract of a function without code.
 #![tactic(auto)]
 
 ghost use Rattle.apex_laws.specs.Laws.{AtMostOneNextState, ChoiceIsTheSentence, OneFirstRefusal, OneRun, PiecesCompose, PiecesFollow, RunOfEach, StaysInOrder, StaysTied, ViewIsOfTheRun, WhoWaitsStands};
@@ -336,8 +335,7 @@ pub fn worked_facts()
     ensures { WorkedFacts }
 {}
 
-/// Calls that hand on a mutex, send, wait for a full channel and read a sampled message are lawful where all services are
-/// judged: so steps of them exist.
+/// Calls that hand on a mutex, send, wait for a full channel and read a sampled message are lawful: so steps of them exist.
 pub fn lawful_facts()
     ensures { LawfulFacts }
 {}

@@ -35,11 +35,6 @@ abbrev pub is_period : ℤ → Bool
 is_period (pos n) = nat_lt 0 n
 is_period (negsuc n) = nat_eq n 0
 
--- whether a period is none
-abbrev pub is_aperiodic : ℤ → Bool
-is_aperiodic (pos n) = nat_eq n 0
-is_aperiodic (negsuc n) = true
-
 -- the period of a process, if it has one
 abbrev pub period_given : ℤ → Option ℕ
 period_given (pos n) = Some n

@@ -14,7 +14,6 @@ use Rattle.apex_types.specs.declared.record.Out.TheVariants as out
 use Rattle.apex_types.specs.declared.record.Who.{Who}
 use Rattle.apex_types.specs.declared.request.Request.{Request}
 use Rattle.apex_types.specs.declared.request.Request.TheVariants as request
-use Rattle.apex_types.specs.declared.service.Service.{Service}
 use Rattle.apex_machine.specs.declared.state.CoreState.{CoreState}
 use Rattle.apex_machine.specs.declared.state.Entry.{Entry}
 use Rattle.apex_machine.specs.declared.state.Outcome.{Outcome}
@@ -28,7 +27,7 @@ use Rattle.apex_machine.specs.Pieces.{ChannelPart, ModulePart, Part, PartitionPa
 use Rattle.apex_machine.specs.Ports.{channel_effect, channel_of, suits_use, use_of}
 use Rattle.apex_machine.specs.DueTimes.{NamesThoseDue, time_out_of}
 use Rattle.apex_machine.specs.ServiceConditions.{condition_codes}
-use Rattle.apex_machine.specs.Services.{Answer, HasValue, NamesExactly, answer_of, is_built}
+use Rattle.apex_machine.specs.Services.{Answer, HasValue, NamesExactly, answer_of}
 use Rattle.apex_machine.specs.State.{Channel, Partition, Table, is_same, names_one_of, occupant_of, item_at, time_of}
 use Rattle.apex_machine.specs.Step.{AllConfigured, OneConfigured, ChannelConfigured, KeepsSkew, HasNoneDue, HasPriority, HasCode, IsWithinProfile, due_of}
 use Rattle.apex_machine.specs.Waiting.{waits_at}
@@ -131,22 +130,22 @@ outcome_demands (code ∷ codes) channel number asked answer claim =
     ∷ record { cause = cause.Woken; holds = claim.woken ≡ [] } ∷ []
 
 -- what is demanded of a call of one of the partition's own processes before its outcome: its caller runs in a window of the
--- partition and has nothing due, the service is judged and used as the profile has it, and the priority is the caller's
-abbrev pub caller_demands : (Service → Bool) → Configuration → ℕ → List CoreState → Partition → ℕ → CallRecord → List {1} Demand
-caller_demands judged configuration number cores partition core call =
+-- partition and has nothing due, the call is within the profile, and the priority is the caller's
+abbrev pub caller_demands : Configuration → ℕ → List CoreState → Partition → ℕ → CallRecord → List {1} Demand
+caller_demands configuration number cores partition core call =
     record { cause = cause.Window; holds = window_now configuration cores core ≡ Some number }
     ∷ record { cause = cause.Choice; holds = IsRunning number cores partition.table core call.who }
     ∷ record { cause = cause.Return; holds = HasNoneDue (item_at partition.table call.who.proc) }
     ∷ record {
       cause = cause.OutsideProfile;
-      holds = IsWithinProfile judged (condition_codes configuration call.who partition call.request) call.who partition call.request;
+      holds = IsWithinProfile (condition_codes configuration call.who partition call.request) call.who partition call.request;
     }
     ∷ record { cause = cause.Prio; holds = HasPriority call.claim.prio (item_at partition.table call.who.proc) } ∷ []
 
 -- a call of one of the partition's own processes
-abbrev pub own_call_demands : (Service → Bool) → Configuration → ℕ → List CoreState → Partition → ℕ → CallRecord → List {1} Demand
-own_call_demands judged configuration number cores partition core call =
-    caller_demands judged configuration number cores partition core call
+abbrev pub own_call_demands : Configuration → ℕ → List CoreState → Partition → ℕ → CallRecord → List {1} Demand
+own_call_demands configuration number cores partition core call =
+    caller_demands configuration number cores partition core call
     ++ outcome_demands (condition_codes configuration call.who partition call.request) (channel_of partition call.request) number call.request
     (answer_of (time_of cores core) call.who partition call.request) call.claim
 
@@ -173,9 +172,9 @@ foreign_call_demands configuration number cores partition core call =
     ∷ record { cause = cause.Woken; holds = WakesHere call.request call.claim.chan number partition.table call.claim.woken } ∷ []
 
 -- a call of one of the partition's own processes, or of another's
-abbrev pub call_demands : Bool → (Service → Bool) → Configuration → ℕ → List CoreState → Partition → ℕ → CallRecord → List {1} Demand
-call_demands true judged configuration number cores partition core call = own_call_demands judged configuration number cores partition core call
-call_demands false judged configuration number cores partition core call = foreign_call_demands configuration number cores partition core call
+abbrev pub call_demands : Bool → Configuration → ℕ → List CoreState → Partition → ℕ → CallRecord → List {1} Demand
+call_demands true configuration number cores partition core call = own_call_demands configuration number cores partition core call
+call_demands false configuration number cores partition core call = foreign_call_demands configuration number cores partition core call
 
 -- a fact about the outcome that is due, where one is
 abbrev pub IfDue : Option Outcome → (Outcome → Type 0) → Type 0
@@ -183,18 +182,18 @@ IfDue None fact = ⊥
 IfDue (Some outcome) fact = fact outcome
 
 -- a partition: its windows, its choices, and the claims of its own calls and returns
-abbrev pub partition_demands : (Service → Bool) → Configuration → ℕ → List CoreState → Partition → ℕ → Body → List {1} Demand
-partition_demands judged configuration number cores partition core (Disp who) =
+abbrev pub partition_demands : Configuration → ℕ → List CoreState → Partition → ℕ → Body → List {1} Demand
+partition_demands configuration number cores partition core (Disp who) =
     record { cause = cause.Choice; holds = InWindowOf number (window_now configuration cores core) (choice_in number core partition.table ≡ who) } ∷ []
-partition_demands judged configuration number cores partition core (Tick woken) =
+partition_demands configuration number cores partition core (Tick woken) =
     record {
       cause = cause.Choice;
       holds = InWindowOf number (window_now configuration cores core) (choice_in number core partition.table ≡ occupant_of cores core);
     }
     ∷ record { cause = cause.Woken; holds = NamesThoseDue number core (time_of cores core + 1) partition.table woken } ∷ []
-partition_demands judged configuration number cores partition core (Call call) =
-    call_demands (nat_eq call.who.part number) judged configuration number cores partition core call
-partition_demands judged configuration number cores partition core (Ret ret) =
+partition_demands configuration number cores partition core (Call call) =
+    call_demands (nat_eq call.who.part number) configuration number cores partition core call
+partition_demands configuration number cores partition core (Ret ret) =
     let due : Option Outcome = due_of (item_at partition.table ret.who.proc) in
     record { cause = cause.Window; holds = window_now configuration cores core ≡ Some number }
     ∷ record { cause = cause.Choice; holds = IsRunning number cores partition.table core ret.who }
@@ -232,22 +231,14 @@ channel_demands configuration now number channel _ = []
 -- local steps
 
 -- what the holder of a part demands of a record that touches it
-abbrev pub demands_judging : (Service → Bool) → Configuration → Part → Ordered → List {1} Demand
-demands_judging judged configuration (ModulePart cores) ordered = module_demands configuration cores ordered.core ordered.rec.body
-demands_judging judged configuration (PartitionPart number cores partition) ordered =
-    partition_demands judged configuration number cores partition ordered.core ordered.rec.body
-demands_judging judged configuration (ChannelPart number times channel) ordered =
+abbrev pub demands : Configuration → Part → Ordered → List {1} Demand
+demands configuration (ModulePart cores) ordered = module_demands configuration cores ordered.core ordered.rec.body
+demands configuration (PartitionPart number cores partition) ordered =
+    partition_demands configuration number cores partition ordered.core ordered.rec.body
+demands configuration (ChannelPart number times channel) ordered =
     channel_demands configuration (time_at times ordered.core) number channel ordered.rec.body
 
 -- the local step: all demands hold, and the part becomes what the record makes of it
-abbrev pub LocalStepJudging : (Service → Bool) → Configuration → Part → Ordered → Part → Type 0
-LocalStepJudging judged configuration old ordered new =
-    AllHold (demands_judging judged configuration old ordered) × (new ≡ part_after configuration old ordered)
-
--- what the holder of a part demands, with the services that are judged today
-abbrev pub demands : Configuration → Part → Ordered → List {1} Demand
-demands configuration old ordered = demands_judging is_built configuration old ordered
-
--- the local step, with the services that are judged today
 abbrev pub LocalStep : Configuration → Part → Ordered → Part → Type 0
-LocalStep configuration old ordered new = LocalStepJudging is_built configuration old ordered new
+LocalStep configuration old ordered new =
+    AllHold (demands configuration old ordered) × (new ≡ part_after configuration old ordered)

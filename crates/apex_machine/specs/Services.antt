@@ -1,13 +1,11 @@
--- Which calls are judged, and what each service gives its caller where no error condition holds.
-use Rattle.std.specs.Prelude.{ℕ, [], ◌∷◌, Option, Some, None, Bool, true, false, ℤ, pos, not, nat_eq, ◌&&◌, ◌||◌, if◌then◌else◌}
+-- Which calls stand within the profile, and what each service gives its caller, where no error condition holds.
+use Rattle.std.specs.Prelude.{ℕ, [], ◌∷◌, Option, Some, None, Bool, true, ℤ, pos, not, nat_eq, ◌&&◌, if◌then◌else◌}
 use Rattle.apex_types.specs.declared.record.Who.{Who}
 use Rattle.apex_types.specs.declared.request.Request.{Request}
 use Rattle.apex_types.specs.declared.request.Request.TheVariants as request
-use Rattle.apex_types.specs.declared.service.Service.{Service}
-use Rattle.apex_types.specs.declared.service.Service.TheVariants as service
 use Rattle.apex_machine.specs.declared.state.Process.{Process}
 pub use Rattle.apex_machine.specs.Answer.{Answer, HasValue, Value, Nothing, Number, NewNumber, NamesExactly, done, done_with, never, waiting}
-pub use Rattle.apex_machine.specs.Arguments.{is_aperiodic, is_number, is_over, natural_of}
+pub use Rattle.apex_machine.specs.Arguments.{is_number, is_over, natural_of}
 use Rattle.apex_machine.specs.Answer.{waking}
 use Rattle.apex_machine.specs.Arguments.{is_normal_mode}
 use Rattle.apex_machine.specs.Conditions.{of_caller, owns_mutex}
@@ -18,33 +16,21 @@ use Rattle.apex_machine.specs.Waiting.{first_waiter}
 
 -- the profile
 
--- the services that are judged today; a call of any other stands outside the profile
-abbrev pub is_built : Service → Bool
-is_built service.CreateSamplingPort = false
-is_built service.WriteSamplingMessage = false
-is_built service.ReadSamplingMessage = false
-is_built service.CreateQueuingPort = false
-is_built service.SendQueuingMessage = false
-is_built service.ReceiveQueuingMessage = false
-is_built _ = true
-
 -- whether a process waits for a mutex
 abbrev pub waits_for_mutex : Table → ℕ → Bool
 waits_for_mutex table number = of_caller (λ process. is_for_mutex process.wait) (item_at table number)
 
--- where no error condition holds, these stand outside the profile, for any services that are judged: a periodic process,
--- unless PERIODIC_WAIT is judged; a stop of a mutex's owner, or of the initialising process by itself; SUSPEND and
--- SET_PRIORITY of a process that owns a mutex or waits for one; and a mode other than NORMAL
-abbrev pub in_profile : (Service → Bool) → Who → Partition → Request → Bool
-in_profile judged who partition (request.CreateProcess name priority period) = is_aperiodic period || judged service.PeriodicWait
-in_profile judged who partition (request.Stop process) = not (owns_mutex partition.mutexes (natural_of process))
-in_profile judged who partition request.StopSelf = not (nat_eq who.proc 0) && not (owns_mutex partition.mutexes who.proc)
-in_profile judged who partition (request.Suspend process) =
+-- where no error condition holds, these stand outside the profile: a stop of a mutex's owner, or of the initialising process by
+-- itself; SUSPEND and SET_PRIORITY of a process that owns a mutex or waits for one; and a mode other than NORMAL
+abbrev pub in_profile : Who → Partition → Request → Bool
+in_profile who partition (request.Stop process) = not (owns_mutex partition.mutexes (natural_of process))
+in_profile who partition request.StopSelf = not (nat_eq who.proc 0) && not (owns_mutex partition.mutexes who.proc)
+in_profile who partition (request.Suspend process) =
     not (owns_mutex partition.mutexes (natural_of process)) && not (waits_for_mutex partition.table (natural_of process))
-in_profile judged who partition (request.SetPriority process priority) =
+in_profile who partition (request.SetPriority process priority) =
     not (owns_mutex partition.mutexes (natural_of process)) && not (waits_for_mutex partition.table (natural_of process))
-in_profile judged who partition (request.SetPartitionMode mode) = is_normal_mode mode
-in_profile judged who partition _ = true
+in_profile who partition (request.SetPartitionMode mode) = is_normal_mode mode
+in_profile who partition _ = true
 
 -- what the caller gets
 

@@ -1,5 +1,4 @@
 -- A step of the machine: what a record must claim, and the state that it then leads to. A run is one step after another.
--- Each is said for any services that are judged, and then for those of today.
 use Rattle.std.specs.Prelude.{◌≡◌, ◌⊎◌, ℕ, ◌+◌, ◌≤◌, List, [], ◌∷◌, Option, Some, None, Bool, IsTrue}
 use Rattle.apex_types.specs.declared.code.Code.{Code}
 use Rattle.apex_types.specs.declared.record.Body.{Body}
@@ -12,8 +11,6 @@ use Rattle.apex_types.specs.declared.record.Out.TheVariants as out
 use Rattle.apex_types.specs.declared.record.Return.{Return}
 use Rattle.apex_types.specs.declared.record.Who.{Who}
 use Rattle.apex_types.specs.declared.request.Request.{Request}
-use Rattle.apex_types.specs.declared.service.Service.{Service}
-use Rattle.apex_types.specs.Requested.{service_of}
 use Rattle.apex_machine.specs.declared.state.CoreState.{CoreState}
 use Rattle.apex_machine.specs.declared.state.Outcome.{Outcome}
 use Rattle.apex_machine.specs.declared.state.Process.{Process}
@@ -24,7 +21,7 @@ use Rattle.apex_machine.specs.Configuration.{Configuration, has_partition}
 use Rattle.apex_machine.specs.DueTimes.{NamesThoseDue}
 use Rattle.apex_machine.specs.Ports.{channel_effect, channel_of, suits_use, use_of}
 use Rattle.apex_machine.specs.ServiceConditions.{condition_codes}
-use Rattle.apex_machine.specs.Services.{Answer, HasValue, NamesExactly, answer_of, in_profile, is_built}
+use Rattle.apex_machine.specs.Services.{Answer, HasValue, NamesExactly, answer_of, in_profile}
 use Rattle.apex_machine.specs.State.{Channel, Partition, State, item_at, time_of, occupant_of}
 
 -- names
@@ -116,10 +113,9 @@ abbrev pub WhereNone : List Code → Type 0 → Type 0
 WhereNone [] Demanded = Demanded
 WhereNone (code ∷ codes) Demanded = Unit {0}
 
--- the call's service is judged, and where no error condition holds the call is within the profile
-abbrev pub IsWithinProfile : (Service → Bool) → List Code → Who → Partition → Request → Type 0
-IsWithinProfile judged codes who partition request =
-    IsTrue (judged (service_of request)) × WhereNone codes (IsTrue (in_profile judged who partition request))
+-- where no error condition holds, the call is within the profile
+abbrev pub IsWithinProfile : List Code → Who → Partition → Request → Type 0
+IsWithinProfile codes who partition request = WhereNone codes (IsTrue (in_profile who partition request))
 
 -- what a channel answers to a call at this time of the caller's core
 abbrev pub channel_answer : Configuration → ℕ → Request → (ℕ → Channel) → ℕ → Answer
@@ -146,12 +142,12 @@ pub record IsLawfulTick (configuration : Configuration) (state : State) (core : 
 
 -- a call comes from the occupant, which is the choice and to which no outcome is due; it claims its current priority and
 -- an outcome that the service can have
-pub record IsLawfulCall (judged : Service → Bool) (configuration : Configuration) (state : State) (core : ℕ) (call : CallRecord) : Type 0 where
+pub record IsLawfulCall (configuration : Configuration) (state : State) (core : ℕ) (call : CallRecord) : Type 0 where
   pub names : IsTrue (has_partition configuration call.who.part) × AllConfigured configuration call.claim.woken × ChannelConfigured configuration call.claim.chan
   pub occupant : occupant_of state.cores core ≡ Some call.who
   pub choice : choice configuration state core ≡ Some call.who
   pub due : HasNoneDue (item_at (state.partitions call.who.part).table call.who.proc)
-  pub profile : IsWithinProfile judged (condition_codes configuration call.who (state.partitions call.who.part) call.request)
+  pub profile : IsWithinProfile (condition_codes configuration call.who (state.partitions call.who.part) call.request)
       call.who (state.partitions call.who.part) call.request
   pub prio : HasPriority call.claim.prio (item_at (state.partitions call.who.part).table call.who.proc)
   pub outcome : HasOutcome (condition_codes configuration call.who (state.partitions call.who.part) call.request)
@@ -168,34 +164,25 @@ pub record IsLawfulReturn (configuration : Configuration) (state : State) (core 
   pub due : due_of (item_at (state.partitions ret.who.part).table ret.who.proc) ≡ Some (outcome_returned ret)
 
 -- what a record of each kind claims is so
-abbrev pub IsLawfulBody : (Service → Bool) → Configuration → State → ℕ → Body → Type 0
-IsLawfulBody judged configuration state core (Disp who) = IsLawfulDispatch configuration state core who
-IsLawfulBody judged configuration state core (Tick woken) = IsLawfulTick configuration state core woken
-IsLawfulBody judged configuration state core (Call call) = IsLawfulCall judged configuration state core call
-IsLawfulBody judged configuration state core (Ret ret) = IsLawfulReturn configuration state core ret
+abbrev pub IsLawfulBody : Configuration → State → ℕ → Body → Type 0
+IsLawfulBody configuration state core (Disp who) = IsLawfulDispatch configuration state core who
+IsLawfulBody configuration state core (Tick woken) = IsLawfulTick configuration state core woken
+IsLawfulBody configuration state core (Call call) = IsLawfulCall configuration state core call
+IsLawfulBody configuration state core (Ret ret) = IsLawfulReturn configuration state core ret
 
 -- a record is lawful in a state where it stands at the next place and what it claims is so
-pub record IsLawful (judged : Service → Bool) (configuration : Configuration) (state : State) (ordered : Ordered) : Type 0 where
+pub record IsLawful (configuration : Configuration) (state : State) (ordered : Ordered) : Type 0 where
   pub placed : ordered.pos ≡ state.count
-  pub claims : IsLawfulBody judged configuration state ordered.core ordered.rec.body
+  pub claims : IsLawfulBody configuration state ordered.core ordered.rec.body
 
 -- steps and runs
 
 -- the step of a record: it is lawful, and the next state is the one that its claims give
-abbrev pub StepJudging : (Service → Bool) → Configuration → State → Ordered → State → Type 0
-StepJudging judged configuration state ordered next =
-    IsLawful judged configuration state ordered × (next ≡ after configuration state ordered)
+abbrev pub Step : Configuration → State → Ordered → State → Type 0
+Step configuration state ordered next = IsLawful configuration state ordered × (next ≡ after configuration state ordered)
 
 -- one step after another
-abbrev pub RunJudging : (Service → Bool) → Configuration → State → List Ordered → State → Type 0
-RunJudging judged configuration state [] final = final ≡ state
-RunJudging judged configuration state (ordered ∷ others) final =
-    (next : State) × StepJudging judged configuration state ordered next × RunJudging judged configuration next others final
-
--- a step, with the services that are judged today
-abbrev pub Step : Configuration → State → Ordered → State → Type 0
-Step configuration state ordered next = StepJudging is_built configuration state ordered next
-
--- a run, with the services that are judged today
 abbrev pub Run : Configuration → State → List Ordered → State → Type 0
-Run configuration state records final = RunJudging is_built configuration state records final
+Run configuration state [] final = final ≡ state
+Run configuration state (ordered ∷ others) final =
+    (next : State) × Step configuration state ordered next × Run configuration next others final
