@@ -1,6 +1,7 @@
 -- A reading of the items that are left, beside that of all.
-use Rattle.std.proofs.Common.{◌≡◌, ◌<◌, ◌+◌, ◌++◌, ◌∷◌, [], ℕ, List, Some, Ok, Err, refl, sym, ap, append_assoc, get_or, drop, length}
-use Rattle.std.specs.Prelude.{Result}
+use Rattle.std.proofs.Common.{◌≡◌, ◌<◌, ◌+◌, ◌++◌, ◌∷◌, [], ℕ, List, Some, Ok, Err, refl, sym, ◌∙◌, ap, append_assoc, get_or, drop, length, length-append}
+use Rattle.std.specs.Prelude.{All, Result}
+use Rattle.std.proofs.lemmas.List.Elements.{All-append, All-cons, All-nil}
 use Rattle.std.specs.Result.{result_err}
 use Rattle.toml.specs.Data.{Data}
 use Rattle.toml.specs.View.{view, items_view}
@@ -23,6 +24,39 @@ behind-nothing (Err fault) = refl
 pub behind-more : {A : Type 0} (front : List A) (first : A) (reading : Result (List A) ConfigFault) → behind front (reading >>= (λ rest. Ok (first ∷ rest))) ≡ behind (front ++ first ∷ []) reading
 behind-more front first (Ok rest) = ap (λ all. Ok all) (sym (append_assoc front (first ∷ []) rest))
 behind-more front first (Err fault) = refl
+
+-- what a loop that reads the items of a list keeps after `i` of them: each element has a fact
+pub record KeepsReading {A : Type 0} (P : A → Type 0) (reading : Data → Result A ConfigFault) (values : List Value) (i : ℕ) (found : List A) : Type 0 where
+  pub reads : behind found (each_item reading (items_view (drop i values))) ≡ each_item reading (items_view values)
+  pub as_many : length found ≡ i
+  pub each : All P found
+
+-- a fact of anything
+abbrev pub IsAny : {A : Type 0} → A → Type 0
+IsAny one = Unit {0}
+
+-- an item is read, and the loop goes on
+pub reading-more : {A : Type 0} (P : A → Type 0) (reading : Data → Result A ConfigFault) (values : List Value) (i : ℕ) (found : List A) (value : Value) (first : A)
+    → KeepsReading P reading values i found → i < length values → value ≡ get_or values i value → reading (view value) ≡ Ok first → P first
+    → KeepsReading P reading values (i + 1) (found ++ first ∷ [])
+reading-more P reading values i found value first before below is read here =
+    let cut = items_view-drop values i value below in
+    let more = behind-more found first (each_item reading (items_view (drop (i + 1) values))) in
+    let whole : behind found (each_item reading (items_view (drop i values))) ≡ behind (found ++ first ∷ []) (each_item reading (items_view (drop (i + 1) values))) = rw (cut, ← is, read) more in
+    record {
+      reads = sym whole ∙ before.reads;
+      as_many = length-append found (first ∷ []) ∙ ap (λ n. n + 1) before.as_many;
+      each = All-append P found (first ∷ []) before.each (All-cons P first [] here (All-nil P));
+    }
+
+-- an item is refused, and with it the list
+pub reading-refused : {A : Type 0} (P : A → Type 0) (reading : Data → Result A ConfigFault) (values : List Value) (i : ℕ) (found : List A) (value : Value) (fault : ConfigFault)
+    → KeepsReading P reading values i found → i < length values → value ≡ get_or values i value → reading (view value) ≡ Err fault
+    → each_item reading (items_view values) ≡ Err fault
+reading-refused P reading values i found value fault before below is read =
+    let cut = items_view-drop values i value below in
+    let whole : behind found (each_item reading (items_view (drop i values))) ≡ Err fault = rw (cut, ← is, read) refl in
+    sym before.reads ∙ whole
 
 -- what a loop that judges the items of a list keeps after `i` of them
 pub record KeepsJudging {A : Type 0} (reading : Data → Result A ConfigFault) (values : List Value) (i : ℕ) : Type 0 where

@@ -1,11 +1,14 @@
 -- The items of a list of a table, beside the values that the code goes over.
-use Rattle.std.proofs.Common.{◌≡◌, ◌<◌, ℕ, List, [], ◌∷◌, length, Some, Ok, Bool, ap, refl, arith}
+use Rattle.std.proofs.Common.{◌≡◌, ◌<◌, ◌≤◌, ℕ, List, [], ◌∷◌, length, Some, Ok, Err, Bool, true, false, suc, nat_le, ap, refl, arith}
 use Rattle.std.specs.Prelude.{Option, ◌&&◌}
 use Rattle.std.specs.List.{list_all}
+use Rattle.std.proofs.lemmas.Bool.Decides.{nat_tests}
 use Rattle.toml.specs.Data.{Data}
 use Rattle.toml.specs.View.{view, items_view}
 use Rattle.toml.specs.declared.value.Value.{Value}
-use Rattle.module_config.specs.Keys.{all_items, is_table, list_of}
+use Rattle.module_config.specs.declared.fault.ConfigFault.TheVariants.{OutOfRange}
+use Rattle.module_config.specs.ChannelWalk.{end_in, ends_at}
+use Rattle.module_config.specs.Keys.{all_items, each_item, is_table, item_count, list_of}
 use Rattle.module_config.specs.Walk.{ordered_partitions, partitions_at}
 
 -- each item passes a test where each value does
@@ -18,3 +21,32 @@ pub partitions_at-listed : (count : ℕ) (found : Option Data) (given : Data) (v
     → partitions_at count found ≡ ordered_partitions count (items_view values)
 partitions_at-listed count found given [] is read some = absurd (omega arith)
 partitions_at-listed count found given (value ∷ values) is read some = rw (← is, read) refl
+
+-- how many items there are
+item_count-view : (values : List Value) → item_count (items_view values) ≡ length values
+item_count-view [] = refl
+item_count-view (value ∷ values) = ap (λ n. suc n) (item_count-view values)
+
+-- a list without a table names no ends
+pub ends_at-none : (found : Option Data) (given : Data) (values : List Value) → Some given ≡ found → list_of is_table given ≡ Ok (items_view values) → length values ≡ 0
+    → ends_at found ≡ Err OutOfRange
+ends_at-none found given [] is read none = rw (← is, read) refl
+ends_at-none found given (value ∷ values) is read none = absurd (omega arith)
+
+-- nor does a list of more than 32
+pub ends_at-many : (found : Option Data) (given : Data) (values : List Value) → Some given ≡ found → list_of is_table given ≡ Ok (items_view values) → 32 < length values
+    → ends_at found ≡ Err OutOfRange
+ends_at-many found given [] is read many = absurd (omega arith)
+ends_at-many found given (value ∷ values) is read many =
+    let count = item_count-view (value ∷ values) in
+    let over : nat_le (item_count (items_view (value ∷ values))) 32 ≡ false = grind (arith, nat_tests, count) in
+    rw (← is, read, over) refl
+
+-- a list of 1 to 32 tables is read item by item
+pub ends_at-listed : (found : Option Data) (given : Data) (values : List Value) → Some given ≡ found → list_of is_table given ≡ Ok (items_view values) → 0 < length values → length values ≤ 32
+    → ends_at found ≡ each_item end_in (items_view values)
+ends_at-listed found given [] is read some few = absurd (omega arith)
+ends_at-listed found given (value ∷ values) is read some few =
+    let count = item_count-view (value ∷ values) in
+    let under : nat_le (item_count (items_view (value ∷ values))) 32 ≡ true = grind (arith, nat_tests, count) in
+    rw (← is, read, under) refl

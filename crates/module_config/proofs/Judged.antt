@@ -1,37 +1,43 @@
 -- What a configuration keeps that is not refused.
 use Rattle.std.proofs.Common.{◌≡◌, Some, None, Bool, true, false, not, refl, ◌%◌}
-use Rattle.std.specs.Prelude.{All, AllPairs, if◌then◌else◌}
-use Rattle.toml.specs.Data.{Members}
+use Rattle.std.specs.Prelude.{All, AllPairs, ◌||◌, if◌then◌else◌}
+use Rattle.std.proofs.lemmas.Bool.{or_parts}
+use Rattle.apex_machine.specs.Channels.{channel_numbers}
 use Rattle.apex_machine.specs.Configuration.{Configuration, WindowsAreConfigured}
-use Rattle.module_config.specs.declared.fault.ConfigFault.TheVariants.{TooMany, Duplicate, CoreNotOfPartition, Overlap}
-use Rattle.module_config.specs.Whole.{is_not_served, is_too_large, has_duplicate, are_of_partitions, has_overlap, whole_fault}
+use Rattle.module_config.specs.declared.fault.ConfigFault.TheVariants.{TooMany, Duplicate, CoreNotOfPartition, Overlap, ChannelEnds}
+use Rattle.module_config.specs.Ends.{are_joined}
+use Rattle.module_config.specs.Whole.{are_of_partitions, has_duplicate, has_number_twice, has_overlap, has_port_twice, is_given_twice, is_too_large, whole_fault}
 use Rattle.module_config.specs.Limits.{BeginsNoLater, HasTick, IsOrdered, IsConsistent}
 use Rattle.module_config.proofs.Numbered.{IsRising-from_ordered}
 use Rattle.module_config.proofs.Found.{window_among-found}
 use Rattle.module_config.proofs.Windows.{is_timetable}
 
 -- where nothing is refused, each test went well
-passed : (unserved large twice fit meet : Bool)
-    → (if unserved then Some TooMany else if large then Some TooMany else if twice then Some Duplicate else if not fit then Some CoreNotOfPartition else if meet then Some Overlap else None) ≡ None
-    → (large ≡ false) × (twice ≡ false) × (fit ≡ true) × (meet ≡ false)
-passed true large twice fit meet is = cc
-passed false true twice fit meet is = cc
-passed false false true fit meet is = cc
-passed false false false false meet is = cc
-passed false false false true true is = cc
-passed false false false true false is = (refl, refl, refl, refl)
+passed : (large twice fit meet joined : Bool)
+    → (if large then Some TooMany else if twice then Some Duplicate else if not fit then Some CoreNotOfPartition else if meet then Some Overlap else if not joined then Some ChannelEnds else None) ≡ None
+    → (large ≡ false) × (twice ≡ false) × (fit ≡ true) × (meet ≡ false) × (joined ≡ true)
+passed true twice fit meet joined is = cc
+passed false true fit meet joined is = cc
+passed false false false meet joined is = cc
+passed false false true true joined is = cc
+passed false false true false false is = cc
+passed false false true false true is = (refl, refl, refl, refl, refl)
 
--- a configuration that is not refused is consistent
-pub IsConsistent-from_none : (keys : Members) (configuration : Configuration) → IsOrdered configuration.partitions → AllPairs BeginsNoLater configuration.windows → All HasTick configuration.windows → whole_fault keys configuration ≡ None → IsConsistent configuration
-IsConsistent-from_none keys configuration ordered by_start ticks none =
-    let (large, twice, fit, meet) = passed (is_not_served keys configuration) (is_too_large configuration) (has_duplicate configuration.partitions)
-    (are_of_partitions configuration.partitions configuration.windows) (has_overlap configuration.windows) none in
+-- a configuration whose parts go together is consistent
+pub IsConsistent-from_none : (configuration : Configuration) → IsOrdered configuration.partitions → AllPairs BeginsNoLater configuration.windows → All HasTick configuration.windows → whole_fault configuration ≡ None → IsConsistent configuration
+IsConsistent-from_none configuration ordered by_start ticks none =
+    let (large, twice, fit, meet, joined) = passed (is_too_large configuration) (is_given_twice configuration)
+    (are_of_partitions configuration.partitions configuration.windows) (has_overlap configuration.windows) (are_joined configuration) none in
+    let given = (or_parts (has_duplicate configuration.partitions || has_number_twice (channel_numbers configuration)) (has_port_twice configuration) twice).0 in
+    let numbers = (or_parts (has_duplicate configuration.partitions) (has_number_twice (channel_numbers configuration)) given).0 in
     record {
       not_too_large = large;
-      rising = IsRising-from_ordered configuration.partitions ordered twice;
+      once = twice;
+      rising = IsRising-from_ordered configuration.partitions ordered numbers;
       of_partitions = fit;
       apart = meet;
       timetable = is_timetable configuration.windows by_start ticks meet;
+      joined = joined;
     }
 
 -- in a consistent configuration each window is of a configured partition

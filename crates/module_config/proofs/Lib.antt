@@ -8,3 +8,6 @@ pub mod Numbered
 pub mod Windows
 pub mod InWindow
 pub mod Judged
+pub mod Counted
+pub mod Numbers
+pub mod Joined

@@ -1,9 +1,8 @@
 -- The configuration that a value of the code holds.
-use Rattle.std.specs.Prelude.{[]}
 use Rattle.apex_machine.specs.Configuration.{Configuration}
 use Rattle.module_config.specs.declared.config.Config.TheInside.{Inside}
 
--- the fields of a configuration in the code as one of the definitions; no channel is held yet
+-- the fields of a configuration in the code as one of the definitions
 abbrev pub held_in : Inside → Configuration
 held_in config = record {
   cores = config.cores;
@@ -11,6 +10,6 @@ held_in config = record {
   skew = config.skew;
   partitions = config.partitions.items;
   windows = config.windows.items;
-  sampling = [];
-  queuing = [];
+  sampling = config.sampling.items;
+  queuing = config.queuing.items;
 }

@@ -1,7 +1,11 @@
 -- How the value under one key is read: it is missing, has the wrong type, is out of range, or is taken.
-use Rattle.std.specs.Prelude.{◌≡◌, ◌≢◌, ℕ, List, [], ◌∷◌, Option, Some, None, Result, Ok, Err, Bool, true, false, ◌&&◌, nat_le, pos, negsuc, if◌then◌else◌}
-use Rattle.toml.specs.Data.{Data, integer, array, table, Items, no_items, item}
-use Rattle.apex_types.specs.Bounds.{greatest_span}
+use Rattle.std.specs.Prelude.{◌≡◌, ◌≢◌, ℕ, suc, List, [], ◌∷◌, length, Option, Some, None, Result, Ok, Err, Bool, true, false, ◌&&◌, nat_le, pos, negsuc, codes, if◌then◌else◌}
+use Rattle.std.specs.List.{list_all}
+use Rattle.std.specs.Str.{bytes_eq}
+use Rattle.toml.specs.Data.{Data, integer, string, array, table, Items, no_items, item}
+use Rattle.apex_types.specs.Bounds.{greatest_span, longest_name}
+use Rattle.apex_types.specs.declared.discipline.Discipline.{Discipline}
+use Rattle.apex_types.specs.declared.discipline.Discipline.TheVariants as discipline
 use Rattle.module_config.specs.declared.fault.ConfigFault.{ConfigFault}
 use Rattle.module_config.specs.declared.fault.ConfigFault.TheVariants.{Missing, WrongType, OutOfRange, Memory}
 
@@ -48,6 +52,42 @@ integer_at least most value = natural_at value >>= within least most
 abbrev pub ticks_at : Option Data → Result ℕ ConfigFault
 ticks_at value = integer_at 1 greatest_span value
 
+-- a string
+abbrev pub text_in : Data → Result (List ℕ) ConfigFault
+text_in (string text) = Ok text
+text_in _ = Err WrongType
+
+-- the string under a key
+abbrev pub text_at : Option Data → Result (List ℕ) ConfigFault
+text_at value = required value >>= text_in
+
+-- a byte of printable ASCII
+abbrev pub is_printable : ℕ → Bool
+is_printable byte = nat_le 0x20 byte && nat_le byte 0x7E
+
+-- a text of 1 to 32 bytes, all printable
+abbrev pub is_name : List ℕ → Bool
+is_name text = nat_le 1 (length text) && (nat_le (length text) longest_name && list_all is_printable text)
+
+-- a name
+abbrev pub name_in : List ℕ → Result (List ℕ) ConfigFault
+name_in text = if is_name text then Ok text else Err OutOfRange
+
+-- the name under a key
+abbrev pub name_at : Option Data → Result (List ℕ) ConfigFault
+name_at value = text_at value >>= name_in
+
+-- the discipline of this name
+abbrev pub discipline_in : List ℕ → Result Discipline ConfigFault
+discipline_in text =
+    if bytes_eq text (codes "FIFO") then Ok discipline.Fifo
+    else if bytes_eq text (codes "PRIORITY") then Ok discipline.Priority
+    else Err OutOfRange
+
+-- the discipline under a key
+abbrev pub discipline_at : Option Data → Result Discipline ConfigFault
+discipline_at value = text_at value >>= discipline_in
+
 -- the value is an integer
 abbrev pub is_integer : Data → Bool
 is_integer (integer number) = true
@@ -73,7 +113,21 @@ abbrev pub at_least_one : Items → Result Items ConfigFault
 at_least_one no_items = Err OutOfRange
 at_least_one (item value items) = Ok (item value items)
 
+-- how many items a list has
+abbrev pub item_count : Items → ℕ
+item_count no_items = 0
+item_count (item value items) = suc (item_count items)
+
+-- a list with this many items at most
+abbrev pub at_most : ℕ → Items → Result Items ConfigFault
+at_most most items = if nat_le (item_count items) most then Ok items else Err OutOfRange
+
 -- what each item of a list is read as, in turn
 abbrev pub each_item : {A : Type 0} → (Data → Result A ConfigFault) → Items → Result (List A) ConfigFault
 each_item reading no_items = Ok []
 each_item reading (item value items) = reading value >>= (λ first. each_item reading items >>= (λ rest. Ok (first ∷ rest)))
+
+-- the tables of the list under a key; without the key there is none
+abbrev pub tables_at : Option Data → Result Items ConfigFault
+tables_at None = Ok no_items
+tables_at (Some value) = list_of is_table value

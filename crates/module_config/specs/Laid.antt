@@ -1,5 +1,4 @@
 -- The configuration that a layout holds.
-use Rattle.std.specs.Prelude.{[]}
 use Rattle.apex_machine.specs.Configuration.{Configuration}
 use Rattle.module_config.specs.declared.layout.Layout.{Layout}
 
@@ -11,6 +10,6 @@ laid_out layout = record {
   skew = layout.skew;
   partitions = layout.partitions.items;
   windows = layout.windows.items;
-  sampling = [];
-  queuing = [];
+  sampling = layout.sampling.items;
+  queuing = layout.queuing.items;
 }

@@ -1,6 +1,9 @@
 pub mod Keys
 pub mod Order
+pub mod Ports
+pub mod ChannelWalk
 pub mod Walk
+pub mod Ends
 pub mod Whole
 pub mod WindowLaw
 pub mod Reading

@@ -1,8 +1,9 @@
 -- What each configuration keeps.
-use Rattle.std.specs.Prelude.{◌≡◌, ℕ, ◌+◌, ◌≤◌, ◌<◌, List, [], length, map, All, AllPairs, IsTrue, true, false}
-use Rattle.apex_types.specs.Bounds.{greatest_partition, greatest_span, most_cores, most_processes}
-use Rattle.apex_machine.specs.Configuration.{Configuration, PartitionLimits, Window, has_core, limits_of}
-use Rattle.module_config.specs.Whole.{is_too_large, are_of_partitions, has_overlap}
+use Rattle.std.specs.Prelude.{◌≡◌, ℕ, ◌+◌, ◌≤◌, ◌<◌, List, length, map, All, AllPairs, IsTrue, true, false}
+use Rattle.apex_types.specs.Bounds.{greatest_channel, greatest_partition, greatest_span, longest_message, most_cores, most_messages, most_processes}
+use Rattle.apex_machine.specs.Configuration.{Configuration, PartitionLimits, QueuingChannel, SamplingChannel, Window, has_core, limits_of}
+use Rattle.module_config.specs.Ends.{are_joined}
+use Rattle.module_config.specs.Whole.{are_of_partitions, has_overlap, is_given_twice, is_too_large}
 
 -- a partition's number, period and processes are within their limits
 pub record AreLimits (number period processes : ℕ) : Type 0 where
@@ -37,6 +38,22 @@ HasTick window = 1 ≤ window.span
 abbrev pub AreCoresOf : ℕ → PartitionLimits → Type 0
 AreCoresOf count limits = All (λ core. core < count) limits.cores
 
+-- a sampling channel's number, size and refresh period are within their limits
+pub record AreSamplingLimits (channel : SamplingChannel) : Type 0 where
+  pub number_most : channel.number ≤ greatest_channel
+  pub size_least : 1 ≤ channel.size
+  pub size_most : channel.size ≤ longest_message
+  pub refresh_least : 1 ≤ channel.refresh
+  pub refresh_most : channel.refresh ≤ greatest_span
+
+-- a queuing channel's number, size and capacity are within their limits
+pub record AreQueuingLimits (channel : QueuingChannel) : Type 0 where
+  pub number_most : channel.number ≤ greatest_channel
+  pub size_least : 1 ≤ channel.size
+  pub size_most : channel.size ≤ longest_message
+  pub capacity_least : 1 ≤ channel.capacity
+  pub capacity_most : channel.capacity ≤ most_messages
+
 -- the numbers of a configuration are within their limits
 pub record IsWithinLimits (configuration : Configuration) : Type 0 where
   pub cores_least : 1 ≤ configuration.cores
@@ -47,24 +64,24 @@ pub record IsWithinLimits (configuration : Configuration) : Type 0 where
   pub skew_most : configuration.skew ≤ greatest_span
   pub some_partition : 1 ≤ length configuration.partitions
   pub own_cores : All (AreCoresOf configuration.cores) configuration.partitions
+  pub sampling : All AreSamplingLimits configuration.sampling
+  pub queuing : All AreQueuingLimits configuration.queuing
 
 -- each core of a partition is one of the module's
 abbrev pub CoresAreOfModule : Configuration → Type 0
 CoresAreOfModule configuration = (number core : ℕ) → IsTrue (has_core core (limits_of configuration number)) → core < configuration.cores
 
--- no channel is configured
-pub record HasNoChannel (configuration : Configuration) : Type 0 where
-  pub sampling : configuration.sampling ≡ []
-  pub queuing : configuration.queuing ≡ []
-
--- the parts of a configuration go together: no number twice, each window on a core of its
--- partition, no overlap; the windows stand by core and start, each before those that begin after its end
+-- the parts of a configuration go together: no number and no port twice, each window on a core of its
+-- partition, no overlap, each channel between partitions; the windows stand by core and start, each before
+-- those that begin after its end
 pub record IsConsistent (configuration : Configuration) : Type 0 where
   pub not_too_large : is_too_large configuration ≡ false
+  pub once : is_given_twice configuration ≡ false
   pub rising : IsRising configuration.partitions
   pub of_partitions : are_of_partitions configuration.partitions configuration.windows ≡ true
   pub apart : has_overlap configuration.windows ≡ false
   pub timetable : AllPairs EndsBefore configuration.windows
+  pub joined : are_joined configuration ≡ true
 
 -- the numbers of the partitions, in the order of the configuration
 abbrev pub partition_numbers : Configuration → List ℕ

@@ -22,7 +22,7 @@ unless_refused (Some fault) configuration = Err fault
 
 -- what a table configures: the walk over its keys, and then the judgement over the whole
 abbrev pub configuration_under : Members → Result Configuration ConfigFault
-configuration_under keys = walk keys >>= (λ configuration. unless_refused (whole_fault keys configuration) configuration)
+configuration_under keys = walk keys >>= (λ configuration. unless_refused (whole_fault configuration) configuration)
 
 -- what a document configures, where the text is one
 abbrev pub configuration_in : Option Members → Result Configuration ConfigFault

@@ -1,11 +1,12 @@
 -- What a table configures: a walk over its keys in a fixed order, which ends at the first refusal.
-use Rattle.std.specs.Prelude.{ℕ, ◌+◌, ◌-◌, List, [], ◌∷◌, Option, Some, None, Result, Ok, Err, pos, nat_le, nat_lt, ◌&&◌, if◌then◌else◌, codes}
+use Rattle.std.specs.Prelude.{ℕ, ◌+◌, ◌-◌, List, [], ◌∷◌, Option, Result, Ok, Err, pos, nat_le, nat_lt, ◌&&◌, if◌then◌else◌, codes}
 use Rattle.toml.specs.Data.{Data, integer, table, Items, no_items, item, Members, get_member}
 use Rattle.apex_types.specs.Bounds.{greatest_partition, most_cores, most_objects, most_processes}
 use Rattle.apex_machine.specs.Configuration.{Configuration, PartitionLimits, Window}
 use Rattle.module_config.specs.declared.fault.ConfigFault.{ConfigFault}
 use Rattle.module_config.specs.declared.fault.ConfigFault.TheVariants.{WrongType, OutOfRange}
-use Rattle.module_config.specs.Keys.{◌>>=◌, integer_at, natural_at, ticks_at, required, is_integer, is_table, list_of, at_least_one, each_item}
+use Rattle.module_config.specs.ChannelWalk.{queuing_at, sampling_at}
+use Rattle.module_config.specs.Keys.{◌>>=◌, integer_at, natural_at, ticks_at, required, is_integer, is_table, list_of, at_least_one, each_item, tables_at}
 use Rattle.module_config.specs.Order.{in_order, stands_before, begins_before}
 
 -- the next core of a partition's list: above those before it, and one that the module has
@@ -85,10 +86,9 @@ ordered_windows count frame items = each_item (window_in count frame) items >>= 
 
 -- the windows: a list of tables; without the key there is none
 abbrev pub windows_at : ℕ → ℕ → Option Data → Result (List Window) ConfigFault
-windows_at count frame None = Ok []
-windows_at count frame (Some value) = list_of is_table value >>= ordered_windows count frame
+windows_at count frame value = tables_at value >>= ordered_windows count frame
 
--- what a table configures, each key judged by itself; keys of other names say nothing, and no channel is configured yet
+-- what a table configures, each key judged by itself; the channels stand in the order of the text; keys of other names say nothing
 abbrev pub walk : Members → Result Configuration ConfigFault
 walk keys =
     integer_at 1 most_cores (get_member (codes "cores") keys) >>= (λ cores.
@@ -96,4 +96,14 @@ walk keys =
     ticks_at (get_member (codes "skew") keys) >>= (λ skew.
     partitions_at cores (get_member (codes "partition") keys) >>= (λ partitions.
     windows_at cores frame (get_member (codes "window") keys) >>= (λ windows.
-    Ok (record { cores = cores; frame = frame; skew = skew; partitions = partitions; windows = windows; sampling = []; queuing = [] }))))))
+    sampling_at (get_member (codes "sampling") keys) >>= (λ sampling.
+    queuing_at (get_member (codes "queuing") keys) >>= (λ queuing.
+    Ok (record {
+      cores = cores;
+      frame = frame;
+      skew = skew;
+      partitions = partitions;
+      windows = windows;
+      sampling = sampling;
+      queuing = queuing;
+    }))))))))

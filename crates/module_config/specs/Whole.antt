@@ -1,27 +1,58 @@
 -- What is refused over the whole of a configuration, once each key has been read.
-use Rattle.std.specs.Prelude.{◌+◌, List, [], ◌∷◌, length, Option, Some, None, is_some, Bool, false, not, ◌&&◌, ◌||◌, nat_eq, nat_lt, if◌then◌else◌, codes}
+use Rattle.std.specs.Prelude.{ℕ, ◌+◌, List, [], ◌∷◌, length, Option, Some, None, is_some, Bool, false, not, ◌&&◌, ◌||◌, nat_eq, nat_lt, if◌then◌else◌}
 use Rattle.std.specs.List.{list_any, list_all}
-use Rattle.toml.specs.Data.{Members, get_member}
 use Rattle.apex_types.specs.Bounds.{most_partitions, most_windows}
+use Rattle.apex_machine.specs.Channels.{channel_numbers}
 use Rattle.apex_machine.specs.Configuration.{Configuration, PartitionLimits, Window, has_core, limits_among}
+use Rattle.module_config.specs.declared.ends.Likeness.TheVariants as by
 use Rattle.module_config.specs.declared.fault.ConfigFault.{ConfigFault}
-use Rattle.module_config.specs.declared.fault.ConfigFault.TheVariants.{TooMany, Duplicate, CoreNotOfPartition, Overlap}
+use Rattle.module_config.specs.declared.fault.ConfigFault.TheVariants.{TooMany, Duplicate, CoreNotOfPartition, Overlap, ChannelEnds}
+use Rattle.module_config.specs.Ends.{are_joined, are_too_many, ends_of, queuing_ends, sampling_ends}
 
--- what is not served yet: a second partition, and ports
-abbrev pub is_not_served : Members → Configuration → Bool
-is_not_served keys configuration =
-    nat_lt 1 (length configuration.partitions)
-    || is_some (get_member (codes "sampling") keys)
-    || is_some (get_member (codes "queuing") keys)
+-- a module has at most this many channels
+abbrev pub most_channels : ℕ
+most_channels = 256
 
--- more than 32 partitions, or more than 4,096 windows
+-- a partition has at most this many ports of each kind
+abbrev pub most_ports : ℕ
+most_ports = 64
+
+-- more than 256 channels, of both kinds together
+abbrev pub has_many_channels : Configuration → Bool
+has_many_channels configuration = nat_lt most_channels (length configuration.sampling + length configuration.queuing)
+
+-- a partition has more than 64 sampling ports, or more than 64 queuing ports
+abbrev pub has_many_ports : Configuration → Bool
+has_many_ports configuration =
+    are_too_many by.Partition most_ports (sampling_ends configuration.sampling)
+    || are_too_many by.Partition most_ports (queuing_ends configuration.queuing)
+
+-- more than 32 partitions, 4,096 windows, 256 channels or a partition's 64 ports of a kind
 abbrev pub is_too_large : Configuration → Bool
-is_too_large configuration = nat_lt most_partitions (length configuration.partitions) || nat_lt most_windows (length configuration.windows)
+is_too_large configuration =
+    nat_lt most_partitions (length configuration.partitions)
+    || nat_lt most_windows (length configuration.windows)
+    || has_many_channels configuration
+    || has_many_ports configuration
 
 -- two partitions have one number
 abbrev pub has_duplicate : List PartitionLimits → Bool
 has_duplicate [] = false
 has_duplicate (limits ∷ others) = is_some (limits_among limits.number others) || has_duplicate others
+
+-- a number stands twice in a list
+abbrev pub has_number_twice : List ℕ → Bool
+has_number_twice [] = false
+has_number_twice (number ∷ numbers) = list_any (nat_eq number) numbers || has_number_twice numbers
+
+-- two ends of channels are one port
+abbrev pub has_port_twice : Configuration → Bool
+has_port_twice configuration = are_too_many by.Port 1 (ends_of configuration.sampling configuration.queuing)
+
+-- a partition's number, a channel's number or a partition's port name is given twice; of channels over both kinds
+abbrev pub is_given_twice : Configuration → Bool
+is_given_twice configuration =
+    has_duplicate configuration.partitions || has_number_twice (channel_numbers configuration) || has_port_twice configuration
 
 -- the window's partition is configured, and the window's core is one of its cores
 abbrev pub is_of_partition : List PartitionLimits → Window → Bool
@@ -43,14 +74,11 @@ has_overlap [] = false
 has_overlap (window ∷ windows) = list_any (shares_tick window) windows || has_overlap windows
 
 -- the first refusal of a configuration whose parts do not go together, if there is one
-abbrev pub consistency_fault : Configuration → Option ConfigFault
-consistency_fault configuration =
+abbrev pub whole_fault : Configuration → Option ConfigFault
+whole_fault configuration =
     if is_too_large configuration then Some TooMany
-    else if has_duplicate configuration.partitions then Some Duplicate
+    else if is_given_twice configuration then Some Duplicate
     else if not (are_of_partitions configuration.partitions configuration.windows) then Some CoreNotOfPartition
     else if has_overlap configuration.windows then Some Overlap
+    else if not (are_joined configuration) then Some ChannelEnds
     else None
-
--- the first refusal over the whole of a table that is this configuration, if there is one
-abbrev pub whole_fault : Members → Configuration → Option ConfigFault
-whole_fault keys configuration = if is_not_served keys configuration then Some TooMany else consistency_fault configuration

@@ -3,24 +3,28 @@
 ghost use Rattle.std.specs.Prelude.{◌≡◌, ◌≤◌, ◌<◌, ◌%◌, ◌↔◌, All, AllPairs, IfOk, IfErr, IfSome, Bool, true, length, slice_index};
 ghost use Rattle.toml.specs.Errors.{IsMemory};
 ghost use Rattle.toml.specs.View.{table_view};
+ghost use Rattle.apex_machine.specs.Channels.{EndsAreApart};
 ghost use Rattle.apex_machine.specs.Configuration.{PartitionLimits, window_at, has_partition, WindowsAreConfigured, first_core, object_limit, process_limit, period_of, is_core};
-ghost use Rattle.apex_machine.specs.Channels.{has_channel};
 ghost use Rattle.module_config.specs.declared.fault.ConfigFault.TheVariants.{Memory, NotToml, TooMany};
 ghost use Rattle.module_config.specs.Keys.{Gives};
 ghost use Rattle.module_config.specs.Reading.{configuration_of, configuration_under, unless_refused};
 ghost use Rattle.module_config.specs.Walk.{walk};
-ghost use Rattle.module_config.specs.Limits.{partition_numbers, BeginsNoLater, CoresAreOfModule, HasNoChannel, HasTick, IsConsistent, IsOrdered, IsWithinLimits};
+ghost use Rattle.module_config.specs.Limits.{partition_numbers, BeginsNoLater, CoresAreOfModule, HasTick, IsConsistent, IsOrdered, IsWithinLimits};
 ghost use Rattle.module_config.specs.Laid.{laid_out};
 ghost use Rattle.module_config.specs.Order.{windows_begun};
 ghost use Rattle.module_config.specs.Whole.{whole_fault};
 
+use crate::counts::{MOST_CHANNELS, channel_numbers};
 use crate::fault::ConfigFault;
 use crate::layout::{Layout, read_layout};
 use crate::partition::Partition;
+use crate::queuing::QueuedChannel;
+use crate::sampling::SampledChannel;
 use crate::timetable::{begun_near, window_among};
 use crate::whole::{find_partition, whole_fault};
 use crate::window::TimeWindow;
-use apex_types::{ChanId, CoreId, PartId};
+use apex_types::{CoreId, PartId};
+use arrayvec::ArrayVec;
 use std::alloc::Global;
 use std::marker::Model;
 use toml::Table;
@@ -29,14 +33,18 @@ use toml::de::Error;
 /// The most bytes that a configuration's text may have.
 const LONGEST_TEXT: usize = 1_048_576;
 
-/// The configuration of a module: its cores, major frame and skew, its partitions and their windows.
+/// The configuration of a module: its cores, major frame and skew, its partitions and their windows, its channels and
+/// their numbers in rising order.
 #[derive(Debug, Drop)]
 pub struct Config {
-    cores: u8,
+    pub(crate) cores: u8,
     frame: u64,
     skew: u64,
     partitions: Vec<Partition>,
     windows: Vec<TimeWindow>,
+    pub(crate) sampling: Vec<SampledChannel>,
+    pub(crate) queuing: Vec<QueuedChannel>,
+    pub(crate) numbers: ArrayVec<u16, MOST_CHANNELS>,
 }
 
 impl Model for Config {
@@ -44,12 +52,14 @@ impl Model for Config {
 
     ghost Value = { Configuration };
 
-    ghost use Rattle.module_config.specs.Limits.{IsWithinLimits, IsConsistent};
+    ghost use Rattle.std.specs.Prelude.{◌≡◌};
+    ghost use Rattle.apex_machine.specs.Channels.{channel_numbers};
+    ghost use Rattle.module_config.specs.Limits.{IsConsistent, IsWithinLimits};
     ghost use Rattle.module_config.specs.Held.{held_in};
 
     ghost view = { held_in };
 
-    ghost invariant = { λ config. IsWithinLimits (held_in config) × IsConsistent (held_in config) };
+    ghost invariant = { λ config. IsWithinLimits (held_in config) × IsConsistent (held_in config) × (config.numbers.items ≡ channel_numbers (held_in config)) };
 }
 
 impl Config {
@@ -78,27 +88,30 @@ impl Config {
         ensures windows { IfOk result WindowsAreConfigured }
     {
         let layout = read_layout(alloc, keys)?;
-        Config::from_layout(keys, layout)
+        Config::from_layout(layout)
     }
 
-    // The configuration that a table lays out so, where its parts go together.
-    fn from_layout(keys: &Table, layout: Layout) -> Result<Config, ConfigFault>
+    // The configuration that a layout is, where its parts go together.
+    fn from_layout(layout: Layout) -> Result<Config, ConfigFault>
         requires limits { IsWithinLimits (laid_out layout) }
         requires ordered { IsOrdered layout.partitions.items }
         requires by_start { AllPairs BeginsNoLater layout.windows.items }
         requires some_tick { All HasTick layout.windows.items }
-        ensures value { result ≡ unless_refused (whole_fault (table_view keys.now) (laid_out layout)) (laid_out layout) }
+        ensures value { result ≡ unless_refused (whole_fault (laid_out layout)) (laid_out layout) }
         ensures windows { IfOk result WindowsAreConfigured }
     {
-        if let Some(fault) = whole_fault(keys, &layout) {
+        if let Some(fault) = whole_fault(&layout) {
             return Err(fault);
         }
+        let numbers = channel_numbers(&layout);
         let Layout {
             cores,
             frame,
             skew,
             partitions,
             windows,
+            sampling,
+            queuing,
         } = layout;
         Ok(Config {
             cores,
@@ -106,18 +119,21 @@ impl Config {
             skew,
             partitions,
             windows,
+            sampling,
+            queuing,
+            numbers,
         })
     }
 
     /// Tells what every configuration keeps: its limits; partitions in rising order, windows of configured partitions
     /// that share no tick; so that each window is a configured partition's, and each core of a partition one of the
-    /// module's. No channel is configured yet. Does nothing.
+    /// module's; no partition at both ends of a queuing channel. Does nothing.
     pub fn keeps_limits(&self)
         ensures limits { IsWithinLimits self.now }
         ensures consistent { IsConsistent self.now }
         ensures windows { WindowsAreConfigured self.now }
         ensures cores { CoresAreOfModule self.now }
-        ensures channels { HasNoChannel self.now }
+        ensures ends { EndsAreApart self.now }
     {
         let _ = &self.cores;
     }
@@ -208,15 +224,6 @@ impl Config {
         ensures { result ≡ has_partition self.now part }
     {
         find_partition(&self.partitions, part).is_some()
-    }
-
-    /// Whether a channel of this number is configured.
-    pub fn has_channel(&self, chan: ChanId) -> bool
-        ensures { result ≡ has_channel self.now chan }
-    {
-        // No configuration has a channel yet, as is known where one of its fields is used.
-        let _ = &self.cores;
-        false
     }
 
     /// The first core of a partition, and core 0 where none of this number is configured.

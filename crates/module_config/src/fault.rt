@@ -24,10 +24,10 @@ pub enum ConfigFault {
     /// A value of the right type is not one that its key may have.
     #[error("a value is out of range")]
     OutOfRange,
-    /// There is more of something than the checker serves: bytes of text, cores, partitions, windows or ports.
+    /// There is more of something than the checker serves: bytes of text, partitions, windows, channels or ports.
     #[error("there is more than is served")]
     TooMany,
-    /// Two partitions have one number.
+    /// Two partitions have one number, or two channels of whatever kind, or a partition has two ports of one name.
     #[error("a number is given twice")]
     Duplicate,
     /// A window's partition is not configured, or does not have the window's core.
@@ -36,7 +36,7 @@ pub enum ConfigFault {
     /// Two windows of one core have a tick in common.
     #[error("two windows of a core overlap")]
     Overlap,
-    /// A channel does not join two configured partitions.
+    /// A channel has an end in a partition that is not configured, or its source and a destination in one partition.
     #[error("a channel does not join two partitions")]
     ChannelEnds,
     /// There is no memory left.

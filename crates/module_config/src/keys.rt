@@ -1,13 +1,18 @@
 // The values under the keys of a table, each judged by itself.
 
-ghost use Rattle.std.specs.Prelude.{◌≡◌, ◌≤◌, IfOk, option_map};
+ghost use Rattle.std.specs.Prelude.{◌≡◌, ◌≤◌, IfOk, length, option_map, true};
 ghost use Rattle.std.specs.List.{list_all};
 ghost use Rattle.toml.specs.Data.{get_member};
 ghost use Rattle.toml.specs.View.{view, table_view, items_view};
-ghost use Rattle.module_config.specs.Keys.{Reads, natural_at, integer_at, ticks_at, is_integer, is_table, all_items, list_of};
+ghost use Rattle.module_config.specs.Keys.{Reads, natural_at, integer_at, ticks_at, text_at, name_at, discipline_at, is_name, is_printable, is_integer, is_table, all_items, list_of, tables_at};
 
 use crate::fault::ConfigFault;
+use apex_types::Discipline;
+use arrayvec::ArrayVec;
 use toml::{Table, Value};
+
+/// The most bytes that a name has.
+pub(crate) const LONGEST_NAME: usize = 32;
 
 /// The value under a key, if the key is there.
 pub(crate) fn member<'a>(table: &'a Table, key: &str) -> Option<&'a Value>
@@ -52,6 +57,78 @@ pub(crate) fn ticks(table: &Table, key: &str) -> Result<u64, ConfigFault>
     ensures most { IfOk result (λ number. number ≤ 4294967295) }
 {
     integer(table, key, 1, 4_294_967_295)
+}
+
+// The string under a key, which must be there.
+fn text<'a>(table: &'a Table, key: &str) -> Result<&'a str, ConfigFault>
+    ensures { Reads (λ text. text.now) result (text_at (get_member key.now (table_view table.now))) }
+{
+    let Some(value) = member(table, key) else {
+        return Err(ConfigFault::Missing);
+    };
+    let Some(text) = value.as_str() else {
+        return Err(ConfigFault::WrongType);
+    };
+    Ok(text)
+}
+
+/// The name under a key, which must be there and have 1 to 32 bytes, all printable ASCII.
+pub(crate) fn name(table: &Table, key: &str) -> Result<ArrayVec<u8, LONGEST_NAME>, ConfigFault>
+    ensures { Reads (λ name. name.items) result (name_at (get_member key.now (table_view table.now))) }
+{
+    let bytes = text(table, key)?.as_bytes();
+    if !is_name(bytes) {
+        return Err(ConfigFault::OutOfRange);
+    }
+    Ok(short_bytes(bytes))
+}
+
+// Whether a text has 1 to 32 bytes, all printable ASCII.
+fn is_name(bytes: &[u8]) -> bool
+    ensures value { result ≡ is_name bytes.now }
+    ensures most { result ≡ true → length bytes.now ≤ LONGEST_NAME }
+{
+    !bytes.is_empty() && bytes.len() <= LONGEST_NAME && are_printable(bytes)
+}
+
+// Whether each byte is printable ASCII.
+fn are_printable(bytes: &[u8]) -> bool
+    ensures { result ≡ list_all is_printable bytes.now }
+{
+    bytes.iter().all(|byte| is_printable(*byte))
+}
+
+// Whether a byte is printable ASCII.
+fn is_printable(byte: u8) -> bool
+    ensures { result ≡ is_printable byte }
+{
+    0x20 <= byte && byte <= 0x7E
+}
+
+// A copy of 32 bytes at most.
+fn short_bytes(bytes: &[u8]) -> ArrayVec<u8, LONGEST_NAME>
+    requires { length bytes.now ≤ LONGEST_NAME }
+    ensures { result.items ≡ bytes.now }
+{
+    let mut copy = ArrayVec::new();
+    for byte in bytes {
+        copy.push(*byte);
+    }
+    copy
+}
+
+/// The discipline under a key, which must be there and be "FIFO" or "PRIORITY".
+pub(crate) fn discipline(table: &Table, key: &str) -> Result<Discipline, ConfigFault>
+    ensures { result ≡ discipline_at (get_member key.now (table_view table.now)) }
+{
+    let name = text(table, key)?;
+    if name == "FIFO" {
+        return Ok(Discipline::Fifo);
+    }
+    if name == "PRIORITY" {
+        return Ok(Discipline::Priority);
+    }
+    Err(ConfigFault::OutOfRange)
 }
 
 /// Whether a value is an integer.
@@ -106,6 +183,16 @@ pub(crate) fn tables<'a>(value: &'a Value) -> Result<&'a [Value], ConfigFault>
         return Err(ConfigFault::WrongType);
     }
     Ok(items)
+}
+
+/// The items of the list of tables under a key; there is none without the key.
+pub(crate) fn tables_under<'a>(table: &'a Table, key: &str) -> Result<&'a [Value], ConfigFault>
+    ensures { Reads (λ items. items_view items.now) result (tables_at (get_member key.now (table_view table.now))) }
+{
+    match member(table, key) {
+        Some(value) => tables(value),
+        None => Ok(&[]),
+    }
 }
 
 fn are_tables(items: &[Value]) -> bool

@@ -14,6 +14,8 @@ ghost use Rattle.module_config.specs.Laid.{laid_out};
 use crate::fault::ConfigFault;
 use crate::keys::{integer, member, tables, ticks};
 use crate::partition::Partition;
+use crate::queuing::{QueuedChannel, queuing_channels, queuing_items};
+use crate::sampling::{SampledChannel, sampling_channels, sampling_items};
 use crate::timetable::{ordered_windows, window_items};
 use crate::window::TimeWindow;
 use apex_types::PartId;
@@ -28,6 +30,8 @@ pub(crate) struct Layout {
     pub(crate) skew: u64,
     pub(crate) partitions: Vec<Partition>,
     pub(crate) windows: Vec<TimeWindow>,
+    pub(crate) sampling: Vec<SampledChannel>,
+    pub(crate) queuing: Vec<QueuedChannel>,
 }
 
 /// Reads what a table configures: each key is judged, in turn, before memory is asked for.
@@ -44,14 +48,20 @@ pub(crate) fn read_layout(alloc: Global, keys: &Table) -> Result<Layout, ConfigF
     let skew = ticks(keys, "skew")?;
     let partition_items = partition_items(keys, cores)?;
     let window_items = window_items(keys, cores, frame)?;
+    let sampling_items = sampling_items(keys)?;
+    let queuing_items = queuing_items(keys)?;
     let partitions = ordered_partitions(alloc, partition_items, cores)?;
     let windows = ordered_windows(alloc, window_items, cores, frame)?;
+    let sampling = sampling_channels(alloc, sampling_items)?;
+    let queuing = queuing_channels(alloc, queuing_items)?;
     Ok(Layout {
         cores,
         frame,
         skew,
         partitions,
         windows,
+        sampling,
+        queuing,
     })
 }
 

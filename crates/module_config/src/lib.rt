@@ -5,13 +5,19 @@
 //! for, so that a refusal of the walk over the keys is answered whatever memory there is.
 #![tactic(auto)]
 
+mod channels;
 mod config;
 mod cores;
+mod counts;
+mod ends;
 mod fault;
 mod keys;
 mod laws;
 mod layout;
 mod partition;
+mod port;
+mod queuing;
+mod sampling;
 mod timetable;
 mod whole;
 mod window;
@@ -19,3 +25,4 @@ mod window;
 pub use config::Config;
 pub use fault::ConfigFault;
 pub use laws::window_at_is_the_sentence;
+pub use port::{ChannelKind, QueuingPort, SamplingPort};

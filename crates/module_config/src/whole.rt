@@ -1,43 +1,33 @@
 // What is refused over the whole of a configuration, once each key has been read.
 
-ghost use Rattle.std.specs.Prelude.{◌≡◌, All, AllPairs, option_map};
-ghost use Rattle.toml.specs.View.{table_view};
+ghost use Rattle.std.specs.Prelude.{◌≡◌, ◌+◌, ◌≤◌, All, AllPairs, false, length, option_map};
 ghost use Rattle.apex_machine.specs.Configuration.{limits_among};
+ghost use Rattle.module_config.specs.Ends.{are_joined};
 ghost use Rattle.module_config.specs.Laid.{laid_out};
 ghost use Rattle.module_config.specs.Limits.{BeginsNoLater, HasTick};
-ghost use Rattle.module_config.specs.Whole.{is_not_served, is_too_large, has_duplicate, is_of_partition, are_of_partitions, consistency_fault, whole_fault};
+ghost use Rattle.module_config.specs.Whole.{is_too_large, has_many_channels, has_many_ports, is_given_twice, has_port_twice, has_duplicate, is_of_partition, are_of_partitions, whole_fault};
 
+use crate::counts::{EndCount, MOST_CHANNELS, channel_numbers, has_number_twice};
+use crate::ends::Likeness;
 use crate::fault::ConfigFault;
-use crate::keys::member;
 use crate::layout::Layout;
 use crate::partition::Partition;
+use crate::queuing::are_queuing_joined;
+use crate::sampling::are_sampling_joined;
 use crate::timetable::has_overlap;
 use crate::window::TimeWindow;
 use apex_types::PartId;
-use toml::Table;
 
-/// The first refusal over the whole of a table that lays out a module so, if there is one.
-pub(crate) fn whole_fault(keys: &Table, layout: &Layout) -> Option<ConfigFault>
+/// The first refusal over the whole of a layout, if there is one: its parts do not go together.
+pub(crate) fn whole_fault(layout: &Layout) -> Option<ConfigFault>
     requires by_start { AllPairs BeginsNoLater layout.now.windows.items }
     requires some_tick { All HasTick layout.now.windows.items }
-    ensures { result ≡ whole_fault (table_view keys.now) (laid_out layout.now) }
-{
-    if is_not_served(keys, layout) {
-        return Some(ConfigFault::TooMany);
-    }
-    consistency_fault(layout)
-}
-
-// The first refusal of a layout whose parts do not go together, if there is one.
-fn consistency_fault(layout: &Layout) -> Option<ConfigFault>
-    requires by_start { AllPairs BeginsNoLater layout.now.windows.items }
-    requires some_tick { All HasTick layout.now.windows.items }
-    ensures { result ≡ consistency_fault (laid_out layout.now) }
+    ensures { result ≡ whole_fault (laid_out layout.now) }
 {
     if is_too_large(layout) {
         return Some(ConfigFault::TooMany);
     }
-    if has_duplicate(&layout.partitions) {
+    if is_given_twice(layout) {
         return Some(ConfigFault::Duplicate);
     }
     if !are_of_partitions(&layout.partitions, &layout.windows) {
@@ -46,23 +36,80 @@ fn consistency_fault(layout: &Layout) -> Option<ConfigFault>
     if has_overlap(&layout.windows) {
         return Some(ConfigFault::Overlap);
     }
+    if !are_joined(layout) {
+        return Some(ConfigFault::ChannelEnds);
+    }
     None
 }
 
-// Whether a table asks for what is not served yet: a second partition, or ports.
-fn is_not_served(keys: &Table, layout: &Layout) -> bool
-    ensures { result ≡ is_not_served (table_view keys.now) (laid_out layout.now) }
-{
-    layout.partitions.len() > 1
-        || member(keys, "sampling").is_some()
-        || member(keys, "queuing").is_some()
-}
-
-// Whether there are more partitions or windows than a module may have.
+// Whether there are more partitions, windows, channels or ports than a module may have.
 fn is_too_large(layout: &Layout) -> bool
     ensures { result ≡ is_too_large (laid_out layout.now) }
 {
-    layout.partitions.len() > 32 || layout.windows.len() > 4096
+    layout.partitions.len() > 32
+        || layout.windows.len() > 4096
+        || has_many_channels(layout)
+        || has_many_ports(layout)
+}
+
+// Whether there are more channels than a module may have.
+fn has_many_channels(layout: &Layout) -> bool
+    ensures { result ≡ has_many_channels (laid_out layout.now) }
+{
+    layout.sampling.len() > MOST_CHANNELS
+        || layout.queuing.len() > MOST_CHANNELS - layout.sampling.len()
+}
+
+// Whether a partition has more ports of a kind than it may have.
+fn has_many_ports(layout: &Layout) -> bool
+    requires { has_many_channels (laid_out layout.now) ≡ false }
+    ensures { result ≡ has_many_ports (laid_out layout.now) }
+{
+    let sampling = EndCount {
+        sampling: &layout.sampling,
+        queuing: &[],
+        likeness: Likeness::Partition,
+        most: 64,
+    };
+    let queuing = EndCount {
+        sampling: &[],
+        queuing: &layout.queuing,
+        likeness: Likeness::Partition,
+        most: 64,
+    };
+    sampling.is_exceeded() || queuing.is_exceeded()
+}
+
+// Whether a partition's number, a channel's number or a partition's port is given twice.
+fn is_given_twice(layout: &Layout) -> bool
+    requires { has_many_channels (laid_out layout.now) ≡ false }
+    ensures { result ≡ is_given_twice (laid_out layout.now) }
+{
+    has_duplicate(&layout.partitions)
+        || has_number_twice(&channel_numbers(layout))
+        || has_port_twice(layout)
+}
+
+// Whether two ends of channels are one port.
+fn has_port_twice(layout: &Layout) -> bool
+    requires { has_many_channels (laid_out layout.now) ≡ false }
+    ensures { result ≡ has_port_twice (laid_out layout.now) }
+{
+    let ports = EndCount {
+        sampling: &layout.sampling,
+        queuing: &layout.queuing,
+        likeness: Likeness::Port,
+        most: 1,
+    };
+    ports.is_exceeded()
+}
+
+// Whether each channel joins configured partitions.
+fn are_joined(layout: &Layout) -> bool
+    ensures { result ≡ are_joined (laid_out layout.now) }
+{
+    are_sampling_joined(&layout.sampling, &layout.partitions)
+        && are_queuing_joined(&layout.queuing, &layout.partitions)
 }
 
 /// The partition of this number, if there is one.

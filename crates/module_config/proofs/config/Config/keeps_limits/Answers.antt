@@ -1,5 +1,6 @@
 use Rattle.module_config.specs.Held.{held_in}
 use Rattle.module_config.proofs.Found.{cores_are_of_module}
+use Rattle.module_config.proofs.Joined.{ends_are_apart}
 use Rattle.module_config.proofs.Judged.{windows_are_configured}
 use Rattle.module_config.proofs.config.Config.keeps_limits.Goals as goal
 
@@ -8,3 +9,6 @@ returns-clause-windows c = rw (← c.self.view_is) (windows_are_configured (held
 
 pub returns-clause-cores : goal.returns-clause-cores
 returns-clause-cores c = rw (← c.self.view_is) (cores_are_of_module (held_in c.self.inside) c.self.invariant.0)
+
+pub returns-clause-ends : goal.returns-clause-ends
+returns-clause-ends c = rw (← c.self.view_is) (ends_are_apart (held_in c.self.inside) c.self.invariant.1.once c.self.invariant.1.joined)

@@ -1,0 +1,68 @@
+-- The ends of the channels, and what is judged of them over the whole.
+use Rattle.std.specs.Prelude.{ℕ, List, [], ◌∷◌, ◌++◌, count_by, Bool, not, ◌&&◌, is_some, nat_eq, nat_lt}
+use Rattle.std.specs.List.{list_all, list_any}
+use Rattle.apex_machine.specs.Channels.{is_port}
+use Rattle.apex_machine.specs.Configuration.{ChannelEnd, Configuration, PartitionLimits, QueuingChannel, SamplingChannel, limits_among}
+use Rattle.module_config.specs.declared.ends.Likeness.{Likeness}
+use Rattle.module_config.specs.declared.ends.Likeness.TheVariants as by
+
+-- the ends of a sampling channel
+abbrev pub sampling_ends_of : SamplingChannel → List ChannelEnd
+sampling_ends_of channel = channel.source ∷ channel.destinations
+
+-- the ends of sampling channels
+abbrev pub sampling_ends : List SamplingChannel → List ChannelEnd
+sampling_ends [] = []
+sampling_ends (channel ∷ channels) = sampling_ends_of channel ++ sampling_ends channels
+
+-- the ends of a queuing channel
+abbrev pub queuing_ends_of : QueuingChannel → List ChannelEnd
+queuing_ends_of channel = channel.source ∷ channel.destination ∷ []
+
+-- the ends of queuing channels
+abbrev pub queuing_ends : List QueuingChannel → List ChannelEnd
+queuing_ends [] = []
+queuing_ends (channel ∷ channels) = queuing_ends_of channel ++ queuing_ends channels
+
+-- the ends of channels of both kinds
+abbrev pub ends_of : List SamplingChannel → List QueuingChannel → List ChannelEnd
+ends_of sampling queuing = sampling_ends sampling ++ queuing_ends queuing
+
+-- an end is alike another: of the same partition, or the same port of it
+abbrev pub is_alike : Likeness → ChannelEnd → ChannelEnd → Bool
+is_alike by.Partition place other = nat_eq other.partition place.partition
+is_alike by.Port place other = is_port place.partition place.port other
+
+-- how many ends are alike this one
+abbrev pub count_alike : Likeness → ChannelEnd → List ChannelEnd → ℕ
+count_alike likeness place places = count_by (is_alike likeness place) places
+
+-- more than this many ends are alike this one
+abbrev pub is_exceeded : Likeness → ℕ → List ChannelEnd → ChannelEnd → Bool
+is_exceeded likeness most places place = nat_lt most (count_alike likeness place places)
+
+-- some end has more than this many alike it, itself among them
+abbrev pub are_too_many : Likeness → ℕ → List ChannelEnd → Bool
+are_too_many likeness most places = list_any (is_exceeded likeness most places) places
+
+-- a channel from this end may go to another: the other's partition is configured, and is not this end's
+abbrev pub goes_to : List PartitionLimits → ChannelEnd → ChannelEnd → Bool
+goes_to partitions source place = is_some (limits_among place.partition partitions) && not (nat_eq source.partition place.partition)
+
+-- a channel joins a configured partition with others that are
+abbrev pub is_joined : List PartitionLimits → ChannelEnd → List ChannelEnd → Bool
+is_joined partitions source places = is_some (limits_among source.partition partitions) && list_all (goes_to partitions source) places
+
+-- a sampling channel does
+abbrev pub is_sampling_joined : List PartitionLimits → SamplingChannel → Bool
+is_sampling_joined partitions channel = is_joined partitions channel.source channel.destinations
+
+-- a queuing channel does
+abbrev pub is_queuing_joined : List PartitionLimits → QueuingChannel → Bool
+is_queuing_joined partitions channel = is_joined partitions channel.source (channel.destination ∷ [])
+
+-- each channel does
+abbrev pub are_joined : Configuration → Bool
+are_joined configuration =
+    list_all (is_sampling_joined configuration.partitions) configuration.sampling
+    && list_all (is_queuing_joined configuration.partitions) configuration.queuing

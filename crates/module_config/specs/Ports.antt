@@ -1,0 +1,28 @@
+-- What a configuration says of ports and channels, as the code gives it.
+use Rattle.std.specs.Prelude.{ℕ, Option, Some, None}
+use Rattle.apex_machine.specs.Channels as configured
+use Rattle.apex_machine.specs.Channels.{queuing_of, sampling_of}
+use Rattle.apex_machine.specs.Configuration.{Configuration, QueuingChannel, SamplingChannel}
+use Rattle.module_config.specs.declared.port.ChannelKind.{ChannelKind}
+use Rattle.module_config.specs.declared.port.ChannelKind.TheVariants.{Queuing, Sampling}
+use Rattle.module_config.specs.declared.port.QueuingPort.{QueuingPort}
+use Rattle.module_config.specs.declared.port.SamplingPort.{SamplingPort}
+
+-- a sampling port as the definitions have it
+abbrev pub told_sampling : SamplingPort → configured.SamplingPort
+told_sampling port = record { channel = port.channel; size = port.size; direction = port.direction; refresh = port.refresh }
+
+-- a queuing port as the definitions have it
+abbrev pub told_queuing : QueuingPort → configured.QueuingPort
+told_queuing port =
+    record { channel = port.channel; size = port.size; capacity = port.capacity; direction = port.direction; discipline = port.discipline }
+
+-- what is configured of a channel, by the queuing channel and the sampling channel of its number, if there is one
+abbrev pub kind_in : Option QueuingChannel → Option SamplingChannel → Option ChannelKind
+kind_in (Some channel) other = Some (Queuing channel.capacity channel.source_discipline channel.destination_discipline)
+kind_in None (Some channel) = Some (Sampling channel.refresh)
+kind_in None None = None
+
+-- what is configured of the channel of this number, if there is one
+abbrev pub kind_of : Configuration → ℕ → Option ChannelKind
+kind_of configuration number = kind_in (queuing_of configuration number) (sampling_of configuration number)

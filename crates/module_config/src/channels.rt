@@ -1,0 +1,77 @@
+// The channels of a configuration, and the ports at their ends.
+
+ghost use Rattle.std.specs.Prelude.{◌≡◌, ◌<◌, ◌≤◌, length, option_map, slice_index, true};
+ghost use Rattle.apex_machine.specs.Channels.{channel_numbers, has_channel, is_at_end, queuing_port, sampling_port};
+ghost use Rattle.module_config.specs.Ports.{kind_of, told_queuing, told_sampling};
+
+use crate::config::Config;
+use crate::port::{ChannelKind, QueuingPort, SamplingPort};
+use crate::queuing::{find_queuing, find_queuing_port, has_receiver, has_sender};
+use crate::sampling::{find_sampling, find_sampling_port, has_end};
+use apex_types::{ChanId, Name, PartId};
+
+impl Config {
+    /// How many channels are configured, of both kinds.
+    pub fn channel_count(&self) -> usize
+        ensures value { result ≡ length (channel_numbers self.now) }
+        ensures most { result ≤ 256 }
+    {
+        self.numbers.len()
+    }
+
+    /// The number of the channel at an index, in rising order over both kinds.
+    pub fn channel_number(&self, index: usize) -> ChanId
+        requires { index < length (channel_numbers self.now) }
+        ensures value { result ≡ slice_index (channel_numbers self.now) index }
+        ensures configured { has_channel self.now result ≡ true }
+    {
+        ChanId::new(self.numbers[index])
+    }
+
+    /// Whether a channel of this number is configured, of either kind.
+    pub fn has_channel(&self, chan: ChanId) -> bool
+        ensures { result ≡ has_channel self.now chan }
+    {
+        self.numbers.binary_search(&chan.number()).is_ok()
+    }
+
+    /// What is configured of the channel of this number, or None where there is none.
+    pub fn channel_kind(&self, chan: ChanId) -> Option<ChannelKind>
+        ensures { result ≡ kind_of self.now chan }
+    {
+        if let Some(channel) = find_queuing(&self.queuing, chan) {
+            return Some(ChannelKind::Queuing {
+                capacity: channel.capacity,
+                sending: channel.source_discipline,
+                receiving: channel.destination_discipline,
+            });
+        }
+        let channel = find_sampling(&self.sampling, chan)?;
+        Some(ChannelKind::Sampling {
+            refresh: channel.refresh,
+        })
+    }
+
+    /// Whether a partition is at an end of the channel of this number.
+    pub fn is_at_end(&self, chan: ChanId, part: PartId) -> bool
+        ensures { result ≡ is_at_end self.now chan part }
+    {
+        has_sender(&self.queuing, chan, part)
+            || has_receiver(&self.queuing, chan, part)
+            || has_end(&self.sampling, chan, part)
+    }
+
+    /// What is configured of the sampling port that a partition has under this name, or None where it has none.
+    pub fn sampling_port(&self, part: PartId, name: &Name) -> Option<SamplingPort>
+        ensures { option_map told_sampling result ≡ sampling_port self.now part name.now }
+    {
+        find_sampling_port(&self.sampling, part, name)
+    }
+
+    /// What is configured of the queuing port that a partition has under this name, or None where it has none.
+    pub fn queuing_port(&self, part: PartId, name: &Name) -> Option<QueuingPort>
+        ensures { option_map told_queuing result ≡ queuing_port self.now part name.now }
+    {
+        find_queuing_port(&self.queuing, part, name)
+    }
+}

@@ -1,0 +1,40 @@
+// What is configured of ports and of channels, as their users get it.
+
+use apex_machine::Direction;
+use apex_types::{ChanId, Discipline};
+
+/// What is configured of a sampling port: its channel, the greatest size of its messages in bytes, its direction, and the
+/// channel's refresh period in ticks.
+#[derive(Clone, Copy, Debug, PartialEq, Eq)]
+pub struct SamplingPort {
+    pub channel: ChanId,
+    pub size: u16,
+    pub direction: Direction,
+    pub refresh: u64,
+}
+
+/// What is configured of a queuing port: its channel, the greatest size of its messages in bytes, how many messages the
+/// channel holds, its direction, and the discipline of those who wait at it.
+#[derive(Clone, Copy, Debug, PartialEq, Eq)]
+pub struct QueuingPort {
+    pub channel: ChanId,
+    pub size: u16,
+    pub capacity: u16,
+    pub direction: Direction,
+    pub discipline: Discipline,
+}
+
+/// What is configured of a channel, by its kind.
+#[derive(Clone, Copy, Debug, PartialEq, Eq)]
+pub enum ChannelKind {
+    /// A message is valid for this many ticks.
+    Sampling {
+        refresh: u64,
+    },
+    /// How many messages it holds, and the disciplines of those who wait to send and to receive.
+    Queuing {
+        capacity: u16,
+        sending: Discipline,
+        receiving: Discipline,
+    },
+}
