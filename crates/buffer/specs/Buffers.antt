@@ -1,5 +1,5 @@
 -- What each operation on a buffer gives its caller, and the buffer after it.
-use Rattle.std.specs.Prelude.{◌≡◌, ◌≤◌, ℕ, ℤ, Bool, List, [], ◌∷◌, ◌++◌, Option, Some, None, true, false, length}
+use Rattle.std.specs.Prelude.{ℕ, ℤ, Bool, List, [], ◌∷◌, true, false}
 use Rattle.apex_types.specs.declared.record.Claim.{Claim}
 use Rattle.apex_types.specs.declared.record.Who.{Who}
 use Rattle.apex_types.specs.declared.request.Request.{Request}
@@ -8,16 +8,22 @@ use Rattle.apex_machine.specs.declared.state.Entry.{Entry}
 use Rattle.apex_machine.specs.Answer.{Answer, done}
 use Rattle.apex_machine.specs.Objects.{buffer_received, buffer_sent}
 use Rattle.apex_machine.specs.State.{Buffer}
-use Rattle.circular_buffer.specs.Buffer.{Buffer as Ring}
+use Rattle.message_queue.specs.Queues.{Queue}
 use Rattle.wait_set.specs.declared.object.Actor.{Actor}
 use Rattle.wait_set.specs.Actors.{joined_by, left_by}
 use Rattle.wait_set.specs.Sets as waiters
-use Rattle.wait_set.specs.Sets.{Waiters}
 
--- what a buffer keeps: it holds no more messages than it may, and both its sets have one discipline
-pub record IsKept (ring : Ring (List ℕ)) (senders receivers : Waiters) : Type 0 where
-  pub within : length ring.items ≤ ring.capacity
-  pub alike : receivers.discipline ≡ senders.discipline
+-- the buffer of this name and size that has this queue
+abbrev pub buffer_of : List ℕ → ℕ → Queue → Buffer
+buffer_of name size queue = record {
+  name = name;
+  size = size;
+  capacity = queue.capacity;
+  discipline = queue.senders.discipline;
+  messages = queue.messages;
+  senders = queue.senders.entries;
+  receivers = queue.receivers.entries;
+}
 
 -- the operations on a buffer
 abbrev pub serves : Request → Bool
@@ -45,14 +51,6 @@ after_receive actor time_out claim found = record found {
   messages = (buffer_received time_out found).next;
   senders = left_by claim found.senders;
   receivers = joined_by actor claim [] found.receivers;
-}
-
--- the buffer after the message of the sender that waits first, if one waits, became the newest
-abbrev pub moved_up : Option Entry → Buffer → Buffer
-moved_up None found = found
-moved_up (Some sender) found = record found {
-  messages = found.messages ++ sender.message ∷ [];
-  senders = waiters.without_one sender.who found.senders;
 }
 
 -- the buffer after an operation

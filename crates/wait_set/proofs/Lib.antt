@@ -9,3 +9,5 @@ pub mod Keeping
 pub mod Firsts
 pub mod Rolls
 pub mod Last
+pub mod Failing
+pub mod Calls

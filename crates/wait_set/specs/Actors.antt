@@ -1,12 +1,12 @@
 -- Who makes a call on an object, and the object's waiting sets after it.
-use Rattle.std.specs.Prelude.{◌≡◌, ℕ, List, [], ◌∷◌, None, if◌then◌else◌, IsTrue}
+use Rattle.std.specs.Prelude.{◌≡◌, ℕ, List, [], ◌∷◌, Option, Some, None, ℤ, if◌then◌else◌, IsTrue}
 use Rattle.apex_types.specs.declared.cause.Cause.{Cause}
 use Rattle.apex_types.specs.declared.cause.Cause.TheVariants as cause
 use Rattle.apex_types.specs.declared.record.Claim.{Claim}
 use Rattle.apex_types.specs.declared.record.Out.{Out}
 use Rattle.apex_types.specs.declared.request.Request.{Request}
 use Rattle.apex_machine.specs.declared.state.Entry.{Entry}
-use Rattle.apex_machine.specs.Answer.{NamesExactly}
+use Rattle.apex_machine.specs.Answer.{HasValue, NamesExactly, Nothing, Number, Value}
 use Rattle.apex_machine.specs.Demands.{AllHold, Demand, FirstFails}
 use Rattle.apex_machine.specs.Waiting.{is_waiting}
 use Rattle.wait_set.specs.declared.object.Actor.{Actor}
@@ -40,9 +40,14 @@ abbrev pub Refuses : List {1} Demand → ObjFault → Type 0
 Refuses demands (Unlawful cause) = FirstFails demands cause
 Refuses demands Memory = AllHold demands
 
--- what a call claims is this outcome, without a value, and with this message
-abbrev pub outcome_demands : Out → List ℕ → Claim → List {1} Demand
-outcome_demands out bytes claim =
+-- the value that goes with an outcome, if a number does
+abbrev pub value_of : Option ℤ → Value
+value_of None = Nothing
+value_of (Some number) = Number number
+
+-- what a call claims is this outcome, with this value and this message
+abbrev pub outcome_demands : Out → Value → List ℕ → Claim → List {1} Demand
+outcome_demands out value bytes claim =
     record { cause = cause.Out; holds = claim.out ≡ out }
-    ∷ record { cause = cause.Val; holds = claim.val ≡ None }
+    ∷ record { cause = cause.Val; holds = HasValue value claim.val }
     ∷ record { cause = cause.Data; holds = claim.bytes ≡ bytes } ∷ []

@@ -2,17 +2,17 @@
 
 ghost use Rattle.std.specs.Prelude.{◌≡◌, ◌↔◌, None, IsTrue, OnOk};
 ghost use Rattle.apex_machine.specs.Answer as answer;
-ghost use Rattle.apex_machine.specs.Answer.{NamesExactly};
+ghost use Rattle.apex_machine.specs.Answer.{HasValue, NamesExactly, Number, Value};
 ghost use Rattle.apex_machine.specs.Demands.{Judges, answer_demands};
 ghost use Rattle.apex_machine.specs.Waiting.{is_waiting};
-ghost use Rattle.wait_set.specs.Actors.{WaitsAlone, outcome_demands};
+ghost use Rattle.wait_set.specs.Actors.{WaitsAlone, outcome_demands, value_of};
 
 use crate::named::names_only;
 use crate::set::WaitSet;
 use apex_types::{Cause, Claim, Code, Out, Who};
 
-/// What an operation gives its caller: the outcome, the message that goes with it, and whose wait ends, if one does. It
-/// gives no value.
+/// What an operation gives its caller: the outcome, the message that goes with it, and whose wait ends, if one does. A value
+/// is judged beside it.
 #[derive(Clone, Copy)]
 pub struct Given<'a> {
     pub out: Out,
@@ -23,7 +23,7 @@ pub struct Given<'a> {
 }
 
 impl<'a> Given<'a> {
-    ghost use Rattle.wait_set.specs.Givens.{answer_given, listed};
+    ghost use Rattle.wait_set.specs.Givens.{answer_given, given_demands, giving_value, listed};
 
     /// The operation is done at once.
     pub fn done() -> Given<'a>
@@ -86,7 +86,23 @@ impl<'a> Given<'a> {
         ensures judged { Judges (answer_demands (answer_given self.now) claim.now) result }
         ensures alone { OnOk result (WaitsAlone claim.now) }
     {
-        judge_outcome(self.out, self.bytes, claim)?;
+        self.judge_with(None, claim)
+    }
+
+    /// Judges a claim as `judge` does, where the operation gives this value too.
+    pub fn judge_number(&self, number: i64, claim: &Claim) -> Result<(), Cause>
+        ensures judged { Judges (answer_demands (giving_value (Number number) self.now) claim.now) result }
+        ensures alone { OnOk result (WaitsAlone claim.now) }
+    {
+        self.judge_with(Some(number), claim)
+    }
+
+    // Judges a claim, where the operation gives this value, if it is one.
+    fn judge_with(&self, val: Option<i64>, claim: &Claim) -> Result<(), Cause>
+        ensures judged { Judges (given_demands val self.now claim.now) result }
+        ensures alone { OnOk result (WaitsAlone claim.now) }
+    {
+        judge_outcome(self.out, val, self.bytes, claim)?;
         if !names_only(self.woken, claim.woken.as_slice()) {
             return Err(Cause::Woken);
         }
@@ -99,21 +115,46 @@ impl<'a> Given<'a> {
 pub fn judge_waking_all(set: &WaitSet, claim: &Claim) -> Result<(), Cause>
     ensures { Judges (answer_demands (answer.waking (answer.whos set.now.entries)) claim.now) result }
 {
-    judge_outcome(Out::Answer(Code::NoError), &[], claim)?;
+    judge_outcome(Out::Answer(Code::NoError), None, &[], claim)?;
     if !names_all(set, claim) {
         return Err(Cause::Woken);
     }
     Ok(())
 }
 
-// Judges the outcome that a claim gives, the value and the message.
-fn judge_outcome(out: Out, bytes: &[u8], claim: &Claim) -> Result<(), Cause>
-    ensures { Judges (outcome_demands out bytes.now claim.now) result }
+/// Judges the claim of an operation that is done at once, ends no wait, and gives a value: `has_value` says whether it is the one
+/// that is claimed. The cause is that of the first demand that fails.
+pub fn judge_value(has_value: bool, claim: &Claim) -> Result<(), Cause>
+    ensures { (value : Value) → (IsTrue has_value ↔ HasValue value claim.now.val) → Judges (answer_demands (answer.done_with value) claim.now) result }
+{
+    judge_with_value(Out::Answer(Code::NoError), has_value, &[], claim)?;
+    if !names_only(None, claim.woken.as_slice()) {
+        return Err(Cause::Woken);
+    }
+    Ok(())
+}
+
+// Judges the outcome that a claim gives, the value, if there is to be one, and the message.
+fn judge_outcome(out: Out, val: Option<i64>, bytes: &[u8], claim: &Claim) -> Result<(), Cause>
+    ensures { Judges (outcome_demands out (value_of val) bytes.now claim.now) result }
+{
+    judge_with_value(out, is_same_value(claim.val, val), bytes, claim)
+}
+
+fn is_same_value(claimed: Option<i64>, val: Option<i64>) -> bool
+    ensures { IsTrue result ↔ (claimed ≡ val) }
+{
+    claimed == val
+}
+
+// Judges the outcome that a claim gives, the value and the message: `has_value` says whether the value is the one that is claimed.
+fn judge_with_value(out: Out, has_value: bool, bytes: &[u8], claim: &Claim) -> Result<(), Cause>
+    ensures { (value : Value) → (IsTrue has_value ↔ HasValue value claim.now.val) → Judges (outcome_demands out value bytes.now claim.now) result }
 {
     if claim.out != out {
         return Err(Cause::Out);
     }
-    if claim.val.is_some() {
+    if !has_value {
         return Err(Cause::Val);
     }
     if claim.bytes.as_bytes() != bytes {

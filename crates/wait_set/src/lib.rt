@@ -4,9 +4,11 @@
 //! twice, and its first is the one that the definitions choose. Entering, leaving and finding the first cost the logarithm of its size; only
 //! entering takes memory, and where that is refused the entry comes back whole and nothing has changed.
 //! An operation on an object is accepted exactly where the claim is what the operation gives its caller; else the cause is that of
-//! the first demand that fails, and nothing has changed. Which error conditions hold is judged before.
+//! the first demand that fails, and nothing has changed. Which error conditions hold is judged before, and `Conditions` keeps
+//! their codes in order.
 #![tactic(auto)]
 
+mod conditions;
 mod given;
 mod laws;
 mod named;
@@ -14,7 +16,8 @@ mod object;
 mod rank;
 mod set;
 
-pub use given::{Given, judge_waking_all};
+pub use conditions::Conditions;
+pub use given::{Given, judge_value, judge_waking_all};
 pub use laws::{enters_last, rising_is_roll};
 pub use object::{Actor, ApexObject, Effect, Named, ObjFault};
 pub use set::{Refused, WaitSet};

@@ -1,0 +1,71 @@
+-- A queue of messages with its two waiting sets: what each operation gives its caller, and the queue after it.
+use Rattle.std.specs.Prelude.{ℕ, ℤ, Bool, List, [], ◌∷◌, ◌++◌, Option, Some, None}
+use Rattle.apex_types.specs.declared.discipline.Discipline.{Discipline}
+use Rattle.apex_types.specs.declared.record.Claim.{Claim}
+use Rattle.apex_types.specs.declared.record.Who.{Who}
+use Rattle.apex_machine.specs.declared.state.Entry.{Entry}
+use Rattle.apex_machine.specs.Answer.{Effect}
+use Rattle.apex_machine.specs.Queue.{Messages, received, sent}
+use Rattle.apex_machine.specs.Waiting.{first_waiter, without}
+use Rattle.wait_set.specs.declared.object.Actor.{Actor}
+use Rattle.wait_set.specs.Actors.{joined_by, left_by}
+use Rattle.wait_set.specs.Sets.{Waiters, without_one}
+
+-- a queue: how many messages it holds at most, those that it holds, the oldest first, and those that wait to send and to receive
+pub record Queue : Type 0 where
+  pub capacity : ℕ
+  pub messages : Messages
+  pub senders : Waiters
+  pub receivers : Waiters
+
+-- the queue without a message, at which nobody waits
+abbrev pub empty_queue : ℕ → Discipline → Discipline → Queue
+empty_queue capacity sending receiving = record {
+  capacity = capacity;
+  messages = [];
+  senders = record { discipline = sending; entries = [] };
+  receivers = record { discipline = receiving; entries = [] };
+}
+
+-- the one of a waiting set that goes on first, if anybody waits
+abbrev pub first_of : Waiters → Option Entry
+first_of waiters = first_waiter waiters.discipline waiters.entries
+
+-- sending, by the first of those who wait to receive
+abbrev pub sent_to : List ℕ → ℤ → Queue → Effect Messages
+sent_to message time_out queue = sent queue.capacity message time_out (first_of queue.receivers) queue.messages
+
+-- receiving, by the first of those who wait to send
+abbrev pub received_from : ℤ → Queue → Effect Messages
+received_from time_out queue = received time_out (first_of queue.senders) queue.messages
+
+-- the queue after a send: a caller that waits stands among the senders with the message
+abbrev pub after_send : Actor → List ℕ → ℤ → Claim → Queue → Queue
+after_send actor message time_out claim queue = record queue {
+  messages = (sent_to message time_out queue).next;
+  senders = record queue.senders { entries = joined_by actor claim message queue.senders.entries };
+  receivers = record queue.receivers { entries = left_by claim queue.receivers.entries };
+}
+
+-- the queue after a receive: a caller that waits stands among the receivers
+abbrev pub after_receive : Actor → ℤ → Claim → Queue → Queue
+after_receive actor time_out claim queue = record queue {
+  messages = (received_from time_out queue).next;
+  senders = record queue.senders { entries = left_by claim queue.senders.entries };
+  receivers = record queue.receivers { entries = joined_by actor claim [] queue.receivers.entries };
+}
+
+-- the queue without the waiters that leave
+abbrev pub without_waiters : (Who → Bool) → Queue → Queue
+without_waiters leaves queue = record queue {
+  senders = record queue.senders { entries = without leaves queue.senders.entries };
+  receivers = record queue.receivers { entries = without leaves queue.receivers.entries };
+}
+
+-- the queue after the message of the sender that waits first, if one waits, became the newest
+abbrev pub moved_up : Option Entry → Queue → Queue
+moved_up None queue = queue
+moved_up (Some sender) queue = record queue {
+  messages = queue.messages ++ sender.message ∷ [];
+  senders = record queue.senders { entries = without_one sender.who queue.senders.entries };
+}

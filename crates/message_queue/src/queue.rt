@@ -1,0 +1,180 @@
+// Queues of messages.
+
+ghost use Rattle.std.specs.Prelude.{◌≡◌, ◌↔◌, ◌<◌, ◌||◌, [], length, IfErr, IfOk, IsTrue, OnErr, OnOk};
+ghost use Rattle.apex_machine.specs.Demands.{AllHold, answer_demands, stands_in};
+ghost use Rattle.apex_machine.specs.State.{is_named, is_same};
+ghost use Rattle.wait_set.specs.Actors.{Refuses, entry_with};
+ghost use Rattle.wait_set.specs.Givens.{answer_given};
+ghost use Rattle.wait_set.specs.Sets.{IsNew};
+ghost use Rattle.message_queue.specs.Queues as rules;
+
+use apex_types::{Claim, Discipline, Message, Who};
+use circular_buffer::HeapCircularBuffer;
+use std::alloc::{AllocError, Global};
+use std::marker::Model;
+use wait_set::{Actor, Given, ObjFault, WaitSet};
+
+/// A queue of messages: those that it holds, and those that wait to send and to receive.
+#[derive(Drop)]
+pub struct MessageQueue {
+    alloc: Global,
+    messages: HeapCircularBuffer<Message>,
+    senders: WaitSet,
+    receivers: WaitSet,
+}
+
+impl Model for MessageQueue {
+    ghost use Rattle.std.specs.Prelude.{◌≤◌, length};
+    ghost use Rattle.message_queue.specs.Queues.{Queue};
+
+    ghost Value = { Queue };
+
+    ghost view = { λ queue. record { capacity = queue.messages.capacity; messages = queue.messages.items; senders = queue.senders; receivers = queue.receivers } };
+
+    ghost invariant = { λ queue. length queue.messages.items ≤ queue.messages.capacity };
+}
+
+impl MessageQueue {
+    /// The queue without a message, at which nobody waits. It holds at most `capacity` messages; senders wait by the first of the
+    /// two disciplines, receivers by the second.
+    ///
+    /// AllocError where memory for the places of its messages is refused. No other operation takes memory for a place.
+    pub fn new(
+        alloc: Global,
+        capacity: u16,
+        sending: Discipline,
+        receiving: Discipline,
+    ) -> Result<MessageQueue, AllocError>
+        ensures { IfOk result (λ queue. queue ≡ rules.empty_queue capacity sending receiving) }
+    {
+        Ok(MessageQueue {
+            alloc,
+            messages: HeapCircularBuffer::with_capacity(alloc, usize::from(capacity))?,
+            senders: WaitSet::new(alloc, sending),
+            receivers: WaitSet::new(alloc, receiving),
+        })
+    }
+
+    /// How many messages it holds at most.
+    pub fn capacity(&self) -> usize
+        ensures { result ≡ self.now.capacity }
+    {
+        self.messages.capacity()
+    }
+
+    /// Sends a message, where the claim is what the rule gives: the receiver that waits first gets it; else, if there is room, the
+    /// queue holds it; else the caller waits with it, or is told that nothing is available where its time-out is 0.
+    ///
+    /// Refused, with nothing changed, where the claim is another, or where memory is refused for the message or the entry.
+    pub fn send(
+        &mut self,
+        actor: Actor,
+        message: &Message,
+        time_out: i64,
+        claim: &Claim,
+    ) -> Result<(), ObjFault>
+        requires new { IsNew (entry_with actor []) self.old.senders.entries }
+        ensures ok { OnOk result (AllHold (answer_demands (rules.sent_to message.now time_out self.old).answer claim.now)) }
+        ensures after { OnOk result (self.new ≡ rules.after_send actor message.now time_out claim.now self.old) }
+        ensures refused { IfErr result (Refuses (answer_demands (rules.sent_to message.now time_out self.old).answer claim.now)) }
+        ensures unchanged { OnErr result (self.new ≡ self.old) }
+    {
+        let receiver = self.receivers.first().map(|entry| entry.who);
+        let is_held = receiver.is_none() && self.has_room();
+        let given = if receiver.is_some() || is_held {
+            Given::waking(receiver)
+        } else {
+            Given::unmet(time_out)
+        };
+        given.judge(claim).map_err(ObjFault::Unlawful)?;
+        if is_held {
+            let bytes = Vec::from_slice(self.alloc, message.as_bytes()).map_err(
+                |_| ObjFault::Memory,
+            )?;
+            self.messages.push_back(Message::new(bytes));
+        }
+        self.senders
+            .settle(actor, claim, message.as_bytes())
+            .map_err(|_| ObjFault::Memory)?;
+        self.receivers.release(claim.woken.as_slice());
+        Ok(())
+    }
+
+    // Whether the queue holds fewer messages than it may.
+    fn has_room(&self) -> bool
+        ensures { IsTrue result ↔ length self.now.messages < self.now.capacity }
+    {
+        self.messages.len() < self.messages.capacity()
+    }
+
+    /// Receives a message, where the claim is what the rule gives: the caller gets the oldest one, if there is one, and the message
+    /// of the sender that waits first moves up; else the caller waits, or is told that nothing is available where its time-out is 0.
+    ///
+    /// Refused, with nothing changed, where the claim is another, or where memory is refused for the entry.
+    pub fn receive(&mut self, actor: Actor, time_out: i64, claim: &Claim) -> Result<(), ObjFault>
+        requires new { IsNew (entry_with actor []) self.old.receivers.entries }
+        ensures ok { OnOk result (AllHold (answer_demands (rules.received_from time_out self.old).answer claim.now)) }
+        ensures after { OnOk result (self.new ≡ rules.after_receive actor time_out claim.now self.old) }
+        ensures refused { IfErr result (Refuses (answer_demands (rules.received_from time_out self.old).answer claim.now)) }
+        ensures unchanged { OnErr result (self.new ≡ self.old) }
+    {
+        self.given_to_receiver(time_out)
+            .judge(claim)
+            .map_err(ObjFault::Unlawful)?;
+        self.receivers
+            .settle(actor, claim, &[])
+            .map_err(|_| ObjFault::Memory)?;
+        if self.messages.pop_front().is_some() {
+            self.move_up();
+        }
+        Ok(())
+    }
+
+    // The message of the sender that waits first, if one waits, becomes the newest. There is room for it.
+    fn move_up(&mut self)
+        requires room { length self.old.messages < self.old.capacity }
+        ensures { self.new ≡ rules.moved_up (rules.first_of self.old.senders) self.old }
+    {
+        if let Some(entry) = self.senders.take_first() {
+            self.messages.push_back(entry.message);
+        }
+    }
+
+    // What a receive gives its caller.
+    fn given_to_receiver(&self, time_out: i64) -> Given<'_>
+        ensures { answer_given result ≡ (rules.received_from time_out self.now).answer }
+    {
+        let sender = self.senders.first().map(|entry| entry.who);
+        match self.messages.front() {
+            Some(message) => Given::giving(message.as_bytes(), sender),
+            None => Given::unmet(time_out),
+        }
+    }
+
+    /// Whether a process waits here, to send or to receive. Takes no memory.
+    pub fn has(&self, who: Who) -> bool
+        ensures { result ≡ (stands_in who self.now.senders.entries || stands_in who self.now.receivers.entries) }
+    {
+        // Each set is asked with a copy of its own.
+        let copy = who;
+        self.senders.has(who) || self.receivers.has(copy)
+    }
+
+    /// Takes a process out of both waiting sets, and says whether it stood in one. Takes no memory.
+    pub fn leave(&mut self, who: Who) -> bool
+        ensures stood { result ≡ (stands_in who self.old.senders.entries || stands_in who self.old.receivers.entries) }
+        ensures left { self.new ≡ rules.without_waiters (λ other. is_same other who) self.old }
+    {
+        // Both sets are asked.
+        let copy = who;
+        self.senders.leave(who) | self.receivers.leave(copy)
+    }
+
+    /// Takes all whom a list names out of both waiting sets. Takes no memory.
+    pub fn release(&mut self, named: &[Who])
+        ensures { self.new ≡ rules.without_waiters (λ who. is_named who named.now) self.old }
+    {
+        self.senders.release(named);
+        self.receivers.release(named);
+    }
+}
