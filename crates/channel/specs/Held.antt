@@ -1,0 +1,80 @@
+-- A channel with its number and what was given when it was made: what a configuration says of it, what it demands of a call, and
+-- what it is afterwards.
+use Rattle.std.specs.Prelude.{◌≡◌, ℕ, Bool}
+use Rattle.apex_types.specs.declared.discipline.Discipline.{Discipline}
+use Rattle.apex_types.specs.declared.record.Body.TheVariants.{Call}
+use Rattle.apex_types.specs.declared.record.Call.{Call as CallRecord}
+use Rattle.apex_types.specs.declared.record.Who.{Who}
+use Rattle.apex_machine.specs.declared.state.WaitingSet.TheVariants as set
+use Rattle.apex_machine.specs.After.{content_by}
+use Rattle.apex_machine.specs.Channels.{capacity_of, receiving_discipline, refresh_of, sending_discipline}
+use Rattle.apex_machine.specs.Configuration.{Configuration}
+use Rattle.apex_machine.specs.Demands.{AllHold, through_demands}
+use Rattle.apex_machine.specs.State.{Channel}
+use Rattle.apex_machine.specs.Waiting.{set_after, without}
+use Rattle.wait_set.specs.declared.object.ObjFault.{ObjFault}
+use Rattle.wait_set.specs.Actors.{Refuses}
+use Rattle.wait_set.specs.Laws.{StandBefore}
+
+-- what was given when a channel was made: the refresh period of a sampling channel; how many messages a queuing channel holds at
+-- most, and the disciplines of those who wait to send and to receive
+pub data Settings : Type 0 where
+  SamplingSettings : (refresh : ℕ) → Settings
+  QueuingSettings : (capacity : ℕ) → (sending : Discipline) → (receiving : Discipline) → Settings
+
+-- a channel with its number and what was given when it was made
+pub record Held : Type 0 where
+  pub number : ℕ
+  pub settings : Settings
+  pub channel : Channel
+
+-- what a configuration says
+
+-- a configuration says of the channel of this number what was given
+abbrev pub SaysTheSame : Configuration → ℕ → Settings → Type 0
+SaysTheSame configuration number (SamplingSettings refresh) = refresh_of configuration number ≡ refresh
+SaysTheSame configuration number (QueuingSettings capacity sending receiving) =
+    (capacity_of configuration number ≡ capacity)
+    × (sending_discipline configuration number ≡ sending)
+    × (receiving_discipline configuration number ≡ receiving)
+
+-- a channel is configured as it was made
+abbrev pub IsConfigured : Configuration → Held → Type 0
+IsConfigured configuration held = SaysTheSame configuration held.number held.settings
+
+-- calls
+
+-- all who wait at a channel have places below this one
+abbrev pub AllBelow : ℕ → Held → Type 0
+AllBelow place held = StandBefore place held.channel.senders × StandBefore place held.channel.receivers
+
+-- a call meets all that the channel demands of it at this time of its core, whichever configuration the channel has
+abbrev pub Accepts : ℕ → CallRecord → Held → Type 0
+Accepts now call held =
+    (configuration : Configuration) → IsConfigured configuration held → AllHold (through_demands configuration now held.number held.channel call)
+
+-- why a call is refused, by what the channel demands of it
+abbrev pub RefusesCall : ℕ → CallRecord → Held → ObjFault → Type 0
+RefusesCall now call held fault =
+    (configuration : Configuration) → IsConfigured configuration held → Refuses (through_demands configuration now held.number held.channel call) fault
+
+-- the channel after a call, at this place and at this time of its core
+abbrev pub called : Configuration → ℕ → ℕ → CallRecord → Held → Channel
+called configuration place now call held = record {
+  content = content_by configuration now held.number (Call call) held.channel;
+  senders = set_after place (Call call) (set.ChannelSenders held.number) held.channel.senders;
+  receivers = set_after place (Call call) (set.ChannelReceivers held.number) held.channel.receivers;
+}
+
+-- a channel is as a call through it leaves it, whichever configuration it has; its number and what was given stay
+abbrev pub IsAfterCall : ℕ → ℕ → CallRecord → Held → Held → Type 0
+IsAfterCall place now call old new =
+    (configuration : Configuration) → IsConfigured configuration old → new ≡ record old { channel = called configuration place now call old }
+
+-- those who leave
+
+-- a channel without the waiters that leave
+abbrev pub without_waiters : (Who → Bool) → Held → Held
+without_waiters leaves held = record held {
+  channel = record held.channel { senders = without leaves held.channel.senders; receivers = without leaves held.channel.receivers };
+}

@@ -1,0 +1,166 @@
+// Channels of either kind.
+
+ghost use Rattle.std.specs.Prelude.{◌≡◌, ◌||◌, ℕ, None, Some, IfErr, IfOk, IsFalse, OnErr, OnOk};
+ghost use Rattle.apex_machine.specs.Demands.{stands_in};
+ghost use Rattle.apex_machine.specs.State.{is_named, is_same};
+ghost use Rattle.wait_set.specs.Laws.{StandBefore};
+ghost use Rattle.channel.specs.Held as rules;
+ghost use Rattle.channel.specs.Held.{Accepts, AllBelow, IsAfterCall, RefusesCall};
+ghost use Rattle.channel.specs.Kinds.{queuing_held, sampling_held};
+ghost use Rattle.message_queue.specs.Queues.{empty_queue};
+
+use crate::sampling::SamplingChannel;
+use apex_types::{Call, Cause, ChanId, Discipline, Place, Request, Who};
+use message_queue::MessageQueue;
+use std::alloc::{AllocError, Global};
+use std::marker::Model;
+use wait_set::{Actor, ObjFault};
+
+/// A channel, which knows its number.
+#[derive(Drop)]
+pub struct Channel {
+    number: ChanId,
+    kind: Kind,
+}
+
+/// What a channel of either kind holds.
+#[derive(Drop)]
+enum Kind {
+    Sampling(SamplingChannel),
+    Queuing(MessageQueue),
+}
+
+impl Model for Channel {
+    ghost use Rattle.channel.specs.Held.{Held};
+    ghost use Rattle.channel.specs.Kinds.{held_as};
+
+    ghost Value = { Held };
+
+    ghost view = { λ channel. held_as channel.number channel.kind };
+}
+
+impl Channel {
+    /// The sampling channel of this number, without a message. A message is valid for as many ticks as its refresh period has.
+    /// Takes no memory.
+    pub fn sampling(alloc: Global, number: ChanId, refresh: u64) -> Channel
+        ensures { result ≡ sampling_held number refresh None }
+    {
+        Channel {
+            number,
+            kind: Kind::Sampling(SamplingChannel {
+                alloc,
+                refresh,
+                last: None,
+            }),
+        }
+    }
+
+    /// The queuing channel of this number, without a message, at which nobody waits. It holds at most `capacity` messages; those
+    /// who wait to send go by the first of the two disciplines, those who wait to receive by the second.
+    ///
+    /// AllocError where memory for the places of its messages is refused. No other operation takes memory for a place.
+    pub fn queuing(
+        alloc: Global,
+        number: ChanId,
+        capacity: u16,
+        sending: Discipline,
+        receiving: Discipline,
+    ) -> Result<Channel, AllocError>
+        ensures { IfOk result (λ channel. channel ≡ queuing_held number (empty_queue capacity sending receiving)) }
+    {
+        let queue = MessageQueue::new(alloc, capacity, sending, receiving)?;
+        Ok(Channel {
+            number,
+            kind: Kind::Queuing(queue),
+        })
+    }
+
+    /// The number that the configuration gives it.
+    pub fn number(&self) -> ChanId
+        ensures { result ≡ self.now.number }
+    {
+        self.number
+    }
+
+    /// Carries out a call through the channel, at this place and at this time of its core in ticks, where the call is what the
+    /// channel demands: its caller waits at neither end, its service is one of the channel's kind, and its claim is what the
+    /// channel gives.
+    ///
+    /// Refused, with nothing changed, where one of these fails, or where memory is refused for a message that the channel keeps or
+    /// for the entry of a caller that waits.
+    pub fn apply(&mut self, place: Place, now: u64, call: &Call) -> Result<(), ObjFault>
+        requires through { call.now.claim.chan ≡ Some self.old.number }
+        requires below { AllBelow place self.old }
+        ensures ok { OnOk result (Accepts now call.now self.old) }
+        ensures after { OnOk result (IsAfterCall place now call.now self.old self.new) }
+        ensures refused { IfErr result (RefusesCall now call.now self.old) }
+        ensures unchanged { OnErr result (self.new ≡ self.old) }
+    {
+        if self.has(call.who) {
+            return Err(ObjFault::Unlawful(Cause::Choice));
+        }
+        match &mut self.kind {
+            Kind::Sampling(channel) => channel.apply(now, call),
+            Kind::Queuing(queue) => use_queue(queue, place, call),
+        }
+    }
+
+    /// Whether a process waits at the channel, to send or to receive. Takes no memory.
+    pub fn has(&self, who: Who) -> bool
+        ensures { result ≡ (stands_in who self.now.channel.senders || stands_in who self.now.channel.receivers) }
+    {
+        match &self.kind {
+            Kind::Sampling(_) => false,
+            Kind::Queuing(queue) => queue.has(who),
+        }
+    }
+
+    /// Takes a process out of both waiting sets, and says whether it stood in one. Takes no memory.
+    pub fn leave(&mut self, who: Who) -> bool
+        ensures stood { result ≡ (stands_in who self.old.channel.senders || stands_in who self.old.channel.receivers) }
+        ensures left { self.new ≡ rules.without_waiters (λ other. is_same other who) self.old }
+    {
+        match &mut self.kind {
+            Kind::Sampling(_) => false,
+            Kind::Queuing(queue) => queue.leave(who),
+        }
+    }
+
+    /// Takes all whom a list names out of both waiting sets, as a tick does that ends their waits. Takes no memory.
+    pub fn release(&mut self, woken: &[Who])
+        ensures { self.new ≡ rules.without_waiters (λ who. is_named who woken.now) self.old }
+    {
+        match &mut self.kind {
+            Kind::Sampling(_) => {}
+            Kind::Queuing(queue) => queue.release(woken),
+        }
+    }
+}
+
+// Carries out a call through a queuing channel at this place. Its caller waits at neither end.
+fn use_queue(queue: &mut MessageQueue, place: Place, call: &Call) -> Result<(), ObjFault>
+    requires apart { IsFalse (stands_in call.now.who queue.old.senders.entries || stands_in call.now.who queue.old.receivers.entries) }
+    requires senders_below { StandBefore place queue.old.senders.entries }
+    requires receivers_below { StandBefore place queue.old.receivers.entries }
+    ensures ok { OnOk result ((now number : ℕ) → Accepts now call.now (queuing_held number queue.old)) }
+    ensures after { OnOk result ((now number : ℕ) → call.now.claim.chan ≡ Some number → IsAfterCall place now call.now (queuing_held number queue.old) (queuing_held number queue.new)) }
+    ensures refused { IfErr result (λ fault. (now number : ℕ) → RefusesCall now call.now (queuing_held number queue.old) fault) }
+    ensures unchanged { OnErr result (queue.new ≡ queue.old) }
+{
+    let actor = Actor {
+        who: call.who,
+        priority: call.claim.prio,
+        place,
+    };
+    match &call.request {
+        Request::SendQueuingMessage {
+            time_out,
+            message,
+            ..
+        } => queue.send(actor, message, *time_out, &call.claim),
+        Request::ReceiveQueuingMessage { time_out, .. } => {
+            queue.receive(actor, *time_out, &call.claim)
+        }
+        _ => Err(ObjFault::Unlawful(Cause::Chan)),
+    }
+}
