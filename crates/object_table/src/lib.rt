@@ -2,9 +2,12 @@
 //!
 //! Promises: a table is seen as the list of its objects with their numbers, in the order of their creation; an object is
 //! found under the number that a caller gives; an operation and a leave change the one object of their number and no other;
-//! where an operation is refused, nothing has changed.
+//! a creation is judged by the numbers that are free, and what is created stands behind the others under the number that is claimed;
+//! where an operation or a creation is refused, nothing has changed.
 #![tactic(auto)]
 
+mod creation;
 mod table;
 
+pub use creation::copy_of;
 pub use table::ObjectTable;

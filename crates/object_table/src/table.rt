@@ -4,6 +4,7 @@ ghost use Rattle.std.specs.Prelude.{◌≡◌, ◌≢◌, ◌↔◌, ◌++◌, �
 ghost use Rattle.std.specs.Map.Iter.{ShowsInOrder, deref_pair};
 ghost use Rattle.std.specs.Option.{option_copied};
 ghost use Rattle.apex_types.specs.declared.record.Out.TheVariants as out;
+ghost use Rattle.apex_machine.specs.After.{numbered};
 ghost use Rattle.apex_machine.specs.Answer.{is_new};
 ghost use Rattle.apex_machine.specs.Arguments.{natural_of};
 ghost use Rattle.apex_machine.specs.Conditions.{is_taken};
@@ -11,6 +12,7 @@ ghost use Rattle.apex_machine.specs.Demands.{AllHold, answer_demands};
 ghost use Rattle.apex_machine.specs.State.{change_at, given_object, is_free, item_at};
 ghost use Rattle.wait_set.specs.Actors.{Refuses, entry_with};
 ghost use Rattle.wait_set.specs.Sets.{IsNewInEach};
+ghost use Rattle.wait_set.specs.declared.object.ObjFault.TheVariants.{Memory};
 ghost use Rattle.object_table.specs.Numbers.{NumbersFit, number_of};
 
 use apex_types::{Claim, Name, Request, Who};
@@ -103,10 +105,24 @@ impl<Object> ObjectTable<Object> {
 }
 
 impl<Object: Drop> ObjectTable<Object> {
-    /// Adds a new object behind the others. The caller sees to it that no object has its number.
+    /// Adds what is created behind the others, under the number that its creation claims. The caller sees to it that it is a new one.
     ///
-    /// AllocError where memory is refused; nothing has changed then.
-    pub fn add(&mut self, number: u32, object: Object) -> Result<(), AllocError>
+    /// Memory where memory is refused; nothing has changed then.
+    pub fn add(&mut self, claimed: Option<i64>, object: Object) -> Result<(), ObjFault>
+        requires new { IsTrue (is_new (is_free self.old) claimed) }
+        ensures added { OnOk result (self.new ≡ self.old ++ numbered claimed object) }
+        ensures memory { IfErr result (λ fault. fault ≡ Memory) }
+        ensures unchanged { OnErr result (self.new ≡ self.old) }
+    {
+        let Some(number) = claimed else {
+            unreachable!()
+        };
+        self.insert(number as u32, object)
+            .map_err(|_| ObjFault::Memory)
+    }
+
+    // Adds an object behind the others, under a new number.
+    fn insert(&mut self, number: u32, object: Object) -> Result<(), AllocError>
         requires new { IsTrue (is_new (is_free self.old) (Some (pos number))) }
         ensures added { OnOk result (self.new ≡ self.old ++ (number, object) ∷ []) }
         ensures unchanged { OnErr result (self.new ≡ self.old) }

@@ -1,24 +1,20 @@
 -- What is known of a call on which no error condition holds.
-use Rattle.std.proofs.Common.{◌≡◌, ◌≢◌, ◌<◌, ◌≤◌, ℕ, ℤ, pos, negsuc, List, [], ◌∷◌, ◌++◌, Option, Some, None, Bool, true, false, not, IsTrue, refl, sym, arith}
-use Rattle.std.proofs.lemmas.Bool.Decides.{nat_tests}
+use Rattle.std.proofs.Common.{◌≡◌, ◌≢◌, ◌≤◌, ℕ, ℤ, pos, negsuc, List, [], ◌∷◌, ◌++◌, Option, Some, None, Bool, true, false, not, IsTrue, refl}
 use Rattle.std.specs.Option.{IfSome, option_map}
 use Rattle.apex_types.specs.declared.code.Code.{Code}
-use Rattle.apex_types.specs.declared.code.Code.TheVariants as error
 use Rattle.apex_types.specs.declared.record.Call.{Call as CallRecord}
 use Rattle.apex_types.specs.declared.record.Claim.{Claim}
 use Rattle.apex_types.specs.declared.record.Who.{Who}
 use Rattle.apex_types.specs.declared.request.Request.{Request}
 use Rattle.apex_types.specs.declared.request.Request.TheVariants as request
-use Rattle.apex_types.specs.Requested.{service_of}
 use Rattle.apex_machine.specs.declared.state.CoreState.{CoreState}
-use Rattle.apex_machine.specs.declared.state.Process.{Process}
 use Rattle.apex_machine.specs.Conditions.{codes_for, time_out_codes, waiting_codes, when}
 use Rattle.apex_machine.specs.Configuration.{Configuration}
 use Rattle.apex_machine.specs.Demands.{AllHold, answer_demands, outcome_demands, own_call_demands}
 use Rattle.apex_machine.specs.ObjectConditions.{message_codes}
 use Rattle.apex_machine.specs.Ports.{channel_of}
 use Rattle.apex_machine.specs.ServiceConditions.{condition_codes}
-use Rattle.apex_machine.specs.Services.{Answer, answer_of, is_built}
+use Rattle.apex_machine.specs.Services.{Answer, answer_of}
 use Rattle.apex_machine.specs.State.{Mutex, Partition, created, given_object, item_at, time_of}
 use Rattle.apex_laws.specs.PartLaws.{IsOwnCall}
 use Rattle.apex_laws.proofs.SoundParts.{running_stands_nowhere}
@@ -122,14 +118,6 @@ at_work configuration cores place core partition call clear = record {
   nowhere = λ wanted. (running_stands_nowhere call.who.part place core cores partition call.who clear.sound clear.caller.1.0 wanted).0;
 }
 
--- no judged service goes through a channel
-pub no_channel : (partition : Partition) (asked : Request) → is_built (service_of asked) ≡ true → channel_of partition asked ≡ None
-no_channel partition (request.WriteSamplingMessage port length message) judged = cc
-no_channel partition (request.ReadSamplingMessage port) judged = cc
-no_channel partition (request.SendQueuingMessage port length time_out message) judged = cc
-no_channel partition (request.ReceiveQueuingMessage port time_out) judged = cc
-no_channel partition _ judged = refl
-
 -- what is demanded of an outcome on which no condition holds, through no channel
 outcome_holds : (codes : List Code) (channel : Option ℕ) (number : ℕ) (asked : Request) (answer : Answer) (claim : Claim) → codes ≡ [] → channel ≡ None
     → claim.chan ≡ None → AllHold (answer_demands answer claim) → AllHold (outcome_demands codes channel number asked answer claim)
@@ -138,17 +126,17 @@ outcome_holds codes channel number asked answer claim none nowhere apart holds =
 -- where its claim is what its service gives, all that is demanded of the call holds
 pub all_hold : (configuration : Configuration) (cores : List CoreState) (place core : ℕ) (partition : Partition) (call : CallRecord)
     → IsClear configuration cores place core partition call → AllHold (served_demands (time_of cores core) partition call)
-    → AllHold (own_call_demands is_built configuration call.who.part cores partition core call)
+    → AllHold (own_call_demands configuration call.who.part cores partition core call)
 all_hold configuration cores place core partition call clear served =
     let caller = clear.caller in
     let outcome = outcome_holds (condition_codes configuration call.who partition call.request) (channel_of partition call.request) call.who.part call.request
-    (answer_of (time_of cores core) call.who partition call.request) call.claim clear.codes (no_channel partition call.request caller.1.1.1.0.0) clear.apart served in
+    (answer_of (time_of cores core) call.who partition call.request) call.claim clear.codes clear.through clear.apart served in
     (caller.0, (caller.1.0, (caller.1.1.0, (caller.1.1.1.0, (caller.1.1.1.1.0, outcome)))))
 
 -- so it is a lawful call of one of the partition's own processes
 pub own_call : (configuration : Configuration) (cores : List CoreState) (place core : ℕ) (partition : Partition) (call : CallRecord)
     → IsClear configuration cores place core partition call → AllHold (served_demands (time_of cores core) partition call)
-    → IsOwnCall is_built configuration call.who.part place core cores partition call
+    → IsOwnCall configuration call.who.part place core cores partition call
 own_call configuration cores place core partition call clear served = record {
   sound = clear.sound;
   own = refl;

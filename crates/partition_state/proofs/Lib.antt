@@ -10,3 +10,4 @@ pub mod Sets
 pub mod Clear
 pub mod Served
 pub mod Sounds
+pub mod Uses

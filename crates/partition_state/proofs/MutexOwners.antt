@@ -1,5 +1,5 @@
 -- The owners of mutexes, by a search.
-use Rattle.std.proofs.Common.{◌≡◌, ℕ, ℤ, List, Bool, false, [], ◌∷◌, ◌||◌, ◌&&◌, not, refl, ap}
+use Rattle.std.proofs.Common.{◌≡◌, ℕ, ℤ, List, Bool, [], ◌∷◌, ◌||◌, ◌&&◌, not, refl, ap}
 use Rattle.std.specs.List.{list_any}
 use Rattle.apex_machine.specs.Arguments.{is_number}
 use Rattle.apex_machine.specs.Conditions.{owns_mutex}

@@ -1,6 +1,5 @@
 -- What a call that was served makes of the objects is what it makes of the partition's.
-use Rattle.std.proofs.Common.{◌≡◌, ℕ, ℤ, List, [], Option, Some, None, Bool, true, false, refl, ap, sym, ◌∙◌}
-use Rattle.apex_types.specs.declared.code.Code.TheVariants as code
+use Rattle.std.proofs.Common.{◌≡◌, ℕ, List, Option, Some, None, Bool, true, false, refl}
 use Rattle.apex_types.specs.declared.record.Call.{Call as CallRecord}
 use Rattle.apex_types.specs.declared.record.Who.{Who}
 use Rattle.apex_types.specs.declared.request.Request.{Request}
@@ -13,7 +12,7 @@ use Rattle.apex_machine.specs.declared.state.WaitingSet.TheVariants as set
 use Rattle.apex_machine.specs.After.{objects_called, partition_called}
 use Rattle.apex_machine.specs.Configuration.{Configuration}
 use Rattle.apex_machine.specs.Demands.{AllHold, Demand}
-use Rattle.apex_machine.specs.Services.{fellow, is_built}
+use Rattle.apex_machine.specs.Services.{fellow}
 use Rattle.apex_machine.specs.State.{Partition, created, time_of}
 use Rattle.apex_machine.specs.Waiting.{is_no_error}
 use Rattle.apex_laws.specs.PartLaws.{IsOwnCall}
@@ -42,7 +41,7 @@ pub served_is_called : (configuration : Configuration) (cores : List CoreState) 
 served_is_called configuration cores place core partition call clear served (request.Stop process) is =
     by (created partition.table process) refl
   where
-    own : IsOwnCall is_built configuration call.who.part place core cores partition call
+    own : IsOwnCall configuration call.who.part place core cores partition call
     own = own_call configuration cores place core partition call clear served
 
     by : (target : Option Process) → created partition.table process ≡ target
@@ -51,9 +50,9 @@ served_is_called configuration cores place core partition call clear served (req
     by (Some target) e =
         let served_now = rw is at served in
         let done : is_no_error call.claim.out ≡ true = rw served_now.0 refl in
-        (stopped_leaves is_built configuration call.who.part place core cores partition call own process is done target e).2
+        (stopped_leaves configuration call.who.part place core cores partition call own process is done target e).2
 served_is_called configuration cores place core partition call clear served asked is =
-    one_object_changes is_built configuration call.who.part place core cores partition call
+    one_object_changes configuration call.who.part place core cores partition call
     (own_call configuration cores place core partition call clear served) (rw is refl) asked is
 
 -- a service other than STOP changes the one object that it names

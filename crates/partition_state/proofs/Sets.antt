@@ -1,5 +1,5 @@
 -- What a call makes of the waiting set that its object has, and of the one object that it names.
-use Rattle.std.proofs.Common.{◌≡◌, ◌≢◌, ℕ, ℤ, pos, negsuc, ◌<◌, List, [], ◌∷◌, ◌++◌, Option, Some, None, Bool, true, false, nat_eq, ◌&&◌, ◌||◌, IfErr, Result, Ok, Err, refl, sym, ap, ◌∙◌, arith, cond}
+use Rattle.std.proofs.Common.{◌≡◌, ◌≢◌, ℕ, ℤ, pos, negsuc, ◌<◌, List, [], ◌∷◌, Option, Some, None, Bool, true, false, nat_eq, ◌&&◌, IfErr, Result, Ok, Err, refl, sym, ap, ◌∙◌, arith, cond}
 use Rattle.std.specs.Option.{IfSome}
 use Rattle.std.specs.Result.{IsErrAnd}
 use Rattle.std.proofs.lemmas.Bool.Decides.{nat_tests}
@@ -12,26 +12,25 @@ use Rattle.apex_machine.specs.declared.state.WaitingSet.{WaitingSet}
 use Rattle.apex_machine.specs.Demands.{stands_in}
 use Rattle.apex_machine.specs.Arguments.{natural_of}
 use Rattle.apex_machine.specs.Services.{answer_by}
-use Rattle.apex_machine.specs.State.{Partition, change_at, given_object, is_named, item_at}
-use Rattle.apex_machine.specs.Waiting.{ends_wait, enters, entry_of, is_no_error, is_target, is_the_set, is_waiting, message_of, set_after, set_of, stop_of, without}
+use Rattle.apex_machine.specs.State.{Partition, change_at, given_object, item_at}
+use Rattle.apex_machine.specs.Waiting.{enters, is_the_set, is_waiting, message_of, set_after, set_of, stop_of}
 use Rattle.apex_laws.specs.Laws.{AllEntries, IsInOrder, are_distinct, entries_at}
-use Rattle.apex_laws.proofs.Waiters.{without_same}
 use Rattle.object_table.proofs.Tables.{change-absent}
 use Rattle.apex_machine.specs.Answer.{Answer, NamesExactly}
-use Rattle.wait_set.proofs.Last.{enters_last}
+use Rattle.wait_set.proofs.Calls as calls
+use Rattle.wait_set.proofs.Calls.{no_place}
+pub use Rattle.wait_set.proofs.Calls.{set_left}
 use Rattle.wait_set.specs.Actors.{entry_with, joined_by, left_by}
 use Rattle.wait_set.specs.Laws.{StandBefore}
-use Rattle.wait_set.specs.Sets.{IsNew, entered, has_place}
+use Rattle.wait_set.specs.Sets.{IsNew}
 use Rattle.partition_state.specs.Calls.{IsAtWork}
 
 -- who enters
 
--- below a place no entry has it
-no_place : (place : ℕ) (entries : List Entry) → AllEntries (λ entry. entry.place < place) entries → has_place place entries ≡ false
-no_place place [] below = refl
-no_place place (entry ∷ entries) below =
-    let apart : nat_eq place entry.place ≡ false = grind (arith, nat_tests, below.0) in
-    rw (apart, no_place place entries below.1) refl
+-- entries below a place stand before it
+stands_before : (place : ℕ) (entries : List Entry) → AllEntries (λ entry. entry.place < place) entries → StandBefore place entries
+stands_before place [] below = tt
+stands_before place (entry ∷ entries) below = (below.0, stands_before place entries below.1)
 
 -- who makes a call is new in each waiting set of the partition
 pub is_new : (place : ℕ) (partition : Partition) (who : Who) (priority : ℕ) (message : List ℕ) → IsAtWork place partition who
@@ -40,7 +39,7 @@ pub is_new : (place : ℕ) (partition : Partition) (who : Who) (priority : ℕ) 
 is_new place partition who priority message at_work wanted entries are =
     let apart : stands_in who entries ≡ false = rw are at (at_work.nowhere wanted) in
     let below : AllEntries (λ entry. entry.place < place) entries = rw are at (at_work.sound.order wanted).below in
-    (apart, no_place place entries below)
+    (apart, no_place place entries (stands_before place entries below))
 
 -- the entries of a set of a partition at work are in order
 pub in_order : (place : ℕ) (partition : Partition) (who : Who) → IsAtWork place partition who → (wanted : WaitingSet) (entries : List Entry)
@@ -49,52 +48,16 @@ in_order place partition who at_work wanted entries are = rw are at (at_work.sou
 
 -- what a call leaves
 
-or_false : (b : Bool) → (b || false) ≡ b
-or_false true = refl
-or_false false = refl
-
 and_false : (b : Bool) → (b && false) ≡ false
 and_false true = refl
 and_false false = refl
-
--- a call that stops nobody ends the waits of those that it names
-names_alone : (call : CallRecord) → stop_of call.request ≡ None → (who : Who) → ends_wait call who ≡ is_named who call.claim.woken
-names_alone call none who =
-    let nobody : is_target (stop_of call.request) who.proc ≡ false = rw none refl in
-    rw (nobody, and_false (nat_eq who.part call.who.part), and_false (is_no_error call.claim.out), or_false (is_named who call.claim.woken)) refl
-
--- those stay whom it does not name
-pub only_named_leave : (call : CallRecord) → stop_of call.request ≡ None → (entries : List Entry) → without (ends_wait call) entries ≡ left_by call.claim entries
-only_named_leave call none entries = without_same (ends_wait call) (λ who. is_named who call.claim.woken) (names_alone call none) entries
-
-before-without : (leaves : Who → Bool) (place : ℕ) (entries : List Entry) → AllEntries (λ entry. entry.place < place) entries → StandBefore place (without leaves entries)
-before-without leaves place [] below = tt
-before-without leaves place (entry ∷ entries) below = by (before-without leaves place entries below.1) (leaves entry.who)
-  where
-    by : StandBefore place (without leaves entries) → (b : Bool) → StandBefore place (cond b (without leaves entries) (entry ∷ without leaves entries))
-    by rest true = rest
-    by rest false = (below.0, rest)
 
 -- a set in which its caller may wait: those leave that it names, and a caller that waits enters it
 pub set_joined : (place : ℕ) (call : CallRecord) (wanted : WaitingSet) (entries : List Entry) → stop_of call.request ≡ None → IsInOrder place entries
     → enters call wanted ≡ is_waiting call.claim.out
     → set_after place (Call call) wanted entries
     ≡ joined_by (record { who = call.who; priority = call.claim.prio; place = place }) call.claim (message_of call.request) entries
-set_joined place call wanted entries none order can = rw (can, only_named_leave call none entries) (by (is_waiting call.claim.out))
-  where
-    last : entered (entry_of place call) (left_by call.claim entries) ≡ left_by call.claim entries ++ entry_of place call ∷ []
-    last = enters_last (entry_of place call) (left_by call.claim entries)
-        (before-without (λ who. is_named who call.claim.woken) place entries order.below)
-
-    by : (b : Bool) → cond b (left_by call.claim entries ++ entry_of place call ∷ []) (left_by call.claim entries)
-        ≡ cond b (entered (entry_of place call) (left_by call.claim entries)) (left_by call.claim entries)
-    by true = sym last
-    by false = refl
-
--- a set in which its caller does not wait: those leave that it names
-pub set_left : (place : ℕ) (call : CallRecord) (wanted : WaitingSet) (entries : List Entry) → stop_of call.request ≡ None → enters call wanted ≡ false
-    → set_after place (Call call) wanted entries ≡ left_by call.claim entries
-set_left place call wanted entries none outside = rw (outside, only_named_leave call none entries) refl
+set_joined place call wanted entries none order can = calls.set_joined place call wanted entries none (stands_before place entries order.below) can
 
 -- where a claim names nobody all stay
 pub all_stay : (claim : Claim) → NamesExactly [] claim.woken → (entries : List Entry) → left_by claim entries ≡ entries

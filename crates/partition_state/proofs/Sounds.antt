@@ -1,5 +1,5 @@
 -- The table of processes can hold what a call asks for.
-use Rattle.std.proofs.Common.{◌≡◌, ◌≢◌, ◌<◌, ◌≤◌, ℕ, ℤ, pos, negsuc, List, [], ◌∷◌, ◌++◌, ◌||◌, Option, Some, None, Bool, true, false, not, nat_eq, IsTrue, refl, sym, arith}
+use Rattle.std.proofs.Common.{◌≡◌, ◌≢◌, ◌<◌, ◌≤◌, ℕ, ℤ, pos, negsuc, List, [], ◌∷◌, ◌||◌, None, Bool, true, false, nat_eq, IsTrue, refl, arith}
 use Rattle.std.proofs.lemmas.Bool.Decides.{nat_tests}
 use Rattle.apex_types.specs.Bounds.{place_count}
 use Rattle.apex_types.specs.declared.code.Code.TheVariants as error
@@ -12,7 +12,6 @@ use Rattle.apex_types.specs.declared.request.Request.TheVariants as request
 use Rattle.apex_machine.specs.declared.state.CoreState.{CoreState}
 use Rattle.apex_machine.specs.After.{is_done}
 use Rattle.apex_machine.specs.Answer.{NamesExactly}
-use Rattle.apex_machine.specs.Arguments.{natural_of}
 use Rattle.apex_machine.specs.Configuration.{Configuration, is_core}
 use Rattle.apex_machine.specs.Demands.{AllHold}
 use Rattle.apex_machine.specs.ServiceConditions.{condition_codes}
@@ -90,7 +89,7 @@ waits_soundly configuration who partition _ kept none = tt
 
 -- releases
 
-releases_soundly : (place : ℕ) (partition : Partition) (caller : ℕ) (asked : Request) → IsBoundedPart place partition → place < place_count
+pub releases_soundly : (place : ℕ) (partition : Partition) (caller : ℕ) (asked : Request) → IsBoundedPart place partition → place < place_count
     → ReleasesSoundly partition.table caller asked
 releases_soundly place partition caller request.PeriodicWait bounded below =
     λ process at. releases_fit place partition caller process bounded (omega (arith, below)) at

@@ -1,15 +1,17 @@
 -- Whom a partition may serve, what it answers, and which object a request is for.
-use Rattle.std.specs.Prelude.{◌≡◌, ℕ, ℤ, Bool, true, false, List, [], Option, Some, None, IsFalse}
+use Rattle.std.specs.Prelude.{◌≡◌, ◌⊎◌, ℕ, ℤ, Bool, true, false, List, [], Option, Some, None, IsFalse, IsTrue, is_some}
 use Rattle.apex_types.specs.declared.record.Call.{Call as CallRecord}
 use Rattle.apex_types.specs.declared.record.Who.{Who}
 use Rattle.apex_types.specs.declared.request.Request.{Request}
 use Rattle.apex_types.specs.declared.request.Request.TheVariants as request
 use Rattle.apex_machine.specs.declared.state.CoreState.{CoreState}
 use Rattle.apex_machine.specs.declared.state.WaitingSet.{WaitingSet}
+use Rattle.apex_machine.specs.After.{is_done}
 use Rattle.apex_machine.specs.Configuration.{Configuration}
 use Rattle.apex_machine.specs.Demands.{AllHold, Demand, FirstFails, answer_demands, caller_demands, stands_in}
+use Rattle.apex_machine.specs.Ports.{channel_of, use_of}
 use Rattle.apex_machine.specs.ServiceConditions.{condition_codes}
-use Rattle.apex_machine.specs.Services.{answer_of, fellow, is_built}
+use Rattle.apex_machine.specs.Services.{answer_of, fellow}
 use Rattle.apex_machine.specs.State.{Partition, created}
 use Rattle.apex_laws.specs.Laws.{entries_at}
 use Rattle.apex_laws.specs.PartLaws.{IsSoundPart}
@@ -34,12 +36,13 @@ pub record IsAtWork (place : ℕ) (partition : Partition) (who : Who) : Type 0 w
   pub nowhere : (wanted : WaitingSet) → IsFalse (stands_in who (entries_at partition wanted))
 
 -- a call of a process of a sound and bounded partition that is to be served: all that is demanded of it before its outcome holds, no
--- error condition does, and it goes through no channel
+-- error condition does, it goes through no channel, and it claims none
 pub record IsClear (configuration : Configuration) (cores : List CoreState) (place core : ℕ) (partition : Partition) (call : CallRecord) : Type 0 where
   pub sound : IsSoundPart call.who.part place partition
   pub bounded : IsBoundedPart place partition
-  pub caller : AllHold (caller_demands is_built configuration call.who.part cores partition core call)
+  pub caller : AllHold (caller_demands configuration call.who.part cores partition core call)
   pub codes : condition_codes configuration call.who partition call.request ≡ []
+  pub through : channel_of partition call.request ≡ None
   pub apart : call.claim.chan ≡ None
 
 -- what is demanded of the claim of a call on which no error condition holds and which goes through no channel: it is what the
@@ -51,6 +54,10 @@ served_demands now partition call = answer_demands (answer_of now call.who parti
 abbrev pub RefusesOrWants : List {1} Demand → ObjFault → Type 0
 RefusesOrWants demands (Unlawful cause) = FirstFails demands cause
 RefusesOrWants demands Memory = Unit {0}
+
+-- a call that leaves all objects and ports of its partition: it is not done, or it uses a channel
+abbrev pub LeavesObjects : CallRecord → Type 0
+LeavesObjects call = IsFalse (is_done call.claim.out) ⊎ IsTrue (is_some (use_of call.request))
 
 -- the objects of a partition after a call that was served: STOP takes its target out of its waiting set, any other service changes
 -- the one object that it names
@@ -116,3 +123,9 @@ creates_object (request.CreateSemaphore name value maximum discipline) = true
 creates_object (request.CreateEvent name) = true
 creates_object (request.CreateMutex name priority discipline) = true
 creates_object _ = false
+
+-- the creations of ports
+abbrev pub creates_port : Request → Bool
+creates_port (request.CreateSamplingPort name size direction refresh) = true
+creates_port (request.CreateQueuingPort name size capacity both) = true
+creates_port _ = false

@@ -1,9 +1,9 @@
 // What the services of processes give their callers, and whether a claim is that.
 
-ghost use Rattle.std.specs.Prelude.{◌≡◌, ◌↔◌, [], pos, true, IsTrue, if◌then◌else◌};
+ghost use Rattle.std.specs.Prelude.{◌≡◌, ◌↔◌, pos, true, IsTrue, if◌then◌else◌};
 ghost use Rattle.apex_machine.specs.Answer as answer;
-ghost use Rattle.apex_machine.specs.Answer.{HasValue, NamesExactly, Number, Value};
-ghost use Rattle.apex_machine.specs.Demands.{Judges, answer_demands};
+ghost use Rattle.apex_machine.specs.Answer.{HasValue, Number};
+ghost use Rattle.apex_machine.specs.Demands.{Judges};
 ghost use Rattle.apex_machine.specs.DueTimes as due_times;
 ghost use Rattle.apex_machine.specs.Services as services;
 ghost use Rattle.apex_machine.specs.Services.{fellow};
@@ -13,8 +13,8 @@ ghost use Rattle.partition_state.specs.Calls.{is_process_service, served_demands
 
 use crate::state::PartitionState;
 use apex_machine::Wait;
-use apex_types::{Call, Cause, Claim, Code, Out, Request, Who};
-use wait_set::Given;
+use apex_types::{Call, Cause, Out, Request, Who};
+use wait_set::{Given, judge_value};
 
 impl PartitionState {
     /// Judges the claim of a call of a service of processes at this time of its core, in ticks: it has to be what the service
@@ -84,38 +84,11 @@ fn done_if<'a>(has_come: bool) -> Given<'a>
     }
 }
 
-/// Judges the claim of a call that is done at once, ends no wait, and gives a value: `has_value` says whether it is the one
-/// that is claimed. The cause is that of the first demand that fails.
-pub(crate) fn judge_value(has_value: bool, claim: &Claim) -> Result<(), Cause>
-    ensures { (value : Value) → (IsTrue has_value ↔ HasValue value claim.now.val) → Judges (answer_demands (answer.done_with value) claim.now) result }
-{
-    if claim.out != Out::Answer(Code::NoError) {
-        return Err(Cause::Out);
-    }
-    if !has_value {
-        return Err(Cause::Val);
-    }
-    if !claim.bytes.as_bytes().is_empty() {
-        return Err(Cause::Data);
-    }
-    if !names_nobody(claim.woken.as_slice()) {
-        return Err(Cause::Woken);
-    }
-    Ok(())
-}
-
 // Whether a claimed value is this number.
 fn is_number(number: u64, claimed: Option<i64>) -> bool
     ensures { IsTrue result ↔ HasValue (Number (pos number)) claimed }
 {
     claimed.is_some_and(|value| value >= 0 && value as u64 == number)
-}
-
-// Whether these are no processes at all.
-fn names_nobody(named: &[Who]) -> bool
-    ensures { IsTrue result ↔ NamesExactly [] named.now }
-{
-    named.is_empty()
 }
 
 // Whether a wait is that of a process that suspended itself.

@@ -11,10 +11,10 @@ ghost use Rattle.wait_set.specs.Actors.{Refuses};
 ghost use Rattle.partition_state.specs.Calls.{IsAtWork, blackboard_used, served_demands};
 
 use crate::caller::caller_of;
-use crate::creations::{add_numbered, copy_of, judge_creation};
 use crate::state::PartitionState;
 use apex_types::{Call, Name, Place};
 use blackboard::Blackboard;
+use object_table::copy_of;
 use std::alloc::Global;
 use wait_set::ObjFault;
 
@@ -57,9 +57,8 @@ impl PartitionState {
         ensures refused { IfErr result (λ fault. (now : ℕ) → Refuses (served_demands now self.old call.now) fault) }
         ensures unchanged { OnErr result (self.new ≡ self.old) }
     {
-        let claimed = call.claim.val;
-        judge_creation(self.blackboards.is_new_number(claimed), &call.claim)?;
+        self.blackboards.judge_creation(&call.claim)?;
         let blackboard = Blackboard::new(alloc, copy_of(alloc, name)?, size as u16);
-        add_numbered(&mut self.blackboards, claimed, blackboard)
+        self.blackboards.add(call.claim.val, blackboard)
     }
 }

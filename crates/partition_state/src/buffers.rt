@@ -13,10 +13,11 @@ ghost use Rattle.wait_set.specs.declared.object.ObjFault.TheVariants.{Memory};
 ghost use Rattle.partition_state.specs.Calls.{IsAtWork, buffer_used, served_demands};
 
 use crate::caller::caller_of;
-use crate::creations::{add_numbered, copy_of, discipline_of, judge_creation};
+use crate::creations::discipline_of;
 use crate::state::PartitionState;
 use apex_types::{Call, Name, Place};
 use buffer::Buffer;
+use object_table::copy_of;
 use std::alloc::Global;
 use wait_set::ObjFault;
 
@@ -65,10 +66,9 @@ impl PartitionState {
         ensures refused { IfErr result (λ fault. (now : ℕ) → Refuses (served_demands now self.old call.now) fault) }
         ensures unchanged { OnErr result (self.new ≡ self.old) }
     {
-        let claimed = call.claim.val;
-        judge_creation(self.buffers.is_new_number(claimed), &call.claim)?;
+        self.buffers.judge_creation(&call.claim)?;
         let buffer = empty_buffer(alloc, name, size, capacity, discipline)?;
-        add_numbered(&mut self.buffers, claimed, buffer)
+        self.buffers.add(call.claim.val, buffer)
     }
 }
 

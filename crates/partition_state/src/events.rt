@@ -10,9 +10,9 @@ ghost use Rattle.wait_set.specs.Actors.{Refuses};
 ghost use Rattle.partition_state.specs.Calls.{IsAtWork, event_used, served_demands};
 
 use crate::caller::caller_of;
-use crate::creations::{add_numbered, copy_of, judge_creation};
 use crate::state::PartitionState;
 use apex_types::{Call, Name, Place};
+use object_table::copy_of;
 use semaphore_event::Event;
 use std::alloc::Global;
 use wait_set::ObjFault;
@@ -53,9 +53,8 @@ impl PartitionState {
         ensures refused { IfErr result (λ fault. (now : ℕ) → Refuses (served_demands now self.old call.now) fault) }
         ensures unchanged { OnErr result (self.new ≡ self.old) }
     {
-        let claimed = call.claim.val;
-        judge_creation(self.events.is_new_number(claimed), &call.claim)?;
+        self.events.judge_creation(&call.claim)?;
         let event = Event::new(alloc, copy_of(alloc, name)?);
-        add_numbered(&mut self.events, claimed, event)
+        self.events.add(call.claim.val, event)
     }
 }

@@ -1,8 +1,9 @@
-//! The state of one partition: its mode, its processes, and its objects of each kind under their numbers.
+//! The state of one partition: its mode, its processes, and its objects and ports of each kind under their numbers.
 //!
 //! Promises: a state is seen as the partition of the definitions; a call, a return and a tick make of it what the definitions
 //! make of it; what a call claims is judged by what its service gives, once, and carried out where the two agree; where a call
-//! is refused, or memory is refused to it, nothing has changed.
+//! is refused, or memory is refused to it, nothing has changed. What a call through a channel claims is judged elsewhere, and its
+//! processes change here.
 #![tactic(auto)]
 
 mod answers;
@@ -15,6 +16,7 @@ mod events;
 mod leaving;
 mod mutexes;
 mod owners;
+mod port_calls;
 mod semaphores;
 mod serving;
 mod state;

@@ -13,10 +13,11 @@ ghost use Rattle.partition_state.specs.Calls.{IsAtWork, mutex_used, served_deman
 ghost use Rattle.partition_state.specs.Owners.{TransfersFrom};
 
 use crate::caller::caller_of;
-use crate::creations::{add_numbered, copy_of, discipline_of, judge_creation};
+use crate::creations::discipline_of;
 use crate::state::PartitionState;
 use apex_types::{Call, Name, Place, ProcId};
 use mutex_ceiling::Mutex653;
+use object_table::copy_of;
 use process_state::Transfer;
 use std::alloc::Global;
 use wait_set::ObjFault;
@@ -87,15 +88,14 @@ impl PartitionState {
         ensures refused { IfErr result (λ fault. (now : ℕ) → Refuses (served_demands now self.old call.now) fault) }
         ensures unchanged { OnErr result (self.new ≡ self.old) }
     {
-        let claimed = call.claim.val;
-        judge_creation(self.mutexes.is_new_number(claimed), &call.claim)?;
+        self.mutexes.judge_creation(&call.claim)?;
         let mutex = Mutex653::new(
             alloc,
             copy_of(alloc, name)?,
             priority as u8,
             discipline_of(discipline),
         );
-        add_numbered(&mut self.mutexes, claimed, mutex)
+        self.mutexes.add(call.claim.val, mutex)
     }
 }
 

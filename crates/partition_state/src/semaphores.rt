@@ -11,9 +11,10 @@ ghost use Rattle.wait_set.specs.Actors.{Refuses};
 ghost use Rattle.partition_state.specs.Calls.{IsAtWork, semaphore_used, served_demands};
 
 use crate::caller::caller_of;
-use crate::creations::{add_numbered, copy_of, discipline_of, judge_creation};
+use crate::creations::discipline_of;
 use crate::state::PartitionState;
 use apex_types::{Call, Name, Place};
+use object_table::copy_of;
 use semaphore_event::Semaphore;
 use std::alloc::Global;
 use wait_set::ObjFault;
@@ -61,8 +62,7 @@ impl PartitionState {
         ensures refused { IfErr result (λ fault. (now : ℕ) → Refuses (served_demands now self.old call.now) fault) }
         ensures unchanged { OnErr result (self.new ≡ self.old) }
     {
-        let claimed = call.claim.val;
-        judge_creation(self.semaphores.is_new_number(claimed), &call.claim)?;
+        self.semaphores.judge_creation(&call.claim)?;
         let semaphore = Semaphore::new(
             alloc,
             copy_of(alloc, name)?,
@@ -70,6 +70,6 @@ impl PartitionState {
             maximum as u16,
             discipline_of(discipline),
         );
-        add_numbered(&mut self.semaphores, claimed, semaphore)
+        self.semaphores.add(call.claim.val, semaphore)
     }
 }

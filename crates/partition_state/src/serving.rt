@@ -1,18 +1,17 @@
 // What a call makes of its partition.
 
-ghost use Rattle.std.specs.Prelude.{◌≡◌, ℕ, [], None, false, true, IfErr, IfOk, IsTrue, OnErr, OnOk};
-ghost use Rattle.apex_machine.specs.After.{is_done, partition_called};
+ghost use Rattle.std.specs.Prelude.{◌≡◌, ℕ, [], None, true, IfErr, IfOk, IsTrue, OnErr, OnOk};
+ghost use Rattle.apex_machine.specs.After.{partition_called};
 ghost use Rattle.apex_machine.specs.Configuration.{Configuration, period_of};
 ghost use Rattle.apex_machine.specs.Demands.{AllHold, caller_demands, own_call_demands};
 ghost use Rattle.apex_machine.specs.ServiceConditions.{condition_codes};
-ghost use Rattle.apex_machine.specs.Services.{is_built};
 ghost use Rattle.apex_machine.specs.State.{time_of};
 ghost use Rattle.apex_laws.specs.PartBounds.{IsBoundedPart};
 ghost use Rattle.apex_laws.specs.PartLaws.{IsSoundPart};
 ghost use Rattle.process_state.specs.Timely.{TimesFit};
 ghost use Rattle.process_state.specs.Transfers.{IsTransferOf};
 ghost use Rattle.wait_set.specs.Actors.{Refuses};
-ghost use Rattle.partition_state.specs.Calls.{IsClear, RefusesOrWants, is_process_service, mutex_used, objects_served, served_demands};
+ghost use Rattle.partition_state.specs.Calls.{IsClear, LeavesObjects, RefusesOrWants, is_process_service, mutex_used, objects_served, served_demands};
 
 use crate::state::PartitionState;
 use apex_types::{Call, Place, Request};
@@ -59,11 +58,11 @@ impl PartitionState {
         }
     }
 
-    /// A call of one of the partition's processes that an error condition refused: its outcome is due to its caller, and
-    /// nothing else changes.
+    /// A lawful call of one of the partition's processes that changes none of its objects: an error condition refused it, or it
+    /// goes through a channel. Its caller waits or has an outcome due, and whose waits it ends go on.
     ///
     /// AllocError where memory is refused; nothing has changed then.
-    pub fn refuse(
+    pub fn note(
         &mut self,
         config: &Config,
         moment: &Moment<'_>,
@@ -71,8 +70,8 @@ impl PartitionState {
     ) -> Result<(), AllocError>
         requires sound { IsSoundPart call.now.who.part moment.now.place self.old }
         requires bounded { IsBoundedPart moment.now.place self.old }
-        requires lawful { AllHold (own_call_demands is_built config.now call.now.who.part moment.now.cores.now self.old moment.now.core call.now) }
-        requires not_done { is_done call.now.claim.out ≡ false }
+        requires lawful { AllHold (own_call_demands config.now call.now.who.part moment.now.cores.now self.old moment.now.core call.now) }
+        requires leaves { LeavesObjects call.now }
         requires times { TimesFit moment.now.cores.now }
         ensures ok { OnOk result (self.new ≡ partition_called config.now moment.now.cores.now moment.now.place moment.now.core call.now self.old) }
         ensures unchanged { OnErr result (self.new ≡ self.old) }
@@ -150,6 +149,9 @@ impl PartitionState {
             | Request::CreateSemaphore { .. }
             | Request::CreateEvent { .. }
             | Request::CreateMutex { .. } => self.create(config, call),
+            Request::CreateSamplingPort { .. } | Request::CreateQueuingPort { .. } => {
+                self.create_port(config, call)
+            }
             _ => self.judge_processes(now, call),
         }
     }

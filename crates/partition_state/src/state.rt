@@ -11,13 +11,14 @@ use blackboard::Blackboard;
 use buffer::Buffer;
 use mutex_ceiling::Mutex653;
 use object_table::ObjectTable;
+use ports::PortTable;
 use process_state::ProcTable;
 use semaphore_event::{Event, Semaphore};
 use std::alloc::{AllocError, Global};
 use std::marker::Model;
 
-/// The state of a partition: its mode and its processes, and its objects of each kind under their numbers, in the order of
-/// their creation. It has no port, since no service that creates one is judged yet.
+/// The state of a partition: its mode and its processes, and its objects and ports of each kind under their numbers, in the
+/// order of their creation.
 #[derive(Drop)]
 pub struct PartitionState {
     pub(crate) alloc: Global,
@@ -27,19 +28,20 @@ pub struct PartitionState {
     pub(crate) semaphores: ObjectTable<Semaphore>,
     pub(crate) events: ObjectTable<Event>,
     pub(crate) mutexes: ObjectTable<Mutex653>,
+    pub(crate) sampling_ports: PortTable,
+    pub(crate) queuing_ports: PortTable,
 }
 
 impl Model for PartitionState {
-    ghost use Rattle.std.specs.Prelude.{[]};
     ghost use Rattle.apex_machine.specs.State.{Partition};
 
     ghost Value = { Partition };
 
-    ghost view = { λ state. record { mode = state.processes.mode; table = state.processes.table; buffers = state.buffers; blackboards = state.blackboards; semaphores = state.semaphores; events = state.events; mutexes = state.mutexes; sampling_ports = []; queuing_ports = [] } };
+    ghost view = { λ state. record { mode = state.processes.mode; table = state.processes.table; buffers = state.buffers; blackboards = state.blackboards; semaphores = state.semaphores; events = state.events; mutexes = state.mutexes; sampling_ports = state.sampling_ports; queuing_ports = state.queuing_ports } };
 }
 
 impl PartitionState {
-    /// The partition as it starts cold: its initialising process alone, on its first core, and no object.
+    /// The partition as it starts cold: its initialising process alone, on its first core, and no object or port.
     ///
     /// AllocError where memory is refused.
     pub fn new(alloc: Global, first_core: CoreId) -> Result<PartitionState, AllocError>
@@ -53,6 +55,8 @@ impl PartitionState {
             semaphores: ObjectTable::new(alloc),
             events: ObjectTable::new(alloc),
             mutexes: ObjectTable::new(alloc),
+            sampling_ports: PortTable::new(alloc),
+            queuing_ports: PortTable::new(alloc),
         })
     }
 
@@ -107,5 +111,19 @@ impl PartitionState {
         ensures { result.now ≡ self.now.mutexes }
     {
         &self.mutexes
+    }
+
+    /// The sampling ports.
+    pub fn sampling_ports(&self) -> &PortTable
+        ensures { result.now ≡ self.now.sampling_ports }
+    {
+        &self.sampling_ports
+    }
+
+    /// The queuing ports.
+    pub fn queuing_ports(&self) -> &PortTable
+        ensures { result.now ≡ self.now.queuing_ports }
+    {
+        &self.queuing_ports
     }
 }

@@ -1,6 +1,5 @@
 -- A claim that is refused is not what the creation gives.
 use Rattle.std.proofs.Common.{ℕ}
-use Rattle.apex_machine.specs.State.{is_free}
 use Rattle.wait_set.specs.Actors.{Refuses}
 use Rattle.partition_state.specs.Calls.{served_demands}
 use Rattle.partition_state.proofs.Sets.{of_error}
@@ -10,5 +9,5 @@ pub returns-in_err-judge_creation-clause-refused : goal.returns-in_err-judge_cre
 returns-in_err-judge_creation-clause-refused c =
     let refuses : (now : ℕ) → Refuses (served_demands now c.args.self.now c.args.call.now) c.in_err-judge_creation.field-0.0 =
     λ now. rw c.requires.asked
-    (c.in_err-judge_creation.ensures.refused (is_free c.args.self.now.buffers) (rw (← c.self.view_is) c.is_new_number.ensures)) in
+    (rw (← c.self.view_is) c.in_err-judge_creation.ensures.refused) in
     of_error _ _ (λ fault same. rw same refuses) c.from_residual.result c.from_residual.ensures.1

@@ -19,3 +19,6 @@ returns-in-DisplayBlackboard-clause-ok c = on_ok_weaker c.use_blackboard.result 
 
 pub returns-in-SendBuffer-clause-ok : goal.returns-in-SendBuffer-clause-ok
 returns-in-SendBuffer-clause-ok c = on_ok_weaker c.use_buffer.result (λ all. all c.args.now) c.use_buffer.ensures.ok
+
+pub returns-in-CreateSamplingPort-clause-ok : goal.returns-in-CreateSamplingPort-clause-ok
+returns-in-CreateSamplingPort-clause-ok c = on_ok_weaker c.create_port.result (λ all. all c.args.now) c.create_port.ensures.ok

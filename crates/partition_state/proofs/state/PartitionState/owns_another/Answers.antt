@@ -1,8 +1,7 @@
 use Rattle.std.proofs.Common.{rules, tests, sym, ◌∙◌}
 use Rattle.std.proofs.lemmas.Iterator.Consumers.{YieldsList-from_rest}
 use Rattle.std.proofs.lemmas.Iterator.Search.{any_from_yields_List}
-use Rattle.apex_machine.specs.Arguments.{natural_of}
-use Rattle.partition_state.proofs.MutexOwners.{is_other, is_owned, owns_another-any, owns_mutex-any}
+use Rattle.partition_state.proofs.MutexOwners.{is_other, owns_another-any}
 use Rattle.partition_state.proofs.state.PartitionState.owns_another.Goals as goal
 
 pub returns : goal.returns

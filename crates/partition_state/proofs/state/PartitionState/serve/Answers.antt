@@ -1,5 +1,5 @@
 -- The objects are those after the call, and so are the processes.
-use Rattle.std.proofs.Common.{◌≡◌, ◌<◌, ap, refl, sym, ◌∙◌, arith}
+use Rattle.std.proofs.Common.{◌<◌, ap, refl, sym, ◌∙◌, arith}
 use Rattle.apex_types.specs.Bounds.{place_count}
 use Rattle.apex_machine.specs.Demands.{AllHold}
 use Rattle.apex_machine.specs.State.{time_of}

@@ -3,7 +3,7 @@ use Rattle.std.proofs.Common.{◌∙◌}
 use Rattle.indexmap.proofs.CallerLemmas.{insert_entry-new}
 use Rattle.object_table.proofs.Numbers.{new-absent, new-fits}
 use Rattle.object_table.proofs.Tables.{NumbersFit-push, lookup-item_at}
-use Rattle.object_table.proofs.table.ObjectTable.add.Goals as goal
+use Rattle.object_table.proofs.table.ObjectTable.insert.Goals as goal
 
 pub invariant_of-self-2 : goal.invariant_of-self-2
 invariant_of-self-2 g c =

@@ -1,21 +1,18 @@
 -- The objects stay, and the processes are those after the call.
-use Rattle.std.proofs.Common.{◌≡◌, ◌<◌, ap, refl, sym, ◌∙◌, arith}
+use Rattle.std.proofs.Common.{◌<◌, ap, refl, sym, ◌∙◌, arith}
 use Rattle.std.proofs.lemmas.Result.{on_ok_weaker}
 use Rattle.apex_types.specs.Bounds.{place_count}
-use Rattle.apex_machine.specs.After.{is_done}
-use Rattle.apex_machine.specs.Services.{is_built}
-use Rattle.apex_laws.proofs.EnteringSets.{refused_leaves_objects}
 use Rattle.process_state.specs.Processes.{processes_of}
 use Rattle.partition_state.proofs.Served.{is_called}
-use Rattle.partition_state.proofs.Sounds.{not_done_and_done, sound_refused}
-use Rattle.partition_state.proofs.state.PartitionState.refuse.Goals as goal
+use Rattle.partition_state.proofs.Uses.{leaves_objects, noted_transfer, sound_noted}
+use Rattle.partition_state.proofs.state.PartitionState.note.Goals as goal
 
 pub call-requires-clause-sound : goal.call-requires-clause-sound
 call-requires-clause-sound c =
     let a = c.args in
     let below : a.moment.now.place < place_count = omega (arith, c.number-place.ensures.number, c.number-place.ensures.bound) in
     let bounded = rw (← c.self.view_is) at c.requires.bounded in
-    sound_refused a.moment.now.place _ a.call.now bounded c.requires.not_done below
+    sound_noted a.moment.now.place _ a.call.now bounded c.requires.leaves below
 
 pub returns-clause-ok : goal.returns-clause-ok
 returns-clause-ok c =
@@ -25,10 +22,10 @@ returns-clause-ok c =
     let place = a.moment.now.place in
     let core = a.moment.now.core in
     let call = a.call.now in
-    let leaves = refused_leaves_objects is_built config call.who.part place core cores a.self.now call
-    (record { sound = c.requires.sound; own = refl; demands = c.requires.lawful }) c.requires.not_done in
+    let leaves = leaves_objects config call.who.part place core cores a.self.now call
+    (record { sound = c.requires.sound; own = refl; demands = c.requires.lawful }) c.requires.leaves in
     on_ok_weaker c.call.result
     (λ become. is_called config cores place core call a.self.now _ c.call.new.self (c.self.view_is ∙ sym leaves)
     (become config a.self.now (sym c.first_core-first_core.ensures.value) (sym c.period-period.ensures.value) (sym (ap processes_of c.self.view_is))
-    (λ done. absurd (not_done_and_done (is_done call.claim.out) c.requires.not_done done))))
+    (λ done. noted_transfer a.self.now call _ c.requires.leaves done)))
     c.call.ensures.ok

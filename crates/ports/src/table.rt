@@ -1,0 +1,98 @@
+// The table of the ports of one kind.
+
+ghost use Rattle.std.specs.Prelude.{◌≡◌, ◌++◌, [], IfErr, OnErr, OnOk};
+ghost use Rattle.std.specs.Option.{option_copied};
+ghost use Rattle.apex_machine.specs.After.{numbered};
+ghost use Rattle.apex_machine.specs.Answer.{NewNumber, done_with};
+ghost use Rattle.apex_machine.specs.Conditions.{is_taken};
+ghost use Rattle.apex_machine.specs.Demands.{AllHold, answer_demands};
+ghost use Rattle.apex_machine.specs.Ports.{channel_by};
+ghost use Rattle.apex_machine.specs.State.{Port as Seen, given_object, is_free};
+ghost use Rattle.object_table.specs.Numbers.{NumbersFit};
+ghost use Rattle.wait_set.specs.Actors.{Refuses};
+ghost use Rattle.ports.specs.Ports.{port_of};
+
+use crate::port::{Port, PortSettings};
+use apex_types::{ChanId, Claim, Name};
+use object_table::{ObjectTable, copy_of};
+use std::alloc::Global;
+use std::marker::Model;
+use wait_set::ObjFault;
+
+/// The ports of one kind of a partition, under their numbers, in the order of their creation.
+#[derive(Drop)]
+pub struct PortTable {
+    ports: ObjectTable<Port>,
+}
+
+impl Model for PortTable {
+    ghost use Rattle.std.specs.Prelude.{ℕ, List};
+    ghost use Rattle.apex_machine.specs.State.{Port as Seen};
+
+    ghost Value = { List (ℕ × Seen) };
+
+    ghost view = { λ table. table.ports };
+}
+
+impl PortTable {
+    /// The table of no port. Takes no memory.
+    pub fn new(alloc: Global) -> PortTable
+        ensures { result ≡ [] }
+    {
+        PortTable {
+            ports: ObjectTable::new(alloc),
+        }
+    }
+
+    /// Says of a table what each keeps: the numbers of its ports fit 32 bits. It does nothing.
+    pub fn keeps_numbers(&self)
+        ensures { NumbersFit self.now }
+    {
+        self.ports.keeps_numbers();
+    }
+
+    /// Whether a port has this name.
+    pub fn is_taken(&self, name: &Name) -> bool
+        ensures { result ≡ is_taken (λ (port : Seen). port.name) name.now self.now }
+    {
+        self.ports.is_taken(name)
+    }
+
+    /// The port of the number that a caller gives, or None where there is none.
+    pub fn given(&self, number: i64) -> Option<&Port>
+        ensures { option_copied result ≡ given_object self.now number }
+    {
+        self.ports.given(number)
+    }
+
+    /// The channel of the port of the number that a caller gives, or None where there is no such port.
+    pub fn channel_of(&self, number: i64) -> Option<ChanId>
+        ensures { result ≡ channel_by (given_object self.now number) }
+    {
+        match self.given(number) {
+            Some(port) => Some(port.channel()),
+            None => None,
+        }
+    }
+
+    /// Creates a port, where the claim is what a creation gives: NO_ERROR and a new number. The port stands behind the
+    /// others, under the number that is claimed. That no error condition holds is judged before.
+    ///
+    /// Refused, with nothing changed, where the claim is another, or where memory is refused.
+    pub fn create(
+        &mut self,
+        alloc: Global,
+        name: &Name,
+        settings: PortSettings,
+        claim: &Claim,
+    ) -> Result<(), ObjFault>
+        ensures ok { OnOk result (AllHold (answer_demands (done_with (NewNumber (is_free self.old))) claim.now)) }
+        ensures created { OnOk result (self.new ≡ self.old ++ numbered claim.now.val (port_of name.now settings)) }
+        ensures refused { IfErr result (Refuses (answer_demands (done_with (NewNumber (is_free self.old))) claim.now)) }
+        ensures unchanged { OnErr result (self.new ≡ self.old) }
+    {
+        self.ports.judge_creation(claim)?;
+        let port = Port::new(copy_of(alloc, name)?, settings);
+        self.ports.add(claim.val, port)
+    }
+}
