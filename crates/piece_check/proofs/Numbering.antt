@@ -1,12 +1,12 @@
 -- The pieces by their numbers.
-use Rattle.std.proofs.Common.{◌≡◌, ◌<◌, ◌-◌, ℕ, zero, suc, List, [], ◌∷◌, ◌++◌, ◌+◌, ◌∙◌, Bool, ◌||◌, nat_eq, length, map, get_or, refl, ap, arith}
+use Rattle.std.proofs.Common.{◌≡◌, ◌<◌, ◌≤◌, ◌-◌, ℕ, zero, suc, List, [], ◌∷◌, ◌++◌, ◌+◌, ◌∙◌, Bool, ◌||◌, nat_eq, length, map, get_or, refl, ap, arith}
 use Rattle.std.specs.List.{list_any}
-use Rattle.std.proofs.lemmas.List.{length-map}
+use Rattle.std.proofs.lemmas.List.{length-append, length-map}
 use Rattle.apex_types.specs.declared.record.Who.{Who}
 use Rattle.apex_machine.specs.Configuration.{Configuration, PartitionLimits}
 use Rattle.apex_machine.specs.State.{names_one_of}
-use Rattle.apex_machine.specs.Pieces.{Module, OfPartition, Piece, pieces}
-use Rattle.module_config.specs.Limits.{HasNoChannel}
+use Rattle.apex_machine.specs.Channels.{channel_numbers}
+use Rattle.apex_machine.specs.Pieces.{Module, OfChannel, OfPartition, Piece, pieces}
 use Rattle.piece_check.specs.Parts.{piece_at}
 
 partition_among : (partitions : List PartitionLimits) (index : ℕ) → index < length partitions
@@ -15,36 +15,65 @@ partition_among [] index below = absurd (omega arith)
 partition_among (limits ∷ partitions) zero below = refl
 partition_among (limits ∷ partitions) (suc index) below = partition_among partitions index (omega arith)
 
+channel_among : (numbers : List ℕ) (index : ℕ) → index < length numbers → get_or (map (λ number. OfChannel number) numbers) index Module ≡ OfChannel (get_or numbers index 0)
+channel_among [] index below = absurd (omega arith)
+channel_among (number ∷ numbers) zero below = refl
+channel_among (number ∷ numbers) (suc index) below = channel_among numbers index (omega arith)
+
+-- one of the first of two lists, or one of the second
+in_first : (first second : List Piece) (index : ℕ) → index < length first → get_or (first ++ second) index Module ≡ get_or first index Module
+in_first [] second index below = absurd (omega arith)
+in_first (piece ∷ first) second zero below = refl
+in_first (piece ∷ first) second (suc index) below = in_first first second index (omega arith)
+
+in_second : (first second : List Piece) (index : ℕ) → length first ≤ index → get_or (first ++ second) index Module ≡ get_or second (index - length first) Module
+in_second [] second index past = ap (λ n. get_or second n Module) (omega arith)
+in_second (piece ∷ first) second zero past = absurd (omega arith)
+in_second (piece ∷ first) second (suc index) past =
+    in_second first second index (omega arith) ∙ ap (λ n. get_or second n Module) (omega arith)
+
 -- piece 0 is the module
 pub piece_at_zero : (configuration : Configuration) (piece : ℕ) → piece ≡ 0 → piece_at configuration piece ≡ Module
 piece_at_zero configuration zero e = refl
 piece_at_zero configuration (suc piece) e = absurd (omega arith)
 
-append_nothing : (pieces : List Piece) → pieces ++ [] ≡ pieces
-append_nothing [] = refl
-append_nothing (piece ∷ pieces) = ap (λ (rest : List Piece). piece ∷ rest) (append_nothing pieces)
+-- the partitions and the channels as pieces
+abbrev partitions_of : Configuration → List Piece
+partitions_of configuration = map (λ limits. OfPartition limits.number) configuration.partitions
 
--- where no channel is configured there is no other piece
-pub pieces_are : (configuration : Configuration) → HasNoChannel configuration
-    → pieces configuration ≡ Module ∷ map (λ limits. OfPartition limits.number) configuration.partitions
-pieces_are configuration none =
-    rw (none.sampling, none.queuing)
-    (ap (λ (rest : List Piece). Module ∷ rest) (append_nothing (map (λ limits. OfPartition limits.number) configuration.partitions)))
+abbrev channels_of : Configuration → List Piece
+channels_of configuration = map (λ number. OfChannel number) (channel_numbers configuration)
 
 -- so many
-pub length-pieces : (configuration : Configuration) → HasNoChannel configuration → length (pieces configuration) ≡ length configuration.partitions + 1
-length-pieces configuration none =
-    ap length (pieces_are configuration none) ∙ omega (arith, length-map configuration.partitions (λ limits. OfPartition limits.number))
+pub length-pieces : (configuration : Configuration) → length (pieces configuration) ≡ length configuration.partitions + length (channel_numbers configuration) + 1
+length-pieces configuration =
+    omega (
+      arith,
+      length-append (partitions_of configuration) (channels_of configuration),
+      length-map configuration.partitions (λ limits. OfPartition limits.number),
+      length-map (channel_numbers configuration) (λ number. OfChannel number),
+    )
 
 -- then come the partitions
-pub piece_at_more : (configuration : Configuration) (piece : ℕ) → HasNoChannel configuration → 0 < piece → piece < length (pieces configuration)
+pub piece_at_partition : (configuration : Configuration) (piece : ℕ) → 0 < piece → piece - 1 < length configuration.partitions
     → piece_at configuration piece ≡ OfPartition (get_or (map (λ limits. limits.number) configuration.partitions) (piece - 1) 0)
-piece_at_more configuration zero none some below = absurd (omega arith)
-piece_at_more configuration (suc piece) none some below =
+piece_at_partition configuration zero some below = absurd (omega arith)
+piece_at_partition configuration (suc piece) some below =
     let before : suc piece - 1 ≡ piece = omega arith in
-    let there : piece < length configuration.partitions = omega (arith, length-pieces configuration none, below) in
-    ap (λ (all : List Piece). get_or all (suc piece) Module) (pieces_are configuration none)
+    let there : piece < length configuration.partitions = omega (arith, below) in
+    in_first (partitions_of configuration) (channels_of configuration) piece (omega (arith, there, length-map configuration.partitions (λ limits. OfPartition limits.number)))
     ∙ rw before (partition_among configuration.partitions piece there)
+
+-- and then the channels
+pub piece_at_channel : (configuration : Configuration) (piece : ℕ) → 0 < piece → length configuration.partitions ≤ piece - 1
+    → piece - 1 - length configuration.partitions < length (channel_numbers configuration)
+    → piece_at configuration piece ≡ OfChannel (get_or (channel_numbers configuration) (piece - 1 - length configuration.partitions) 0)
+piece_at_channel configuration zero some past below = absurd (omega arith)
+piece_at_channel configuration (suc piece) some past below =
+    let before : suc piece - 1 ≡ piece = omega arith in
+    let many : length (partitions_of configuration) ≡ length configuration.partitions = length-map configuration.partitions (λ limits. OfPartition limits.number) in
+    in_second (partitions_of configuration) (channels_of configuration) piece (omega (arith, past, many))
+    ∙ rw (before, many) (channel_among (channel_numbers configuration) (piece - length configuration.partitions) (rw before at below))
 
 -- a list names a process of a partition where a process of it is the partition's
 pub names_one_of_any : (number : ℕ) (named : List Who) → list_any (λ who. nat_eq who.part number) named ≡ names_one_of number named

@@ -1,5 +1,5 @@
 -- The cores of a part: how many there are, and how their times grow.
-use Rattle.std.proofs.Common.{◌≡◌, ◌∙◌, ℕ, zero, suc, ◌+◌, ◌≤◌, List, [], ◌∷◌, ◌<◌, length, map, refl, ap, sym, arith}
+use Rattle.std.proofs.Common.{◌≡◌, ◌∙◌, ℕ, zero, suc, ◌+◌, ◌≤◌, List, [], ◌∷◌, ◌++◌, ◌<◌, true, false, if◌then◌else◌, length, map, refl, ap, sym, arith}
 use Rattle.std.proofs.lemmas.List.{length-map}
 use Rattle.std.specs.Prelude.{replicate}
 use Rattle.apex_types.specs.Bounds.{place_count}
@@ -7,17 +7,23 @@ use Rattle.apex_types.specs.declared.record.Body.{Body}
 use Rattle.apex_types.specs.declared.record.Body.TheVariants.{Call, Ret, Disp, Tick}
 use Rattle.apex_types.specs.declared.record.Ordered.{Ordered}
 use Rattle.apex_machine.specs.declared.state.CoreState.{CoreState}
+use Rattle.apex_machine.specs.declared.state.Entry.{Entry}
+use Rattle.apex_machine.specs.declared.state.WaitingSet.{WaitingSet}
+use Rattle.apex_machine.specs.declared.state.WaitingSet.TheVariants as set
 use Rattle.apex_machine.specs.Configuration.{Configuration}
-use Rattle.apex_machine.specs.State.{time_of, at_core, cold_core, cold_partition}
+use Rattle.apex_machine.specs.State.{time_of, at_core, cold_core, cold_partition, cold_state, is_named}
+use Rattle.apex_machine.specs.Waiting.{ends_wait, enters, entry_of, set_after, without}
 use Rattle.apex_machine.specs.After.{cores_by}
-use Rattle.apex_machine.specs.Pieces.{Part, ChannelPart, ModulePart, PartitionPart, one_more, part_after, times_by}
+use Rattle.apex_machine.specs.Pieces.{Module, OfChannel, OfPartition, Part, Piece, ChannelPart, ModulePart, PartitionPart, one_more, part, part_after, time_at, times_by, times_of}
 use Rattle.process_state.specs.Timely.{TimesFit}
 use Rattle.apex_machine.specs.Demands.{AllHold, demands}
-use Rattle.apex_machine.specs.Services.{is_built}
+use Rattle.apex_laws.specs.Laws.{AllEntries}
 use Rattle.apex_laws.specs.PartBounds.{PeriodFits}
 use Rattle.apex_laws.proofs.BoundedParts.{part_stays_bounded}
 use Rattle.apex_laws.proofs.SoundParts.{part_stays_sound}
-use Rattle.piece_check.specs.Parts.{HasCores, IsBehind, IsKeptBefore, KeepsBefore, NoTimeAbove, core_at}
+use Rattle.apex_laws.proofs.Waiters.{all_push, all_weaker, all_without}
+use Rattle.wait_set.specs.Laws.{StandBefore}
+use Rattle.piece_check.specs.Parts.{CallerFits, HasCores, IsBehind, IsKeptBefore, KeepsBefore, NoTimeAbove, EnteredBefore, core_at}
 
 -- cold cores stand at time 0
 pub cold_time : (count core : ℕ) → time_of (replicate count cold_core) core ≤ 0
@@ -93,6 +99,30 @@ NoTimeAbove_after place configuration (PartitionPart number cores partition) ord
 NoTimeAbove_after place configuration (ChannelPart number times channel) ordered behind =
     λ core. omega (arith, times_by_time ordered.core ordered.rec.body times core, behind core)
 
+-- so do the times of cold cores alone, and there are as many
+cold_channel_time : (count core : ℕ) → time_of (map core_at (times_of (replicate count cold_core))) core ≤ 0
+cold_channel_time zero core = omega arith
+cold_channel_time (suc count) zero = omega arith
+cold_channel_time (suc count) (suc core) = cold_channel_time count core
+
+pub cold_times : (count : ℕ) → times_of (replicate count cold_core) ≡ replicate count 0
+cold_times zero = refl
+cold_times (suc count) = ap (λ (times : List ℕ). 0 ∷ times) (cold_times count)
+
+cold_channel_cores : (count : ℕ) → length (map core_at (times_of (replicate count cold_core))) ≡ count
+cold_channel_cores zero = refl
+cold_channel_cores (suc count) = ap suc (cold_channel_cores count)
+
+cold_cores_count : (count : ℕ) → length (replicate count cold_core) ≡ count
+cold_cores_count zero = refl
+cold_cores_count (suc count) = ap suc (cold_cores_count count)
+
+-- a channel knows the time of a core as the others do
+pub time_at_is : (times : List ℕ) (core : ℕ) → time_of (map core_at times) core ≡ time_at times core
+time_at_is [] core = refl
+time_at_is (time ∷ times) zero = refl
+time_at_is (time ∷ times) (suc core) = time_at_is times core
+
 -- times that are not above a place are those of a recording
 pub TimesFit_behind : (place : ℕ) (cores : List CoreState) → place < place_count → ((core : ℕ) → time_of cores core ≤ place) → TimesFit cores
 TimesFit_behind place [] below behind = tt
@@ -108,21 +138,61 @@ cold_kept configuration number = record {
   bounded = part_stays_bounded.0 configuration number 0;
 }
 
+-- an entry before one place is one before each later place
+before_later : (place later : ℕ) → place ≤ later → (entry : Entry) → EnteredBefore place entry → EnteredBefore later entry
+before_later place later below entry before = record { earlier = omega (arith, below, before.earlier); number = before.number }
+
+-- each piece starts with as many cores as the module has
+pub cold_has_cores : (configuration : Configuration) (piece : Piece) → HasCores configuration.cores (part piece (cold_state configuration))
+cold_has_cores configuration Module = cold_cores_count configuration.cores
+cold_has_cores configuration (OfPartition number) = cold_cores_count configuration.cores
+cold_has_cores configuration (OfChannel number) = cold_channel_cores configuration.cores
+
+-- and behind place 0
+pub cold_behind : (configuration : Configuration) (piece : Piece) → IsBehind 0 (part piece (cold_state configuration))
+cold_behind configuration Module = record { times = λ core. cold_time configuration.cores core; kept = tt }
+cold_behind configuration (OfPartition number) = record { times = λ core. cold_time configuration.cores core; kept = cold_kept configuration number }
+cold_behind configuration (OfChannel number) =
+    record { times = λ core. cold_channel_time configuration.cores core; kept = record { senders = tt; receivers = tt } }
+
+-- a set before one place is one before the next, whatever a record makes of it
+set_before : (place : ℕ) (body : Body) (wanted : WaitingSet) (entries : List Entry) → CallerFits body → AllEntries (EnteredBefore place) entries
+    → AllEntries (EnteredBefore (place + 1)) (set_after place body wanted entries)
+set_before place (Disp who) wanted entries fits all = all_weaker (EnteredBefore place) (EnteredBefore (place + 1)) (before_later place (place + 1) (omega arith)) entries all
+set_before place (Ret ret) wanted entries fits all = all_weaker (EnteredBefore place) (EnteredBefore (place + 1)) (before_later place (place + 1) (omega arith)) entries all
+set_before place (Tick woken) wanted entries fits all =
+    all_without (EnteredBefore place) (EnteredBefore (place + 1)) (λ who. is_named who woken) (λ entry stays before. before_later place (place + 1) (omega arith) entry before) entries all
+set_before place (Call call) wanted entries fits all =
+    let stay = all_without (EnteredBefore place) (EnteredBefore (place + 1)) (ends_wait call) (λ entry stays before. before_later place (place + 1) (omega arith) entry before) entries all in
+    elim (enters call wanted)
+    as (λ enter. AllEntries (EnteredBefore (place + 1)) (if enter then without (ends_wait call) entries ++ entry_of place call ∷ [] else without (ends_wait call) entries)) [
+      | true ↦ all_push (EnteredBefore (place + 1)) (without (ends_wait call) entries) (entry_of place call) stay (record { earlier = omega arith; number = fits })
+      | false ↦ stay
+    ]
+
+-- so the places in it are below that place
+pub stand_before : (place : ℕ) (entries : List Entry) → AllEntries (EnteredBefore place) entries → StandBefore place entries
+stand_before place [] all = tt
+stand_before place (entry ∷ entries) all = (all.0.earlier, stand_before place entries all.1)
+
 kept_after : (configuration : Configuration) (old : Part) (ordered : Ordered) → IsBehind ordered.pos old → AllHold (demands configuration old ordered)
-    → PeriodFits ordered.rec.body → KeepsBefore (ordered.pos + 1) (part_after configuration old ordered)
-kept_after configuration (ModulePart cores) ordered behind hold fits = tt
-kept_after configuration (PartitionPart number cores partition) ordered behind hold fits = record {
-  sound = part_stays_sound.1 is_built configuration number cores partition ordered behind.kept.sound hold;
-  bounded = part_stays_bounded.1 is_built configuration number cores partition ordered behind.kept.sound behind.kept.bounded behind.times fits hold;
+    → PeriodFits ordered.rec.body → CallerFits ordered.rec.body → KeepsBefore (ordered.pos + 1) (part_after configuration old ordered)
+kept_after configuration (ModulePart cores) ordered behind hold fits caller = tt
+kept_after configuration (PartitionPart number cores partition) ordered behind hold fits caller = record {
+  sound = part_stays_sound.1 configuration number cores partition ordered behind.kept.sound hold;
+  bounded = part_stays_bounded.1 configuration number cores partition ordered behind.kept.sound behind.kept.bounded behind.times fits hold;
 }
-kept_after configuration (ChannelPart number times channel) ordered behind hold fits = tt
+kept_after configuration (ChannelPart number times channel) ordered behind hold fits caller = record {
+  senders = set_before ordered.pos ordered.rec.body (set.ChannelSenders number) channel.senders caller behind.kept.senders;
+  receivers = set_before ordered.pos ordered.rec.body (set.ChannelReceivers number) channel.receivers caller behind.kept.receivers;
+}
 
 -- a record whose demands hold leaves a part behind the next place
 pub IsBehind_after : (configuration : Configuration) (old : Part) (ordered : Ordered) → IsBehind ordered.pos old → AllHold (demands configuration old ordered)
-    → PeriodFits ordered.rec.body → IsBehind (ordered.pos + 1) (part_after configuration old ordered)
-IsBehind_after configuration old ordered behind hold fits = record {
+    → PeriodFits ordered.rec.body → CallerFits ordered.rec.body → IsBehind (ordered.pos + 1) (part_after configuration old ordered)
+IsBehind_after configuration old ordered behind hold fits caller = record {
   times = NoTimeAbove_after ordered.pos configuration old ordered behind.times;
-  kept = kept_after configuration old ordered behind hold fits;
+  kept = kept_after configuration old ordered behind hold fits caller;
 }
 
 kept_later : (place later : ℕ) (part : Part) → place ≤ later → KeepsBefore place part → KeepsBefore later part
@@ -131,7 +201,10 @@ kept_later place later (PartitionPart number cores partition) below kept = recor
   sound = part_stays_sound.2 number place later partition below kept.sound;
   bounded = part_stays_bounded.2 place later partition below kept.bounded;
 }
-kept_later place later (ChannelPart number times channel) below kept = tt
+kept_later place later (ChannelPart number times channel) below kept = record {
+  senders = all_weaker (EnteredBefore place) (EnteredBefore later) (before_later place later below) channel.senders kept.senders;
+  receivers = all_weaker (EnteredBefore place) (EnteredBefore later) (before_later place later below) channel.receivers kept.receivers;
+}
 
 -- a part that is behind one place is behind each later one
 pub IsBehind_later : (place later : ℕ) (part : Part) → place ≤ later → IsBehind place part → IsBehind later part

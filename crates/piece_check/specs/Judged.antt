@@ -8,7 +8,6 @@ use Rattle.apex_types.specs.declared.record.Ordered.{Ordered}
 use Rattle.apex_machine.specs.After.{partition_called}
 use Rattle.apex_machine.specs.Demands.{Demand, caller_demands, module_demands, own_call_demands, partition_demands}
 use Rattle.apex_machine.specs.Pieces.{Part, PartitionPart}
-use Rattle.apex_machine.specs.Services.{is_built}
 use Rattle.piece_check.specs.declared.module_piece.ModulePiece.{ModulePiece}
 use Rattle.piece_check.specs.declared.partition_piece.PartitionPiece.{PartitionPiece}
 
@@ -18,15 +17,15 @@ asked_by_module configuration piece core body = module_demands configuration pie
 
 -- what a partition's piece demands of a record of this core
 abbrev pub asked_by_partition : Configuration → PartitionPiece → ℕ → Body → List {1} Demand
-asked_by_partition configuration piece core body = partition_demands is_built configuration piece.number piece.clock.cores piece.state core body
+asked_by_partition configuration piece core body = partition_demands configuration piece.number piece.clock.cores piece.state core body
 
 -- what it demands of a call of one of its own processes before the outcome
 abbrev pub own_caller_demands : Configuration → PartitionPiece → ℕ → CallRecord → List {1} Demand
-own_caller_demands configuration piece core call = caller_demands is_built configuration piece.number piece.clock.cores piece.state core call
+own_caller_demands configuration piece core call = caller_demands configuration piece.number piece.clock.cores piece.state core call
 
 -- what it demands of a call of one of its own processes
 abbrev pub own_demands : Configuration → PartitionPiece → ℕ → CallRecord → List {1} Demand
-own_demands configuration piece core call = own_call_demands is_built configuration piece.number piece.clock.cores piece.state core call
+own_demands configuration piece core call = own_call_demands configuration piece.number piece.clock.cores piece.state core call
 
 -- its part after such a call
 abbrev pub part_called : Configuration → PartitionPiece → Ordered → CallRecord → Part

@@ -1,19 +1,23 @@
 -- What callers see of a piece, and what a step needs of it.
-use Rattle.std.specs.Prelude.{◌≡◌, ℕ, ◌≤◌, List, Bool, None, length, map, slice_index_or}
+use Rattle.std.specs.Prelude.{◌≡◌, ℕ, ◌<◌, ◌≤◌, List, Bool, Option, Some, None, length, map, slice_index_or}
 use Rattle.apex_types.specs.declared.record.Body.{Body}
 use Rattle.apex_types.specs.declared.record.Body.TheVariants.{Call, Ret, Disp, Tick}
 use Rattle.apex_machine.specs.declared.state.CoreState.{CoreState}
+use Rattle.apex_machine.specs.declared.state.Entry.{Entry}
 use Rattle.apex_machine.specs.Configuration.{Configuration}
-use Rattle.apex_machine.specs.State.{Partition, time_of}
+use Rattle.apex_machine.specs.State.{Channel, Partition, time_of}
 use Rattle.apex_machine.specs.Pieces.{Piece, Part, Module, ModulePart, PartitionPart, ChannelPart, pieces}
 use Rattle.wait_set.specs.declared.object.ObjFault.{ObjFault}
 use Rattle.wait_set.specs.declared.object.ObjFault.TheVariants.{Unlawful, Memory}
+use Rattle.apex_laws.specs.Laws.{AllEntries}
 use Rattle.apex_laws.specs.PartBounds.{IsBoundedPart}
 use Rattle.apex_laws.specs.PartLaws.{IsSoundPart}
+use Rattle.channel.specs.Held.{SaysTheSame, Settings}
 
--- a piece: its part of the state, and whether memory was refused it
+-- a piece: its part of the state, what was given for its channel, if it is one, and whether memory was refused it
 pub record Holding : Type 0 where
   pub part : Part
+  pub settings : Option Settings
   pub spent : Bool
 
 -- the piece of a number
@@ -34,6 +38,18 @@ cores_of (ChannelPart number times channel) = map core_at times
 abbrev pub HasCores : ℕ → Part → Type 0
 HasCores count part = length (cores_of part) ≡ count
 
+-- what was given for a channel is what the configuration says of it
+abbrev pub AgreesOn : Configuration → Part → Option Settings → Type 0
+AgreesOn configuration (ChannelPart number times channel) (Some settings) = SaysTheSame configuration number settings
+AgreesOn configuration (ChannelPart number times channel) None = ⊥
+AgreesOn configuration (ModulePart cores) settings = Unit {0}
+AgreesOn configuration (PartitionPart number cores partition) settings = Unit {0}
+
+-- a piece of a module that is configured so: it knows the module's cores, and its channel is as it is configured
+pub record IsOf (configuration : Configuration) (holding : Holding) : Type 0 where
+  pub cores : HasCores configuration.cores holding.part
+  pub channel : AgreesOn configuration holding.part holding.settings
+
 -- no core's time is above this place: each tick had a place of its own
 abbrev pub NoTimeAbove : ℕ → Part → Type 0
 NoTimeAbove place part = (core : ℕ) → time_of (cores_of part) core ≤ place
@@ -43,16 +59,31 @@ pub record IsKeptBefore (number place : ℕ) (partition : Partition) : Type 0 wh
   pub sound : IsSoundPart number place partition
   pub bounded : IsBoundedPart place partition
 
+-- an entry that entered its waiting set before this place, of a process whose number has 32 bits
+pub record EnteredBefore (place : ℕ) (entry : Entry) : Type 0 where
+  pub earlier : entry.place < place
+  pub number : entry.who.proc < 4294967296
+
+-- all who wait at a channel entered before this place
+pub record WaitBefore (place : ℕ) (channel : Channel) : Type 0 where
+  pub senders : AllEntries (EnteredBefore place) channel.senders
+  pub receivers : AllEntries (EnteredBefore place) channel.receivers
+
 -- what a part keeps before this place, beside its times
 abbrev pub KeepsBefore : ℕ → Part → Type 0
 KeepsBefore place (ModulePart cores) = Unit {0}
 KeepsBefore place (PartitionPart number cores partition) = IsKeptBefore number place partition
-KeepsBefore place (ChannelPart number times channel) = Unit {0}
+KeepsBefore place (ChannelPart number times channel) = WaitBefore place channel
 
 -- a part is one that records of smaller places have left
 pub record IsBehind (place : ℕ) (part : Part) : Type 0 where
   pub times : NoTimeAbove place part
   pub kept : KeepsBefore place part
+
+-- the number of who makes a call has 32 bits
+abbrev pub CallerFits : Body → Type 0
+CallerFits (Call call) = call.who.proc < 4294967296
+CallerFits _ = Unit {0}
 
 -- calls alone may take memory
 abbrev pub IsCall : Body → Type 0

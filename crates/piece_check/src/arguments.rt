@@ -3,7 +3,8 @@
 ghost use Rattle.std.specs.Prelude.{◌≡◌, ◌<◌};
 ghost use Rattle.apex_machine.specs.Arguments as numbers;
 
-use apex_types::ProcId;
+use apex_machine::Direction;
+use apex_types::{Discipline, ProcId};
 
 /// The greatest priority of a process.
 const GREATEST_PRIORITY: i64 = 239;
@@ -60,13 +61,6 @@ pub(crate) fn is_normal_mode(mode: i64) -> bool
     mode == 3
 }
 
-/// Whether a period of 0 or below makes a process aperiodic.
-pub(crate) fn is_aperiodic(period: i64) -> bool
-    ensures { result ≡ numbers.is_aperiodic period }
-{
-    period <= 0
-}
-
 /// Whether a delay or a time-out is over at once: it is 0.
 pub(crate) fn is_over(delay: i64) -> bool
     ensures { result ≡ numbers.is_over delay }
@@ -81,11 +75,38 @@ pub(crate) fn is_time_out(time_out: i64) -> bool
     time_out >= -1
 }
 
+/// Whether a caller's number is this one.
+pub(crate) fn is_number(given: i64, number: u64) -> bool
+    ensures { result ≡ numbers.is_number given number }
+{
+    given >= 0 && given as u64 == number
+}
+
 /// Whether a caller's number is that of this process.
-pub(crate) fn is_number(given: i64, process: ProcId) -> bool
+pub(crate) fn is_process(given: i64, process: ProcId) -> bool
     ensures { result ≡ numbers.is_number given process }
 {
-    given == i64::from(process.number())
+    is_number(given, u64::from(process.number()))
+}
+
+/// The number of a direction: a source has 0, a destination 1.
+pub(crate) fn direction_number(direction: Direction) -> u64
+    ensures { result ≡ numbers.direction_number direction }
+{
+    match direction {
+        Direction::Source => 0,
+        Direction::Destination => 1,
+    }
+}
+
+/// The number of a discipline: FIFO has 0, PRIORITY 1.
+pub(crate) fn discipline_number(discipline: Discipline) -> u64
+    ensures { result ≡ numbers.discipline_number discipline }
+{
+    match discipline {
+        Discipline::Fifo => 0,
+        Discipline::Priority => 1,
+    }
 }
 
 /// Whether a message size is one: 1 to 8,192 bytes.

@@ -1,16 +1,21 @@
-// What a piece holds: the module's part, or a partition's.
+// What a piece holds: the part of the module, of a partition or of a channel.
 
-ghost use Rattle.std.specs.Prelude.{◌<◌, IfErr, OnErr, OnOk, ◌≡◌, length};
+ghost use Rattle.std.specs.Prelude.{◌<◌, IfErr, IfOk, OnErr, OnOk, ◌≡◌, length};
 ghost use Rattle.apex_types.specs.Bounds.{place_count};
 ghost use Rattle.apex_machine.specs.Demands.{LocalStep, demands};
+ghost use Rattle.apex_machine.specs.Pieces.{part, pieces};
+ghost use Rattle.apex_machine.specs.State.{cold_state};
 ghost use Rattle.partition_state.specs.Calls.{RefusesOrWants};
-ghost use Rattle.piece_check.specs.Held.{part_of};
-ghost use Rattle.piece_check.specs.Parts.{IsBehind, WantsAtCalls, cores_of};
+ghost use Rattle.piece_check.specs.Held.{part_of, settings_of};
+ghost use Rattle.piece_check.specs.Parts.{AgreesOn, IsBehind, WantsAtCalls, cores_of, piece_at};
 
+use crate::channel_piece::ChannelPiece;
 use crate::module_piece::ModulePiece;
 use crate::partition_piece::PartitionPiece;
+use crate::subject::{Subject, subject_of};
 use apex_types::Ordered;
 use module_config::Config;
+use std::alloc::{AllocError, Global};
 use wait_set::ObjFault;
 
 /// What a piece holds.
@@ -18,9 +23,31 @@ use wait_set::ObjFault;
 pub(crate) enum Held {
     Module(ModulePiece),
     Partition(PartitionPiece),
+    Channel(ChannelPiece),
 }
 
 impl Held {
+    /// What the piece of this number holds: its part of the cold state.
+    ///
+    /// AllocError where memory is refused.
+    pub(crate) fn start(alloc: Global, config: &Config, piece: usize) -> Result<Held, AllocError>
+        requires { piece < length (pieces config.now) }
+        ensures part { IfOk result (λ held. part_of held ≡ part (piece_at config.now piece) (cold_state config.now)) }
+        ensures agrees { IfOk result (λ held. AgreesOn config.now (part_of held) (settings_of held)) }
+    {
+        match subject_of(config, piece) {
+            Subject::Module => Ok(Held::Module(ModulePiece::start(config))),
+            Subject::Partition(number) => {
+                let piece = PartitionPiece::start(alloc, config, number)?;
+                Ok(Held::Partition(piece))
+            }
+            Subject::Channel(number) => {
+                let piece = ChannelPiece::start(alloc, config, number)?;
+                Ok(Held::Channel(piece))
+            }
+        }
+    }
+
     /// Judges a record, and makes the part what the record makes of it.
     ///
     /// Refused, with nothing changed, where a demand fails: the cause is that of the first; or where memory is refused to a
@@ -29,14 +56,17 @@ impl Held {
         requires core { ordered.now.core < length (cores_of (part_of self.old)) }
         requires place { ordered.now.pos < place_count }
         requires behind { IsBehind ordered.now.pos (part_of self.old) }
+        requires agrees { AgreesOn config.now (part_of self.old) (settings_of self.old) }
         ensures ok { OnOk result (LocalStep config.now (part_of self.old) ordered.now (part_of self.new)) }
         ensures refused { IfErr result (RefusesOrWants (demands config.now (part_of self.old) ordered.now)) }
         ensures unchanged { OnErr result (self.new ≡ self.old) }
         ensures memory { IfErr result (WantsAtCalls ordered.now.rec.body) }
+        ensures agrees { AgreesOn config.now (part_of self.new) (settings_of self.new) }
     {
         match self {
             Held::Module(piece) => piece.step(config, ordered),
             Held::Partition(piece) => piece.step(config, ordered),
+            Held::Channel(piece) => piece.step(config, ordered),
         }
     }
 }

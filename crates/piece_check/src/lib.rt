@@ -1,4 +1,4 @@
-//! The pieces that judge a recording side by side: the module, and each partition.
+//! The pieces that judge a recording side by side: the module, each partition, and each channel.
 //!
 //! Promises: a piece starts with its part of the cold state; its step accepts a record exactly where all that it demands
 //! of the record holds, and its part is then the part after the record; else it names the cause of the first demand that
@@ -6,6 +6,7 @@
 #![tactic(auto)]
 
 mod arguments;
+mod channel_piece;
 mod conditions;
 mod fault;
 mod held;
@@ -15,6 +16,8 @@ mod outcome;
 mod partition_piece;
 mod piece;
 mod profile;
+mod subject;
 
 pub use fault::PieceFault;
-pub use piece::{Piece, count, touches};
+pub use piece::Piece;
+pub use subject::{Subject, count, subject_of, touches};

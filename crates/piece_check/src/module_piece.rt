@@ -3,10 +3,10 @@
 ghost use Rattle.std.specs.Prelude.{◌≡◌, ◌<◌, IfErr, OnErr, OnOk, is_none, length};
 ghost use Rattle.apex_types.specs.Bounds.{place_count};
 ghost use Rattle.apex_types.specs.declared.record.Body.TheVariants as body;
-ghost use Rattle.apex_machine.specs.State.{time_of};
+ghost use Rattle.apex_machine.specs.State.{cold_state, time_of};
 ghost use Rattle.apex_machine.specs.After.{cores_after};
 ghost use Rattle.apex_machine.specs.Demands.{LocalStep, demands, window_now};
-ghost use Rattle.apex_machine.specs.Pieces.{ModulePart};
+ghost use Rattle.apex_machine.specs.Pieces.{Module, ModulePart, part};
 ghost use Rattle.partition_state.specs.Calls.{RefusesOrWants};
 ghost use Rattle.piece_check.specs.Judged.{Judges, asked_by_module};
 ghost use Rattle.piece_check.specs.Parts.{IsBehind, WantsAtCalls};
@@ -24,6 +24,15 @@ pub(crate) struct ModulePiece {
 }
 
 impl ModulePiece {
+    /// The piece of the module, with its part of the cold state.
+    pub(crate) fn start(config: &Config) -> ModulePiece
+        ensures { ModulePart result.clock.cores ≡ part Module (cold_state config.now) }
+    {
+        ModulePiece {
+            clock: Clock::new(config.cores(), config.skew()),
+        }
+    }
+
     /// Judges a record, and makes the part what the record makes of it. Takes no memory.
     ///
     /// Refused, with nothing changed, where a demand fails: the cause is that of the first.

@@ -1,13 +1,18 @@
-// The outcome that a call claims on which an error condition holds.
+// The outcome that a partition judges by itself: of a call on which an error condition holds, and of one that goes through a
+// channel.
 
-ghost use Rattle.std.specs.Prelude.{◌≢◌, ℕ, [], Option};
+ghost use Rattle.std.specs.Prelude.{◌≢◌, ◌↔◌, ℕ, [], Some, IsTrue, Option, is_some};
 ghost use Rattle.apex_types.specs.declared.request.Request.{Request as RequestValue};
 ghost use Rattle.apex_machine.specs.Services as services;
-ghost use Rattle.apex_machine.specs.Demands.{outcome_demands};
+ghost use Rattle.apex_machine.specs.Demands.{CanHave, MayWait, outcome_demands};
+ghost use Rattle.apex_machine.specs.DueTimes.{time_out_of};
+ghost use Rattle.apex_machine.specs.Ports.{use_of};
 ghost use Rattle.piece_check.specs.Judged.{Judges};
 
-use crate::conditions::Conditions;
-use apex_types::{Cause, Claim};
+use crate::arguments::is_over;
+use crate::names::names_one_of;
+use apex_types::{Call, Cause, ChanId, Claim, Code, Out, PartId, Request};
+use wait_set::Conditions;
 
 /// Judges the outcome of a call on which some error condition holds: it is one of the codes, and nothing else is claimed.
 pub(crate) fn judge_refused(conditions: &Conditions, claim: &Claim) -> Result<(), Cause>
@@ -30,4 +35,50 @@ pub(crate) fn judge_refused(conditions: &Conditions, claim: &Claim) -> Result<()
         return Err(Cause::Woken);
     }
     Ok(())
+}
+
+/// Judges what a partition can see of the outcome of a call through this channel of one of its processes: the channel, an outcome
+/// that the service can have, and that it names no other process of the partition. The channel judges the rest.
+pub(crate) fn judge_through(channel: ChanId, number: PartId, call: &Call) -> Result<(), Cause>
+    requires { IsTrue (is_some (use_of call.now.request)) }
+    ensures { (answer : services.Answer) → Judges (outcome_demands [] (Some channel) number call.now.request answer call.now.claim) result }
+{
+    if call.claim.chan != Some(channel) {
+        return Err(Cause::Chan);
+    }
+    if !can_have(&call.request, call.claim.out) {
+        return Err(Cause::Out);
+    }
+    if names_one_of(call.claim.woken.as_slice(), number) {
+        return Err(Cause::Woken);
+    }
+    Ok(())
+}
+
+// Whether a call through a channel can have this outcome, as far as its partition sees: it returns, with no code of an error
+// condition and not timed out, or it waits with a time-out that lets it.
+fn can_have(request: &Request, out: Out) -> bool
+    requires { IsTrue (is_some (use_of request.now)) }
+    ensures { IsTrue result ↔ CanHave request.now out }
+{
+    match out {
+        Out::Waits => may_wait(request),
+        Out::Never => false,
+        Out::Answer(code) => match code {
+            Code::NoError | Code::NoAction | Code::NotAvailable => true,
+            Code::InvalidParam | Code::InvalidConfig | Code::InvalidMode | Code::TimedOut => false,
+        },
+    }
+}
+
+// Whether the caller of a service that goes through a channel may wait: the service has a time-out, and it is not 0.
+fn may_wait(request: &Request) -> bool
+    requires { IsTrue (is_some (use_of request.now)) }
+    ensures { IsTrue result ↔ MayWait (time_out_of request.now) }
+{
+    match request {
+        Request::SendQueuingMessage { time_out, .. }
+        | Request::ReceiveQueuingMessage { time_out, .. } => !is_over(*time_out),
+        _ => false,
+    }
 }

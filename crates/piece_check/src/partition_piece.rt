@@ -1,33 +1,37 @@
 // The piece of a partition: its windows, its choices, and the claims of its own calls and returns.
 
-ghost use Rattle.std.specs.Prelude.{◌≡◌, ◌≢◌, ◌<◌, ◌↔◌, [], nat_eq, IfErr, IfOk, IsTrue, Some, OnOk, OnErr, length, false};
+ghost use Rattle.std.specs.Prelude.{◌≡◌, ◌≢◌, ◌<◌, ◌↔◌, [], nat_eq, IfErr, IfOk, IsTrue, Some, None, OnOk, OnErr, length, false};
 ghost use Rattle.std.specs.Option.{option_copied};
 ghost use Rattle.apex_types.specs.Bounds.{place_count};
 ghost use Rattle.apex_types.specs.declared.record.Body.TheVariants as body;
-ghost use Rattle.apex_machine.specs.State.{item_at, time_of};
+ghost use Rattle.apex_machine.specs.State.{cold_state, item_at, time_of};
 ghost use Rattle.apex_machine.specs.Step.{HasNoneDue, HasPriority, due_of};
 ghost use Rattle.apex_machine.specs.Demands.{AllHold, FirstFails, IsRunning, LocalStep, WakesHere, demands, foreign_call_demands, window_now};
 ghost use Rattle.apex_machine.specs.After.{partition_by};
-ghost use Rattle.apex_machine.specs.Pieces.{PartitionPart, part_after};
+ghost use Rattle.apex_machine.specs.Pieces.{OfPartition, PartitionPart, part, part_after};
+ghost use Rattle.apex_machine.specs.Ports.{channel_of};
 ghost use Rattle.apex_machine.specs.ServiceConditions.{condition_codes};
 ghost use Rattle.apex_laws.specs.PartLaws.{IsSoundPart};
-ghost use Rattle.partition_state.specs.Calls.{RefusesOrWants};
+ghost use Rattle.wait_set.specs.declared.object.ObjFault.TheVariants.{Memory};
+ghost use Rattle.partition_state.specs.Calls.{LeavesObjects, RefusesOrWants};
 ghost use Rattle.piece_check.specs.Held.{partition_part};
 ghost use Rattle.piece_check.specs.Judged.{Judges, asked_by_partition, own_caller_demands, own_demands, part_called};
 ghost use Rattle.piece_check.specs.Parts.{IsBehind, IsCall, WantsAtCalls};
 
-use crate::conditions::{Conditions, conditions_of};
-use crate::outcome::judge_refused;
-use crate::profile::{is_built, is_within};
+use crate::conditions::conditions_of;
+use crate::outcome::{judge_refused, judge_through};
+use crate::profile::is_within;
 use apex_machine::{Outcome, WaitingSet};
 use apex_types::{
-    Body, Call, Cause, CoreId, Ordered, PartId, ProcId, Request, Return, Service, Who, Woken,
+    Body, Call, Cause, ChanId, CoreId, Ordered, PartId, ProcId, Request, Return, Service, Who,
+    Woken,
 };
 use dispatch_rule::{Clock, owns_window};
 use module_config::Config;
 use partition_state::PartitionState;
 use process_state::Moment;
-use wait_set::ObjFault;
+use std::alloc::{AllocError, Global};
+use wait_set::{Conditions, ObjFault};
 
 /// The piece of a partition: its number, the cores, and its state.
 #[derive(Drop)]
@@ -38,6 +42,23 @@ pub(crate) struct PartitionPiece {
 }
 
 impl PartitionPiece {
+    /// The piece of this partition, with its part of the cold state.
+    ///
+    /// AllocError where memory for its initialising process is refused.
+    pub(crate) fn start(
+        alloc: Global,
+        config: &Config,
+        number: PartId,
+    ) -> Result<PartitionPiece, AllocError>
+        ensures { IfOk result (λ piece. partition_part piece ≡ part (OfPartition number) (cold_state config.now)) }
+    {
+        Ok(PartitionPiece {
+            number,
+            clock: Clock::new(config.cores(), config.skew()),
+            state: PartitionState::new(alloc, config.first_core(number))?,
+        })
+    }
+
     /// Judges a record, and makes the part what the record makes of it.
     ///
     /// Refused, with nothing changed, where a demand fails: the cause is that of the first; or where memory is refused to a
@@ -70,7 +91,7 @@ impl PartitionPiece {
     }
 
     // A call of one of the partition's own processes: what stands before its outcome is judged, then the outcome, and the call
-    // is carried out.
+    // is carried out. The outcome of a call through a channel is the channel's to judge, but for what the partition sees of it.
     fn own_call(&mut self, config: &Config, ordered: &Ordered, call: &Call) -> Result<(), ObjFault>
         requires own { call.now.who.part ≡ self.old.number }
         requires place { ordered.now.pos < place_count }
@@ -82,10 +103,12 @@ impl PartitionPiece {
     {
         match self.judge_caller(config, ordered.core, call) {
             Ok(conditions) => {
-                if conditions.is_empty() {
-                    self.serve(config, ordered, call)
-                } else {
-                    self.refuse(config, ordered, call, &conditions)
+                if !conditions.is_empty() {
+                    return self.refuse(config, ordered, call, &conditions);
+                }
+                match self.state.channel_of(&call.request) {
+                    Some(channel) => self.pass(config, ordered, call, channel),
+                    None => self.serve(config, ordered, call),
                 }
             }
             Err(cause) => Err(ObjFault::Unlawful(cause)),
@@ -107,9 +130,6 @@ impl PartitionPiece {
         if !self.has_none_due(call.who.proc) {
             return Err(Cause::Return);
         }
-        if !is_built(call.request.service()) {
-            return Err(Cause::OutsideProfile);
-        }
         let conditions = conditions_of(config, &self.state, call);
         if !is_within(&conditions, &self.state, call.who, &call.request) {
             return Err(Cause::OutsideProfile);
@@ -120,13 +140,40 @@ impl PartitionPiece {
         Ok(conditions)
     }
 
-    // An own call on which no error condition holds: it goes through no channel, and its partition serves it.
+    // An own call on which no error condition holds and which goes through this channel: what the partition sees of its outcome
+    // is judged, and its processes change.
+    fn pass(
+        &mut self,
+        config: &Config,
+        ordered: &Ordered,
+        call: &Call,
+        channel: ChanId,
+    ) -> Result<(), ObjFault>
+        requires own { call.now.who.part ≡ self.old.number }
+        requires place { ordered.now.pos < place_count }
+        requires behind { IsBehind ordered.now.pos (partition_part self.old) }
+        requires caller { AllHold (own_caller_demands config.now self.old ordered.now.core call.now) }
+        requires clear { condition_codes config.now call.now.who self.old.state call.now.request ≡ [] }
+        requires through { channel_of self.old.state call.now.request ≡ Some channel }
+        ensures ok { OnOk result (AllHold (own_demands config.now self.old ordered.now.core call.now)) }
+        ensures after { OnOk result (partition_part self.new ≡ part_called config.now self.old ordered.now call.now) }
+        ensures refused { IfErr result (RefusesOrWants (own_demands config.now self.old ordered.now.core call.now)) }
+        ensures unchanged { OnErr result (self.new ≡ self.old) }
+    {
+        match judge_through(channel, self.number, call) {
+            Ok(()) => self.note(config, ordered, call),
+            Err(cause) => Err(ObjFault::Unlawful(cause)),
+        }
+    }
+
+    // An own call on which no error condition holds and which goes through no channel: its partition serves it.
     fn serve(&mut self, config: &Config, ordered: &Ordered, call: &Call) -> Result<(), ObjFault>
         requires own { call.now.who.part ≡ self.old.number }
         requires place { ordered.now.pos < place_count }
         requires behind { IsBehind ordered.now.pos (partition_part self.old) }
         requires caller { AllHold (own_caller_demands config.now self.old ordered.now.core call.now) }
         requires clear { condition_codes config.now call.now.who self.old.state call.now.request ≡ [] }
+        requires apart { channel_of self.old.state call.now.request ≡ None }
         ensures ok { OnOk result (AllHold (own_demands config.now self.old ordered.now.core call.now)) }
         ensures after { OnOk result (partition_part self.new ≡ part_called config.now self.old ordered.now call.now) }
         ensures refused { IfErr result (RefusesOrWants (own_demands config.now self.old ordered.now.core call.now)) }
@@ -164,19 +211,30 @@ impl PartitionPiece {
         ensures unchanged { OnErr result (self.new ≡ self.old) }
     {
         match judge_refused(conditions, &call.claim) {
-            Ok(()) => {
-                let moment = Moment {
-                    place: ordered.pos,
-                    core: ordered.core,
-                    cores: self.clock.states(),
-                };
-                match self.state.refuse(config, &moment, call) {
-                    Ok(()) => Ok(()),
-                    Err(_) => Err(ObjFault::Memory),
-                }
-            }
+            Ok(()) => self.note(config, ordered, call),
             Err(cause) => Err(ObjFault::Unlawful(cause)),
         }
+    }
+
+    // An own call all of whose demands hold, and that changes no object: the partition's processes change.
+    fn note(&mut self, config: &Config, ordered: &Ordered, call: &Call) -> Result<(), ObjFault>
+        requires own { call.now.who.part ≡ self.old.number }
+        requires place { ordered.now.pos < place_count }
+        requires behind { IsBehind ordered.now.pos (partition_part self.old) }
+        requires lawful { AllHold (own_demands config.now self.old ordered.now.core call.now) }
+        requires leaves { LeavesObjects call.now }
+        ensures after { OnOk result (partition_part self.new ≡ part_called config.now self.old ordered.now call.now) }
+        ensures memory { IfErr result (λ fault. fault ≡ Memory) }
+        ensures unchanged { OnErr result (self.new ≡ self.old) }
+    {
+        let moment = Moment {
+            place: ordered.pos,
+            core: ordered.core,
+            cores: self.clock.states(),
+        };
+        self.state
+            .note(config, &moment, call)
+            .map_err(|_| ObjFault::Memory)
     }
 
     // A call of another partition's process: it is judged, and the waits of those that it names of this one end.

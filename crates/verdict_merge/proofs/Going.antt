@@ -6,7 +6,6 @@ use Rattle.apex_machine.specs.Configuration.{Configuration}
 use Rattle.apex_machine.specs.Demands.{LocalStep, demands}
 use Rattle.apex_machine.specs.Pieces.{Part, Piece, touches}
 use Rattle.apex_machine.specs.Runs.{Goes, PieceRun}
-use Rattle.apex_machine.specs.Services.{is_built}
 use Rattle.apex_laws.proofs.Joins.{runs_join}
 use Rattle.piece_check.specs.declared.fault.PieceFault.{PieceFault}
 use Rattle.piece_check.specs.declared.fault.PieceFault.TheVariants.{Unlawful, OutsideProfile, Memory}
@@ -21,7 +20,7 @@ goes_on : (configuration : Configuration) (piece : Piece) (old now next : Part) 
     → PieceRun configuration piece old before now → Goes (touches configuration piece ordered) configuration now ordered next
     → PieceRun configuration piece old (before ++ ordered ∷ []) next
 goes_on configuration piece old now next before ordered run goes =
-    (runs_join is_built configuration piece old before (ordered ∷ []) next).1 (now, run, (next, goes, refl))
+    (runs_join configuration piece old before (ordered ∷ []) next).1 (now, run, (next, goes, refl))
 
 pub steps_over : (configuration : Configuration) (piece : Piece) (old now next : Part) (before : List Ordered) (ordered : Ordered)
     → PieceRun configuration piece old before now → touches configuration piece ordered ≡ true → LocalStep configuration now ordered next

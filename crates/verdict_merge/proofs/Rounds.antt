@@ -4,9 +4,8 @@ use Rattle.apex_types.specs.declared.record.Ordered.{Ordered}
 use Rattle.apex_machine.specs.Configuration.{Configuration}
 use Rattle.apex_machine.specs.Pieces.{Part, pieces}
 use Rattle.apex_machine.specs.Runs.{ArePlaced, PieceRun, Refuses}
-use Rattle.apex_machine.specs.Services.{is_built}
 use Rattle.apex_laws.proofs.Joins.{runs_join}
-use Rattle.piece_check.specs.Parts.{HasCores, IsBehind, piece_at}
+use Rattle.piece_check.specs.Parts.{IsBehind, IsOf, piece_at}
 use Rattle.verdict_merge.specs.declared.finding.Finding.{Finding}
 use Rattle.verdict_merge.specs.Findings.{IsLeastWith, IsLesser}
 use Rattle.verdict_merge.specs.Rounds.{AllRun, HasGone, IsNo, IsRound, Judging, RefusesAmong, Runs, holding_at, parts_of}
@@ -19,7 +18,7 @@ use Rattle.verdict_merge.proofs.Splits.{begins, begins_with, place_behind, up_to
 pub runs_front : (configuration : Configuration) (parts : ℕ → Part) (number : ℕ) (front back : List Ordered)
     → Runs configuration parts number (front ++ back) → Runs configuration parts number front
 runs_front configuration parts number front back (final, run) =
-    let parted = (runs_join is_built configuration (piece_at configuration number) (parts number) front back final).0 run in
+    let parted = (runs_join configuration (piece_at configuration number) (parts number) front back final).0 run in
     (parted.0, parted.1)
 
 -- a run behind a run
@@ -27,12 +26,12 @@ pub runs_on : (configuration : Configuration) (parts next : ℕ → Part) (numbe
     → PieceRun configuration (piece_at configuration number) (parts number) front (next number) → Runs configuration next number back
     → Runs configuration parts number (front ++ back)
 runs_on configuration parts next number front back run (final, more) =
-    (final, (runs_join is_built configuration (piece_at configuration number) (parts number) front back final).1 (next number, run, more))
+    (final, (runs_join configuration (piece_at configuration number) (parts number) front back final).1 (next number, run, more))
 
 pub all_run_on : (configuration : Configuration) (old next new : ℕ → Part) (front back : List Ordered)
     → AllRun configuration old front next → AllRun configuration next back new → AllRun configuration old (front ++ back) new
 all_run_on configuration old next new front back first second = λ number within.
-    (runs_join is_built configuration (piece_at configuration number) (old number) front back (new number)).1 (next number, first number within, second number within)
+    (runs_join configuration (piece_at configuration number) (old number) front back (new number)).1 (next number, first number within, second number within)
 
 -- a No
 
@@ -48,7 +47,7 @@ no_on configuration old next front records found all stands = record {
   piece = stands.piece;
   refused = let reached = stands.refused in (
     reached.0,
-    (runs_join is_built configuration (piece_at configuration found.piece) (old found.piece) front stands.before reached.0).1 (next found.piece, all found.piece stands.piece, reached.1),
+    (runs_join configuration (piece_at configuration found.piece) (old found.piece) front stands.before reached.0).1 (next found.piece, all found.piece stands.piece, reached.1),
     reached.2,
     reached.3,
   );
@@ -224,21 +223,21 @@ found_more configuration old records number least (Some next) after part (one, i
 
 pub round_is : (configuration : Configuration) (start now next : Judging) (records : List Ordered) (least : Option Finding) → ArePlaced start.count records
     → next.pieces ≡ now.pieces → next.count ≡ start.count + length records → length now.pieces ≡ length (pieces configuration)
-    → ((number : ℕ) → number < length (pieces configuration) → HasCores configuration.cores (parts_of now number))
+    → ((number : ℕ) → number < length (pieces configuration) → IsOf configuration (holding_at now.pieces number))
     → ((number : ℕ) → number < length (pieces configuration) → IsBehind (start.count + length records) (parts_of now number))
     → ((number : ℕ) → number < length (pieces configuration) → HasBeen configuration (parts_of start) records (parts_of now) least number)
     → IsFound configuration (parts_of start) records (length (pieces configuration)) least
     → IsRound configuration start records least next
-round_is configuration start now next records None placed pieces_same counted whole known behind been found =
+round_is configuration start now next records None placed pieces_same counted whole of_module behind been found =
     let same : (number : ℕ) → parts_of now number ≡ parts_of next number = λ number. ap (λ list. (holding_at list number).part) (sym pieces_same) in (
       (λ number within. subst (λ part. PieceRun configuration (piece_at configuration number) (parts_of start number) records part) (same number)
           (none_ran configuration (parts_of start) (parts_of now) records been number within)),
       counted,
       record {
         whole = ap length pieces_same ∙ whole;
-        known = λ number within. subst (HasCores configuration.cores) (same number) (known number within);
+        of_module = λ number within. subst (λ list. IsOf configuration (holding_at list number)) (sym pieces_same) (of_module number within);
         behind = λ number within. subst (IsBehind next.count) (same number) (subst (λ place. IsBehind place (parts_of now number)) (sym counted) (behind number within));
       },
     )
-round_is configuration start now next records (Some least) placed pieces_same counted whole known behind been found =
+round_is configuration start now next records (Some least) placed pieces_same counted whole of_module behind been found =
     least_is_no configuration (parts_of start) (parts_of now) records start.count least (parts_of start least.piece) placed found.0 found.1 been

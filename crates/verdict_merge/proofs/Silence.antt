@@ -8,7 +8,6 @@ use Rattle.apex_machine.specs.Configuration.{Configuration, PartitionLimits, Que
 use Rattle.apex_machine.specs.Pieces.{Piece, Part, part, pieces, is_configured}
 use Rattle.apex_machine.specs.Pieces.Piece.{Module, OfChannel, OfPartition}
 use Rattle.apex_machine.specs.Runs.{ArePlaced, PieceRun}
-use Rattle.apex_machine.specs.Services.{is_built}
 use Rattle.apex_machine.specs.State.{State, cold_state}
 use Rattle.apex_laws.proofs.Runs.{one_run}
 use Rattle.apex_laws.proofs.Stays.{stays_tied}
@@ -142,7 +141,7 @@ pub machine_runs : (configuration : Configuration) (records : List Ordered) → 
     → (final : State) × Run configuration (cold_state configuration) records final
 machine_runs configuration records windows placed runs =
     let each = run_to configuration records runs in
-    let run = one_run is_built configuration (cold_state configuration) records (λ piece. (each piece).0) windows (stays_tied.0 configuration) placed (λ piece. (each piece).1) in
+    let run = one_run configuration (cold_state configuration) records (λ piece. (each piece).0) windows (stays_tied.0 configuration) placed (λ piece. (each piece).1) in
     (run.0, run.1)
 
 pub run_where_yes : (configuration : Configuration) (records : List Ordered) (verdict : Verdict)

@@ -7,7 +7,6 @@ use Rattle.apex_machine.specs.Configuration.{Configuration}
 use Rattle.apex_machine.specs.Pieces.{ModulePart, Part, Piece, part, pieces}
 use Rattle.apex_machine.specs.Pieces.Piece.{Module}
 use Rattle.apex_machine.specs.Runs.{ArePlaced, Finds, PieceRun, Refusal, Refuses}
-use Rattle.apex_machine.specs.Services.{is_built}
 use Rattle.apex_machine.specs.State.{cold_state}
 use Rattle.apex_laws.proofs.Joins.{found_is_refused, nothing_found_is_a_run, refused_found, run_finds_nothing}
 use Rattle.apex_laws.proofs.Refusals.{one_first_refusal}
@@ -46,9 +45,9 @@ runs_and_refuses : (configuration : Configuration) (piece : Piece) (old : Part) 
     → PieceRun configuration piece old (before ++ ordered ∷ []) final → Refuses configuration piece old before ordered cause → ⊥
 runs_and_refuses configuration piece old before ordered cause final run refuses =
     let refusal : Refusal = record { pos = ordered.pos; cause = cause } in
-    none_some refusal (one_first_refusal is_built configuration piece old (before ++ ordered ∷ []) None (Some refusal)
-    (run_finds_nothing is_built configuration piece old (before ++ ordered ∷ []) final run)
-    (refused_found is_built configuration piece old before ordered [] refusal refl refuses))
+    none_some refusal (one_first_refusal configuration piece old (before ++ ordered ∷ []) None (Some refusal)
+    (run_finds_nothing configuration piece old (before ++ ordered ∷ []) final run)
+    (refused_found configuration piece old before ordered [] refusal refl refuses))
 
 -- the record of a No stands where its place tells
 no_at : (configuration : Configuration) (parts : ℕ → Part) (first : ℕ) (records : List Ordered) (found : Finding) → ArePlaced first records
@@ -97,7 +96,7 @@ no_finds : (configuration : Configuration) (parts : ℕ → Part) (records : Lis
     → Finds configuration (piece_at configuration found.piece) (parts found.piece) records (Some (record { pos = found.pos; cause = found.cause }))
 no_finds configuration parts records found stands =
     subst (λ list. Finds configuration (piece_at configuration found.piece) (parts found.piece) list (Some (record { pos = found.pos; cause = found.cause }))) (sym stands.split)
-    (refused_found is_built configuration (piece_at configuration found.piece) (parts found.piece) stands.before stands.ordered stands.after (record { pos = found.pos; cause = found.cause })
+    (refused_found configuration (piece_at configuration found.piece) (parts found.piece) stands.before stands.ordered stands.after (record { pos = found.pos; cause = found.cause })
     stands.place stands.refused)
 
 one_no : (configuration : Configuration) (parts : ℕ → Part) (first : ℕ) (records : List Ordered) (pos piece : ℕ) (cause : Cause) (pos' piece' : ℕ) (cause' : Cause) → ArePlaced first records
@@ -113,7 +112,7 @@ one_no configuration parts first records pos piece cause pos' piece' cause' plac
     let finds = subst (λ number. Finds configuration (piece_at configuration number) (parts number) records (Some (record { pos = pos'; cause = cause' }))) (sym alike)
     (no_finds configuration parts records other also) in
     let refusals = one_refusal (record { pos = pos; cause = cause }) (record { pos = pos'; cause = cause' })
-    (one_first_refusal is_built configuration (piece_at configuration piece) (parts piece) records (Some (record { pos = pos; cause = cause })) (Some (record { pos = pos'; cause = cause' }))
+    (one_first_refusal configuration (piece_at configuration piece) (parts piece) records (Some (record { pos = pos; cause = cause })) (Some (record { pos = pos'; cause = cause' }))
     (no_finds configuration parts records one stands) finds) in
     let caused : cause ≡ cause' = ap (λ refusal. refusal.cause) refusals in
     cc
@@ -307,7 +306,7 @@ no_findings : (configuration : Configuration) (records : List Ordered) (findings
 no_findings configuration records findings all none number within = by (found_zero configuration records findings all number within)
   where
     by : FoundAt configuration records findings number (piece_at configuration number) → Runs configuration (cold_parts configuration) number records
-    by (None, finds, tells) = (nothing_found_is_a_run is_built configuration (piece_at configuration number) (cold_parts configuration number) records).0 finds
+    by (None, finds, tells) = (nothing_found_is_a_run configuration (piece_at configuration number) (cold_parts configuration number) records).0 finds
     by (Some refusal, finds, tells) = absurd (contains_none (as_finding number refusal) (subst (λ list. Contains list (as_finding number refusal)) none (tells refusal refl)))
 
 -- what became of each piece beside the least of the findings
@@ -321,13 +320,13 @@ been_so configuration records findings least all no_other number within = by (fo
         → (final : Part) × (PieceRun configuration (piece_at configuration number) (cold_parts configuration number) records final
         ⊎ ((other : Finding) × HasGone configuration number (cold_parts configuration number) records (Some other) final × ¬ Precedes other least))
     by (None, finds, tells) =
-        let run = (nothing_found_is_a_run is_built configuration (piece_at configuration number) (cold_parts configuration number) records).0 finds in
+        let run = (nothing_found_is_a_run configuration (piece_at configuration number) (cold_parts configuration number) records).0 finds in
         (run.0, inl run.1)
     by (Some refusal, finds, tells) = (
       ModulePart [],
       inr (
         as_finding number refusal,
-        (refl, (found_is_refused is_built configuration (piece_at configuration number) (cold_parts configuration number) records refusal).0 finds),
+        (refl, (found_is_refused configuration (piece_at configuration number) (cold_parts configuration number) records refusal).0 finds),
         no_other (as_finding number refusal) (tells refusal refl),
       ),
     )
@@ -343,7 +342,7 @@ least_no configuration records findings least placed all (there, no_other) =
     ⊎ ((other : Finding) × HasGone configuration number (cold_parts configuration number) records (Some other) final × ¬ Precedes other least))
     (been_so configuration records findings least all no_other) in
     least_is_no configuration (cold_parts configuration) (λ number. (been number).0) records 0 least (cold_parts configuration least.piece) placed (omega (arith, at, by.1))
-    (refl, (found_is_refused is_built configuration (piece_at configuration least.piece) (cold_parts configuration least.piece) records (record { pos = least.pos; cause = least.cause })).0 finds)
+    (refl, (found_is_refused configuration (piece_at configuration least.piece) (cold_parts configuration least.piece) records (record { pos = least.pos; cause = least.cause })).0 finds)
     (λ number within. (been number).1 within)
 
 follows_is : (configuration : Configuration) (records : List Ordered) (findings : List Finding) (verdict : Verdict) → ArePlaced 0 records

@@ -6,7 +6,7 @@ use Rattle.apex_machine.specs.Configuration.{Configuration}
 use Rattle.apex_machine.specs.Pieces.{ModulePart, Part, Piece, part, pieces}
 use Rattle.apex_machine.specs.Runs.{ArePlaced, PieceRun, Refuses}
 use Rattle.apex_machine.specs.State.{cold_state}
-use Rattle.piece_check.specs.Parts.{HasCores, Holding, IsBehind, piece_at}
+use Rattle.piece_check.specs.Parts.{Holding, IsBehind, IsOf, piece_at}
 use Rattle.verdict_merge.specs.declared.finding.Finding.{Finding}
 
 -- the parts of all pieces by their numbers, as they are before the first record
@@ -49,12 +49,12 @@ HasGone configuration number old records None new = PieceRun configuration (piec
 HasGone configuration number old records (Some found) new =
     (found.piece ≡ number) × RefusesAmong configuration (piece_at configuration number) old records found.pos found.cause
 
--- a piece may go over these records: it knows so many cores, and none of its times is above the first record's place
-pub record IsGoing (cores : ℕ) (records : List Ordered) (part : Part) : Type 0 where
+-- a piece may go over these records: it is of this module, and behind the first record's place
+pub record IsGoing (configuration : Configuration) (records : List Ordered) (holding : Holding) : Type 0 where
   pub place : ℕ
   pub placed : ArePlaced place records
-  pub known : HasCores cores part
-  pub behind : IsBehind place part
+  pub of_module : IsOf configuration holding
+  pub behind : IsBehind place holding.part
 
 -- all pieces together
 
@@ -65,7 +65,7 @@ pub record Judging : Type 0 where
 
 -- a piece by its number
 abbrev pub holding_at : List Holding → ℕ → Holding
-holding_at [] number = record { part = ModulePart []; spent = false }
+holding_at [] number = record { part = ModulePart []; settings = None; spent = false }
 holding_at (holding ∷ others) zero = holding
 holding_at (holding ∷ others) (suc number) = holding_at others number
 
@@ -76,7 +76,7 @@ parts_of judging number = (holding_at judging.pieces number).part
 -- all pieces are there, and may go over the records behind those that they have judged
 pub record IsReady (configuration : Configuration) (judging : Judging) : Type 0 where
   pub whole : length judging.pieces ≡ length (pieces configuration)
-  pub known : (number : ℕ) → number < length (pieces configuration) → HasCores configuration.cores (parts_of judging number)
+  pub of_module : (number : ℕ) → number < length (pieces configuration) → IsOf configuration (holding_at judging.pieces number)
   pub behind : (number : ℕ) → number < length (pieces configuration) → IsBehind judging.count (parts_of judging number)
 
 -- a round: where nothing is found each piece ran over the records, and may go on; else the finding is a No among them

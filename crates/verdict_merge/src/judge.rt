@@ -3,13 +3,13 @@
 ghost use Rattle.std.specs.Prelude.{◌≡◌, ◌≢◌, ◌<◌, ◌+◌, ℕ, IfOk, OnErr, IsTrue, length};
 ghost use Rattle.apex_machine.specs.Pieces.{pieces};
 ghost use Rattle.apex_machine.specs.Runs.{ArePlaced, AreOfCores};
-ghost use Rattle.piece_check.specs.Parts.{HasCores, IsBehind};
+ghost use Rattle.piece_check.specs.Parts.{IsBehind, IsOf};
 ghost use Rattle.verdict_merge.specs.Rounds.{HasGone, IsGoing, IsReady, IsRound, IsSpent, cold_parts, holding_at, parts_of};
 
 use crate::finding::{Finding, finding_from, least_with};
 use apex_types::Ordered;
 use module_config::Config;
-use piece_check::{Piece, count, touches};
+use piece_check::{Piece, count, subject_of};
 use std::alloc::Global;
 use std::marker::Model;
 use thiserror::Error;
@@ -94,11 +94,11 @@ impl Judge {
     ) -> Result<Option<Finding>, Memory>
         requires piece { number < length self.old.pieces }
         requires known { length self.old.pieces ≡ length (pieces config.now) }
-        requires going { IsGoing config.now.cores records.now (parts_of self.old number) }
+        requires going { IsGoing config.now records.now (holding_at self.old.pieces number) }
         requires cores { AreOfCores config.now.cores records.now }
         ensures gone { IfOk result (λ found. HasGone config.now number (parts_of self.old number) records.now found (parts_of self.new number)) }
         ensures kept { IfOk result (λ _. (place : ℕ) → ArePlaced place records.now → IsBehind place (parts_of self.old number) → IsBehind (place + length records.now) (parts_of self.new number)) }
-        ensures cores { IfOk result (λ _. HasCores config.now.cores (parts_of self.new number)) }
+        ensures of_module { IfOk result (λ _. IsOf config.now (holding_at self.new.pieces number)) }
         ensures others { (other : ℕ) → other ≢ number → holding_at self.new.pieces other ≡ holding_at self.old.pieces other }
         ensures count { self.new.count ≡ self.old.count }
         ensures pieces { length self.new.pieces ≡ length self.old.pieces }
@@ -127,15 +127,16 @@ fn go_over(
     records: &[Ordered],
 ) -> Result<Option<Finding>, Memory>
     requires piece { number < length (pieces config.now) }
-    requires going { IsGoing config.now.cores records.now piece.old.part }
+    requires going { IsGoing config.now records.now piece.old }
     requires cores { AreOfCores config.now.cores records.now }
     ensures gone { IfOk result (λ found. HasGone config.now number piece.old.part records.now found piece.new.part) }
     ensures kept { IfOk result (λ _. (place : ℕ) → ArePlaced place records.now → IsBehind place piece.old.part → IsBehind (place + length records.now) piece.new.part) }
-    ensures cores { IfOk result (λ _. HasCores config.now.cores piece.new.part) }
+    ensures of_module { IfOk result (λ _. IsOf config.now piece.new) }
     ensures memory { OnErr result (IsTrue piece.new.spent) }
 {
+    let subject = subject_of(config, number);
     for ordered in records {
-        if touches(config, number, ordered) {
+        if subject.is_touched(config, ordered) {
             if let Err(fault) = piece.step(config, ordered) {
                 return match finding_from(fault, number) {
                     Some(found) => Ok(Some(found)),

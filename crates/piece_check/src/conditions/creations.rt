@@ -1,19 +1,18 @@
 // The error conditions of the services that create an object.
 
-ghost use Rattle.std.specs.Prelude.{◌≡◌, ◌≤◌, length, true};
-ghost use Rattle.apex_types.specs.Requested.{service_of};
-ghost use Rattle.apex_machine.specs.Conditions.{creation_codes};
+ghost use Rattle.std.specs.Prelude.{◌≡◌, true};
 ghost use Rattle.apex_machine.specs.ObjectConditions as objects;
 ghost use Rattle.apex_machine.specs.ServiceConditions.{condition_codes};
-ghost use Rattle.piece_check.specs.Subjects.{creates_object};
+ghost use Rattle.partition_state.specs.Calls.{creates_object};
 
-use super::{Conditions, is_normal, is_reached};
+use super::{creation, is_reached};
 use crate::arguments::{
     is_capacity, is_discipline, is_maximum, is_priority, is_size, suits_maximum,
 };
 use apex_types::{Code, Name, PartId, Request, Who};
 use module_config::Config;
 use partition_state::PartitionState;
+use wait_set::Conditions;
 
 /// The error conditions that hold for a call that creates an object.
 pub(super) fn creation_conditions(
@@ -22,7 +21,7 @@ pub(super) fn creation_conditions(
     who: Who,
     request: &Request,
 ) -> Conditions
-    requires { creates_object (service_of request.now) ≡ true }
+    requires { creates_object request.now ≡ true }
     ensures { result ≡ condition_codes config.now who state.now request.now }
 {
     let number = who.part;
@@ -50,17 +49,6 @@ pub(super) fn creation_conditions(
         } => create_mutex(config, number, state, name, *priority, *discipline),
         _ => unreachable!(),
     }
-}
-
-// Each creation: not in NORMAL; a name not yet taken among its kind; no more than configured.
-fn creation(state: &PartitionState, is_taken: bool, is_full: bool) -> Conditions
-    ensures value { result ≡ creation_codes state.now is_taken is_full }
-    ensures few { length result ≤ 3 }
-{
-    Conditions::none()
-        .with(is_normal(state.processes().mode()), Code::InvalidMode)
-        .with(is_taken, Code::NoAction)
-        .with(is_full, Code::InvalidConfig)
 }
 
 // CREATE_BUFFER: as each creation; a size, a capacity and a discipline in range.

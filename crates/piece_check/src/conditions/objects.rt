@@ -2,7 +2,6 @@
 
 ghost use Rattle.std.specs.Prelude.{◌≡◌, ◌≤◌, ◌++◌, [], length as count_of, nat_lt, option_map, true};
 ghost use Rattle.std.specs.Option.{option_copied};
-ghost use Rattle.apex_types.specs.Requested.{service_of};
 ghost use Rattle.apex_machine.specs.Configuration.{Configuration};
 ghost use Rattle.apex_machine.specs.Conditions as shared;
 ghost use Rattle.apex_machine.specs.Conditions.{codes_for, time_out_codes, waiting_codes};
@@ -12,7 +11,7 @@ ghost use Rattle.apex_machine.specs.State as parts;
 ghost use Rattle.apex_machine.specs.declared.state.Process.{Process as ProcessValue};
 ghost use Rattle.piece_check.specs.Subjects.{uses_object};
 
-use super::Conditions;
+use super::with_wait;
 use crate::arguments::{is_length, is_longer, is_time_out};
 use apex_machine::Process;
 use apex_types::{Code, Request, Who};
@@ -20,10 +19,11 @@ use blackboard::Blackboard;
 use buffer::Buffer;
 use mutex_ceiling::Mutex653;
 use partition_state::PartitionState;
+use wait_set::Conditions;
 
 /// The error conditions that hold for a call that uses an object.
 pub(super) fn use_conditions(state: &PartitionState, who: Who, request: &Request) -> Conditions
-    requires { uses_object (service_of request.now) ≡ true }
+    requires { uses_object request.now ≡ true }
     ensures { (configuration : Configuration) → result ≡ condition_codes configuration who state.now request.now }
 {
     match request {
@@ -90,9 +90,7 @@ fn wait_for<Object>(
 ) -> Conditions
     ensures { result ≡ objects.object_codes who state.now (option_copied object.entry) time_out }
 {
-    Conditions::none()
-        .with(object.is_none(), Code::InvalidParam)
-        .with_wait(who, state, time_out)
+    with_wait(use_of(object), who, state, time_out)
 }
 
 // SEND_BUFFER: a created buffer, of a size for the message; a time-out that there is; a caller that may wait.
@@ -109,7 +107,7 @@ fn send_buffer(
         Some(found) => Some(found.size()),
         None => None,
     };
-    message(size, length).with_wait(who, state, time_out)
+    with_wait(message(size, length), who, state, time_out)
 }
 
 // DISPLAY_BLACKBOARD: a created blackboard, of a size for the message.

@@ -1,24 +1,23 @@
 // The error conditions of processes, their waits and the partition's mode.
 
-ghost use Rattle.std.specs.Prelude.{◌≡◌, IsTrue, false};
+ghost use Rattle.std.specs.Prelude.{◌≡◌, true};
 ghost use Rattle.std.specs.Option.{option_copied};
-ghost use Rattle.apex_types.specs.Requested.{service_of};
 ghost use Rattle.apex_machine.specs.Conditions as shared;
 ghost use Rattle.apex_machine.specs.DueTimes as due_times;
 ghost use Rattle.apex_machine.specs.ProcessConditions as processes;
 ghost use Rattle.apex_machine.specs.ServiceConditions.{condition_codes};
-ghost use Rattle.apex_machine.specs.Services.{is_built};
-ghost use Rattle.piece_check.specs.Subjects.{creates_object, uses_object};
+ghost use Rattle.piece_check.specs.Subjects.{is_of_processes};
 
-use super::{Conditions, is_normal, is_reached, may_not_wait};
+use super::{is_normal, is_reached, may_not_wait};
 use crate::arguments::{
-    is_mode, is_negative, is_normal_mode, is_number, is_period, is_priority, is_time_out,
+    is_mode, is_negative, is_normal_mode, is_period, is_priority, is_process, is_time_out,
     suits_period,
 };
 use apex_machine::{Mode, Process, Wait};
 use apex_types::{Code, Name, PartId, Request, Who};
 use module_config::Config;
 use partition_state::PartitionState;
+use wait_set::Conditions;
 
 /// The error conditions that hold for a call of a service of processes, of a wait or of the mode.
 pub(super) fn process_conditions(
@@ -27,9 +26,7 @@ pub(super) fn process_conditions(
     who: Who,
     request: &Request,
 ) -> Conditions
-    requires judged { IsTrue (is_built (service_of request.now)) }
-    requires no_creation { creates_object (service_of request.now) ≡ false }
-    requires no_use { uses_object (service_of request.now) ≡ false }
+    requires { is_of_processes request.now ≡ true }
     ensures { result ≡ condition_codes config.now who state.now request.now }
 {
     let processes = state.processes();
@@ -118,7 +115,7 @@ fn stop(who: Who, target: Option<&Process>, process: i64) -> Conditions
         Some(found) => Conditions::none().with(!found.alive, Code::NoAction),
         None => Conditions::none().with(true, Code::InvalidParam),
     };
-    of_target.with(is_number(process, who.proc), Code::InvalidParam)
+    of_target.with(is_process(process, who.proc), Code::InvalidParam)
 }
 
 // SUSPEND: a created process, not the caller, neither dormant nor periodic, and not yet suspended.
@@ -131,7 +128,7 @@ fn suspend(who: Who, target: Option<&Process>, process: i64) -> Conditions
             .with(is_suspended(found), Code::NoAction),
         None => Conditions::none().with(true, Code::InvalidParam),
     };
-    of_target.with(is_number(process, who.proc), Code::InvalidParam)
+    of_target.with(is_process(process, who.proc), Code::InvalidParam)
 }
 
 // RESUME: a created process, not the caller, neither dormant nor periodic, and a suspended one.
@@ -144,7 +141,7 @@ fn resume(who: Who, target: Option<&Process>, process: i64) -> Conditions
             .with(found.alive && !is_suspended(found), Code::NoAction),
         None => Conditions::none().with(true, Code::InvalidParam),
     };
-    of_target.with(is_number(process, who.proc), Code::InvalidParam)
+    of_target.with(is_process(process, who.proc), Code::InvalidParam)
 }
 
 // SET_PRIORITY: a created process, and not a dormant one; a priority in range.

@@ -2,14 +2,15 @@ use Rattle.std.proofs.Common.{◌≡◌, ◌<◌, ◌+◌, ◌++◌, ◌∷◌, 
 use Rattle.std.proofs.lemmas.List.{take_more, take-append-drop}
 use Rattle.std.proofs.Math.Seq.{drop-cons}
 use Rattle.apex_types.specs.declared.record.Ordered.{Ordered}
+use Rattle.apex_machine.specs.Configuration.{Configuration}
 use Rattle.apex_machine.specs.Demands.{LocalStep}
 use Rattle.apex_machine.specs.Pieces.{touches}
 use Rattle.apex_machine.specs.Runs.{ArePlaced, AreOfCores, PieceRun}
 use Rattle.piece_check.proofs.Parting.{IsBehind_later}
-use Rattle.piece_check.specs.Parts.{HasCores, IsBehind, piece_at}
+use Rattle.piece_check.specs.Parts.{Holding, IsBehind, IsOf, piece_at}
 use Rattle.verdict_merge.proofs.Going.{passes_by, refuses_here, steps_over}
 use Rattle.verdict_merge.proofs.judge.go_over.Goals as goal
-use Rattle.verdict_merge.proofs.judge.go_over.Goals.{then-touches+in_default, else-touches}
+use Rattle.verdict_merge.proofs.judge.go_over.Goals.{then-is_touched+in_default, else-is_touched}
 
 -- from a record on: the record, and what is behind it
 from_here : (records : List Ordered) (index : ℕ) (ordered : Ordered) → index < length records → ordered ≡ get_or records index ordered
@@ -38,7 +39,7 @@ loop-ordered-preserved c =
     let piece = piece_at config c.args.number in
     let old = c.args.piece.now.part in
     let now = c.loop-ordered.piece.part in
-    let next = c.if-touches.piece.part in
+    let next = c.if-is_touched.piece.part in
     let cut = from_here records index ordered (omega arith) c.ordered-item.is in
     let grown : take (index + 1) records ≡ take index records ++ ordered ∷ [] =
     take_more records index ordered (omega arith) ∙ ap (λ x. take index records ++ x ∷ []) (sym c.ordered-item.is) in
@@ -49,31 +50,39 @@ loop-ordered-preserved c =
     let here = subst (ArePlaced (place + index)) cut (c.loop-ordered.invariant.behind place placed above).0 in
     let same : suc (place + index) ≡ place + (index + 1) = omega arith in
     (here.0, subst (λ n. ArePlaced n (drop (index + 1) records)) same (subst (ArePlaced (suc (place + index))) behind here.1)) in
-    elim c.if-touches.branch [
-      | then-touches+in_default w ↦
+    elim c.if-is_touched.branch [
+      | then-is_touched+in_default w ↦
           let touched : touches config piece ordered ≡ true = cc in
           let step : LocalStep config now ordered next = subst (λ held. LocalStep config now ordered held.part) (sym w.piece-is) w.in_default.ensures.ok in
           record {
             run = subst (λ list. PieceRun config piece old list next) (sym grown) (steps_over config piece old now next (take index records) ordered c.loop-ordered.invariant.run touched step);
             of_cores = cores;
-            cores = subst (λ held. HasCores config.cores held.part) (sym w.piece-is) w.in_default.ensures.cores;
+            of_module = subst (IsOf config) (sym w.piece-is) w.in_default.ensures.of_module;
             behind = λ place placed above.
                 let on = places place placed above in
                 (on.1, IsBehind_later (ordered.pos + 1) (place + (index + 1)) next (omega (arith, on.0)) (subst (λ held. IsBehind (ordered.pos + 1) held.part) (sym w.piece-is) w.in_default.ensures.behind));
           }
-      | else-touches w ↦
+      | else-is_touched w ↦
           let untouched : touches config piece ordered ≡ false = cc in
           record {
             run = subst (λ held. PieceRun config piece old (take (index + 1) records) held.part) (sym w.piece-is)
                 (subst (λ list. PieceRun config piece old list now) (sym grown) (passes_by config piece old now (take index records) ordered c.loop-ordered.invariant.run untouched));
             of_cores = cores;
-            cores = subst (λ held. HasCores config.cores held.part) (sym w.piece-is) c.loop-ordered.invariant.cores;
+            of_module = subst (IsOf config) (sym w.piece-is) c.loop-ordered.invariant.of_module;
             behind = λ place placed above.
                 let on = places place placed above in
                 let earlier : IsBehind (place + index) next = subst (λ held. IsBehind (place + index) held.part) (sym w.piece-is) (c.loop-ordered.invariant.behind place placed above).1 in
                 (on.1, IsBehind_later (place + index) (place + (index + 1)) next (omega arith) earlier);
           }
     ]
+
+-- a piece that is as before is of the same module
+of_module_still : (configuration : Configuration) (old new : Holding) → new.part ≡ old.part → new.settings ≡ old.settings → IsOf configuration old → IsOf configuration new
+of_module_still configuration old new part settings known = record { cores = rw part known.cores; channel = rw (part, settings) known.channel }
+
+pub returns-in-Some-clause-of_module : goal.returns-in-Some-clause-of_module
+returns-in-Some-clause-of_module c =
+    of_module_still c.args.config.now c.loop-ordered.piece c.step.new.self c.in-Err.ensures.unchanged c.in-Err.ensures.settings c.loop-ordered.invariant.of_module
 
 pub returns-in-Some-clause-kept : goal.returns-in-Some-clause-kept
 returns-in-Some-clause-kept c = λ place placed above.

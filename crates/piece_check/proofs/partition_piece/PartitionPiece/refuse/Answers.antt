@@ -1,20 +1,15 @@
 -- A call that claims a code of an error condition is not done.
-use Rattle.std.proofs.Common.{None}
+use Rattle.std.proofs.Common.{None, inl}
 use Rattle.apex_machine.specs.Services.{answer_of}
 use Rattle.apex_machine.specs.State.{time_of}
-use Rattle.piece_check.proofs.Parting.{TimesFit_behind}
 use Rattle.piece_check.proofs.Passing.{refused_not_done}
 use Rattle.piece_check.proofs.partition_piece.PartitionPiece.refuse.Goals as goal
 
-pub refuse-requires-clause-times : goal.refuse-requires-clause-times
-refuse-requires-clause-times c =
-    rw c.states.ensures (TimesFit_behind c.args.ordered.now.pos c.args.self.now.clock.cores c.requires.place c.requires.behind.times)
-
-pub refuse-requires-clause-not_done : goal.refuse-requires-clause-not_done
-refuse-requires-clause-not_done c =
+pub note-requires-clause-leaves : goal.note-requires-clause-leaves
+note-requires-clause-leaves c =
     let a = c.args in
     let own = a.self.now in
     let call = a.call.now in
     let answer = answer_of (time_of own.clock.cores a.ordered.now.core) call.who own.state call.request in
-    refused_not_done a.config.now call.who own.state call.request a.conditions.now own.number answer call.claim c.requires.conditions c.requires.some
-    (c.in-Ok.ensures None own.number call.request answer)
+    inl (refused_not_done a.config.now call.who own.state call.request a.conditions.now own.number answer call.claim c.requires.conditions c.requires.some
+    (c.in-Ok.ensures None own.number call.request answer))

@@ -1,5 +1,5 @@
 -- What fails of the claim fails of the call.
-use Rattle.std.proofs.Common.{◌≡◌, ◌≢◌, None, rules}
+use Rattle.std.proofs.Common.{◌≡◌, None, rules}
 use Rattle.std.proofs.lemmas.Result.{IfErr-weaker}
 use Rattle.piece_check.proofs.Parting.{TimesFit_behind}
 use Rattle.piece_check.proofs.Passing.{served_fails}
@@ -16,5 +16,5 @@ returns-clause-refused c =
     let apart : a.call.now.claim.chan ≡ None = search rules in
     IfErr-weaker c.serve.result _ _
     (λ fault. served_fails a.config.now own.number own.clock.cores own.state a.ordered.now.core c.now-now.result a.call.now fault
-    c.requires.caller c.requires.clear apart c.now-now.ensures)
+    c.requires.caller c.requires.clear c.requires.apart apart c.now-now.ensures)
     c.serve.ensures.refused

@@ -1,23 +1,12 @@
--- Cold cores stand at time 0, and a piece other than the module is the partition of its place, as it starts cold.
-use Rattle.std.proofs.Common.{◌≡◌, ◌<◌, sym, arith}
-use Rattle.apex_machine.specs.State.{cold_partition}
-use Rattle.piece_check.proofs.Numbering.{piece_at_more}
-use Rattle.piece_check.proofs.Parting.{cold_kept, cold_time}
+-- A piece starts with its part of the cold state, which knows the cores and is behind place 0.
+use Rattle.piece_check.specs.Parts.{piece_at}
+use Rattle.piece_check.proofs.Parting.{cold_behind, cold_has_cores}
 use Rattle.piece_check.proofs.piece.Piece.start.Goals as goal
 
-pub returns-then-piece-eq0-clause-behind : goal.returns-then-piece-eq0-clause-behind
-returns-then-piece-eq0-clause-behind c = record { times = λ core. rw c.new-clock.ensures (cold_time c.cores.result core); kept = tt }
-
-pub returns-clause-part : goal.returns-clause-part
-returns-clause-part c =
-    let some : 0 < c.args.piece = omega arith in
-    let cold = c.in_ok-state.ensures c.args.config.now c.partition_number-number.result (sym c.first_core.ensures.value) in
-    rw (piece_at_more c.args.config.now c.args.piece c.keeps_limits.ensures.channels some c.requires, ← c.partition_number-number.ensures.value, c.new-clock.ensures, c.cores.ensures.value, cold)
+pub returns-clause-of_module : goal.returns-clause-of_module
+returns-clause-of_module c =
+    let config = c.args.config.now in
+    record { cores = rw c.in_ok-held.ensures.part (cold_has_cores config (piece_at config c.args.piece)); channel = c.in_ok-held.ensures.agrees }
 
 pub returns-clause-behind : goal.returns-clause-behind
-returns-clause-behind c =
-    let cold = c.in_ok-state.ensures c.args.config.now c.partition_number-number.result (sym c.first_core.ensures.value) in
-    record {
-      times = λ core. rw c.new-clock.ensures (cold_time c.cores.result core);
-      kept = rw cold (cold_kept c.args.config.now c.partition_number-number.result);
-    }
+returns-clause-behind c = rw c.in_ok-held.ensures.part (cold_behind c.args.config.now (piece_at c.args.config.now c.args.piece))

@@ -3,14 +3,16 @@ use Rattle.piece_check.specs.Held.{part_of}
 use Rattle.piece_check.proofs.Parting.{HasCores_after, IsBehind_after}
 use Rattle.piece_check.proofs.piece.Piece.step.Goals as goal
 
-pub returns-in-Ok-clause-cores : goal.returns-in-Ok-clause-cores
-returns-in-Ok-clause-cores c =
-    let has = rw (← c.self.view_is) at c.requires.cores in
-    rw c.in-Ok.ensures.ok.1
-    (HasCores_after c.args.config.now.cores c.args.config.now (part_of c.self.inside.held) c.args.ordered.now has)
+pub returns-in-Ok-clause-of_module : goal.returns-in-Ok-clause-of_module
+returns-in-Ok-clause-of_module c =
+    let known = rw (← c.self.view_is) at c.requires.of_module in
+    record {
+      cores = rw c.in-Ok.ensures.ok.1 (HasCores_after c.args.config.now.cores c.args.config.now (part_of c.self.inside.held) c.args.ordered.now known.cores);
+      channel = c.in-Ok.ensures.agrees;
+    }
 
 pub returns-in-Ok-clause-behind : goal.returns-in-Ok-clause-behind
 returns-in-Ok-clause-behind c =
     let behind = rw (← c.self.view_is) at c.requires.behind in
     rw c.in-Ok.ensures.ok.1
-    (IsBehind_after c.args.config.now (part_of c.self.inside.held) c.args.ordered.now behind c.in-Ok.ensures.ok.0 c.gives_period.ensures)
+    (IsBehind_after c.args.config.now (part_of c.self.inside.held) c.args.ordered.now behind c.in-Ok.ensures.ok.0 c.fits.ensures.period c.fits.ensures.caller)

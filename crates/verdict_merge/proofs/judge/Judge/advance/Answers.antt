@@ -1,8 +1,8 @@
 use Rattle.std.proofs.Common.{◌<◌, ◌+◌, ◌∙◌, ℕ, length, sym, ap, subst, arith}
 use Rattle.std.specs.Prelude.{IfOk}
 use Rattle.apex_machine.specs.Runs.{ArePlaced}
-use Rattle.piece_check.specs.Parts.{HasCores, IsBehind}
-use Rattle.verdict_merge.specs.Rounds.{HasGone, IsGoing, holding_at, parts_of}
+use Rattle.piece_check.specs.Parts.{IsBehind, IsOf}
+use Rattle.verdict_merge.specs.Rounds.{HasGone, IsGoing, holding_at}
 use Rattle.verdict_merge.proofs.Holdings.{holding_at-get, holding_at-other, holding_at-set, on_err, part_moves}
 use Rattle.verdict_merge.proofs.judge.Judge.advance.Goals as goal
 
@@ -10,10 +10,9 @@ pub go_over-requires-clause-going : goal.go_over-requires-clause-going
 go_over-requires-clause-going c =
     let items = c.self.inside.pieces.items in
     let within : c.args.number < length items = omega (arith, c.requires.piece, ap (λ judging. length judging.pieces) c.self.view_is) in
-    let going : IsGoing c.args.config.now.cores c.args.records.now (holding_at items c.args.number).part =
-    subst (λ judging. IsGoing c.args.config.now.cores c.args.records.now (parts_of judging c.args.number)) (sym c.self.view_is) c.requires.going in
-    subst (λ holding. IsGoing c.args.config.now.cores c.args.records.now holding.part)
-    (holding_at-get items c.args.number c.index_mut.result.now within ∙ sym c.index_mut.ensures.value) going
+    let going : IsGoing c.args.config.now c.args.records.now (holding_at items c.args.number) =
+    subst (λ judging. IsGoing c.args.config.now c.args.records.now (holding_at judging.pieces c.args.number)) (sym c.self.view_is) c.requires.going in
+    subst (IsGoing c.args.config.now c.args.records.now) (holding_at-get items c.args.number c.index_mut.result.now within ∙ sym c.index_mut.ensures.value) going
 
 pub returns-clause-gone : goal.returns-clause-gone
 returns-clause-gone c =
@@ -31,12 +30,11 @@ returns-clause-kept c =
     (part_moves (λ old new. IfOk c.go_over.result (λ x. (place : ℕ) → ArePlaced place c.args.records.now → IsBehind place old → IsBehind (place + length c.args.records.now) new)) items c.args.number
     c.index_mut.result.now c.go_over.new.piece within c.index_mut.ensures.value c.go_over.ensures.kept)
 
-pub returns-clause-cores : goal.returns-clause-cores
-returns-clause-cores c =
+pub returns-clause-of_module : goal.returns-clause-of_module
+returns-clause-of_module c =
     let items = c.self.inside.pieces.items in
     let within : c.args.number < length items = omega (arith, c.requires.piece, ap (λ judging. length judging.pieces) c.self.view_is) in
-    part_moves (λ old new. IfOk c.go_over.result (λ x. HasCores c.args.config.now.cores new)) items c.args.number
-    c.index_mut.result.now c.go_over.new.piece within c.index_mut.ensures.value c.go_over.ensures.cores
+    subst (λ holding. IfOk c.go_over.result (λ x. IsOf c.args.config.now holding)) (sym (holding_at-set items c.args.number c.go_over.new.piece within)) c.go_over.ensures.of_module
 
 pub returns-clause-others : goal.returns-clause-others
 returns-clause-others c = λ other apart. rw (← c.self.view_is) (holding_at-other c.self.inside.pieces.items c.args.number c.go_over.new.piece other apart)

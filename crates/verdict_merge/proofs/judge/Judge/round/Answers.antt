@@ -1,7 +1,7 @@
 use Rattle.std.proofs.Common.{◌≡◌, ◌<◌, ◌+◌, ◌∙◌, ℕ, length, inl, inr, sym, ap, subst, arith}
 use Rattle.apex_machine.specs.Pieces.{pieces}
-use Rattle.piece_check.specs.Parts.{HasCores, IsBehind}
-use Rattle.verdict_merge.specs.Rounds.{HasGone, parts_of}
+use Rattle.piece_check.specs.Parts.{IsBehind, IsOf}
+use Rattle.verdict_merge.specs.Rounds.{HasGone, holding_at, parts_of}
 use Rattle.verdict_merge.proofs.Rounds.{IsFound, been_more, found_more, round_is}
 use Rattle.verdict_merge.proofs.Splits.{same_or, up_to}
 use Rattle.verdict_merge.proofs.judge.Judge.round.Goals as goal
@@ -24,9 +24,9 @@ pieces-preserved c =
       count = c.advance.ensures.count ∙ before.count;
       whole = c.advance.ensures.pieces ∙ before.whole;
       later = λ one less. others one (λ e. absurd (omega (arith, e, less))) ∙ before.later one (omega (arith, less));
-      known = λ one inside. elim (same_or one number) [
-        | inl is ↦ subst (λ n. HasCores config.cores (parts_of next n)) (sym is) c.in-Ok.ensures.cores
-        | inr apart ↦ subst (HasCores config.cores) (sym (ap (λ holding. holding.part) (others one apart))) (before.known one inside)
+      of_module = λ one inside. elim (same_or one number) [
+        | inl is ↦ subst (λ n. IsOf config (holding_at next.pieces n)) (sym is) c.in-Ok.ensures.of_module
+        | inr apart ↦ subst (IsOf config) (sym (others one apart)) (before.of_module one inside)
       ];
       behind = up_to (λ one. IsBehind (start.count + length records) (parts_of next one)) number
           (λ one less. subst (IsBehind (start.count + length records)) (sym (same one less)) (before.behind one less))
@@ -43,7 +43,7 @@ returns-clause-judged c =
     round_is config c.args.self.now c.pieces.self _ c.args.records.now c.pieces.least c.requires.placed
     (ap (λ judging. judging.pieces) c.self-2.view_is)
     (c.place_behind-self-inside.ensures ∙ ap (λ count. count + length c.args.records.now) (ap (λ judging. judging.count) c.self-2.view_is ∙ after.count))
-    after.whole after.known
+    after.whole after.of_module
     (λ number within. after.behind number (omega (arith, within, all)))
     (λ number within. after.been number (omega (arith, within, all)))
     (subst (λ count. IsFound config (parts_of c.args.self.now) c.args.records.now count c.pieces.least) (sym all) after.found)

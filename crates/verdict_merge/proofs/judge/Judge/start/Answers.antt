@@ -2,7 +2,7 @@ use Rattle.std.proofs.Common.{◌≡◌, ◌<◌, ◌+◌, ◌++◌, ◌∷◌, 
 use Rattle.std.specs.Result.{is_ok}
 use Rattle.std.proofs.lemmas.List.{length-append}
 use Rattle.apex_machine.specs.Pieces.{pieces}
-use Rattle.piece_check.specs.Parts.{HasCores, IsBehind}
+use Rattle.piece_check.specs.Parts.{IsBehind, IsOf}
 use Rattle.verdict_merge.specs.Rounds.{cold_parts, holding_at}
 use Rattle.verdict_merge.proofs.Holdings.{holding_at-front, holding_at-last}
 use Rattle.verdict_merge.proofs.Splits.{up_to}
@@ -23,7 +23,10 @@ pieces-preserved c =
           (up_to (λ one. (holding_at (items ++ piece ∷ []) one).part ≡ cold_parts config one) number
           (λ one less. ap (λ holding. holding.part) (holding_at-front items piece one (omega (arith, less, c.pieces.invariant.count))) ∙ c.pieces.invariant.cold one less)
           (ap (λ holding. holding.part) last ∙ c.in-Ok.ensures.part));
-      known = up_to (λ one. HasCores config.cores (cold_parts config one)) number c.pieces.invariant.known (subst (HasCores config.cores) c.in-Ok.ensures.part c.in-Ok.ensures.cores);
+      of_module = subst (λ all. (one : ℕ) → one < number + 1 → IsOf config (holding_at all one)) (sym grown)
+          (up_to (λ one. IsOf config (holding_at (items ++ piece ∷ []) one)) number
+          (λ one less. subst (IsOf config) (sym (holding_at-front items piece one (omega (arith, less, c.pieces.invariant.count)))) (c.pieces.invariant.of_module one less))
+          (subst (IsOf config) (sym last) c.in-Ok.ensures.of_module));
       behind = up_to (λ one. IsBehind 0 (cold_parts config one)) number c.pieces.invariant.behind (subst (IsBehind 0) c.in-Ok.ensures.part c.in-Ok.ensures.behind);
     }
 
@@ -33,9 +36,7 @@ returns-clause-ready c =
     let all : c.pieces.number ≡ length (pieces config) = search rules in
     record {
       whole = c.pieces.invariant.count ∙ all;
-      known = λ number within.
-          let less : number < c.pieces.number = omega (arith, within, all) in
-          subst (HasCores config.cores) (sym (c.pieces.invariant.cold number less)) (c.pieces.invariant.known number less);
+      of_module = λ number within. c.pieces.invariant.of_module number (omega (arith, within, all));
       behind = λ number within.
           let less : number < c.pieces.number = omega (arith, within, all) in
           subst (IsBehind 0) (sym (c.pieces.invariant.cold number less)) (c.pieces.invariant.behind number less);

@@ -1,0 +1,61 @@
+// The times of the cores alone.
+
+ghost use Rattle.std.specs.Prelude.{◌≡◌, ◌≤◌, ◌<◌, length, replicate};
+ghost use Rattle.apex_types.specs.Bounds.{place_count};
+ghost use Rattle.apex_machine.specs.Pieces.{one_more, time_at};
+
+use apex_types::CoreId;
+use std::marker::Model;
+
+/// How many cores a module has at most.
+const CORE_LIMIT: usize = 16;
+
+/// The time of each core, in ticks, for who asks neither for occupants nor for windows. A contract sees the list of them.
+#[derive(Debug, Drop)]
+pub struct Times {
+    times: [u64; CORE_LIMIT],
+    count: usize,
+}
+
+impl Model for Times {
+    ghost use Rattle.std.specs.Prelude.{ℕ, List, ◌≤◌, take};
+
+    ghost Value = { List ℕ };
+
+    ghost view = { λ all. take all.count all.times };
+
+    ghost invariant = { λ all. all.count ≤ 16 };
+}
+
+impl Times {
+    /// So many cores at time 0.
+    pub fn new(cores: u8) -> Times
+        requires { cores ≤ 16 }
+        ensures { result ≡ replicate cores 0 }
+    {
+        Times {
+            times: [0; CORE_LIMIT],
+            count: cores as usize,
+        }
+    }
+
+    /// The time of a core, in ticks, or 0 where there is no such core.
+    #[tactic(auto, using(crate::proofs::Timing::time_at_there, crate::proofs::Timing::time_at_past))]
+    pub fn now(&self, core: CoreId) -> u64
+        ensures { result ≡ time_at self.now core }
+    {
+        match self.times[..self.count].get(core.number() as usize) {
+            Some(time) => *time,
+            None => 0,
+        }
+    }
+
+    /// Adds one to the time of a core.
+    pub fn advance(&mut self, core: CoreId)
+        requires core { core < length self.old }
+        requires time { time_at self.old core < place_count }
+        ensures { self.new ≡ one_more core self.old }
+    {
+        self.times[core.number() as usize] += 1;
+    }
+}

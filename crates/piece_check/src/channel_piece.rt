@@ -1,0 +1,137 @@
+// The piece of a channel: what goes through it, and who waits at its ends.
+
+ghost use Rattle.std.specs.Prelude.{◌≡◌, ◌<◌, ◌≢◌, ℕ, IfErr, IfOk, OnErr, OnOk, Some, length, true};
+ghost use Rattle.apex_types.specs.Bounds.{place_count};
+ghost use Rattle.apex_types.specs.declared.record.Body.TheVariants as body;
+ghost use Rattle.apex_types.specs.declared.record.Ordered.{Ordered as OrderedRecord};
+ghost use Rattle.apex_types.specs.declared.record.Who.{Who as WhoValue};
+ghost use Rattle.apex_machine.specs.After.{channel_after};
+ghost use Rattle.apex_machine.specs.Channels.{has_channel};
+ghost use Rattle.apex_machine.specs.Demands.{LocalStep, demands};
+ghost use Rattle.apex_machine.specs.Configuration.{Configuration};
+ghost use Rattle.apex_machine.specs.Pieces.{OfChannel, part};
+ghost use Rattle.apex_machine.specs.State.{cold_channel, cold_state};
+ghost use Rattle.apex_machine.specs.Waiting.{stops};
+ghost use Rattle.channel.specs.Held.{IsConfigured};
+ghost use Rattle.partition_state.specs.Calls.{RefusesOrWants};
+ghost use Rattle.piece_check.specs.Held.{channel_part};
+ghost use Rattle.piece_check.specs.Parts.{IsBehind, WaitBefore, WantsAtCalls};
+ghost use Rattle.piece_check.specs.Subjects.{is_the};
+
+use apex_types::{Body, Call, ChanId, Code, Ordered, Out, Place, ProcId, Request, Who};
+use channel::Channel;
+use dispatch_rule::Times;
+use module_config::{ChannelKind, Config};
+use std::alloc::{AllocError, Global};
+use wait_set::ObjFault;
+
+/// The piece of a channel: the times of the cores, and the channel.
+#[derive(Drop)]
+pub(crate) struct ChannelPiece {
+    pub(crate) times: Times,
+    pub(crate) channel: Channel,
+}
+
+impl ChannelPiece {
+    /// The piece of this channel, with its part of the cold state.
+    ///
+    /// AllocError where memory for the places of its messages is refused.
+    pub(crate) fn start(
+        alloc: Global,
+        config: &Config,
+        number: ChanId,
+    ) -> Result<ChannelPiece, AllocError>
+        requires { has_channel config.now number ≡ true }
+        ensures part { IfOk result (λ piece. channel_part piece ≡ part (OfChannel number) (cold_state config.now)) }
+        ensures configured { IfOk result (λ piece. IsConfigured config.now piece.channel) }
+    {
+        let times = Times::new(config.cores());
+        let channel = empty_channel(alloc, config, number)?;
+        Ok(ChannelPiece { times, channel })
+    }
+
+    /// Judges a record, and makes the part what the record makes of it.
+    ///
+    /// Refused, with nothing changed, where a demand fails: the cause is that of the first; or where memory is refused to a
+    /// call.
+    pub(crate) fn step(&mut self, config: &Config, ordered: &Ordered) -> Result<(), ObjFault>
+        requires core { ordered.now.core < length self.old.times }
+        requires place { ordered.now.pos < place_count }
+        requires behind { IsBehind ordered.now.pos (channel_part self.old) }
+        requires configured { IsConfigured config.now self.old.channel }
+        ensures ok { OnOk result (LocalStep config.now (channel_part self.old) ordered.now (channel_part self.new)) }
+        ensures refused { IfErr result (RefusesOrWants (demands config.now (channel_part self.old) ordered.now)) }
+        ensures unchanged { OnErr result (self.new ≡ self.old) }
+        ensures memory { IfErr result (WantsAtCalls ordered.now.rec.body) }
+        ensures configured { IsConfigured config.now self.new.channel }
+    {
+        match &ordered.rec.body {
+            Body::Call(call) => {
+                if call.claim.chan == Some(self.channel.number()) {
+                    let now = self.times.now(ordered.core);
+                    return self.channel.apply(ordered.pos, now, call);
+                }
+                self.let_go(ordered.pos, call);
+            }
+            Body::Tick(woken) => {
+                self.channel.release(woken.as_slice());
+                self.times.advance(ordered.core);
+            }
+            Body::Ret(_) | Body::Disp(_) => {}
+        }
+        Ok(())
+    }
+
+    // A call that goes through another channel or through none: whose waits it ends leave. Who waits has a number of 32 bits.
+    fn let_go(&mut self, place: Place, call: &Call)
+        requires behind { WaitBefore place self.old.channel.channel }
+        requires apart { call.now.claim.chan ≢ Some self.old.channel.number }
+        ensures configured { (configuration : Configuration) → IsConfigured configuration self.old.channel → IsConfigured configuration self.new.channel }
+        ensures after { (configuration : Configuration) (now : ℕ) (ordered : OrderedRecord) → ordered.pos ≡ place → ordered.rec.body ≡ body.Call call.now → self.new ≡ record self.old { channel = record self.old.channel { channel = channel_after configuration now self.old.channel.number ordered self.old.channel.channel } } }
+    {
+        self.channel.release(call.claim.woken.as_slice());
+        if let Some(target) = stopped_by(call) {
+            self.channel.leave(target);
+        }
+    }
+}
+
+// The channel of this number as it is configured, without a message, at which nobody waits.
+fn empty_channel(alloc: Global, config: &Config, number: ChanId) -> Result<Channel, AllocError>
+    requires { has_channel config.now number ≡ true }
+    ensures number { IfOk result (λ channel. channel.number ≡ number) }
+    ensures cold { IfOk result (λ channel. channel.channel ≡ cold_channel config.now number) }
+    ensures configured { IfOk result (IsConfigured config.now) }
+{
+    match config.channel_kind(number) {
+        Some(ChannelKind::Sampling { refresh }) => Ok(Channel::sampling(alloc, number, refresh)),
+        Some(
+            ChannelKind::Queuing {
+                capacity,
+                sending,
+                receiving,
+            },
+        ) => Channel::queuing(alloc, number, capacity, sending, receiving),
+        None => unreachable!(),
+    }
+}
+
+// The process that a call stops, if it stops one and its number has 32 bits: STOP that is done stops its target, which is of the
+// caller's partition.
+fn stopped_by(call: &Call) -> Option<Who>
+    ensures { (who : WhoValue) → who.proc < 4294967296 → stops call.now who ≡ is_the who result }
+{
+    let Request::Stop { process } = &call.request else {
+        return None;
+    };
+    if call.claim.out != Out::Answer(Code::NoError)
+        || *process < 0
+        || *process > i64::from(u32::MAX)
+    {
+        return None;
+    }
+    Some(Who {
+        part: call.who.part,
+        proc: ProcId::new(*process as u32),
+    })
+}
