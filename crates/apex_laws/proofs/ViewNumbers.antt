@@ -10,7 +10,8 @@ use Rattle.apex_types.specs.declared.record.Out.TheVariants as out
 use Rattle.apex_types.specs.declared.service.Service.{Service}
 use Rattle.apex_types.specs.declared.service.Service.TheVariants as service
 use Rattle.apex_machine.specs.State.{State}
-use Rattle.apex_machine.specs.Views.{out_number, service_number, view_by}
+use Rattle.apex_types.specs.Numbers.{out_number, service_number}
+use Rattle.apex_machine.specs.Views.{view_by}
 use Rattle.apex_laws.specs.ViewNumbers.{NumbersTell, kind_number, outcomes_by_number, services_by_number}
 
 service_place : (service : Service) → slice_get services_by_number (service_number service - 1) ≡ Some service

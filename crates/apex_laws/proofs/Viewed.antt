@@ -6,7 +6,8 @@ use Rattle.apex_types.specs.declared.record.Body.TheVariants.{Call, Ret, Disp, T
 use Rattle.apex_types.specs.declared.record.Ordered.{Ordered}
 use Rattle.apex_machine.specs.Pieces.{Module, OfChannel, OfPartition, Piece, part}
 use Rattle.apex_machine.specs.State.{State}
-use Rattle.apex_machine.specs.Views.{View, judge_by, module_view, partition_view, view_by, view_in}
+use Rattle.apex_types.specs.declared.view.View.{View}
+use Rattle.apex_machine.specs.Views.{judge_by, module_view, partition_view, view_by, view_in}
 use Rattle.apex_laws.specs.Laws.{ViewIsOfTheRun}
 use Rattle.apex_laws.proofs.Booleans.{cannot_hold, is_itself}
 

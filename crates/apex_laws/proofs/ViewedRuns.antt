@@ -9,9 +9,9 @@ use Rattle.apex_machine.specs.Pieces.{Part, Piece, is_configured, part, part_aft
 use Rattle.apex_machine.specs.Runs.{Goes, PieceRun}
 use Rattle.apex_machine.specs.State.{State}
 use Rattle.apex_machine.specs.Step.{IsLawfulBody, Run, Step}
-use Rattle.apex_machine.specs.Views.{judge_by, view_in}
+use Rattle.apex_machine.specs.Views.{judge_by, run_views, view_in}
 use Rattle.apex_laws.specs.Laws.{AreTied}
-use Rattle.apex_laws.specs.ViewLaws.{AreJudged, AreOfItsRecords, ViewsAreOfTheRun, piece_views, run_views}
+use Rattle.apex_laws.specs.ViewLaws.{AreJudged, AreOfItsRecords, ViewsAreOfTheRun, piece_views}
 use Rattle.apex_laws.proofs.Parts.{part_of_after}
 use Rattle.apex_laws.proofs.Runs.{goes_by_step, goes_nowhere, one_run}
 use Rattle.apex_laws.proofs.Stays.{step_tied}

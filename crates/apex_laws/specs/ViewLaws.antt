@@ -6,13 +6,9 @@ use Rattle.apex_machine.specs.Pieces.{Part, Piece, is_configured, part}
 use Rattle.apex_machine.specs.Runs.{ArePlaced, PieceRun}
 use Rattle.apex_machine.specs.State.{State}
 use Rattle.apex_machine.specs.Step.{Run}
-use Rattle.apex_machine.specs.Views.{View, judge, view_in, view_of}
+use Rattle.apex_types.specs.declared.view.View.{View}
+use Rattle.apex_machine.specs.Views.{judge, run_views, view_in}
 use Rattle.apex_laws.specs.Laws.{AreTied}
-
--- the views of the records of a run, each from the state before its record
-abbrev pub run_views : (configuration : Configuration) (state : State) (records : List Ordered) (final : State) → Run configuration state records final → List View
-run_views configuration state [] final run = []
-run_views configuration state (ordered ∷ others) final run = view_of state ordered ∷ run_views configuration run.0 others final run.2
 
 -- what a piece gives over the records of its run, each from its part before the record
 abbrev pub piece_views : (configuration : Configuration) (piece : Piece) (old : Part) (records : List Ordered) (final : Part)

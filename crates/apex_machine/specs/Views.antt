@@ -1,96 +1,24 @@
 -- The view of a record: the numbers that a user's relation can speak of. The piece that judges the record has it from its part.
-use Rattle.std.specs.Prelude.{ℕ, ◌+◌, ◌-◌, List, length, Option, Some, None, ℤ, pos, negsuc, nat_eq, if◌then◌else◌}
-use Rattle.apex_types.specs.declared.code.Code.{Code}
-use Rattle.apex_types.specs.declared.code.Code.TheVariants as code
+use Rattle.std.specs.Prelude.{ℕ, ◌+◌, ◌-◌, List, [], ◌∷◌, length, Option, Some, None, ℤ, pos, negsuc, nat_eq, if◌then◌else◌}
 use Rattle.apex_types.specs.declared.record.Body.{Body}
 use Rattle.apex_types.specs.declared.record.Body.TheVariants.{Call, Ret, Disp, Tick}
 use Rattle.apex_types.specs.declared.record.Call.{Call as CallRecord}
 use Rattle.apex_types.specs.declared.record.Ordered.{Ordered}
-use Rattle.apex_types.specs.declared.record.Out.{Out}
-use Rattle.apex_types.specs.declared.record.Out.TheVariants as out
 use Rattle.apex_types.specs.declared.record.Return.{Return}
 use Rattle.apex_types.specs.declared.record.Who.{Who}
-use Rattle.apex_types.specs.declared.service.Service.{Service}
-use Rattle.apex_types.specs.declared.service.Service.TheVariants as service
+use Rattle.apex_types.specs.declared.view.View.{View}
+use Rattle.apex_types.specs.Numbers.{code_number, out_number, service_number}
 use Rattle.apex_types.specs.Requested.{service_of}
 use Rattle.apex_machine.specs.declared.state.CoreState.{CoreState}
 use Rattle.apex_machine.specs.declared.state.Process.{Process}
 use Rattle.apex_machine.specs.Pieces.{ChannelPart, Module, ModulePart, OfPartition, Part, PartitionPart, Piece}
+use Rattle.apex_machine.specs.Configuration.{Configuration}
 use Rattle.apex_machine.specs.State.{State, Table, item_at, time_of}
-
--- the view of a record; a field that the record hasn't is -1, and where it names nobody woken is 0
-pub record View : Type 0 where
-  pub kind : ℤ
-  pub core : ℤ
-  pub time : ℤ
-  pub part : ℤ
-  pub proc : ℤ
-  pub service : ℤ
-  pub prio : ℤ
-  pub out : ℤ
-  pub val : ℤ
-  pub elapsed : ℤ
-  pub woken : ℤ
+use Rattle.apex_machine.specs.Step.{Run}
 
 -- a field that the record hasn't
 abbrev pub absent : ℤ
 absent = negsuc 0
-
--- the number of a return code   (RETURN_CODE_TYPE, section 3)
-abbrev pub code_number : Code → ℕ
-code_number code.NoError = 0
-code_number code.NoAction = 1
-code_number code.NotAvailable = 2
-code_number code.InvalidParam = 3
-code_number code.InvalidConfig = 4
-code_number code.InvalidMode = 5
-code_number code.TimedOut = 6
-
--- the number of an outcome: its code, 7 for a call that waits, 8 for one that does not return
-abbrev pub out_number : Out → ℕ
-out_number (out.Answer code) = code_number code
-out_number out.Waits = 7
-out_number out.Never = 8
-
--- the number of a service
-abbrev pub service_number : Service → ℕ
-service_number service.CreateProcess = 1
-service_number service.InitializeProcessCoreAffinity = 2
-service_number service.Start = 3
-service_number service.Stop = 4
-service_number service.StopSelf = 5
-service_number service.Suspend = 6
-service_number service.SuspendSelf = 7
-service_number service.Resume = 8
-service_number service.SetPriority = 9
-service_number service.GetMyId = 10
-service_number service.TimedWait = 11
-service_number service.PeriodicWait = 12
-service_number service.GetTime = 13
-service_number service.SetPartitionMode = 14
-service_number service.CreateBuffer = 15
-service_number service.SendBuffer = 16
-service_number service.ReceiveBuffer = 17
-service_number service.CreateBlackboard = 18
-service_number service.DisplayBlackboard = 19
-service_number service.ReadBlackboard = 20
-service_number service.ClearBlackboard = 21
-service_number service.CreateSemaphore = 22
-service_number service.WaitSemaphore = 23
-service_number service.SignalSemaphore = 24
-service_number service.CreateEvent = 25
-service_number service.SetEvent = 26
-service_number service.ResetEvent = 27
-service_number service.WaitEvent = 28
-service_number service.CreateMutex = 29
-service_number service.AcquireMutex = 30
-service_number service.ReleaseMutex = 31
-service_number service.CreateSamplingPort = 32
-service_number service.WriteSamplingMessage = 33
-service_number service.ReadSamplingMessage = 34
-service_number service.CreateQueuingPort = 35
-service_number service.SendQueuingMessage = 36
-service_number service.ReceiveQueuingMessage = 37
 
 -- a value that a record claims
 abbrev pub value_number : Option ℤ → ℤ
@@ -171,6 +99,11 @@ view_by state core (Tick woken) = core_view 3 core (time_of state.cores core + 1
 -- the view of an ordered record in a run of the machine
 abbrev pub view_of : State → Ordered → View
 view_of state ordered = view_by state ordered.core ordered.rec.body
+
+-- the views of the records of a run, each from the state before its record
+abbrev pub run_views : (configuration : Configuration) (state : State) (records : List Ordered) (final : State) → Run configuration state records final → List View
+run_views configuration state [] final run = []
+run_views configuration state (ordered ∷ others) final run = view_of state ordered ∷ run_views configuration run.0 others final run.2
 
 -- the view that a partition gives: of its own calls and returns
 abbrev pub partition_view : ℕ → List CoreState → Table → ℕ → Body → Option View

@@ -2,6 +2,7 @@
 
 ghost use Rattle.std.specs.Prelude.{◌≡◌};
 ghost use Rattle.apex_types.specs.CodeName.{name_of};
+ghost use Rattle.apex_types.specs.Numbers.{code_number};
 
 /// A return code of an APEX service.
 #[derive(Clone, Copy, Debug, PartialEq, Eq)]
@@ -28,6 +29,21 @@ impl Code {
             Code::InvalidConfig => b"INVALID_CONFIG",
             Code::InvalidMode => b"INVALID_MODE",
             Code::TimedOut => b"TIMED_OUT",
+        }
+    }
+
+    /// The number by which views tell the code, from 0 on.
+    pub fn number(self) -> u8
+        ensures { result ≡ code_number self }
+    {
+        match self {
+            Code::NoError => 0,
+            Code::NoAction => 1,
+            Code::NotAvailable => 2,
+            Code::InvalidParam => 3,
+            Code::InvalidConfig => 4,
+            Code::InvalidMode => 5,
+            Code::TimedOut => 6,
         }
     }
 }

@@ -1,4 +1,4 @@
-//! The plain types of a recording: numbers, codes, services and their arguments, records, causes.
+//! The plain types of a recording: numbers, codes, services and their arguments, records, causes, and views of records.
 //!
 //! Promises: a number reads back as it was made; a text, a message and a list of processes are seen by contracts as
 //! lists; a place is below the number of records that sixteen cores can give.
@@ -12,6 +12,7 @@ mod record;
 mod request;
 mod service;
 mod text;
+mod view;
 
 pub use cause::Cause;
 pub use code::Code;
@@ -21,3 +22,4 @@ pub use record::{Body, Call, Claim, Ordered, Out, Pair, Record, Return, Who, Wok
 pub use request::Request;
 pub use service::Service;
 pub use text::{Message, Name};
+pub use view::{Field, View};

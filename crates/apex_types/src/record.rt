@@ -1,6 +1,7 @@
 // The records of a recording.
 
 ghost use Rattle.std.specs.Prelude.{◌≡◌, []};
+ghost use Rattle.apex_types.specs.Numbers.{out_number};
 ghost use Rattle.apex_types.specs.Rising.{IsRising};
 
 use crate::code::Code;
@@ -72,6 +73,19 @@ pub enum Out {
     Never,
     /// The outcome is due at once, with this code.
     Answer(Code),
+}
+
+impl Out {
+    /// The number by which views tell the outcome: that of its code, 7 for a call that waits, 8 for one that does not return.
+    pub fn number(self) -> u8
+        ensures { result ≡ out_number self }
+    {
+        match self {
+            Out::Answer(code) => code.number(),
+            Out::Waits => 7,
+            Out::Never => 8,
+        }
+    }
 }
 
 /// What a call claims of the machine: the caller's current priority, the outcome with its value and its message, the

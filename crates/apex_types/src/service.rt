@@ -1,6 +1,7 @@
 // The services of the APEX interface, by name.
 
 ghost use Rattle.std.specs.Prelude.{◌≡◌};
+ghost use Rattle.apex_types.specs.Numbers.{service_number};
 ghost use Rattle.apex_types.specs.ServiceName.{name_of};
 
 /// A service of ARINC 653 Part 1, known by its name.
@@ -88,6 +89,51 @@ impl Service {
             Service::CreateQueuingPort => b"CREATE_QUEUING_PORT",
             Service::SendQueuingMessage => b"SEND_QUEUING_MESSAGE",
             Service::ReceiveQueuingMessage => b"RECEIVE_QUEUING_MESSAGE",
+        }
+    }
+
+    /// The number by which views tell the service, from 1 on.
+    pub fn number(self) -> u8
+        ensures { result ≡ service_number self }
+    {
+        match self {
+            Service::CreateProcess => 1,
+            Service::InitializeProcessCoreAffinity => 2,
+            Service::Start => 3,
+            Service::Stop => 4,
+            Service::StopSelf => 5,
+            Service::Suspend => 6,
+            Service::SuspendSelf => 7,
+            Service::Resume => 8,
+            Service::SetPriority => 9,
+            Service::GetMyId => 10,
+            Service::TimedWait => 11,
+            Service::PeriodicWait => 12,
+            Service::GetTime => 13,
+            Service::SetPartitionMode => 14,
+            Service::CreateBuffer => 15,
+            Service::SendBuffer => 16,
+            Service::ReceiveBuffer => 17,
+            Service::CreateBlackboard => 18,
+            Service::DisplayBlackboard => 19,
+            Service::ReadBlackboard => 20,
+            Service::ClearBlackboard => 21,
+            Service::CreateSemaphore => 22,
+            Service::WaitSemaphore => 23,
+            Service::SignalSemaphore => 24,
+            Service::CreateEvent => 25,
+            Service::SetEvent => 26,
+            Service::ResetEvent => 27,
+            Service::WaitEvent => 28,
+            Service::CreateMutex => 29,
+            Service::AcquireMutex => 30,
+            Service::ReleaseMutex => 31,
+            Service::CreateSamplingPort => 32,
+            Service::WriteSamplingMessage => 33,
+            Service::ReadSamplingMessage => 34,
+            Service::CreateQueuingPort => 35,
+            Service::SendQueuingMessage => 36,
+            Service::ReceiveQueuingMessage => 37,
         }
     }
 }
