@@ -1,0 +1,4 @@
+pub mod Meets
+pub mod FirstBroken
+pub mod Search
+pub mod Rules

@@ -1,0 +1,76 @@
+// The first view that breaks a rule.
+
+ghost use Rattle.std.specs.Prelude.{◌≡◌};
+ghost use Rattle.user_rules.specs.FirstBroken.{IsFirstBroken};
+ghost use Rattle.user_rules.specs.Search.{IsFirstRule, IsFirstView, breaks_one};
+ghost use Rattle.user_rules.specs.Rules.{relations_of};
+
+use crate::rule::Rule;
+use apex_types::View;
+use rayon::prelude::*;
+use std::thread::Threads;
+
+/// The first view that breaks a rule, and the first rule that it breaks, both counted from 0.
+#[derive(Clone, Copy, Debug, PartialEq, Eq)]
+pub struct Broken {
+    pub view: usize,
+    pub rule: usize,
+}
+
+// How many tests, of one rule on one view each, are worth a thread of their own.
+const TESTS_OF_A_THREAD: usize = 16_384;
+
+/// The first view that breaks a rule, and the first rule that it breaks; None where each view meets every rule. Several threads
+/// look where there is enough to look at, and each goes through its share to the end. Takes no memory.
+pub fn first_broken<R: Threads + Sync>(rt: &R, rules: &[Rule], views: &[View]) -> Option<Broken>
+    ensures { IsFirstBroken (relations_of rules.now) views.now result }
+{
+    let view = first_view(rt, rules, views)?;
+    let rule = first_rule(rules, &views[view])?;
+    Some(Broken { view, rule })
+}
+
+/// What `first_broken` finds, on the caller's thread alone. Takes no memory.
+pub fn first_broken_in_turn(rules: &[Rule], views: &[View]) -> Option<Broken>
+    ensures { IsFirstBroken (relations_of rules.now) views.now result }
+{
+    for view in 0..views.len() {
+        if let Some(rule) = first_rule(rules, &views[view]) {
+            return Some(Broken { view, rule });
+        }
+    }
+    None
+}
+
+// The place of the first view that breaks a rule, looked for in several threads.
+fn first_view<R: Threads + Sync>(rt: &R, rules: &[Rule], views: &[View]) -> Option<usize>
+    ensures { IsFirstView (relations_of rules.now) views.now result }
+{
+    let threads = views.len().saturating_mul(rules.len()) / TESTS_OF_A_THREAD;
+    let least = views.len() / threads.max(1);
+    views.par_iter().with_min_len(least).position_first(
+        rt,
+        |view: &View| -> bool
+            ensures { result ≡ breaks_one (relations_of rules.entry.now) view.now }
+        { breaks_one(rules, view) },
+    )
+}
+
+// Whether a view breaks a rule.
+fn breaks_one(rules: &[Rule], view: &View) -> bool
+    ensures { result ≡ breaks_one (relations_of rules.now) view.now }
+{
+    first_rule(rules, view).is_some()
+}
+
+// The place of the first rule that a view breaks.
+fn first_rule(rules: &[Rule], view: &View) -> Option<usize>
+    ensures { IsFirstRule (relations_of rules.now) view.now result }
+{
+    for rule in 0..rules.len() {
+        if !rules[rule].holds(view) {
+            return Some(rule);
+        }
+    }
+    None
+}
