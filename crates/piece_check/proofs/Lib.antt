@@ -3,4 +3,8 @@ pub mod Numbering
 pub mod Parting
 pub mod Passing
 pub mod PortCodes
+pub mod Putting
+pub mod Reaching
+pub mod Slots
 pub mod Through
+pub mod Viewing

@@ -1,11 +1,16 @@
 -- The pieces by their numbers.
-use Rattle.std.proofs.Common.{◌≡◌, ◌<◌, ◌≤◌, ◌-◌, ℕ, zero, suc, List, [], ◌∷◌, ◌++◌, ◌+◌, ◌∙◌, Bool, ◌||◌, nat_eq, length, map, get_or, refl, ap, arith}
+use Rattle.std.proofs.Common.{◌≡◌, ◌<◌, ◌≤◌, ◌-◌, ℕ, zero, suc, List, [], ◌∷◌, ◌++◌, ◌+◌, ◌∙◌, Some, Bool, true, false, ◌||◌, if◌then◌else◌, is_some, nat_eq, length, map, get_or, refl, ap, arith}
 use Rattle.std.specs.List.{list_any}
 use Rattle.std.proofs.lemmas.List.{length-append, length-map}
 use Rattle.apex_types.specs.declared.record.Who.{Who}
-use Rattle.apex_machine.specs.Configuration.{Configuration, PartitionLimits}
+use Rattle.apex_machine.specs.Configuration.{Configuration, PartitionLimits, QueuingChannel, SamplingChannel}
 use Rattle.apex_machine.specs.State.{names_one_of}
-use Rattle.apex_machine.specs.Channels.{channel_numbers}
+use Rattle.apex_machine.specs.Channels.{channel_numbers, has_channel, queuing_among, sampling_among}
+use Rattle.apex_types.specs.Bounds.{greatest_channel}
+use Rattle.module_config.specs.Limits.{AreQueuingLimits, AreSamplingLimits, IsWithinLimits}
+use Rattle.std.specs.Prelude.{All}
+use Rattle.std.proofs.lemmas.Bool.Decides.{nat_tests}
+use Rattle.std.proofs.lemmas.List.Elements.{All-head, All-tail}
 use Rattle.apex_machine.specs.Pieces.{Module, OfChannel, OfPartition, Piece, pieces}
 use Rattle.piece_check.specs.Parts.{piece_at}
 
@@ -79,3 +84,35 @@ piece_at_channel configuration (suc piece) some past below =
 pub names_one_of_any : (number : ℕ) (named : List Who) → list_any (λ who. nat_eq who.part number) named ≡ names_one_of number named
 names_one_of_any number [] = refl
 names_one_of_any number (who ∷ named) = ap (λ (rest : Bool). nat_eq who.part number || rest) (names_one_of_any number named)
+
+-- the number of a configured channel is no greater than the greatest
+
+sampling_fits : (number : ℕ) (channels : List SamplingChannel) → All AreSamplingLimits channels → is_some (sampling_among number channels) ≡ true → number ≤ greatest_channel
+sampling_fits number [] all some = cc
+sampling_fits number (channel ∷ others) all some = by (nat_eq channel.number number) refl some (sampling_fits number others (All-tail AreSamplingLimits channel others all))
+  where
+    by : (same : Bool) → nat_eq channel.number number ≡ same → is_some (if same then Some channel else sampling_among number others) ≡ true
+        → (is_some (sampling_among number others) ≡ true → number ≤ greatest_channel) → number ≤ greatest_channel
+    by true same found later =
+        let limits : channel.number ≤ greatest_channel = (All-head AreSamplingLimits channel others all).number_most in
+        grind (arith, nat_tests)
+    by false differs found later = later found
+
+queuing_fits : (number : ℕ) (channels : List QueuingChannel) → All AreQueuingLimits channels → is_some (queuing_among number channels) ≡ true → number ≤ greatest_channel
+queuing_fits number [] all some = cc
+queuing_fits number (channel ∷ others) all some = by (nat_eq channel.number number) refl some (queuing_fits number others (All-tail AreQueuingLimits channel others all))
+  where
+    by : (same : Bool) → nat_eq channel.number number ≡ same → is_some (if same then Some channel else queuing_among number others) ≡ true
+        → (is_some (queuing_among number others) ≡ true → number ≤ greatest_channel) → number ≤ greatest_channel
+    by true same found later =
+        let limits : channel.number ≤ greatest_channel = (All-head AreQueuingLimits channel others all).number_most in
+        grind (arith, nat_tests)
+    by false differs found later = later found
+
+pub channel_fits : (configuration : Configuration) (number : ℕ) → IsWithinLimits configuration → has_channel configuration number ≡ true → number ≤ greatest_channel
+channel_fits configuration number limits has = by (is_some (sampling_among number configuration.sampling)) refl has
+  where
+    by : (samples : Bool) → is_some (sampling_among number configuration.sampling) ≡ samples
+        → (samples || is_some (queuing_among number configuration.queuing)) ≡ true → number ≤ greatest_channel
+    by true samples has = sampling_fits number configuration.sampling limits.sampling samples
+    by false other has = queuing_fits number configuration.queuing limits.queuing has

@@ -3,3 +3,4 @@ pub mod Refused
 pub mod Subjects
 pub mod Held
 pub mod Judged
+pub mod Touching

@@ -6,7 +6,7 @@ use Rattle.apex_machine.specs.declared.state.CoreState.{CoreState}
 use Rattle.apex_machine.specs.declared.state.Entry.{Entry}
 use Rattle.apex_machine.specs.Configuration.{Configuration}
 use Rattle.apex_machine.specs.State.{Channel, Partition, time_of}
-use Rattle.apex_machine.specs.Pieces.{Piece, Part, Module, ModulePart, PartitionPart, ChannelPart, pieces}
+use Rattle.apex_machine.specs.Pieces.{Piece, Part, Module, ModulePart, OfChannel, OfPartition, PartitionPart, ChannelPart, pieces}
 use Rattle.wait_set.specs.declared.object.ObjFault.{ObjFault}
 use Rattle.wait_set.specs.declared.object.ObjFault.TheVariants.{Unlawful, Memory}
 use Rattle.apex_laws.specs.Laws.{AllEntries}
@@ -23,6 +23,16 @@ pub record Holding : Type 0 where
 -- the piece of a number
 abbrev pub piece_at : Configuration → ℕ → Piece
 piece_at configuration number = slice_index_or (pieces configuration) number Module
+
+-- the piece that holds a part: whose part it is
+abbrev pub holder : Part → Piece
+holder (ModulePart cores) = Module
+holder (PartitionPart number cores partition) = OfPartition number
+holder (ChannelPart number times channel) = OfChannel number
+
+-- a part is that of a piece
+abbrev pub IsPartOf : Piece → Part → Type 0
+IsPartOf piece part = holder part ≡ piece
 
 -- a core of which no more than the time is known
 abbrev pub core_at : ℕ → CoreState

@@ -4,7 +4,8 @@ ghost use Rattle.std.specs.Prelude.{◌<◌, IfErr, IfOk, OnErr, OnOk, ◌≡◌
 ghost use Rattle.apex_types.specs.Bounds.{place_count};
 ghost use Rattle.apex_machine.specs.Demands.{LocalStep, demands};
 ghost use Rattle.apex_machine.specs.Pieces.{part, pieces};
-ghost use Rattle.apex_machine.specs.State.{cold_state};
+ghost use Rattle.apex_machine.specs.State.{cold_state, time_of};
+ghost use Rattle.apex_machine.specs.Views.{view_in};
 ghost use Rattle.partition_state.specs.Calls.{RefusesOrWants};
 ghost use Rattle.piece_check.specs.Held.{part_of, settings_of};
 ghost use Rattle.piece_check.specs.Parts.{AgreesOn, IsBehind, WantsAtCalls, cores_of, piece_at};
@@ -13,7 +14,7 @@ use crate::channel_piece::ChannelPiece;
 use crate::module_piece::ModulePiece;
 use crate::partition_piece::PartitionPiece;
 use crate::subject::{Subject, subject_of};
-use apex_types::Ordered;
+use apex_types::{Ordered, View};
 use module_config::Config;
 use std::alloc::{AllocError, Global};
 use wait_set::ObjFault;
@@ -67,6 +68,18 @@ impl Held {
             Held::Module(piece) => piece.step(config, ordered),
             Held::Partition(piece) => piece.step(config, ordered),
             Held::Channel(piece) => piece.step(config, ordered),
+        }
+    }
+
+    /// What a user's relation sees of a record, from the part before it. Takes no memory.
+    pub(crate) fn view(&self, ordered: &Ordered) -> Option<View>
+        requires time { time_of (cores_of (part_of self.now)) ordered.now.core < place_count }
+        ensures { result ≡ view_in (part_of self.now) ordered.now }
+    {
+        match self {
+            Held::Module(piece) => piece.view(ordered),
+            Held::Partition(piece) => piece.view(ordered),
+            Held::Channel(_) => None,
         }
     }
 }

@@ -7,12 +7,14 @@ ghost use Rattle.apex_machine.specs.State.{cold_state, time_of};
 ghost use Rattle.apex_machine.specs.After.{cores_after};
 ghost use Rattle.apex_machine.specs.Demands.{LocalStep, demands, window_now};
 ghost use Rattle.apex_machine.specs.Pieces.{Module, ModulePart, part};
+ghost use Rattle.apex_machine.specs.Views.{view_in};
 ghost use Rattle.partition_state.specs.Calls.{RefusesOrWants};
 ghost use Rattle.piece_check.specs.Judged.{Judges, asked_by_module};
 ghost use Rattle.piece_check.specs.Parts.{IsBehind, WantsAtCalls};
 
 use crate::names::{all_configured, channel_configured, one_configured};
-use apex_types::{Body, Call, Cause, CoreId, Ordered, Return, Who, Woken};
+use crate::views::{dispatch_view, tick_view};
+use apex_types::{Body, Call, Cause, CoreId, Ordered, Return, View, Who, Woken};
 use dispatch_rule::Clock;
 use module_config::Config;
 use wait_set::ObjFault;
@@ -51,6 +53,20 @@ impl ModulePiece {
                 Ok(())
             }
             Err(cause) => Err(ObjFault::Unlawful(cause)),
+        }
+    }
+
+    /// The view of a dispatch or a tick, from the part before it. Takes no memory.
+    pub(crate) fn view(&self, ordered: &Ordered) -> Option<View>
+        requires { time_of self.now.clock.cores ordered.now.core < place_count }
+        ensures { result ≡ view_in (ModulePart self.now.clock.cores) ordered.now }
+    {
+        let core = ordered.core;
+        let now = self.clock.now(core);
+        match &ordered.rec.body {
+            Body::Disp(who) => Some(dispatch_view(core, now, who)),
+            Body::Tick(woken) => Some(tick_view(core, now + 1, woken)),
+            Body::Call(_) | Body::Ret(_) => None,
         }
     }
 

@@ -11,6 +11,7 @@ ghost use Rattle.apex_machine.specs.After.{partition_by};
 ghost use Rattle.apex_machine.specs.Pieces.{OfPartition, PartitionPart, part, part_after};
 ghost use Rattle.apex_machine.specs.Ports.{channel_of};
 ghost use Rattle.apex_machine.specs.ServiceConditions.{condition_codes};
+ghost use Rattle.apex_machine.specs.Views.{view_in};
 ghost use Rattle.apex_laws.specs.PartLaws.{IsSoundPart};
 ghost use Rattle.wait_set.specs.declared.object.ObjFault.TheVariants.{Memory};
 ghost use Rattle.partition_state.specs.Calls.{LeavesObjects, RefusesOrWants};
@@ -21,10 +22,11 @@ ghost use Rattle.piece_check.specs.Parts.{IsBehind, IsCall, WantsAtCalls};
 use crate::conditions::conditions_of;
 use crate::outcome::{judge_refused, judge_through};
 use crate::profile::is_within;
+use crate::views::{call_view, return_view};
 use apex_machine::{Outcome, WaitingSet};
 use apex_types::{
-    Body, Call, Cause, ChanId, CoreId, Ordered, PartId, ProcId, Request, Return, Service, Who,
-    Woken,
+    Body, Call, Cause, ChanId, CoreId, Ordered, PartId, ProcId, Request, Return, Service, View,
+    Who, Woken,
 };
 use dispatch_rule::{Clock, owns_window};
 use module_config::Config;
@@ -88,6 +90,40 @@ impl PartitionPiece {
                 Err(cause) => Err(ObjFault::Unlawful(cause)),
             },
         }
+    }
+
+    /// The view of one of the partition's own calls or returns, from the part before it. Takes no memory.
+    pub(crate) fn view(&self, ordered: &Ordered) -> Option<View>
+        requires { time_of self.now.clock.cores ordered.now.core < place_count }
+        ensures { result ≡ view_in (partition_part self.now) ordered.now }
+    {
+        let core = ordered.core;
+        let now = self.clock.now(core);
+        match &ordered.rec.body {
+            Body::Call(call) => {
+                if self.is_own(call.who) {
+                    Some(call_view(core, now, call))
+                } else {
+                    None
+                }
+            }
+            Body::Ret(ret) => {
+                if self.is_own(ret.who) {
+                    let returner = self.state.processes().proc(ret.who.proc);
+                    Some(return_view(core, now, returner, ret))
+                } else {
+                    None
+                }
+            }
+            Body::Disp(_) | Body::Tick(_) => None,
+        }
+    }
+
+    // Whether a process is the partition's.
+    fn is_own(&self, who: Who) -> bool
+        ensures { result ≡ nat_eq who.part self.now.number }
+    {
+        who.part == self.number
     }
 
     // A call of one of the partition's own processes: what stands before its outcome is judged, then the outcome, and the call

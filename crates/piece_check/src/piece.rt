@@ -4,13 +4,14 @@ ghost use Rattle.std.specs.Prelude.{◌≡◌, ◌<◌, ◌+◌, ◌↔◌, ◌�
 ghost use Rattle.apex_machine.specs.State.{cold_state};
 ghost use Rattle.apex_machine.specs.Demands.{LocalStep, demands};
 ghost use Rattle.apex_machine.specs.Pieces.{part, pieces};
+ghost use Rattle.apex_machine.specs.Views.{view_in};
 ghost use Rattle.apex_laws.specs.PartBounds.{PeriodFits};
-ghost use Rattle.piece_check.specs.Parts.{CallerFits, IsBehind, IsCall, IsOf, piece_at};
+ghost use Rattle.piece_check.specs.Parts.{CallerFits, IsBehind, IsCall, IsOf, IsPartOf, holder, piece_at};
 ghost use Rattle.piece_check.specs.Refused.{IsRefused, refusal_for};
 
 use crate::fault::PieceFault;
 use crate::held::Held;
-use apex_types::{Body, Cause, Ordered, Place, Request};
+use apex_types::{Body, Cause, Ordered, Place, Request, View};
 use module_config::Config;
 use std::alloc::{AllocError, Global};
 use std::marker::Model;
@@ -40,12 +41,23 @@ impl Piece {
     pub fn start(alloc: Global, config: &Config, piece: usize) -> Result<Piece, AllocError>
         requires { piece < length (pieces config.now) }
         ensures part { IfOk result (λ started. started.part ≡ part (piece_at config.now piece) (cold_state config.now)) }
+        ensures whose { IfOk result (λ started. IsPartOf (piece_at config.now piece) started.part) }
         ensures fresh { IfOk result (λ started. started.spent ≡ false) }
         ensures of_module { IfOk result (IsOf config.now) }
         ensures behind { IfOk result (λ started. IsBehind 0 started.part) }
     {
         let held = Held::start(alloc, config, piece)?;
         Ok(Piece { held, spent: false })
+    }
+
+    /// What a user's relation sees of a record, from the part before it: a partition gives the view of its own calls and
+    /// returns, the module that of dispatches and ticks; else there is none. Takes no memory.
+    pub fn view(&self, ordered: &Ordered) -> Option<View>
+        requires behind { IsBehind ordered.now.pos self.now.part }
+        ensures { result ≡ view_in self.now.part ordered.now }
+    {
+        let _place = ordered.pos.number();
+        self.held.view(ordered)
     }
 
     /// Judges a record that touches the piece, and makes the part what the record makes of it.
@@ -59,6 +71,7 @@ impl Piece {
         ensures ok { OnOk result (LocalStep config.now self.old.part ordered.now self.new.part) }
         ensures refused { IfErr result (λ fault. IsRefused (demands config.now self.old.part ordered.now) ordered.now.pos fault) }
         ensures unchanged { OnErr result (self.new.part ≡ self.old.part) }
+        ensures whose { holder self.new.part ≡ holder self.old.part }
         ensures settings { OnErr result (self.new.settings ≡ self.old.settings) }
         ensures spent { IsTrue self.new.spent ↔ (result ≡ Err PieceFault.Memory) }
         ensures stays_spent { IsTrue self.old.spent → result ≡ Err PieceFault.Memory }

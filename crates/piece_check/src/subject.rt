@@ -6,6 +6,7 @@ ghost use Rattle.apex_machine.specs.Pieces as rules;
 ghost use Rattle.apex_machine.specs.Pieces.{OfChannel, OfPartition, is_configured, pieces, touched_by};
 ghost use Rattle.piece_check.specs.Parts.{piece_at};
 ghost use Rattle.piece_check.specs.Subjects.{piece_of};
+ghost use Rattle.piece_check.specs.Touching.{HasList};
 
 use crate::names::names_one_of;
 use apex_types::{Body, Call, ChanId, Code, Ordered, Out, PartId, Request};
@@ -32,7 +33,9 @@ pub fn subject_of(config: &Config, piece: usize) -> Subject
     requires { piece < length (pieces config.now) }
     ensures value { piece_of result ≡ piece_at config.now piece }
     ensures configured { IsTrue (is_configured config.now (piece_of result)) }
+    ensures listed { HasList (piece_of result) }
 {
+    config.keeps_limits();
     if piece == 0 {
         return Subject::Module;
     }

@@ -4,6 +4,7 @@ pub mod Numbers
 pub mod Searches
 pub mod Due
 pub mod Orders
+pub mod Places
 pub mod Kept
 pub mod Firsts
 pub mod Counts

@@ -4,6 +4,7 @@ pub mod Changes
 pub mod Due
 pub mod Settled
 pub mod Sound
+pub mod Tests
 pub mod Timely
 pub mod Ranks
 pub mod Gifts

@@ -8,6 +8,7 @@
 mod caller;
 mod fellow;
 mod gift;
+mod guess;
 mod moment;
 mod number;
 mod order;

@@ -9,7 +9,7 @@ ghost use Rattle.process_state.specs.Orders.{IsInOrder};
 ghost use Rattle.process_state.specs.Ranks as ranks;
 ghost use Rattle.process_state.specs.Ranks.{due_before, due_laws, rank_before, rank_laws};
 
-use crate::sorted::Key;
+use crate::sorted::{Key, Sorted};
 use crate::wait;
 use apex_machine::Process;
 use apex_types::{CoreId, PartId, ProcId, Who};
@@ -17,10 +17,10 @@ use apex_types::{CoreId, PartId, ProcId, Who};
 /// By what ready processes are put in their order: the core, and on it the priority, the ready position and the number.
 #[derive(Clone, Copy)]
 pub struct Rank {
-    core: CoreId,
-    priority: u8,
     position: u64,
     number: ProcId,
+    core: CoreId,
+    priority: u8,
 }
 
 impl Rank {
@@ -53,15 +53,19 @@ impl Key for Rank {
                             || self.position == other.position && self.number < other.number))
     }
 
+    fn core(&self) -> CoreId {
+        self.core
+    }
+
     ghost is_order = { rank_laws };
 }
 
 /// By what those are put in order whose wait time ends: the core, and on it the due time, in ticks, and the number.
 #[derive(Clone, Copy)]
 pub struct DueTime {
-    core: CoreId,
     time: u64,
     number: ProcId,
+    core: CoreId,
 }
 
 impl DueTime {
@@ -89,29 +93,38 @@ impl Key for DueTime {
                 && (self.time < other.time || self.time == other.time && self.number < other.number)
     }
 
+    fn core(&self) -> CoreId {
+        self.core
+    }
+
     ghost is_order = { due_laws };
 }
 
 /// The process of the first of these ranks that is of this core, if one is.
-pub fn first_on(ranks: &[Rank], core: CoreId) -> Option<ProcId>
-    requires { IsInOrder rank_before ranks.now }
-    ensures { result ≡ firsts.first_on core ranks.now }
+pub fn first_on(ranks: &Sorted<Rank>, core: CoreId) -> Option<ProcId>
+    ensures { result ≡ firsts.first_on core ranks.now.keys }
 {
-    let place = ranks.partition_point(|rank| rank.core < core);
-    match ranks.get(place) {
+    let ranks_in_order = ranks.as_slice();
+    let place = ranks
+        .guess(core)
+        .begin()
+        .passing(ranks_in_order, |rank| rank.core < core);
+    match ranks_in_order.get(place) {
         Some(rank) if rank.core == core => Some(rank.number),
         _ => None,
     }
 }
 
 /// How many of these due times are of this core and not above this time, in ticks.
-pub fn due_count(due_times: &[DueTime], core: CoreId, time: u64) -> usize
-    requires { IsInOrder due_before due_times.now }
-    ensures { result ≡ firsts.due_count core time due_times.now }
+pub fn due_count(due_times: &Sorted<DueTime>, core: CoreId, time: u64) -> usize
+    ensures { result ≡ firsts.due_count core time due_times.now.keys }
 {
-    let earlier = due_times.partition_point(|due| due.core < core);
-    let reached = due_times.partition_point(|due| due.core < core
-        || due.core == core && due.time <= time);
+    let (guess, in_order) = (due_times.guess(core), due_times.as_slice());
+    let earlier = guess.begin().passing(in_order, |due| due.core < core);
+    let reached = guess.passing(
+        in_order,
+        |due| due.core < core || due.core == core && due.time <= time,
+    );
     reached - earlier
 }
 

@@ -91,7 +91,11 @@ impl ProcTable {
     pub fn proc(&self, number: ProcId) -> Option<&Process>
         ensures { option_copied result ≡ item_at self.now.table number }
     {
-        self.processes.get(&number)
+        // Numbers mostly rise by one from 0, so that a process stands at its own number.
+        match self.processes.get_index(number.number() as usize) {
+            Some((found, process)) if *found == number => Some(process),
+            _ => self.processes.get(&number),
+        }
     }
 
     /// The created process of this number, as a caller gives it, or None where there is none: nobody created number 0.
@@ -148,7 +152,7 @@ impl ProcTable {
     pub fn ready_on(&self, part: PartId, core: CoreId) -> Option<Who>
         ensures { result ≡ choice_in part core self.now.table }
     {
-        match first_on(self.ready.as_slice(), core) {
+        match first_on(&self.ready, core) {
             Some(proc) => Some(Who { part, proc }),
             None => None,
         }
@@ -232,7 +236,7 @@ impl ProcTable {
     {
         // That no number stands twice in the map is known where the map is used.
         let _ = self.processes.len();
-        count_of(part, woken) == due_count(self.due.as_slice(), core, time)
+        count_of(part, woken) == due_count(&self.due, core, time)
     }
 
     // Whether there is a process of this number on this core whose wait is over once the core comes to this time.

@@ -19,7 +19,7 @@ returns c =
     let entries = c.self.inside.processes.entries in
     let each = rw (← c.self.view_is) at c.requires.each in
     let count : c.due_count.result ≡ due_count a.core a.time (keys_in due_before due_time_of entries)
-    = c.due_count.ensures ∙ ap (due_count a.core a.time) (c.as_slice.ensures.keys ∙ c.self.invariant.due_times) in
+    = c.due_count.ensures ∙ ap (due_count a.core a.time) c.self.invariant.due_times in
     rw (← c.self.view_is) (
       λ same. due_are_named a.part a.core a.time entries a.woken.now c.len.ensures.unique c.requires.rising each
           (sym c.count_of.ensures ∙ equal c.count_of.result c.due_count.result same ∙ count),

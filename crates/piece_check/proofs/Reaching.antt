@@ -1,0 +1,271 @@
+-- A piece that goes over the records that touch it has gone over all.
+use Rattle.std.proofs.Common.{◌≡◌, ◌∙◌, ◌<◌, ◌≤◌, ◌+◌, ℕ, zero, suc, List, [], ◌∷◌, ◌++◌, Bool, true, false, if◌then◌else◌, length, take, get_or, refl, ap, sym, subst, arith, add-one}
+use Rattle.std.proofs.lemmas.Bool.Decides.{nat_tests}
+use Rattle.std.proofs.lemmas.List.{get_or_default, get_or_past, take_more}
+use Rattle.std.proofs.Math.Seq.{take-length}
+use Rattle.apex_types.specs.declared.record.Ordered.{Ordered}
+use Rattle.apex_machine.specs.Configuration.{Configuration}
+use Rattle.apex_machine.specs.Demands.{LocalStep}
+use Rattle.apex_machine.specs.Pieces.{Part, Piece, pieces, touches}
+use Rattle.apex_machine.specs.Runs.{AreOfCores, ArePlaced, Goes, PieceRun}
+use Rattle.piece_check.specs.Parts.{piece_at}
+use Rattle.piece_check.specs.Touching.{AreSortedOut, HasList, IsEntered, ends_with, reached, touching, with_last}
+
+-- one more record
+
+-- each index of a list is below this one
+abbrev AreBelow : ℕ → List ℕ → Type 0
+AreBelow most [] = Unit {0}
+AreBelow most (index ∷ others) = (index < most) × AreBelow most others
+
+below_open : (index : ℕ) (list : List ℕ) → AreBelow index list → ends_with index list ≡ false
+below_open index [] below = refl
+below_open index (last ∷ []) below = let less : last < index = below.0 in grind (arith, nat_tests)
+below_open index (first ∷ second ∷ others) below = below_open index (second ∷ others) below.1
+
+touching_below : (configuration : Configuration) (piece : Piece) (first most : ℕ) (records : List Ordered) → first + length records ≤ most → AreBelow most (touching configuration piece first records)
+touching_below configuration piece first most [] above = tt
+touching_below configuration piece first most (ordered ∷ others) above =
+    by (touches configuration piece ordered) (touching_below configuration piece (suc first) most others (omega arith))
+  where
+    by : (touched : Bool) → AreBelow most (touching configuration piece (suc first) others)
+        → AreBelow most (if touched then first ∷ touching configuration piece (suc first) others else touching configuration piece (suc first) others)
+    by true rest = (omega arith, rest)
+    by false rest = rest
+
+touching_more : (configuration : Configuration) (piece : Piece) (first index : ℕ) (records : List Ordered) (last : Ordered) → first + length records ≡ index
+    → touching configuration piece first (records ++ last ∷ [])
+    ≡ (if touches configuration piece last then touching configuration piece first records ++ index ∷ [] else touching configuration piece first records)
+touching_more configuration piece first index [] last at =
+    ap (λ n. if touches configuration piece last then n ∷ [] else []) (omega arith)
+touching_more configuration piece first index (ordered ∷ others) last at =
+    by (touches configuration piece ordered) (touches configuration piece last) (touching_more configuration piece (suc first) index others last (omega arith))
+  where
+    rest : List ℕ
+    rest = touching configuration piece (suc first) others
+
+    by : (touched at_last : Bool) → touching configuration piece (suc first) (others ++ last ∷ []) ≡ (if at_last then rest ++ index ∷ [] else rest)
+        → (if touched then first ∷ touching configuration piece (suc first) (others ++ last ∷ []) else touching configuration piece (suc first) (others ++ last ∷ []))
+        ≡ (if at_last then (if touched then first ∷ rest else rest) ++ index ∷ [] else (if touched then first ∷ rest else rest))
+    by true true more = ap (λ (list : List ℕ). first ∷ list) more
+    by true false more = ap (λ (list : List ℕ). first ∷ list) more
+    by false true more = more
+    by false false more = more
+
+-- the lists with the index of one more record
+pub sorted_more : (configuration : Configuration) (records : List Ordered) (index : ℕ) (ordered : Ordered) (old new : Piece → List ℕ) → index < length records
+    → ordered ≡ get_or records index ordered → length (take index records) ≡ index
+    → AreSortedOut configuration (take index records) old → IsEntered configuration index ordered old new → AreSortedOut configuration (take (index + 1) records) new
+sorted_more configuration records index ordered old new within is many sorted entered number there has =
+    entered number there has ∙ grown ∙ sym (ap (touching configuration piece 0) more)
+  where
+    piece : Piece
+    piece = piece_at configuration number
+
+    before : List Ordered
+    before = take index records
+
+    more : take (index + 1) records ≡ before ++ ordered ∷ []
+    more = take_more records index ordered within ∙ ap (λ one. before ++ one ∷ []) (sym is)
+
+    not_yet : ends_with index (touching configuration piece 0 before) ≡ false
+    not_yet = below_open index (touching configuration piece 0 before) (touching_below configuration piece 0 index before (omega (arith, many)))
+
+    grown : (if touches configuration piece ordered then with_last index (old piece) else old piece) ≡ touching configuration piece 0 (before ++ ordered ∷ [])
+    grown =
+        ap (λ list. if touches configuration piece ordered then with_last index list else list) (sorted number there has)
+        ∙ ap (λ ends. if touches configuration piece ordered then (if ends then touching configuration piece 0 before else touching configuration piece 0 before ++ index ∷ []) else touching configuration piece 0 before) not_yet
+        ∙ sym (touching_more configuration piece 0 index before ordered (omega (arith, many)))
+
+-- the records that touch a piece, by their places in its list
+
+-- the index of one is none before the first record
+at_least : (configuration : Configuration) (piece : Piece) (first gone end : ℕ) (records : List Ordered) → end ≡ first + length records
+    → first ≤ get_or (touching configuration piece first records) gone end
+at_least configuration piece first gone end [] is = omega arith
+at_least configuration piece first gone end (ordered ∷ others) is =
+    by (touches configuration piece ordered) gone (λ later. at_least configuration piece (suc first) later end others (omega arith))
+  where
+    by : (touched : Bool) (gone : ℕ) → ((later : ℕ) → suc first ≤ get_or (touching configuration piece (suc first) others) later end)
+        → first ≤ get_or (if touched then first ∷ touching configuration piece (suc first) others else touching configuration piece (suc first) others) gone end
+    by true zero rest = omega arith
+    by true (suc gone) rest = omega (arith, rest gone)
+    by false gone rest = omega (arith, rest gone)
+
+-- they rise
+rising_at : (configuration : Configuration) (piece : Piece) (first gone end : ℕ) (records : List Ordered) → end ≡ first + length records
+    → gone < length (touching configuration piece first records)
+    → get_or (touching configuration piece first records) gone end < get_or (touching configuration piece first records) (suc gone) end
+rising_at configuration piece first gone end [] is one = absurd (omega arith)
+rising_at configuration piece first gone end (ordered ∷ others) is one =
+    by (touches configuration piece ordered) gone one
+    (at_least configuration piece (suc first) 0 end others (omega arith))
+    (λ later there. rising_at configuration piece (suc first) later end others (omega arith) there)
+  where
+    rest : List ℕ
+    rest = touching configuration piece (suc first) others
+
+    by : (touched : Bool) (gone : ℕ) → gone < length (if touched then first ∷ rest else rest) → suc first ≤ get_or rest 0 end
+        → ((later : ℕ) → later < length rest → get_or rest later end < get_or rest (suc later) end)
+        → get_or (if touched then first ∷ rest else rest) gone end < get_or (if touched then first ∷ rest else rest) (suc gone) end
+    by true zero one next more = omega (arith, next)
+    by true (suc gone) one next more = more gone (omega arith)
+    by false gone one next more = more gone one
+
+-- each is a record, and touches the piece
+touched_at : (configuration : Configuration) (piece : Piece) (first gone end at : ℕ) (default : Ordered) (records : List Ordered) → end ≡ first + length records
+    → gone < length (touching configuration piece first records) → first + at ≡ get_or (touching configuration piece first records) gone end
+    → (at < length records) × (touches configuration piece (get_or records at default) ≡ true)
+touched_at configuration piece first gone end at default [] is one here = absurd (omega arith)
+touched_at configuration piece first gone end at default (ordered ∷ others) is one here =
+    by (touches configuration piece ordered) refl gone at one here
+    (λ later. at_least configuration piece (suc first) later end others (omega arith))
+    (λ later before there same. touched_at configuration piece (suc first) later end before default others (omega arith) there same)
+  where
+    rest : List ℕ
+    rest = touching configuration piece (suc first) others
+
+    by : (touched : Bool) → touches configuration piece ordered ≡ touched → (gone at : ℕ) → gone < length (if touched then first ∷ rest else rest)
+        → first + at ≡ get_or (if touched then first ∷ rest else rest) gone end → ((later : ℕ) → suc first ≤ get_or rest later end)
+        → ((later before : ℕ) → later < length rest → suc first + before ≡ get_or rest later end
+        → (before < length others) × (touches configuration piece (get_or others before default) ≡ true))
+        → (at < length (ordered ∷ others)) × (touches configuration piece (get_or (ordered ∷ others) at default) ≡ true)
+    by true touched zero zero one here least more = (omega arith, touched)
+    by true touched zero (suc at) one here least more = absurd (omega arith)
+    by true touched (suc gone) zero one here least more = absurd (omega (arith, least gone))
+    by true touched (suc gone) (suc at) one here least more =
+        let found = more gone at (omega arith) (omega (arith, here)) in
+        (omega (arith, found.0), found.1)
+    by false untouched gone zero one here least more = absurd (omega (arith, least gone))
+    by false untouched gone (suc at) one here least more =
+        let found = more gone at one (omega (arith, here)) in
+        (omega (arith, found.0), found.1)
+
+-- runs from one to the next
+
+-- a record that does not touch the piece is passed by
+passes : (configuration : Configuration) (piece : Piece) (old final : Part) (ordered : Ordered) (others : List Ordered) → touches configuration piece ordered ≡ false
+    → PieceRun configuration piece old others final → PieceRun configuration piece old (ordered ∷ others) final
+passes configuration piece old final ordered others untouched run = (old, subst (λ touched. Goes touched configuration old ordered old) (sym untouched) refl, run)
+
+-- a record that touches it is gone over
+goes : (configuration : Configuration) (piece : Piece) (old next final : Part) (ordered : Ordered) (others : List Ordered) → touches configuration piece ordered ≡ true
+    → LocalStep configuration old ordered next → PieceRun configuration piece next others final → PieceRun configuration piece old (ordered ∷ others) final
+goes configuration piece old next final ordered others touched step run = (next, subst (λ touched. Goes touched configuration old ordered next) (sym touched) step, run)
+
+to_first : (configuration : Configuration) (piece : Piece) (old : Part) (first end at : ℕ) (records : List Ordered) → end ≡ first + length records
+    → first + at ≡ get_or (touching configuration piece first records) 0 end → PieceRun configuration piece old (take at records) old
+to_first configuration piece old first end zero records is here = refl
+to_first configuration piece old first end (suc at) [] is here = refl
+to_first configuration piece old first end (suc at) (ordered ∷ others) is here =
+    by (touches configuration piece ordered) refl here (λ same. to_first configuration piece old (suc first) end at others (omega arith) same)
+  where
+    rest : List ℕ
+    rest = touching configuration piece (suc first) others
+
+    by : (touched : Bool) → touches configuration piece ordered ≡ touched → first + suc at ≡ get_or (if touched then first ∷ rest else rest) 0 end
+        → (suc first + at ≡ get_or rest 0 end → PieceRun configuration piece old (take at others) old)
+        → PieceRun configuration piece old (ordered ∷ take at others) old
+    by true touched here more = absurd (omega arith)
+    by false untouched here more = passes configuration piece old old ordered (take at others) untouched (more (omega (arith, here)))
+
+to_next : (configuration : Configuration) (piece : Piece) (old now next : Part) (first gone end at later : ℕ) (ordered : Ordered) (records : List Ordered)
+    → end ≡ first + length records → gone < length (touching configuration piece first records)
+    → first + at ≡ get_or (touching configuration piece first records) gone end → first + later ≡ get_or (touching configuration piece first records) (suc gone) end
+    → ordered ≡ get_or records at ordered → PieceRun configuration piece old (take at records) now → LocalStep configuration now ordered next
+    → PieceRun configuration piece old (take later records) next
+to_next configuration piece old now next first gone end at later ordered [] is one here there found run step = absurd (omega arith)
+to_next configuration piece old now next first gone end at later ordered (earliest ∷ others) is one here there found run step =
+    by (touches configuration piece earliest) refl gone at later one here there found run
+    (λ behind. at_least configuration piece (suc first) behind end others (omega arith))
+    (λ begun after same. to_first configuration piece begun (suc first) end after others (omega arith) same)
+    (λ begun behind before after fewer same following is_found ran.
+    to_next configuration piece begun now next (suc first) behind end before after ordered others (omega arith) fewer same following is_found ran step)
+  where
+    rest : List ℕ
+    rest = touching configuration piece (suc first) others
+
+    by : (touched : Bool) → touches configuration piece earliest ≡ touched → (gone at later : ℕ) → gone < length (if touched then first ∷ rest else rest)
+        → first + at ≡ get_or (if touched then first ∷ rest else rest) gone end → first + later ≡ get_or (if touched then first ∷ rest else rest) (suc gone) end
+        → ordered ≡ get_or (earliest ∷ others) at ordered → PieceRun configuration piece old (take at (earliest ∷ others)) now
+        → ((behind : ℕ) → suc first ≤ get_or rest behind end)
+        → ((begun : Part) (after : ℕ) → suc first + after ≡ get_or rest 0 end → PieceRun configuration piece begun (take after others) begun)
+        → ((begun : Part) (behind before after : ℕ) → behind < length rest → suc first + before ≡ get_or rest behind end → suc first + after ≡ get_or rest (suc behind) end
+        → ordered ≡ get_or others before ordered → PieceRun configuration piece begun (take before others) now → PieceRun configuration piece begun (take after others) next)
+        → PieceRun configuration piece old (take later (earliest ∷ others)) next
+    by true touched zero zero zero one here there found run least start more = absurd (omega (arith, least 0))
+    by true touched zero zero (suc later) one here there found run least start more =
+        let step_here : LocalStep configuration old earliest next = subst (λ part. LocalStep configuration part earliest next) run (subst (λ record_here. LocalStep configuration now record_here next) found step) in
+        goes configuration piece old next next earliest (take later others) touched step_here (start next later (omega (arith, there)))
+    by true touched zero (suc at) later one here there found run least start more = absurd (omega arith)
+    by true touched (suc gone) zero later one here there found run least start more = absurd (omega (arith, least gone))
+    by true touched (suc gone) (suc at) zero one here there found run least start more = absurd (omega (arith, least (suc gone)))
+    by true touched (suc gone) (suc at) (suc later) one here there found (begun, went, run) least start more =
+        (begun, went, more begun gone at later (omega arith) (omega (arith, here)) (omega (arith, there)) found run)
+    by false untouched gone zero later one here there found run least start more = absurd (omega (arith, least gone))
+    by false untouched gone (suc at) zero one here there found run least start more = absurd (omega (arith, least (suc gone)))
+    by false untouched gone (suc at) (suc later) one here there found (begun, went, run) least start more =
+        (begun, went, more begun gone at later one (omega (arith, here)) (omega (arith, there)) found run)
+
+-- for a loop over the list of a piece
+
+-- the list of the piece of a number
+pub sorted_at : (configuration : Configuration) (records : List Ordered) (indices : Piece → List ℕ) (number : ℕ) (piece : Piece) → AreSortedOut configuration records indices
+    → number < length (pieces configuration) → piece ≡ piece_at configuration number → HasList piece → indices piece ≡ touching configuration (piece_at configuration number) 0 records
+sorted_at configuration records indices number piece sorted there is has = ap indices is ∙ sorted number there (subst HasList is has)
+
+-- each record is at a place of its own, and of a core of the module
+pub placed_at : (place index : ℕ) (default : Ordered) (records : List Ordered) → ArePlaced place records → index < length records → (get_or records index default).pos ≡ place + index
+placed_at place index default [] placed within = absurd (omega arith)
+placed_at place zero default (ordered ∷ others) placed within = placed.0 ∙ omega arith
+placed_at place (suc index) default (ordered ∷ others) placed within = placed_at (suc place) index default others placed.1 (omega arith) ∙ omega arith
+
+pub of_core_at : (cores index : ℕ) (default : Ordered) (records : List Ordered) → AreOfCores cores records → index < length records → (get_or records index default).core < cores
+of_core_at cores index default [] of_cores within = absurd (omega arith)
+of_core_at cores zero default (ordered ∷ others) of_cores within = of_cores.0
+of_core_at cores (suc index) default (ordered ∷ others) of_cores within = of_core_at cores index default others of_cores.1 (omega arith)
+
+-- before the first record of the list the piece is as it was
+pub runs_to_first : (configuration : Configuration) (piece : Piece) (old : Part) (records : List Ordered)
+    → PieceRun configuration piece old (take (reached configuration piece records 0) records) old
+runs_to_first configuration piece old records = to_first configuration piece old 0 (length records) (reached configuration piece records 0) records (omega arith) (omega arith)
+
+-- what a loop over the list finds at a place of it
+pub reached_at : (configuration : Configuration) (piece : Piece) (records : List Ordered) (list : List ℕ) (gone : ℕ) → list ≡ touching configuration piece 0 records
+    → gone < length list → (gone < length (touching configuration piece 0 records)) × (get_or list gone 0 ≡ reached configuration piece records gone)
+reached_at configuration piece records list gone is one =
+    (omega (arith, one, ap length is), get_or_default list gone 0 (length records) one ∙ ap (λ indices. get_or indices gone (length records)) is)
+
+-- what is at a place of the list is a record, and touches the piece
+pub reached_is_touched : (configuration : Configuration) (piece : Piece) (records : List Ordered) (gone : ℕ) (default : Ordered) → gone < length (touching configuration piece 0 records)
+    → (reached configuration piece records gone < length records) × (touches configuration piece (get_or records (reached configuration piece records gone) default) ≡ true)
+reached_is_touched configuration piece records gone default one =
+    touched_at configuration piece 0 gone (length records) (reached configuration piece records gone) default records (omega arith) one (omega arith)
+
+pub reached_within : (configuration : Configuration) (piece : Piece) (records : List Ordered) (gone : ℕ) → gone < length (touching configuration piece 0 records)
+    → reached configuration piece records gone < length records
+reached_within configuration piece [] gone one = absurd (omega arith)
+reached_within configuration piece (ordered ∷ others) gone one = (reached_is_touched configuration piece (ordered ∷ others) gone ordered one).0
+
+-- the next is behind it
+pub reached_rises : (configuration : Configuration) (piece : Piece) (records : List Ordered) (gone : ℕ) → gone < length (touching configuration piece 0 records)
+    → reached configuration piece records gone < reached configuration piece records (gone + 1)
+reached_rises configuration piece records gone one =
+    rw (add-one gone) (rising_at configuration piece 0 gone (length records) records (omega arith) one)
+
+-- a step over it is a run up to the next
+pub runs_to_next : (configuration : Configuration) (piece : Piece) (old now next : Part) (records : List Ordered) (gone : ℕ) (ordered : Ordered)
+    → gone < length (touching configuration piece 0 records) → ordered ≡ get_or records (reached configuration piece records gone) ordered
+    → PieceRun configuration piece old (take (reached configuration piece records gone) records) now → LocalStep configuration now ordered next
+    → PieceRun configuration piece old (take (reached configuration piece records (gone + 1)) records) next
+runs_to_next configuration piece old now next records gone ordered one is run step =
+    rw (add-one gone)
+    (to_next configuration piece old now next 0 gone (length records) (reached configuration piece records gone) (reached configuration piece records (suc gone)) ordered records
+    (omega arith) one (omega arith) (omega arith) is run step)
+
+-- behind the last of the list the piece has run over all records
+pub runs_to_end : (configuration : Configuration) (piece : Piece) (old final : Part) (records : List Ordered) (gone : ℕ) → length (touching configuration piece 0 records) ≤ gone
+    → PieceRun configuration piece old (take (reached configuration piece records gone) records) final → PieceRun configuration piece old records final
+runs_to_end configuration piece old final records gone past run =
+    let all : reached configuration piece records gone ≡ length records = get_or_past (touching configuration piece 0 records) gone (length records) past in
+    subst (λ list. PieceRun configuration piece old list final) (take-length records) (rw all at run)

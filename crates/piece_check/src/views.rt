@@ -1,0 +1,151 @@
+// The views of records: the numbers that a user's relation sees of each.
+
+ghost use Rattle.std.specs.Prelude.{◌≡◌, ◌<◌, ◌≤◌, None, length, pos};
+ghost use Rattle.std.specs.Option.{option_copied};
+ghost use Rattle.apex_types.specs.Bounds.{place_count};
+ghost use Rattle.apex_machine.specs.Views as rules;
+ghost use Rattle.apex_machine.specs.Views.{core_view, elapsed_field, priority_field, value_number, who_field};
+
+use apex_machine::Process;
+use apex_types::{Call, CoreId, Return, View, Who, Woken};
+
+/// What a field says that the record has not.
+const ABSENT: i64 = -1;
+
+/// The view of a call, at this time of its core.
+pub(crate) fn call_view(core: CoreId, now: u64, call: &Call) -> View
+    requires { now < place_count }
+    ensures { result ≡ rules.call_view core now call.now }
+{
+    View {
+        kind: 0,
+        core: i64::from(core.number()),
+        time: now as i64,
+        part: i64::from(call.who.part.number()),
+        proc: i64::from(call.who.proc.number()),
+        service: i64::from(call.request.service().number()),
+        prio: i64::from(call.claim.prio),
+        out: i64::from(call.claim.out.number()),
+        val: value_field(call.claim.val),
+        elapsed: ABSENT,
+        woken: count_field(&call.claim.woken),
+    }
+}
+
+/// The view of a return, at this time of its core: with what is known of the process that returns.
+pub(crate) fn return_view(core: CoreId, now: u64, returner: Option<&Process>, ret: &Return) -> View
+    requires { now < place_count }
+    ensures { result ≡ rules.return_view core now (option_copied returner.entry) ret.now }
+{
+    View {
+        kind: 1,
+        core: i64::from(core.number()),
+        time: now as i64,
+        part: i64::from(ret.who.part.number()),
+        proc: i64::from(ret.who.proc.number()),
+        service: i64::from(ret.service.number()),
+        prio: priority_of(returner),
+        out: i64::from(ret.code.number()),
+        val: value_field(ret.val),
+        elapsed: elapsed_since(now, returner),
+        woken: 0,
+    }
+}
+
+/// The view of a dispatch, at this time of its core.
+pub(crate) fn dispatch_view(core: CoreId, now: u64, who: &Option<Who>) -> View
+    requires { now < place_count }
+    ensures { result ≡ core_view 2 core now who.now 0 }
+{
+    View {
+        kind: 2,
+        core: i64::from(core.number()),
+        time: now as i64,
+        part: part_of(who),
+        proc: proc_of(who),
+        service: ABSENT,
+        prio: ABSENT,
+        out: ABSENT,
+        val: ABSENT,
+        elapsed: ABSENT,
+        woken: 0,
+    }
+}
+
+/// The view of a tick, at the time that its core has after it.
+pub(crate) fn tick_view(core: CoreId, after: u64, woken: &Woken) -> View
+    requires { after ≤ place_count }
+    ensures { result ≡ core_view 3 core after None (length woken.now) }
+{
+    View {
+        kind: 3,
+        core: i64::from(core.number()),
+        time: after as i64,
+        part: ABSENT,
+        proc: ABSENT,
+        service: ABSENT,
+        prio: ABSENT,
+        out: ABSENT,
+        val: ABSENT,
+        elapsed: ABSENT,
+        woken: count_field(woken),
+    }
+}
+
+// The partition of the process to which a core is given.
+fn part_of(who: &Option<Who>) -> i64
+    ensures { result ≡ who_field (λ one. one.part) who.now }
+{
+    match who {
+        Some(who) => i64::from(who.part.number()),
+        None => ABSENT,
+    }
+}
+
+// The number of the process to which a core is given.
+fn proc_of(who: &Option<Who>) -> i64
+    ensures { result ≡ who_field (λ one. one.proc) who.now }
+{
+    match who {
+        Some(who) => i64::from(who.proc.number()),
+        None => ABSENT,
+    }
+}
+
+// The value that a record claims, if it claims one.
+fn value_field(val: Option<i64>) -> i64
+    ensures { result ≡ value_number val }
+{
+    match val {
+        Some(value) => value,
+        None => ABSENT,
+    }
+}
+
+// How many processes a record names.
+fn count_field(woken: &Woken) -> i64
+    ensures { result ≡ pos (length woken.now) }
+{
+    woken.as_slice().len() as i64
+}
+
+// The current priority of who returns.
+fn priority_of(returner: Option<&Process>) -> i64
+    ensures { result ≡ priority_field (option_copied returner.entry) }
+{
+    match returner {
+        Some(process) => i64::from(process.current_priority),
+        None => ABSENT,
+    }
+}
+
+// How long ago the last call of who returns was.
+fn elapsed_since(now: u64, returner: Option<&Process>) -> i64
+    requires { now < place_count }
+    ensures { result ≡ elapsed_field now (option_copied returner.entry) }
+{
+    match returner {
+        Some(process) => now.saturating_sub(process.called_at) as i64,
+        None => ABSENT,
+    }
+}
