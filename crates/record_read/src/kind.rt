@@ -34,9 +34,9 @@ pub fn read_kind(text: &[u8]) -> Result<Kind, RowFault>
     }
 }
 
-// The kind of this name.
+/// The kind that rows give by this name, if there is one. Takes no memory.
 #[tactic(auto, unfolding(crate::specs::Named::kind_named))]
-fn find_kind(text: &[u8]) -> Option<Kind>
+pub fn find_kind(text: &[u8]) -> Option<Kind>
     ensures { result ≡ kind_named text.now }
 {
     if text == b"call".as_slice() {

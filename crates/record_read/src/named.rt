@@ -63,9 +63,9 @@ pub fn read_out(text: &[u8]) -> Result<Out, RowFault>
     }
 }
 
-// The outcome of this name.
+/// The outcome that rows give by this name, if there is one. Takes no memory.
 #[tactic(auto, unfolding(crate::specs::Named::out_named))]
-fn find_out(text: &[u8]) -> Option<Out>
+pub fn find_out(text: &[u8]) -> Option<Out>
     ensures { result ≡ out_named text.now }
 {
     if text == b"wait".as_slice() {
@@ -100,11 +100,12 @@ fn code_in(text: &[u8], codes: &[Code]) -> Option<Code>
     None
 }
 
-// The service of this name: names of one length are few.
+/// The service that rows give by this name, if there is one. Takes no memory.
 #[tactic(auto, unfolding(crate::specs::Named::service_named))]
-fn find_service(text: &[u8]) -> Option<Service>
+pub fn find_service(text: &[u8]) -> Option<Service>
     ensures { result ≡ service_named text.now }
 {
+    // Names of one length are few.
     service_in(text, services_of_length(text.len()))
 }
 

@@ -1,0 +1,3 @@
+pub mod Told
+pub mod Batches
+pub mod Relay

@@ -1,0 +1,122 @@
+// What a reader's thread does.
+
+ghost use Rattle.std.specs.Prelude.{◌≡◌, true, false, [], ◌∷◌, ◌++◌, option_map};
+ghost use Rattle.crossbeam_channel.specs.Claims.{view, IsSeatAt};
+ghost use Rattle.crossbeam_channel.specs.Ends.{sends_on};
+ghost use Rattle.record_read.specs.Row.{records_of};
+ghost use Rattle.core_intake.specs.Relay.{log};
+ghost use Rattle.core_intake.specs.Told.{AreAnswers};
+ghost use Rattle.core_intake.specs.Batches.{WasFed, all_answers};
+
+use crate::batch::Batch;
+use crate::rule::{Sender, Sends, Side};
+use crossbeam_channel::TrySendError;
+use record_read::RowSource;
+use std::alloc::Global;
+use std::io::Read;
+use std::snapshot::Snapshot;
+use std::sync::Wait;
+use std::sync::atomic::{AtomicBool, Ordering};
+use std::thread;
+use std::thread::Promise;
+
+/// What a reader's thread gives back: its end of the channel, with what was sent.
+#[derive(Drop)]
+pub struct Fed {
+    pub sender: Sender,
+    pub side: Side,
+}
+
+/// The reader whose recording a thread sends, and the channel that it sends it on.
+#[derive(Drop)]
+pub struct FedBy<R: Read> {
+    pub sender: Snapshot<Sender>,
+    pub reader: Snapshot<R>,
+}
+
+impl<R: Read> Promise<Fed> for FedBy<R> {
+    ghost use Rattle.std.specs.Prelude.{option_map};
+    ghost use Rattle.record_read.specs.Row.{records_of};
+    ghost use Rattle.core_intake.specs.Batches.{WasFed};
+
+    ghost kept_by = { λ promise fed. WasFed promise.sender.value (option_map records_of (R.remaining promise.reader.value)) fed.sender fed.side };
+}
+
+/// Sends the recording, batch after batch, until it has ended, the flag says to stop or nobody receives any more.
+pub fn feed<R: Read + Drop, T: Wait>(
+    rt: &T,
+    alloc: Global,
+    reader: R,
+    length: usize,
+    stop: &AtomicBool,
+    sender: Sender,
+    mut side: Side,
+) -> Fed
+    requires seat { IsSeatAt (sends_on sender) side }
+    requires fresh { view side ≡ log true false [] [] }
+    ensures { WasFed sender (option_map records_of (R.remaining reader)) result.sender result.side }
+{
+    let mut source = RowSource::new(alloc, reader);
+    send_all(rt, alloc, &mut source, length, stop, &sender, &mut side);
+    Fed { sender, side }
+}
+
+// Sends what the source has left.
+fn send_all<R: Read, T: Wait>(
+    rt: &T,
+    alloc: Global,
+    source: &mut RowSource<R>,
+    length: usize,
+    stop: &AtomicBool,
+    sender: &Sender,
+    side: &mut Side,
+)
+    requires going { source.old.stopped ≡ false }
+    requires seat { IsSeatAt (sends_on sender.now) side.old }
+    requires fresh { view side.old ≡ log true false [] [] }
+    ensures seat { IsSeatAt (sends_on sender.now) side.new }
+    ensures sender { view side.new ≡ log true false (view side.new).sent [] }
+    ensures sent { AreAnswers source.old.left (all_answers (view side.new).sent) }
+{
+    for _ in rt.forever() {
+        let batch = Batch::read(alloc, source, length, stop);
+        let is_last = batch.end.is_some();
+        if !offer(rt, sender, side, stop, batch) {
+            return;
+        }
+        if is_last {
+            return;
+        }
+    }
+    unreachable!()
+}
+
+// Sends the batch, or finds that the thread is to stop.
+fn offer<T: Wait>(
+    rt: &T,
+    sender: &Sender,
+    side: &mut Side,
+    stop: &AtomicBool,
+    mut batch: Batch,
+) -> bool
+    requires seat { IsSeatAt (sends_on sender.now) side.old }
+    requires sends { (view side.old).sends ≡ true }
+    ensures seat { IsSeatAt (sends_on sender.now) side.new }
+    ensures sent { result ≡ true → view side.new ≡ log (view side.old).sends (view side.old).receives ((view side.old).sent ++ batch ∷ []) (view side.old).received }
+    ensures kept { result ≡ false → view side.new ≡ view side.old }
+{
+    for _ in rt.forever() {
+        match sender.try_send_as::<Sends, T>(rt, side, batch) {
+            Ok(()) => return true,
+            Err(TrySendError::Full(back)) => {
+                batch = back;
+                if stop.load(Ordering::SeqCst) {
+                    return false;
+                }
+                thread::yield_now();
+            }
+            Err(_) => return false,
+        }
+    }
+    unreachable!()
+}

@@ -1,0 +1,103 @@
+// The recordings of all cores.
+
+ghost use Rattle.std.specs.Prelude.{◌≡◌, ◌≤◌, ◌<◌, ◌↔◌, [], All, Err, IfOk, None, Ok, false, true, length, map, option_map, slice_set};
+ghost use Rattle.record_read.specs.Row.{records_of};
+ghost use Rattle.core_intake.specs.Told.{IsHonest, after, has_ended, told, told_at};
+
+use crate::fault::IntakeFault;
+use crate::lane::Lane;
+use apex_types::Record;
+use record_read::RowFault;
+use std::alloc::Global;
+use std::io::Read;
+use std::marker::Model;
+use std::sync::Wait;
+use std::thread::Threads;
+
+/// The recordings of all cores, each read by a thread of its own. Contracts see what is told of each core, in order.
+///
+/// It is to be closed: one that is dropped leaves its threads to end by themselves, and nothing is then known of what they told.
+#[derive(Drop)]
+pub struct Intake<R: Read> {
+    lanes: Vec<Lane<R>>,
+}
+
+impl<R: Read> Model for Intake<R> {
+    ghost use Rattle.std.specs.Prelude.{List};
+    ghost use Rattle.core_intake.specs.Told.{Told};
+
+    ghost Value = { List Told };
+
+    ghost view = { λ intake. intake.lanes.items };
+}
+
+impl<R: Read + Drop + Send + 'static> Intake<R> {
+    /// Starts a thread for each reader, in the order of the cores. At most `depth` records of a core wait in its channel, in
+    /// batches of a quarter of `depth`, at least 1 and at most 256; one batch more stands at either end of it.
+    ///
+    /// NoDepth where the depth is 0. Memory where a growth or a thread was refused: the threads made so far are then stopped and
+    /// joined, and the readers are given up.
+    pub fn open<T: Threads + Wait + Copy + Send + 'static>(
+        rt: T,
+        alloc: Global,
+        readers: Vec<R>,
+        depth: usize,
+    ) -> Result<Intake<R>, IntakeFault>
+        requires most { depth ≤ 4096 }
+        ensures open { IfOk result (λ intake. intake ≡ map (λ reader. told (option_map records_of (R.remaining reader)) []) readers.items) }
+        ensures no_depth { result ≡ Err IntakeFault.NoDepth ↔ depth ≡ 0 }
+    {
+        if depth == 0 {
+            return Err(IntakeFault::NoDepth);
+        }
+        let Ok(mut lanes) = Vec::with_capacity(alloc, readers.len()) else {
+            return Err(IntakeFault::Memory);
+        };
+        for reader in readers {
+            let Ok(lane) = Lane::open(rt, alloc, reader, depth) else {
+                close_all(&rt, lanes);
+                return Err(IntakeFault::Memory);
+            };
+            lanes.push_reserved(lane);
+        }
+        Ok(Intake { lanes })
+    }
+}
+
+impl<R: Read> Intake<R> {
+    /// How many cores there are.
+    pub fn count(&self) -> usize
+        ensures { result ≡ length self.now }
+    {
+        self.lanes.len()
+    }
+
+    /// The next record of a core, or None behind the last; waits until its thread tells. Behind a fault, as behind the end, every
+    /// call answers None. Memory also where the thread was refused room for a batch.
+    pub fn next_of<T: Wait>(&mut self, rt: &T, core: usize) -> Result<Option<Record>, RowFault>
+        requires core { core < length self.old }
+        ensures gives { has_ended (told_at self.old core).given ≡ false → self.new ≡ slice_set self.old core (after (told_at self.old core) result) }
+        ensures ended { has_ended (told_at self.old core).given ≡ true → result ≡ Ok None }
+        ensures stays { has_ended (told_at self.old core).given ≡ true → self.new ≡ self.old }
+        ensures count { length self.new ≡ length self.old }
+    {
+        self.lanes[core].next(rt)
+    }
+
+    /// Stops the threads and waits for their ends. A thread ends once the read that it is in returns.
+    pub fn close<T: Threads + Wait>(self, rt: &T)
+        ensures honest { All IsHonest self }
+    {
+        let Intake { lanes } = self;
+        close_all(rt, lanes);
+    }
+}
+
+// Stops the threads and waits for their ends.
+fn close_all<R: Read, T: Threads + Wait>(rt: &T, lanes: Vec<Lane<R>>)
+    ensures { All IsHonest lanes.items }
+{
+    for lane in lanes {
+        lane.close(rt);
+    }
+}

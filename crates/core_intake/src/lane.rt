@@ -1,0 +1,183 @@
+// A recording that a thread of its own reads.
+
+ghost use Rattle.std.specs.Prelude.{◌≡◌, ◌<◌, [], ◌∷◌, ◌++◌, IfOk, List, true, false, option_map, None, Ok};
+ghost use Rattle.crossbeam_channel.specs.Claims.{view, IsSeatAt};
+ghost use Rattle.crossbeam_channel.specs.Ends.{sends_on, receives_on};
+ghost use Rattle.record_read.specs.Row.{records_of};
+ghost use Rattle.core_intake.specs.Told.{Answer, told, after, has_ended, is_last, IsHonest};
+ghost use Rattle.core_intake.specs.Batches.{WasFed, all_answers, IsTaken};
+ghost use Rattle.core_intake.specs.Relay.{log};
+
+use crate::batch::Batch;
+use crate::cut::cut_of;
+use crate::feed::{Fed, FedBy, feed};
+use crate::hand::Hand;
+use crate::rule::{InOrder, Log, Receiver, Receives, Roles, Side, Total};
+use apex_types::Record;
+use record_read::RowFault;
+use std::alloc::{AllocError, Global};
+use std::io::Read;
+use std::marker::Model;
+use std::snapshot::Snapshot;
+use std::sync::atomic::{AtomicBool, Ordering};
+use std::sync::{Arc, Wait};
+use std::thread;
+use std::thread::{PromisedHandle, Threads};
+
+/// A reader in a thread of its own, the channel on which its records come, and what is left of the last batch.
+#[derive(Drop)]
+pub struct Lane<R: Read> {
+    receiver: Receiver,
+    side: Side,
+    hand: Hand,
+    ended: bool,
+    stop: Arc<AtomicBool>,
+    reader: PromisedHandle<Fed, FedBy<R>>,
+}
+
+impl<R: Read> Model for Lane<R> {
+    ghost use Rattle.std.specs.Prelude.{◌≡◌, ◌++◌, [], true, false, option_map};
+    ghost use Rattle.crossbeam_channel.specs.Claims.{IsSeatAt};
+    ghost use Rattle.crossbeam_channel.specs.Ends.{sends_on, receives_on};
+    ghost use Rattle.record_read.specs.Row.{records_of};
+    ghost use Rattle.core_intake.specs.Told.{Told, told, has_ended};
+    ghost use Rattle.core_intake.specs.Batches.{all_answers, before, log_of};
+    ghost use Rattle.core_intake.specs.Relay.{log};
+
+    ghost Value = { Told };
+
+    ghost view = { λ lane. told (option_map records_of (R.remaining lane.reader.promise.reader.value)) (before lane.hand (all_answers (log_of lane.side).received)) };
+
+    ghost invariant = { λ lane. (receives_on lane.receiver ≡ sends_on lane.reader.promise.sender.value)
+        × IsSeatAt (receives_on lane.receiver) lane.side
+        × (log_of lane.side ≡ log false true [] (log_of lane.side).received)
+        × (before lane.hand (all_answers (log_of lane.side).received) ++ lane.hand ≡ all_answers (log_of lane.side).received)
+        × (lane.ended ≡ has_ended (before lane.hand (all_answers (log_of lane.side).received))) };
+}
+
+impl<R: Read + Drop + Send + 'static> Lane<R> {
+    /// Starts the reader's thread, which sends through a channel of this depth. The only error is Memory.
+    pub fn open<T: Threads + Wait + Copy + Send + 'static>(
+        rt: T,
+        alloc: Global,
+        reader: R,
+        depth: usize,
+    ) -> Result<Lane<R>, AllocError>
+        requires { 0 < depth }
+        ensures { IfOk result (λ lane. lane ≡ told (option_map records_of (R.remaining reader)) []) }
+    {
+        let cut = cut_of(depth);
+        let length = cut.length;
+        let stop = Arc::new(alloc, AtomicBool::new(false))?;
+        let theirs = Arc::try_clone(&stop)?;
+        let (sender, receiver, mut sending) = crossbeam_channel::bounded_with::<
+            Batch,
+            Log,
+            InOrder,
+            Global,
+        >(alloc, cut.slots)?;
+        let side = sender.another::<Roles>(&mut sending);
+        let promise = FedBy {
+            sender: Snapshot::of(&sender),
+            reader: Snapshot::of(&reader),
+        };
+        let reader = thread::spawn_with(
+            &rt,
+            promise,
+            move || -> Fed
+                requires { IsSeatAt (sends_on sender) sending × (view sending ≡ log true false [] []) }
+                ensures { WasFed sender (option_map records_of (R.remaining reader)) result.sender result.side }
+            { feed(&rt, alloc, reader, length, &theirs, sender, sending) },
+        )?;
+        Ok(Lane {
+            receiver,
+            side,
+            hand: Hand::empty(alloc),
+            ended: false,
+            stop,
+            reader,
+        })
+    }
+}
+
+impl<R: Read> Lane<R> {
+    /// The next answer; behind an end or a fault, the end.
+    pub fn next<T: Wait>(&mut self, rt: &T) -> Result<Option<Record>, RowFault>
+        ensures ended { has_ended self.old.given ≡ true → result ≡ Ok None }
+        ensures stays { has_ended self.old.given ≡ true → self.new ≡ self.old }
+        ensures gives { has_ended self.old.given ≡ false → self.new ≡ after self.old result }
+    {
+        if self.ended {
+            return Ok(None);
+        }
+        let answer = take_answer(rt, &self.receiver, &mut self.side, &mut self.hand);
+        self.ended = ends(&answer);
+        answer
+    }
+
+    /// Stops the thread and waits for its end.
+    pub fn close<T: Threads + Wait>(self, rt: &T)
+        ensures honest { IsHonest self }
+    {
+        let Lane {
+            receiver,
+            side,
+            hand: _,
+            ended: _,
+            stop,
+            reader,
+        } = self;
+        stop.store(true, Ordering::SeqCst);
+        let Fed {
+            sender,
+            side: mut theirs,
+        } = reader.join(rt);
+        sender.absorb::<Roles>(&mut theirs, side);
+        sender.learn_as::<Total>(&mut theirs);
+        drop(receiver);
+    }
+}
+
+// Whether an answer is the last: the end, or a fault.
+fn ends(answer: &Result<Option<Record>, RowFault>) -> bool
+    ensures { result ≡ is_last answer.now }
+{
+    !matches!(answer, Ok(Some(_)))
+}
+
+// The next answer: of the batch at hand, or else of the next that comes.
+fn take_answer<T: Wait>(
+    rt: &T,
+    receiver: &Receiver,
+    side: &mut Side,
+    hand: &mut Hand,
+) -> Result<Option<Record>, RowFault>
+    requires seat { IsSeatAt (receives_on receiver.now) side.old }
+    requires receives { (view side.old).receives ≡ true }
+    ensures seat { IsSeatAt (receives_on receiver.now) side.new }
+    ensures log { view side.new ≡ log (view side.old).sends (view side.old).receives (view side.old).sent (view side.new).received }
+    ensures taken { IsTaken (view side.old).received hand.old result (view side.new).received hand.new }
+{
+    for _ in rt.forever() {
+        if let Some(answer) = hand.next() {
+            return answer;
+        }
+        *hand = Hand::of(take_batch(rt, receiver, side));
+    }
+    unreachable!()
+}
+
+// The next batch of the channel. That it is empty at a moment says nothing of the recording.
+fn take_batch<T: Wait>(rt: &T, receiver: &Receiver, side: &mut Side) -> Batch
+    requires seat { IsSeatAt (receives_on receiver.now) side.old }
+    requires receives { (view side.old).receives ≡ true }
+    ensures seat { IsSeatAt (receives_on receiver.now) side.new }
+    ensures received { view side.new ≡ log (view side.old).sends (view side.old).receives (view side.old).sent ((view side.old).received ++ result ∷ []) }
+{
+    for _ in rt.forever() {
+        if let Ok(batch) = receiver.recv_as::<Receives, T>(rt, side) {
+            return batch;
+        }
+    }
+    unreachable!()
+}

@@ -1,0 +1,235 @@
+// What no clause says: that the threads read beside one another, how far they read ahead, and what is left behind.
+
+use crate::readers::{Meeting, Piece, Piecewise, Trace};
+use crate::{Intake, IntakeFault};
+use apex_types::{Body, Record};
+use record_read::RowFault;
+use std::alloc::{AllocError, Global};
+use std::io::Read;
+use std::sync::atomic::{AtomicBool, AtomicUsize, Ordering};
+use std::sync::{Arc, Wait};
+use std::test::Fail;
+use std::thread;
+
+const WHOLE: usize = usize::MAX;
+
+// A whole text in a read, where the buffer holds it.
+const ALL: Piece = Piece::Bytes(WHOLE);
+
+// The text of so many rows of this kind, none with more than its number.
+fn rows_of(alloc: Global, kind: &str, count: u32) -> Result<Vec<u8>, AllocError> {
+    let mut text = Vec::new(alloc);
+    for row in 0..count {
+        let line = format!(in alloc; "{row},{kind},,,,,,,,,,,,,,\n")?;
+        text.extend_from_slice(line.as_bytes())?;
+    }
+    Ok(text)
+}
+
+// A reader of so many rows, of which nothing is watched.
+fn reader_of(alloc: Global, kind: &str, count: u32, piece: Piece) -> Result<Piecewise, AllocError> {
+    Ok(Piecewise::new(
+        rows_of(alloc, kind, count)?,
+        piece,
+        WHOLE,
+        Trace::new(alloc)?,
+    ))
+}
+
+// The next answer of a core that there is.
+fn answer<R: Read, T: Wait>(
+    rt: &T,
+    intake: &mut Intake<R>,
+    core: usize,
+) -> Option<Result<Option<Record>, RowFault>> {
+    if core >= intake.count() {
+        return None;
+    }
+    Some(intake.next_of(rt, core))
+}
+
+// Whether the core's next record is the tick, or the dispatch of no process, of this number.
+fn has_row<R: Read, T: Wait>(
+    rt: &T,
+    intake: &mut Intake<R>,
+    core: usize,
+    tick: bool,
+    seq: u32,
+) -> bool {
+    let Some(Ok(Some(record))) = answer(rt, intake, core) else {
+        return false;
+    };
+    let is_kind = match record.body {
+        Body::Tick(_) => tick,
+        Body::Disp(None) => !tick,
+        _ => false,
+    };
+    is_kind && record.seq == seq
+}
+
+// Whether the core's recording has ended.
+fn has_end<R: Read, T: Wait>(rt: &T, intake: &mut Intake<R>, core: usize) -> bool {
+    matches!(answer(rt, intake, core), Some(Ok(None)))
+}
+
+// Waits, by at most 1,000,000 yields, until a reader was read so often, and then 200 yields more.
+fn settle(reads: &AtomicUsize, count: usize) {
+    for _ in 0..1_000_000 {
+        if reads.load(Ordering::SeqCst) >= count {
+            break;
+        }
+        thread::yield_now();
+    }
+    for _ in 0..200 {
+        thread::yield_now();
+    }
+}
+
+#[test]
+fn rows_come_in_order(rt: HostRuntime) -> Result<(), Fail> {
+    let alloc = rt.alloc();
+    for depth in [1, 2, 64, 4096] {
+        for (step, piece) in [
+            ("a byte", Piece::Bytes(1)),
+            ("a line", Piece::Line),
+            ("all", ALL),
+        ] {
+            let ticks = reader_of(alloc, "tick", 700, piece)?;
+            let dispatches = reader_of(alloc, "disp", 700, piece)?;
+            let readers = vec![in alloc; ticks, dispatches]?;
+            let mut intake = Intake::open(rt, alloc, readers, depth)?;
+            assert_eq!(rt; intake.count(), 2);
+            for seq in 0..700 {
+                assert!(rt;
+                    has_row(&rt, &mut intake, 0, true, seq),
+                    "{seq} by {step} at {depth}"
+                );
+                assert!(rt;
+                    has_row(&rt, &mut intake, 1, false, seq),
+                    "{seq} by {step} at {depth}"
+                );
+            }
+            for core in [0, 1, 0] {
+                assert!(rt; has_end(&rt, &mut intake, core));
+            }
+            intake.close(&rt);
+        }
+    }
+    Ok(())
+}
+
+#[test]
+fn two_readers_meet(rt: HostRuntime) -> Result<(), Fail> {
+    let alloc = rt.alloc();
+    let (first, second) = (
+        Arc::new(alloc, AtomicBool::new(false))?,
+        Arc::new(alloc, AtomicBool::new(false))?,
+    );
+    let one = Meeting {
+        text: reader_of(alloc, "tick", 13, ALL)?,
+        begun: Arc::try_clone(&first)?,
+        other: Arc::try_clone(&second)?,
+    };
+    let other = Meeting {
+        text: reader_of(alloc, "disp", 13, ALL)?,
+        begun: second,
+        other: first,
+    };
+    let mut intake = Intake::open(rt, alloc, vec![in alloc; one, other]?, 4)?;
+    for (core, tick) in [(0, true), (1, false)] {
+        for seq in 0..13 {
+            assert!(rt;
+                has_row(&rt, &mut intake, core, tick, seq),
+                "{seq} of {core}"
+            );
+        }
+        assert!(rt; has_end(&rt, &mut intake, core));
+    }
+    intake.close(&rt);
+    Ok(())
+}
+
+#[test]
+fn close_stops_the_readers(rt: HostRuntime) -> Result<(), Fail> {
+    let alloc = rt.alloc();
+    let (one, other) = (Trace::new(alloc)?, Trace::new(alloc)?);
+    let ticks = Piecewise::new(rows_of(alloc, "tick", 13)?, ALL, WHOLE, one.share()?);
+    let dispatches = Piecewise::new(rows_of(alloc, "disp", 13)?, ALL, WHOLE, other.share()?);
+    let mut intake = Intake::open(rt, alloc, vec![in alloc; ticks, dispatches]?, 1)?;
+    assert!(rt; has_row(&rt, &mut intake, 0, true, 0));
+    assert!(rt; !one.gone.load(Ordering::SeqCst));
+    assert!(rt; !other.gone.load(Ordering::SeqCst));
+    intake.close(&rt);
+    assert!(rt; one.gone.load(Ordering::SeqCst));
+    assert!(rt; other.gone.load(Ordering::SeqCst));
+    Ok(())
+}
+
+// Each read gives one row, and `csv` asks for one read more than the rows that it gives. Read and not yet answered are the rows
+// that wait in the channel, the batch that the thread has made, and what is left of the batch at hand.
+#[test]
+fn readers_do_not_run_ahead(rt: HostRuntime) -> Result<(), Fail> {
+    let alloc = rt.alloc();
+    for (depth, batch, waiting) in [
+        (1, 1, 1),
+        (2, 1, 2),
+        (9, 2, 8),
+        (64, 16, 64),
+        (4096, 256, 4096),
+    ] {
+        let trace = Trace::new(alloc)?;
+        let text = rows_of(alloc, "tick", 5000)?;
+        let reader = Piecewise::new(text, Piece::Line, WHOLE, trace.share()?);
+        let mut intake = Intake::open(rt, alloc, vec![in alloc; reader]?, depth)?;
+        settle(&trace.reads, waiting + batch + 1);
+        assert_eq!(rt;
+            trace.reads.load(Ordering::SeqCst),
+            waiting + batch + 1,
+            "at {depth}"
+        );
+        assert!(rt; has_row(&rt, &mut intake, 0, true, 0));
+        settle(&trace.reads, waiting + 2 * batch + 1);
+        assert_eq!(rt;
+            trace.reads.load(Ordering::SeqCst),
+            waiting + 2 * batch + 1,
+            "at {depth}"
+        );
+        intake.close(&rt);
+    }
+    Ok(())
+}
+
+#[test]
+fn a_failed_read_comes_behind_its_rows(rt: HostRuntime) -> Result<(), Fail> {
+    let alloc = rt.alloc();
+    for depth in [1, 4096] {
+        let text = rows_of(alloc, "tick", 13)?;
+        let half = text.len() / 2;
+        let mut rows: u32 = 0;
+        for byte in text.iter().take(half) {
+            if *byte == b'\n' {
+                rows = rows.saturating_add(1);
+            }
+        }
+        let reader = Piecewise::new(text, Piece::Bytes(1), half, Trace::new(alloc)?);
+        let mut intake = Intake::open(rt, alloc, vec![in alloc; reader]?, depth)?;
+        for seq in 0..rows {
+            assert!(rt; has_row(&rt, &mut intake, 0, true, seq));
+        }
+        assert!(rt; matches!(answer(&rt, &mut intake, 0), Some(Err(RowFault::Read))));
+        assert!(rt; has_end(&rt, &mut intake, 0));
+        intake.close(&rt);
+    }
+    Ok(())
+}
+
+#[test]
+fn no_depth_is_refused(rt: HostRuntime) -> Result<(), Fail> {
+    let alloc = rt.alloc();
+    let trace = Trace::new(alloc)?;
+    let reader = Piecewise::new(Vec::new(alloc), ALL, WHOLE, trace.share()?);
+    let opened = Intake::open(rt, alloc, vec![in alloc; reader]?, 0);
+    assert!(rt; matches!(opened, Err(IntakeFault::NoDepth)));
+    assert!(rt; trace.gone.load(Ordering::SeqCst));
+    Ok(())
+}
