@@ -18,6 +18,7 @@ use Rattle.record_read.specs.declared.fault.RowFault.{RowFault}
 use Rattle.record_read.specs.declared.fault.RowFault.TheVariants as row
 use Rattle.record_read.specs.Row.{Item}
 use Rattle.record_read.specs.Steps.{IsOutside}
+use Rattle.core_intake.specs.Told.{Told}
 use Rattle.placement.specs.declared.fault.InputFault.{InputFault}
 use Rattle.placement.specs.declared.fault.InputFault.TheVariants as input
 use Rattle.placement.specs.Lanes.{AreLeft, IsAhead, IsEnded, IsNext, IsScanOf, IsTheEnd, Lead, Placing, left_at}
@@ -26,12 +27,12 @@ use Rattle.placement.specs.Scan.{Scan, cert_fault, ends_so, led_by, no_more, pla
 use Rattle.placement.proofs.Readings.{reads_all, reads_more, fault_read, put-here, put-other, put-back, put_reads, same_or}
 
 -- what is ahead where these are left, so many cores are there, so many records of each were taken, and this place is next
-abbrev pub AreAhead : ℕ → List (Option (List Item)) → Option (List CertItem) → (ℕ → ℕ) → ℕ → Scan → Type 0
+abbrev pub AreAhead : ℕ → List Told → Option (List CertItem) → (ℕ → ℕ) → ℕ → Scan → Type 0
 AreAhead cores lanes left taken place scanned =
     (items : ℕ → List Item) (certificate : List CertItem) → AreLeft lanes items → left ≡ Some certificate → IsScanOf cores taken place items certificate scanned
 
 -- the certificate's next row has a fault
-pub cert_stops : (cores : ℕ) (lanes : List (Option (List Item))) (left new : Option (List CertItem)) (taken : ℕ → ℕ) (place : ℕ) (fault : CertFault)
+pub cert_stops : (cores : ℕ) (lanes : List Told) (left new : Option (List CertItem)) (taken : ℕ → ℕ) (place : ℕ) (fault : CertFault)
     → fault ≢ cert.Memory → IfSome left (λ items. Gives IsCertOutside items (Err fault) new)
     → AreAhead cores lanes left taken place (ends_so (Err (input.Cert place fault)))
 unfolding scan
@@ -41,7 +42,7 @@ cert_stops cores lanes left new taken place fault other gives items certificate 
     (items, Err fault ∷ read.0, (λ core. reads_all row.Read (items core)), read.1, refl)
 
 -- a pair that may not stand
-pub pair_refused : (cores : ℕ) (lanes : List (Option (List Item))) (left new : Option (List CertItem)) (taken : ℕ → ℕ) (place : ℕ) (pair : Pair) (fault : OrderFault)
+pub pair_refused : (cores : ℕ) (lanes : List Told) (left new : Option (List CertItem)) (taken : ℕ → ℕ) (place : ℕ) (pair : Pair) (fault : OrderFault)
     → IfSome left (λ items. Gives IsCertOutside items (Ok (Some pair)) new) → misplaced cores taken pair ≡ Some fault
     → AreAhead cores lanes left taken place (ends_so (Err (input.Order place pair.core fault)))
 unfolding scan
@@ -50,7 +51,7 @@ pair_refused cores lanes left new taken place pair fault gives wrong items certi
     (items, Ok pair ∷ now.0, (λ core. reads_all row.Read (items core)), inl (sym now.1), rw wrong refl)
 
 -- the recording has ended before the pair's record
-pub record_absent : (cores : ℕ) (lanes : List (Option (List Item))) (left new : Option (List CertItem)) (taken : ℕ → ℕ) (place : ℕ) (pair : Pair) (more : Option (List Item))
+pub record_absent : (cores : ℕ) (lanes : List Told) (left new : Option (List CertItem)) (taken : ℕ → ℕ) (place : ℕ) (pair : Pair) (more : Option (List Item))
     → IfSome left (λ items. Gives IsCertOutside items (Ok (Some pair)) new) → misplaced cores taken pair ≡ None
     → IfSome (left_at lanes pair.core) (λ items. Gives IsOutside items (Ok None) more)
     → AreAhead cores lanes left taken place (ends_so (Err (input.Order place pair.core Absent)))
@@ -61,7 +62,7 @@ record_absent cores lanes left new taken place pair more gives fits lane items c
     (items, Ok pair ∷ now.0, (λ core. reads_all row.Read (items core)), inl (sym now.1), rw (fits, item.0) refl)
 
 -- the pair's row has a fault
-pub record_stops : (cores : ℕ) (lanes : List (Option (List Item))) (left new : Option (List CertItem)) (taken : ℕ → ℕ) (place : ℕ) (pair : Pair) (more : Option (List Item)) (fault : RowFault)
+pub record_stops : (cores : ℕ) (lanes : List Told) (left new : Option (List CertItem)) (taken : ℕ → ℕ) (place : ℕ) (pair : Pair) (more : Option (List Item)) (fault : RowFault)
     → fault ≢ row.Memory → IfSome left (λ items. Gives IsCertOutside items (Ok (Some pair)) new) → misplaced cores taken pair ≡ None
     → IfSome (left_at lanes pair.core) (λ items. Gives IsOutside items (Err fault) more)
     → AreAhead cores lanes left taken place (ends_so (Err (input.Row pair.core pair.seq fault)))
@@ -79,7 +80,7 @@ record_stops cores lanes left new taken place pair more fault other gives fits l
     )
 
 -- a record that was taken leads all that is ahead behind it
-pub record_leads : (cores : ℕ) (lanes lanes' : List (Option (List Item))) (left new : Option (List CertItem)) (taken : ℕ → ℕ) (place : ℕ) (pair : Pair) (rec : Record) (scanned : Scan)
+pub record_leads : (cores : ℕ) (lanes lanes' : List Told) (left new : Option (List CertItem)) (taken : ℕ → ℕ) (place : ℕ) (pair : Pair) (rec : Record) (scanned : Scan)
     → IfSome left (λ items. Gives IsCertOutside items (Ok (Some pair)) new) → misplaced cores taken pair ≡ None
     → IfSome (left_at lanes pair.core) (λ items. Gives IsOutside items (Ok (Some rec)) (left_at lanes' pair.core))
     → ((other : ℕ) → other ≢ pair.core → left_at lanes' other ≡ left_at lanes other)
@@ -103,7 +104,7 @@ record_leads cores lanes lanes' left new taken place pair rec scanned gives fits
     )
 
 -- the certificate has ended, and then the recordings end so
-pub all_placed : (lanes : List (Option (List Item))) (left new : Option (List CertItem)) (taken : ℕ → ℕ) (place : ℕ) (result : Result (Unit {0}) InputFault)
+pub all_placed : (lanes : List Told) (left new : Option (List CertItem)) (taken : ℕ → ℕ) (place : ℕ) (result : Result (Unit {0}) InputFault)
     → IfSome left (λ items. Gives IsCertOutside items (Ok None) new) → IsEnded lanes place taken result
     → AreAhead (length lanes) lanes left taken place (ends_so result)
 unfolding scan

@@ -1,48 +1,112 @@
 -- What the recordings have left, behind a call of one of them.
-use Rattle.std.proofs.Common.{◌≡◌, ◌≢◌, ◌<◌, ℕ, zero, suc, List, [], ◌∷◌, Bool, true, false, Option, Some, None, Result, Ok, Err, length, map, get_or, set, refl, ap, arith}
-use Rattle.std.specs.Prelude.{IfSome, is_err, if◌then◌else◌}
-use Rattle.csv_rows.specs.Source.{Source, Gives}
-use Rattle.apex_types.specs.declared.record.Record.{Record}
-use Rattle.record_read.specs.declared.fault.RowFault.{RowFault}
+use Rattle.std.proofs.Common.{◌≡◌, ◌≢◌, ◌<◌, ◌∙◌, ℕ, zero, suc, List, [], ◌∷◌, ◌++◌, Bool, true, false, true≢false, Option, Some, None, Ok, Err, length, get_or, set, refl, sym, ap, subst, inl, inr, arith}
+use Rattle.std.specs.Prelude.{IfSome, drop}
+use Rattle.std.proofs.lemmas.List.{get_or-set_same, get_or-set_other, get_or_default, length-set}
+use Rattle.csv_rows.specs.Source.{Gives}
 use Rattle.record_read.specs.Row.{Item}
 use Rattle.record_read.specs.Steps.{IsOutside}
-use Rattle.placement.specs.Lanes.{left_at, standing}
+use Rattle.core_intake.specs.Told.{Answer, AreAnswers, IsHonest, Told, after, has_ended, told, told_at}
+use Rattle.core_intake.proofs.Chains.{first_answers}
+use Rattle.placement.specs.Lanes.{AreHonest, left_at, left_behind, standing}
+use Rattle.placement.proofs.Readings.{same_or}
 
-left_at-get : (sources : List (Source Item)) (core : ℕ) (default : Source Item) → core < length sources
-    → left_at (map standing sources) core ≡ standing (get_or sources core default)
-left_at-get [] core default within = absurd (omega arith)
-left_at-get (source ∷ sources) zero default within = refl
-left_at-get (source ∷ sources) (suc core) default within = left_at-get sources core default (omega arith)
+none_behind : (given : List Answer) → left_behind None given ≡ None
+none_behind [] = refl
+none_behind (answer ∷ given) = none_behind given
 
-left_at-set : (sources : List (Source Item)) (core : ℕ) (new : Source Item) → core < length sources
-    → left_at (map standing (set sources core new)) core ≡ standing new
+-- what is left where nothing is known
+unknown : (left : Option (List Item)) (answer : Answer) (next : Option (List Item)) → left ≡ None → IfSome left (λ items. Gives IsOutside items answer next)
+unknown left answer next e = rw e tt
+
+-- behind the others, an answer is the first item that is left, or an outside fault
+pub gives_behind : (left : Option (List Item)) (given : List Answer) (answer : Answer) → AreAnswers left (given ++ answer ∷ [])
+    → IfSome (left_behind left given) (λ items. Gives IsOutside items answer (left_behind left (given ++ answer ∷ [])))
+gives_behind None given answer are = unknown (left_behind None given) answer (left_behind None (given ++ answer ∷ [])) (none_behind given)
+gives_behind (Some items) [] (Ok None) are = (are.1.0, ap (λ l. Some l) are.1.0)
+gives_behind (Some items) [] (Ok (Some rec)) are = (are.1.0, are.1.1, ap (λ l. Some (drop 1 l)) are.1.1)
+gives_behind (Some items) [] (Err fault) are = are.1
+gives_behind (Some items) (Ok None ∷ given) answer are =
+    gives_behind (Some items) given answer (subst (λ left. AreAnswers left (given ++ answer ∷ [])) (are.1.1 ∙ ap (λ l. Some l) (sym are.1.0)) are.3)
+gives_behind (Some items) (Ok (Some rec) ∷ given) answer are =
+    gives_behind (Some (drop 1 items)) given answer
+    (subst (λ left. AreAnswers left (given ++ answer ∷ [])) (are.1.2 ∙ ap (λ l. Some (drop 1 l)) (sym are.1.1)) are.3)
+gives_behind (Some items) (Err fault ∷ given) answer are = unknown (left_behind None given) answer (left_behind None (given ++ answer ∷ [])) (none_behind given)
+
+-- behind the end nothing is left, and behind a fault nothing is known
+ended_behind : (left : Option (List Item)) (given : List Answer) → has_ended given ≡ true → AreAnswers left given
+    → IfSome (left_behind left given) (λ items. Gives IsOutside items (Ok None) (left_behind left given))
+ended_behind None given ended are = unknown (left_behind None given) (Ok None) (left_behind None given) (none_behind given)
+ended_behind (Some items) [] ended are = absurd (true≢false (sym ended))
+ended_behind (Some items) (Ok None ∷ given) ended are =
+    subst (λ later. IfSome (left_behind (Some items) later) (λ left. Gives IsOutside left (Ok None) (left_behind (Some items) later))) (sym (are.2 refl))
+    (are.1.0, ap (λ l. Some l) are.1.0)
+ended_behind (Some items) (Ok (Some rec) ∷ given) ended are =
+    ended_behind (Some (drop 1 items)) given ended (subst (λ left. AreAnswers left given) (are.1.2 ∙ ap (λ l. Some (drop 1 l)) (sym are.1.1)) are.3)
+ended_behind (Some items) (Err fault ∷ given) ended are = unknown (left_behind None given) (Ok None) (left_behind None given) (none_behind given)
+
+left_at-get : (lanes : List Told) (core : ℕ) → core < length lanes → left_at lanes core ≡ standing (told_at lanes core)
+left_at-get [] core within = absurd (omega arith)
+left_at-get (lane ∷ lanes) zero within = refl
+left_at-get (lane ∷ lanes) (suc core) within = left_at-get lanes core (omega arith)
+
+left_at-set : (lanes : List Told) (core : ℕ) (new : Told) → core < length lanes → left_at (set lanes core new) core ≡ standing new
 left_at-set [] core new within = absurd (omega arith)
-left_at-set (source ∷ sources) zero new within = refl
-left_at-set (source ∷ sources) (suc core) new within = left_at-set sources core new (omega arith)
+left_at-set (lane ∷ lanes) zero new within = refl
+left_at-set (lane ∷ lanes) (suc core) new within = left_at-set lanes core new (omega arith)
 
-pub left_at-other : (sources : List (Source Item)) (core : ℕ) (new : Source Item) (other : ℕ) → other ≢ core
-    → left_at (map standing (set sources core new)) other ≡ left_at (map standing sources) other
+left_at-other : (lanes : List Told) (core : ℕ) (new : Told) (other : ℕ) → other ≢ core → left_at (set lanes core new) other ≡ left_at lanes other
 left_at-other [] core new other apart = refl
-left_at-other (source ∷ sources) zero new zero apart = absurd (apart refl)
-left_at-other (source ∷ sources) zero new (suc other) apart = refl
-left_at-other (source ∷ sources) (suc core) new zero apart = refl
-left_at-other (source ∷ sources) (suc core) new (suc other) apart = left_at-other sources core new other (λ e. apart (ap suc e))
+left_at-other (lane ∷ lanes) zero new zero apart = absurd (apart refl)
+left_at-other (lane ∷ lanes) zero new (suc other) apart = refl
+left_at-other (lane ∷ lanes) (suc core) new zero apart = refl
+left_at-other (lane ∷ lanes) (suc core) new (suc other) apart = left_at-other lanes core new other (λ e. apart (ap suc e))
 
-pub gives_left : (sources : List (Source Item)) (core : ℕ) (old new : Source Item) (result : Result (Option Record) RowFault)
-    → core < length sources → old ≡ get_or sources core old
-    → (old.stopped ≡ false → IfSome old.left (λ items. Gives IsOutside items result new.left)) → new.stopped ≡ is_err result
-    → IfSome (left_at (map standing sources) core) (λ items. Gives IsOutside items result (left_at (map standing (set sources core new)) core))
-gives_left sources core old new result within is gives stops =
-    rw (left_at-get sources core old within, left_at-set sources core new within) (rw (← is) (from old.stopped old.left gives))
+-- the core's answers are honest with this one
+honest_there : (lanes : List Told) (core : ℕ) (new : Told) → core < length lanes → AreHonest (set lanes core new) → IsHonest new
+honest_there lanes core new within honest = subst IsHonest (get_or-set_same lanes core new new within) (honest core new (omega (arith, length-set lanes core new)))
+
+-- where one answer more is honest, those before it are
+honest_before : (lanes : List Told) (core : ℕ) (answer : Answer) → core < length lanes → AreHonest (set lanes core (after (told_at lanes core) answer)) → AreHonest lanes
+honest_before lanes core answer within honest other default below =
+    let now : Told = told_at lanes core in
+    let new : Told = after now answer in
+    elim (same_or other core) [
+      | inl e ↦
+          let first : IsHonest now = first_answers now.items now.given (answer ∷ []) (honest_there lanes core new within honest) in
+          subst (λ n. IsHonest (get_or lanes n default)) (sym e) (subst IsHonest (get_or_default lanes core (told None []) default within) first)
+      | inr apart ↦ subst IsHonest (get_or-set_other lanes core other new default apart) (honest other default (omega (arith, below, length-set lanes core new)))
+    ]
+
+-- a call of a core tells this, if what was answered of every core is honest, and changes nothing of the others
+pub record IsAsked (old : List Told) (core : ℕ) (answer : Answer) (new : List Told) : Type 0 where
+  pub gives : AreHonest new → IfSome (left_at old core) (λ items. Gives IsOutside items answer (left_at new core))
+  pub honest : AreHonest new → AreHonest old
+  pub others : (other : ℕ) → other ≢ core → left_at new other ≡ left_at old other
+
+asked_on : (old : List Told) (core : ℕ) (answer : Answer) → core < length old → IsAsked old core answer (set old core (after (told_at old core) answer))
+asked_on old core answer within =
+    let now : Told = told_at old core in
+    let new : Told = after now answer in
+    record {
+      gives = λ honest. rw (left_at-get old core within, left_at-set old core new within) (gives_behind now.items now.given answer (honest_there old core new within honest));
+      honest = honest_before old core answer within;
+      others = left_at-other old core new;
+    }
+
+asked_behind : (old : List Told) (core : ℕ) → core < length old → has_ended (told_at old core).given ≡ true → IsAsked old core (Ok None) old
+asked_behind old core within ended =
+    let now : Told = told_at old core in
+    record {
+      gives = λ honest. rw (left_at-get old core within) (ended_behind now.items now.given ended (honest core (told None []) within));
+      honest = λ honest. honest;
+      others = λ other apart. refl;
+    }
+
+pub is_asked : (old : List Told) (core : ℕ) (answer : Answer) (new : List Told) → core < length old
+    → (has_ended (told_at old core).given ≡ false → new ≡ set old core (after (told_at old core) answer))
+    → (has_ended (told_at old core).given ≡ true → answer ≡ Ok None) → (has_ended (told_at old core).given ≡ true → new ≡ old) → IsAsked old core answer new
+is_asked old core answer new within gives ended stays = by (has_ended (told_at old core).given) refl
   where
-    goes : (items : List Item) (answer : Result (Option Record) RowFault) → new.stopped ≡ is_err answer → Gives IsOutside items answer new.left
-        → Gives IsOutside items answer (standing new)
-    goes items (Ok None) s given = (given.0, rw s given.1)
-    goes items (Ok (Some rec)) s given = (given.0, given.1, rw s given.2)
-    goes items (Err fault) s given = given
-
-    from : (b : Bool) (left : Option (List Item)) → (b ≡ false → IfSome left (λ items. Gives IsOutside items result new.left))
-        → IfSome (if b then None else left) (λ items. Gives IsOutside items result (standing new))
-    from true left given = tt
-    from false None given = tt
-    from false (Some items) given = goes items result stops (given refl)
+    by : (b : Bool) → has_ended (told_at old core).given ≡ b → IsAsked old core answer new
+    by false going = subst (IsAsked old core answer) (sym (gives going)) (asked_on old core answer within)
+    by true gone = subst (λ one. IsAsked old core one new) (sym (ended gone)) (subst (IsAsked old core (Ok None)) (sym (stays gone)) (asked_behind old core within gone))

@@ -1,6 +1,6 @@
 -- What the recordings of all cores and the certificate have left, and what is ahead of a placer.
-use Rattle.std.specs.Prelude.{◌≡◌, ℕ, zero, suc, List, [], ◌∷◌, Bool, Option, Some, None, Result, Ok, Err, length, if◌then◌else◌}
-use Rattle.csv_rows.specs.Source.{Source}
+use Rattle.std.specs.Prelude.{◌≡◌, ℕ, zero, suc, List, [], ◌∷◌, Bool, Option, Some, None, Result, Ok, Err, All, drop, length}
+use Rattle.core_intake.specs.Told.{Answer, IsHonest, Told}
 use Rattle.apex_types.specs.declared.record.Ordered.{Ordered}
 use Rattle.order_cert.specs.declared.fault.CertFault.TheVariants as cert
 use Rattle.order_cert.specs.Kept.{Kept, place_of, taken_of}
@@ -14,18 +14,34 @@ use Rattle.placement.specs.declared.placer.Filled.TheVariants.{Full, Ended}
 use Rattle.placement.specs.Reading.{Reads}
 use Rattle.placement.specs.Scan.{Scan, ends_of, led_by, scan}
 
--- what a source has left; nothing is known of it once a fault has stopped it
-abbrev pub standing : Source Item → Option (List Item)
-standing source = if source.stopped then None else source.left
+-- what an answer leaves of these items, where they are known: a record is the first of them; behind a fault nothing is known
+abbrev pub left_after : Option (List Item) → Answer → Option (List Item)
+left_after None answer = None
+left_after (Some items) (Ok (Some rec)) = Some (drop 1 items)
+left_after (Some items) (Ok None) = Some items
+left_after (Some items) (Err fault) = None
+
+-- what answers leave of these items, one after another
+abbrev pub left_behind : Option (List Item) → List Answer → Option (List Item)
+left_behind left [] = left
+left_behind left (answer ∷ later) = left_behind (left_after left answer) later
+
+-- what is left of the recording of which this was told
+abbrev pub standing : Told → Option (List Item)
+standing lane = left_behind lane.items lane.given
 
 -- what the recording of a core has left: nothing where there is no such core
-abbrev pub left_at : List (Option (List Item)) → ℕ → Option (List Item)
+abbrev pub left_at : List Told → ℕ → Option (List Item)
 left_at [] core = Some []
-left_at (left ∷ others) zero = left
-left_at (left ∷ others) (suc core) = left_at others core
+left_at (lane ∷ others) zero = standing lane
+left_at (lane ∷ others) (suc core) = left_at others core
+
+-- what was answered of each core are answers of a source of its recording
+abbrev pub AreHonest : List Told → Type 0
+AreHonest lanes = All IsHonest lanes
 
 -- these items are left of the recordings
-abbrev pub AreLeft : List (Option (List Item)) → (ℕ → List Item) → Type 0
+abbrev pub AreLeft : List Told → (ℕ → List Item) → Type 0
 AreLeft lanes items = (core : ℕ) → left_at lanes core ≡ Some (items core)
 
 -- some readings of these items are scanned so, from this place on
@@ -36,15 +52,15 @@ IsScanOf cores taken place items certificate scanned =
     × (scan cores taken place left pairs ≡ scanned)
 
 -- some readings of what is left end so
-abbrev pub IsEnded : List (Option (List Item)) → ℕ → (ℕ → ℕ) → Result (Unit {0}) InputFault → Type 0
+abbrev pub IsEnded : List Told → ℕ → (ℕ → ℕ) → Result (Unit {0}) InputFault → Type 0
 IsEnded lanes place taken result =
     (items : ℕ → List Item) → AreLeft lanes items
     → (left : ℕ → List Item) × ((core : ℕ) → Reads row.Read (items core) (left core)) × (ends_of (length lanes) place taken left ≡ result)
 
--- what callers see of a placer: what the recordings and the certificate have left, where that is known; how many numbers of each
--- core were taken; and whether the input has ended
+-- what callers see of a placer: what was told of the recordings; what the certificate has left, where that is known; how many
+-- numbers of each core were taken; and whether the input has ended
 pub record Placing : Type 0 where
-  pub lanes : List (Option (List Item))
+  pub lanes : List Told
   pub pairs : Option (List CertItem)
   pub kept : Kept
   pub ended : Bool

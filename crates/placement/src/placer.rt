@@ -1,18 +1,22 @@
 // The placing of the records in the order of the certificate.
 
-ghost use Rattle.std.specs.Prelude.{◌≡◌, ◌⊎◌, ◌<◌, ◌≤◌, ◌+◌, [], suc, Err, IfOk, IfSome, length, false};
+ghost use Rattle.std.specs.Prelude.{◌≡◌, ◌≢◌, ◌⊎◌, ◌<◌, ◌≤◌, ◌+◌, ℕ, [], suc, Err, IfOk, IfSome, length, false};
 ghost use Rattle.apex_machine.specs.Runs.{ArePlaced, AreOfCores};
+ghost use Rattle.csv_rows.specs.Source.{Gives};
 ghost use Rattle.order_cert.specs.Kept.{none_taken, place_of, taken_of};
-ghost use Rattle.placement.specs.Lanes.{IsEnded, IsFilled, IsNext, IsTheEnd};
+ghost use Rattle.record_read.specs.Steps.{IsOutside};
+ghost use Rattle.placement.specs.Lanes.{AreHonest, IsEnded, IsFilled, IsNext, left_at};
 ghost use Rattle.placement.specs.Scan as scan;
 
 use crate::fault::InputFault;
-use crate::lanes::Lanes;
-use apex_types::{CoreId, Ordered};
+use apex_types::{CoreId, Ordered, Record};
+use core_intake::Intake;
 use order_cert::{CertFault, CertSource, Keeper, OrderFault};
 use record_read::RowFault;
 use std::io::Read;
 use std::marker::Model;
+use std::sync::Wait;
+use std::thread::Threads;
 
 /// How a round of records was filled.
 #[derive(Clone, Copy, Debug, Drop, PartialEq, Eq)]
@@ -24,9 +28,11 @@ pub enum Filled {
 }
 
 /// The records of all cores, one after another in the order of the certificate.
+///
+/// It is to be closed, as the intake is from which it takes them.
 #[derive(Drop)]
 pub struct Placer<R: Read, C: Read> {
-    lanes: Lanes<R>,
+    intake: Intake<R>,
     pairs: CertSource<C>,
     keeper: Keeper,
     ended: bool,
@@ -39,42 +45,44 @@ impl<R: Read, C: Read> Model for Placer<R, C> {
     ghost Value = { Placing };
 
     ghost view = { λ placer. record {
-      lanes = placer.lanes;
+      lanes = placer.intake;
       pairs = placer.pairs.left;
       kept = placer.keeper;
       ended = placer.ended;
     } };
 
-    ghost invariant = { λ placer. (placer.keeper.cores ≡ length placer.lanes) × (length placer.lanes ≤ 16) × (placer.ended ≡ false → placer.pairs.stopped ≡ false) };
+    ghost invariant = { λ placer. (placer.keeper.cores ≡ length placer.intake) × (length placer.intake ≤ 16) × (placer.ended ≡ false → placer.pairs.stopped ≡ false) };
 }
 
 impl<R: Read, C: Read> Placer<R, C> {
     /// A placer before the first pair of the certificate. Takes no memory.
-    pub fn new(lanes: Lanes<R>, pairs: CertSource<C>) -> Placer<R, C>
-        requires some { 1 ≤ length lanes }
-        requires few { length lanes ≤ 16 }
+    pub fn new(intake: Intake<R>, pairs: CertSource<C>) -> Placer<R, C>
+        requires some { 1 ≤ length intake }
+        requires few { length intake ≤ 16 }
         requires fresh { pairs.stopped ≡ false }
-        ensures lanes { result.lanes ≡ lanes }
+        ensures lanes { result.lanes ≡ intake }
         ensures pairs { result.pairs ≡ pairs.left }
         ensures taken { taken_of result.kept ≡ none_taken }
         ensures place { place_of result.kept ≡ 0 }
         ensures going { result.ended ≡ false }
     {
-        let keeper = Keeper::new(lanes.count() as u8);
+        let keeper = Keeper::new(intake.count() as u8);
         Placer {
-            lanes,
+            intake,
             pairs,
             keeper,
             ended: false,
         }
     }
 
-    /// The next record at its place, or None where the input ends well. No call comes behind None or a fault.
+    /// The next record at its place, or None where the input ends well; waits until the core's thread tells it. No call comes
+    /// behind None or a fault.
     ///
     /// Memory where a growth was refused; else the fault with which the input ends.
-    pub fn next(&mut self) -> Result<Option<Ordered>, InputFault>
+    pub fn next<T: Wait>(&mut self, rt: &T) -> Result<Option<Ordered>, InputFault>
         requires going { self.old.ended ≡ false }
-        ensures next { IsNext self.old result self.new }
+        ensures next { AreHonest self.new.lanes → IsNext self.old result self.new }
+        ensures honest { AreHonest self.new.lanes → AreHonest self.old.lanes }
         ensures going { IfOk result (λ ordered. IfSome ordered (λ _. self.new.ended ≡ false)) }
         ensures place { IfOk result (λ ordered. IfSome ordered (λ found. (found.pos ≡ place_of self.old.kept) × (place_of self.new.kept ≡ suc (place_of self.old.kept)))) }
         ensures core { IfOk result (λ ordered. IfSome ordered (λ found. found.core < length self.old.lanes)) }
@@ -84,7 +92,7 @@ impl<R: Read, C: Read> Placer<R, C> {
         let place = self.keeper.place();
         let pair = match self.pairs.next() {
             Ok(Some(pair)) => pair,
-            Ok(None) => return no_more(finish(&mut self.lanes, &self.keeper, place)),
+            Ok(None) => return no_more(finish(rt, &mut self.intake, &self.keeper, place)),
             Err(fault) => return Err(cert_fault(place, fault)),
         };
         let pos = match self.keeper.take(pair.core, pair.seq) {
@@ -97,7 +105,7 @@ impl<R: Read, C: Read> Placer<R, C> {
                 });
             }
         };
-        match self.lanes.next_of(pair.core as usize) {
+        match next_of(rt, &mut self.intake, pair.core as usize) {
             Ok(Some(rec)) => {
                 self.ended = false;
                 let core = CoreId::new(pair.core as u8);
@@ -113,10 +121,11 @@ impl<R: Read, C: Read> Placer<R, C> {
     }
 
     /// Fills a round with the next records, up to this many of them.
-    pub fn fill(&mut self, round: &mut Vec<Ordered>, size: usize) -> Filled
+    pub fn fill<T: Wait>(&mut self, rt: &T, round: &mut Vec<Ordered>, size: usize) -> Filled
         requires going { self.old.ended ≡ false }
         requires empty { round.old.items ≡ [] }
-        ensures filled { IsFilled self.old round.new.items result self.new }
+        ensures filled { AreHonest self.new.lanes → IsFilled self.old round.new.items result self.new }
+        ensures honest { AreHonest self.new.lanes → AreHonest self.old.lanes }
         ensures placed { ArePlaced (place_of self.old.kept) round.new.items }
         ensures cores { AreOfCores (length self.old.lanes) round.new.items }
         ensures few { length round.new.items ≤ size }
@@ -126,7 +135,7 @@ impl<R: Read, C: Read> Placer<R, C> {
         ensures lanes { length self.new.lanes ≡ length self.old.lanes }
     {
         'records: while round.len() < size {
-            let ordered = match self.next() {
+            let ordered = match self.next(rt) {
                 Ok(Some(ordered)) => ordered,
                 Ok(None) => return Filled::Ended(Ok(())),
                 Err(fault) => return Filled::Ended(Err(fault)),
@@ -136,6 +145,21 @@ impl<R: Read, C: Read> Placer<R, C> {
             }
         }
         Filled::Full
+    }
+}
+
+impl<R: Read, C: Read + Drop> Placer<R, C> {
+    /// Stops the threads that read the recordings and waits for their ends. A thread ends once the read that it is in returns.
+    pub fn close<T: Threads + Wait>(self, rt: &T)
+        ensures honest { AreHonest self.lanes }
+    {
+        let Placer {
+            intake,
+            pairs: _,
+            keeper: _,
+            ended: _,
+        } = self;
+        intake.close(rt);
     }
 }
 
@@ -169,14 +193,35 @@ fn row_fault(core: u32, seq: u64, fault: RowFault) -> InputFault
     }
 }
 
-// Whether each recording has ended behind the last pair; the least core that has not decides.
-fn finish<R: Read>(lanes: &mut Lanes<R>, keeper: &Keeper, place: u64) -> Result<(), InputFault>
-    requires { length lanes.old ≤ 16 }
-    ensures ended { (result ≡ Err InputFault.Memory) ⊎ IsEnded lanes.old place (taken_of keeper.now) result }
-    ensures lanes { length lanes.new ≡ length lanes.old }
+// The next record of a core, told by what is left of its recording before and behind it.
+fn next_of<R: Read, T: Wait>(
+    rt: &T,
+    intake: &mut Intake<R>,
+    core: usize,
+) -> Result<Option<Record>, RowFault>
+    requires { core < length intake.old }
+    ensures gives { AreHonest intake.new → IfSome (left_at intake.old core) (λ items. Gives IsOutside items result (left_at intake.new core)) }
+    ensures honest { AreHonest intake.new → AreHonest intake.old }
+    ensures others { (other : ℕ) → other ≢ core → left_at intake.new other ≡ left_at intake.old other }
+    ensures count { length intake.new ≡ length intake.old }
 {
-    'cores: for core in 0..lanes.count() {
-        match lanes.next_of(core) {
+    intake.next_of(rt, core)
+}
+
+// Whether each recording has ended behind the last pair; the least core that has not decides.
+fn finish<R: Read, T: Wait>(
+    rt: &T,
+    intake: &mut Intake<R>,
+    keeper: &Keeper,
+    place: u64,
+) -> Result<(), InputFault>
+    requires { length intake.old ≤ 16 }
+    ensures ended { AreHonest intake.new → (result ≡ Err InputFault.Memory) ⊎ IsEnded intake.old place (taken_of keeper.now) result }
+    ensures honest { AreHonest intake.new → AreHonest intake.old }
+    ensures count { length intake.new ≡ length intake.old }
+{
+    'cores: for core in 0..intake.count() {
+        match next_of(rt, intake, core) {
             Ok(None) => {}
             Ok(Some(_)) => {
                 return Err(InputFault::Order {

@@ -8,23 +8,24 @@ use Rattle.placement.proofs.placer.finish.Goals as goal
 
 pub returns-in-Ok-Some-clause-ended : goal.returns-in-Ok-Some-clause-ended
 returns-in-Ok-Some-clause-ended g c =
-    let within : c.cores.core < length c.args.lanes.now = omega arith in
-    inr (end_missing c.args.lanes.now c.cores.lanes c.cores.core c.args.place (taken_of c.args.keeper.now) c.in-Ok-Some.field-0-0 _ within c.cores.invariant.below
-    (rw c.in-Ok-Some.field-0-is at c.in-Ok-Some.ensures.gives))
+    let within : c.cores.core < length c.args.intake.now = omega arith in
+    λ honest. inr (end_missing c.args.intake.now c.cores.intake c.cores.core c.args.place (taken_of c.args.keeper.now) c.in-Ok-Some.field-0-0 (left_at c.next_of.new.intake c.cores.core) within
+    (c.cores.invariant.below (c.next_of.ensures.honest honest)) (rw c.in-Ok-Some.field-0-is at (c.in-Ok-Some.ensures.gives honest)))
 
 pub returns-in-Err-clause-ended : goal.returns-in-Err-clause-ended
 returns-in-Err-clause-ended g c =
-    let within : c.cores.core < length c.args.lanes.now = omega arith in
+    let within : c.cores.core < length c.args.intake.now = omega arith in
     let told = c.row_fault.ensures ∙ ap (λ seq. row_fault c.cores.core seq c.in-Err.fault) c.taken.ensures in
-    elim (row_told c.cores.core (taken_of c.args.keeper.now c.cores.core) c.in-Err.fault) [
+    λ honest. elim (row_told c.cores.core (taken_of c.args.keeper.now c.cores.core) c.in-Err.fault) [
       | inl memory ↦ inl (ap Err (told ∙ ap (row_fault c.cores.core (taken_of c.args.keeper.now c.cores.core)) memory))
-      | inr (other, is) ↦ inr (subst (λ fault. IsEnded c.args.lanes.now c.args.place (taken_of c.args.keeper.now) (Err fault)) (sym (told ∙ is))
-          (end_fault c.args.lanes.now c.cores.lanes c.cores.core c.args.place (taken_of c.args.keeper.now) c.in-Err.fault
-          (left_at c.next_of.new.self c.cores.core) within other c.cores.invariant.below c.in-Err.ensures.gives))
+      | inr (other, is) ↦ inr (subst (λ fault. IsEnded c.args.intake.now c.args.place (taken_of c.args.keeper.now) (Err fault)) (sym (told ∙ is))
+          (end_fault c.args.intake.now c.cores.intake c.cores.core c.args.place (taken_of c.args.keeper.now) c.in-Err.fault
+          (left_at c.next_of.new.intake c.cores.core) within other
+          (c.cores.invariant.below (c.next_of.ensures.honest honest)) (c.in-Err.ensures.gives honest)))
     ]
 
 pub returns-clause-ended : goal.returns-clause-ended
 returns-clause-ended g c =
-    let all : c.cores.core ≡ length c.args.lanes.now = omega arith in
-    inr (end_all c.args.lanes.now c.cores.lanes c.args.place (taken_of c.args.keeper.now)
-    (subst (λ n. HaveEnded c.args.lanes.now n c.cores.lanes) all c.cores.invariant.below))
+    let all : c.cores.core ≡ length c.args.intake.now = omega arith in
+    λ honest. inr (end_all c.args.intake.now c.cores.intake c.args.place (taken_of c.args.keeper.now)
+    (subst (λ n. HaveEnded c.args.intake.now n c.cores.intake) all (c.cores.invariant.below honest)))

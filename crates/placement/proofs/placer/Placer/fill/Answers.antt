@@ -10,7 +10,8 @@ use Rattle.placement.proofs.placer.Placer.fill.Goals as goal
 
 pub records-init : goal.records-init
 records-init g c = record {
-  lead = subst (λ items. Lead c.args.self.now items c.args.self.now) (sym c.requires.empty) (λ scanned ahead. ahead);
+  lead = λ honest. subst (λ items. Lead c.args.self.now items c.args.self.now) (sym c.requires.empty) (λ scanned ahead. ahead);
+  honest = λ honest. honest;
   placed = rw c.requires.empty tt;
   of_cores = rw c.requires.empty tt;
   place = rw c.requires.empty (omega arith);
@@ -20,11 +21,12 @@ records-init g c = record {
 }
 
 pub returns-in-Ok-None-clause-filled : goal.returns-in-Ok-None-clause-filled
-returns-in-Ok-None-clause-filled g c =
-    end_on c.args.self.now c.records.self c.records.round.items (Ok tt) c.records.invariant.lead (rw c.in-Ok-None.field-0-is at c.in-Ok-None.ensures.next)
+returns-in-Ok-None-clause-filled g c = λ honest.
+    end_on c.args.self.now c.records.self c.records.round.items (Ok tt) (c.records.invariant.lead (c.in-Ok-None.ensures.honest honest)) (rw c.in-Ok-None.field-0-is at (c.in-Ok-None.ensures.next honest))
 
 pub returns-in-Err-clause-filled : goal.returns-in-Err-clause-filled
-returns-in-Err-clause-filled g c = end_on c.args.self.now c.records.self c.records.round.items (Err c.in-Err.fault) c.records.invariant.lead c.in-Err.ensures.next
+returns-in-Err-clause-filled g c = λ honest.
+    end_on c.args.self.now c.records.self c.records.round.items (Err c.in-Err.fault) (c.records.invariant.lead (c.in-Err.ensures.honest honest)) (c.in-Err.ensures.next honest)
 
 pub records-preserved : goal.records-preserved
 records-preserved g c =
@@ -36,8 +38,9 @@ records-preserved g c =
     let at = rw c.in-Ok-Some.field-0-is at c.in-Ok-Some.ensures.place in
     let long : length (front ++ one ∷ []) ≡ length front + 1 = length-append front (one ∷ []) in
     record {
-      lead = subst (λ items. Lead c.args.self.now items c.next.new.self) (sym grown)
-          (lead_on c.args.self.now c.records.self c.next.new.self front one before.lead (rw c.in-Ok-Some.field-0-is at c.in-Ok-Some.ensures.next));
+      lead = λ honest. subst (λ items. Lead c.args.self.now items c.next.new.self) (sym grown)
+          (lead_on c.args.self.now c.records.self c.next.new.self front one (before.lead (c.next.ensures.honest honest)) (rw c.in-Ok-Some.field-0-is at (c.in-Ok-Some.ensures.next honest)));
+      honest = λ honest. before.honest (c.next.ensures.honest honest);
       placed = subst (ArePlaced (place_of c.args.self.now.kept)) (sym grown) (placed_more (place_of c.args.self.now.kept) front one before.placed (at.0 ∙ before.place));
       of_cores = subst (AreOfCores (length c.args.self.now.lanes)) (sym grown)
           (of_cores_more (length c.args.self.now.lanes) front one before.of_cores (subst (λ n. one.core < n) before.lanes (rw c.in-Ok-Some.field-0-is at c.in-Ok-Some.ensures.core)));

@@ -1,12 +1,13 @@
 use Rattle.std.proofs.Common.{◌≡◌, ◌≤◌, ◌+◌, ◌-◌, length, false}
 use Rattle.apex_machine.specs.Runs.{ArePlaced, AreOfCores}
 use Rattle.order_cert.specs.Kept.{place_of}
-use Rattle.placement.specs.Lanes.{Lead}
+use Rattle.placement.specs.Lanes.{AreHonest, Lead}
 use Rattle.placement.proofs.placer.Placer.fill.Given as goal
 
 abbrev pub invariant-records : goal.invariant-records
 invariant-records g l = record {
-  lead : Lead l.fn.self l.round.items l.self;
+  lead : AreHonest l.self.lanes → Lead l.fn.self l.round.items l.self;
+  honest : AreHonest l.self.lanes → AreHonest l.fn.self.lanes;
   placed : ArePlaced (place_of l.fn.self.kept) l.round.items;
   of_cores : AreOfCores (length l.fn.self.lanes) l.round.items;
   place : place_of l.self.kept ≡ place_of l.fn.self.kept + length l.round.items;
