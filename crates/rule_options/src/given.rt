@@ -1,0 +1,65 @@
+// The options that are given.
+
+ghost use Rattle.std.specs.Prelude.{◌≡◌, IfOk, option_map};
+ghost use Rattle.csv_rows.specs.Decimal.{decimal};
+ghost use Rattle.rule_options.specs.Options.{in_order, values_of};
+
+use crate::option::RuleOption;
+use apex_types::Service;
+use csv_rows::read_decimal;
+use record_read::find_service;
+use std::alloc::{AllocError, Global};
+
+/// The values of the options, as far as they are given.
+#[derive(Clone, Copy, Debug, PartialEq, Eq)]
+pub struct RuleOptions {
+    /// That of `--max-elapsed`, in ticks.
+    pub max_elapsed: Option<u32>,
+    /// That of `--forbid`.
+    pub forbidden: Option<Service>,
+}
+
+impl RuleOptions {
+    /// The values that these texts give, as far as there are texts: ticks from 0 to 4,294,967,295, with no zero before another
+    /// digit, and a service by its name. None where a text is no such value. Takes no memory.
+    pub fn read(max_elapsed: Option<&[u8]>, forbidden: Option<&[u8]>) -> Option<RuleOptions>
+        ensures { result ≡ values_of (option_map (λ text. text.now) max_elapsed.entry) (option_map (λ text. text.now) forbidden.entry) }
+    {
+        let max_elapsed = match max_elapsed {
+            Some(text) => Some(read_ticks(text)?),
+            None => None,
+        };
+        let forbidden = match forbidden {
+            Some(text) => Some(find_service(text)?),
+            None => None,
+        };
+        Some(RuleOptions {
+            max_elapsed,
+            forbidden,
+        })
+    }
+
+    /// The options that are given, in the order in which their rules are numbered: `--max-elapsed`, then `--forbid`.
+    pub fn in_order(self, alloc: Global) -> Result<Vec<RuleOption>, AllocError>
+        ensures { IfOk result (λ options. options.items ≡ in_order self) }
+    {
+        let mut options = Vec::new(alloc);
+        if let Some(ticks) = self.max_elapsed {
+            options.push(RuleOption::MaxElapsed(ticks))?;
+        }
+        if let Some(service) = self.forbidden {
+            options.push(RuleOption::Forbid(service))?;
+        }
+        Ok(options)
+    }
+}
+
+// The ticks that a text gives.
+fn read_ticks(text: &[u8]) -> Option<u32>
+    ensures { result ≡ decimal 4294967295 text.now }
+{
+    match read_decimal(text, u32::MAX as u64) {
+        Some(ticks) => Some(ticks as u32),
+        None => None,
+    }
+}

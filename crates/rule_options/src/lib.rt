@@ -1,0 +1,20 @@
+//! The rules that a command line asks for by options of their own, `--max-elapsed` and `--forbid`.
+//!
+//! Promises: the values of the options are read exactly where their texts are such values. The options that are given stand in
+//! the order in which their rules are numbered. The relation of an option is met by exactly the views that keep to it.
+//!
+//! ```text
+//! let given = RuleOptions::read(Some(b"4"), Some(b"SIGNAL_SEMAPHORE"));
+//! let options = given.ok_or(Usage)?.in_order(alloc)?;    // rule 0 is `--max-elapsed 4`, rule 1 `--forbid SIGNAL_SEMAPHORE`
+//! let relations = relations_of(alloc, &options)?;        // for a check of recordings
+//! ```
+#![tactic(auto)]
+
+mod given;
+mod option;
+
+pub use given::RuleOptions;
+pub use option::{RuleOption, relations_of};
+
+#[cfg(test)]
+mod tests;
