@@ -11,8 +11,8 @@ use Rattle.piece_check.specs.declared.fault.PieceFault.{PieceFault}
 use Rattle.piece_check.specs.declared.fault.PieceFault.TheVariants.{Unlawful, OutsideProfile, Memory}
 use Rattle.piece_check.specs.Parts.{piece_at}
 use Rattle.piece_check.specs.Refused.{IsRefused}
-use Rattle.verdict_merge.specs.declared.finding.Finding.{Finding}
-use Rattle.verdict_merge.specs.Findings.{finding_of}
+use Rattle.verdict_merge.specs.declared.finding.Refused.{Refused}
+use Rattle.verdict_merge.specs.Findings.{refusal_of}
 use Rattle.verdict_merge.specs.Rounds.{HasGone}
 
 -- a run goes on over one more record
@@ -34,14 +34,14 @@ pub passes_by : (configuration : Configuration) (piece : Piece) (old now : Part)
 passes_by configuration piece old now before ordered run untouched =
     goes_on configuration piece old now now before ordered run (subst (λ b. Goes b configuration now ordered now) (sym untouched) refl)
 
-some_is : (one other : Finding) → ◌≡◌ {A = Option Finding} (Some one) (Some other) → one ≡ other
+some_is : (one other : Refused) → ◌≡◌ {A = Option Refused} (Some one) (Some other) → one ≡ other
 some_is one other e = cc
 
 -- the refusal of a step is a finding among the records
-pub refuses_here : (configuration : Configuration) (number : ℕ) (old now new : Part) (records before after : List Ordered) (ordered : Ordered) (fault : PieceFault) (found : Finding)
+pub refuses_here : (configuration : Configuration) (number : ℕ) (old now new : Part) (records before after : List Ordered) (ordered : Ordered) (fault : PieceFault) (found : Refused)
     → records ≡ before ++ ordered ∷ after → PieceRun configuration (piece_at configuration number) old before now
     → touches configuration (piece_at configuration number) ordered ≡ true → IsRefused (demands configuration now ordered) ordered.pos fault
-    → finding_of fault number ≡ Some found → HasGone configuration number old records (Some found) new
+    → refusal_of fault number ≡ Some found → HasGone configuration number old records (Some found) new
 refuses_here configuration number old now new records before after ordered (Unlawful pos why) found split run touched (same, inside, fails) is =
     subst (λ one. HasGone configuration number old records (Some one) new) (some_is (record { pos = pos; piece = number; cause = why }) found is)
     (refl, (before, ordered, after, split, same, (now, run, touched, fails)))
@@ -49,4 +49,4 @@ refuses_here configuration number old now new records before after ordered (Outs
     subst (λ one. HasGone configuration number old records (Some one) new) (some_is (record { pos = pos; piece = number; cause = cause.OutsideProfile }) found is)
     (refl, (before, ordered, after, split, same, (now, run, touched, fails)))
 refuses_here configuration number old now new records before after ordered Memory found split run touched refused is =
-    let none : ◌≡◌ {A = Option Finding} None (Some found) = is in cc
+    let none : ◌≡◌ {A = Option Refused} None (Some found) = is in cc

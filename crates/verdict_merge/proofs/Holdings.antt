@@ -1,9 +1,9 @@
 -- Pieces by their numbers, behind a change of one of them.
 use Rattle.std.proofs.Common.{◌≡◌, ◌≢◌, ◌<◌, ℕ, zero, suc, List, [], ◌∷◌, ◌++◌, length, get_or, set, refl, sym, ap, subst, ◌∙◌, arith, Result, Ok, Err}
 use Rattle.std.specs.Prelude.{OnErr}
-use Rattle.apex_machine.specs.Pieces.{Part}
 use Rattle.piece_check.specs.Parts.{Holding}
-use Rattle.verdict_merge.specs.Rounds.{holding_at}
+use Rattle.verdict_merge.specs.declared.judged.Judged.{Judged}
+use Rattle.verdict_merge.specs.Rounds.{holding_at, pieces_in}
 
 pub holding_at-get : (holdings : List Holding) (number : ℕ) (default : Holding) → number < length holdings → holding_at holdings number ≡ get_or holdings number default
 holding_at-get [] number default within = absurd (omega arith)
@@ -32,14 +32,28 @@ holding_at-front [] new number within = absurd (omega arith)
 holding_at-front (holding ∷ others) new zero within = refl
 holding_at-front (holding ∷ others) new (suc number) within = holding_at-front others new number (omega arith)
 
--- a fact about the part of a piece before and after it is changed
-pub part_moves : (Fact : Part → Part → Type 0) (holdings : List Holding) (number : ℕ) (old new : Holding) → number < length holdings → old ≡ get_or holdings number old
-    → Fact old.part new.part → Fact (holding_at holdings number).part (holding_at (set holdings number new) number).part
-part_moves Fact holdings number old new within is fact =
-    subst (λ part. Fact part (holding_at (set holdings number new) number).part) (ap (λ one. one.part) (is ∙ sym (holding_at-get holdings number old within)))
-    (subst (λ part. Fact old.part part) (ap (λ one. one.part) (sym (holding_at-set holdings number new within))) fact)
+-- a fact about a piece before and after it is changed
+pub holding_moves : (Fact : Holding → Holding → Type 0) (holdings : List Holding) (number : ℕ) (old new : Holding) → number < length holdings → old ≡ get_or holdings number old
+    → Fact old new → Fact (holding_at holdings number) (holding_at (set holdings number new) number)
+holding_moves Fact holdings number old new within is fact =
+    subst (λ holding. Fact holding (holding_at (set holdings number new) number)) (is ∙ sym (holding_at-get holdings number old within))
+    (subst (λ holding. Fact old holding) (sym (holding_at-set holdings number new within)) fact)
 
 -- what follows where an error is answered
 pub on_err : {Value Fault : Type 0} (result : Result Value Fault) (Given Wanted : Type 0) → (Given → Wanted) → OnErr result Given → OnErr result Wanted
 on_err (Ok value) Given Wanted tells given = tt
 on_err (Err fault) Given Wanted tells given = tells given
+
+-- a piece as it was left, by its number
+pub holding_left : (judged : List Judged) (number : ℕ) (one : Judged) → number < length judged → one ≡ get_or judged number one
+    → holding_at (pieces_in judged) number ≡ one.piece
+holding_left [] number one within is = absurd (omega (arith, within))
+holding_left (first ∷ others) zero one within is = ap (λ judged. judged.piece) (sym is)
+holding_left (first ∷ others) (suc number) one within is = holding_left others number one (omega (arith, within)) is
+
+-- a fact about the piece of a number, as it was left
+pub left_each : (Fact : Holding → Type 0) (judged : List Judged) (number : ℕ) → number < length judged → ((one : Judged) → one ≡ get_or judged number one → Fact one.piece)
+    → Fact (holding_at (pieces_in judged) number)
+left_each Fact [] number within each = absurd (omega (arith, within))
+left_each Fact (first ∷ others) zero within each = each first refl
+left_each Fact (first ∷ others) (suc number) within each = left_each Fact others number (omega (arith, within)) each

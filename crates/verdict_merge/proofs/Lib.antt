@@ -5,3 +5,14 @@ pub mod Splits
 pub mod Rounds
 pub mod Silence
 pub mod Verdicts
+pub mod Among
+pub mod Seeing
+pub mod Slotted
+pub mod Viewing
+pub mod ViewedRun
+pub mod Giving
+pub mod Ruled
+pub mod Watching
+pub mod Between
+pub mod Coming
+pub mod Working

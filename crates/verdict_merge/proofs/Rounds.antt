@@ -5,10 +5,10 @@ use Rattle.apex_machine.specs.Configuration.{Configuration}
 use Rattle.apex_machine.specs.Pieces.{Part, pieces}
 use Rattle.apex_machine.specs.Runs.{ArePlaced, PieceRun, Refuses}
 use Rattle.apex_laws.proofs.Joins.{runs_join}
-use Rattle.piece_check.specs.Parts.{IsBehind, IsOf, piece_at}
-use Rattle.verdict_merge.specs.declared.finding.Finding.{Finding}
-use Rattle.verdict_merge.specs.Findings.{IsLeastWith, IsLesser}
-use Rattle.verdict_merge.specs.Rounds.{AllRun, HasGone, IsNo, IsRound, Judging, RefusesAmong, Runs, holding_at, parts_of}
+use Rattle.piece_check.specs.Parts.{piece_at}
+use Rattle.verdict_merge.specs.declared.finding.Refused.{Refused}
+use Rattle.verdict_merge.specs.Findings.{IsLeastWith, IsLesser, Precedes}
+use Rattle.verdict_merge.specs.Rounds.{AllRun, HasGone, IsNo, RefusesAmong, Runs}
 use Rattle.verdict_merge.proofs.Least.{IsNoSooner, no_sooner_next, no_sooner_stays}
 use Rattle.verdict_merge.proofs.Splits.{begins, begins_with, place_behind, up_to}
 
@@ -36,7 +36,7 @@ all_run_on configuration old next new front back first second = λ number within
 -- a No
 
 -- a No behind runs of all pieces
-pub no_on : (configuration : Configuration) (old next : ℕ → Part) (front records : List Ordered) (found : Finding)
+abbrev pub no_on : (configuration : Configuration) (old next : ℕ → Part) (front records : List Ordered) (found : Refused)
     → AllRun configuration old front next → IsNo configuration next records found → IsNo configuration old (front ++ records) found
 no_on configuration old next front records found all stands = record {
   before = front ++ stands.before;
@@ -57,7 +57,7 @@ no_on configuration old next front records found all stands = record {
 }
 
 -- a No stands whatever comes behind it
-pub no_behind : (configuration : Configuration) (parts : ℕ → Part) (records more : List Ordered) (found : Finding)
+abbrev pub no_behind : (configuration : Configuration) (parts : ℕ → Part) (records more : List Ordered) (found : Refused)
     → IsNo configuration parts records found → IsNo configuration parts (records ++ more) found
 no_behind configuration parts records more found stands = record {
   before = stands.before;
@@ -72,7 +72,7 @@ no_behind configuration parts records more found stands = record {
 }
 
 -- a No from parts that are the same
-pub no_from : (configuration : Configuration) (one other : ℕ → Part) (records : List Ordered) (found : Finding)
+abbrev pub no_from : (configuration : Configuration) (one other : ℕ → Part) (records : List Ordered) (found : Refused)
     → ((number : ℕ) → number < length (pieces configuration) → one number ≡ other number) → IsNo configuration one records found → IsNo configuration other records found
 no_from configuration one other records found same stands = record {
   before = stands.before;
@@ -97,13 +97,13 @@ all_run_from configuration one other records final same all = λ number within.
 -- the least of what the pieces found
 
 -- what became of a piece, by the least finding so far: it ran over the records, or found what is no sooner
-abbrev pub HasBeen : Configuration → (ℕ → Part) → List Ordered → (ℕ → Part) → Option Finding → ℕ → Type 0
+abbrev pub HasBeen : Configuration → (ℕ → Part) → List Ordered → (ℕ → Part) → Option Refused → ℕ → Type 0
 HasBeen configuration old records new least number =
     PieceRun configuration (piece_at configuration number) (old number) records (new number)
-    ⊎ ((other : Finding) × HasGone configuration number (old number) records (Some other) (new number) × IsNoSooner least other)
+    ⊎ ((other : Refused) × HasGone configuration number (old number) records (Some other) (new number) × IsNoSooner least other)
 
 -- a piece that found something later, or the same later, runs through the least finding's record
-runs_before : (configuration : Configuration) (old new : ℕ → Part) (records : List Ordered) (first : ℕ) (found : Finding) (number : ℕ)
+runs_before : (configuration : Configuration) (old new : ℕ → Part) (records : List Ordered) (first : ℕ) (found : Refused) (number : ℕ)
     → ArePlaced first records → (before : List Ordered) (ordered : Ordered) (after : List Ordered) → records ≡ before ++ ordered ∷ after → found.pos ≡ ordered.pos
     → HasBeen configuration old records new (Some found) number → Runs configuration old number before
 runs_before configuration old new records first found number placed before ordered after split place (inl run) =
@@ -118,7 +118,7 @@ runs_before configuration old new records first found number placed before order
     no_less : (a b : ℕ) → ¬ (b < a) → a ≤ b
     no_less a b not = omega (arith, not)
 
-runs_through : (configuration : Configuration) (old new : ℕ → Part) (records : List Ordered) (first : ℕ) (found : Finding) (number : ℕ) → number < found.piece
+runs_through : (configuration : Configuration) (old new : ℕ → Part) (records : List Ordered) (first : ℕ) (found : Refused) (number : ℕ) → number < found.piece
     → ArePlaced first records → (before : List Ordered) (ordered : Ordered) (after : List Ordered) → records ≡ before ++ ordered ∷ after → found.pos ≡ ordered.pos
     → HasBeen configuration old records new (Some found) number → Runs configuration old number (before ++ ordered ∷ [])
 runs_through configuration old new records first found number smaller placed before ordered after split place (inl run) =
@@ -137,7 +137,7 @@ runs_through configuration old new records first found number smaller placed bef
     less_than a b not apart = omega (arith, not, apart)
 
 -- the least finding is a No among the records
-pub least_is_no : (configuration : Configuration) (old new : ℕ → Part) (records : List Ordered) (first : ℕ) (found : Finding) (part : Part) → ArePlaced first records
+pub least_is_no : (configuration : Configuration) (old new : ℕ → Part) (records : List Ordered) (first : ℕ) (found : Refused) (part : Part) → ArePlaced first records
     → found.piece < length (pieces configuration) → HasGone configuration found.piece (old found.piece) records (Some found) part
     → ((number : ℕ) → number < length (pieces configuration) → HasBeen configuration old records new (Some found) number)
     → IsNo configuration old records found
@@ -162,24 +162,24 @@ none_ran configuration old new records been = λ number within. elim (been numbe
 ]
 
 -- the least finding so far is of one of the pieces below this number
-abbrev pub IsFound : Configuration → (ℕ → Part) → List Ordered → ℕ → Option Finding → Type 0
+abbrev pub IsFound : Configuration → (ℕ → Part) → List Ordered → ℕ → Option Refused → Type 0
 IsFound configuration old records number None = Unit {0}
 IsFound configuration old records number (Some found) =
     (found.piece < number) × HasGone configuration found.piece (old found.piece) records (Some found) (old found.piece)
 
 -- one more piece
 
-no_sooner_with : (least found now : Option Finding) (other : Finding) → IsLeastWith least found now → IsNoSooner least other → IsNoSooner now other
+no_sooner_with : (least found now : Option Refused) (other : Refused) → IsLeastWith least found now → IsNoSooner least other → IsNoSooner now other
 no_sooner_with least None now other is later = subst (λ one. IsNoSooner one other) (sym is) later
 no_sooner_with least (Some next) now other (one, is, lesser) later = subst (λ found. IsNoSooner found other) (sym is) (no_sooner_stays least next one other lesser later)
 
-has_been : (configuration : Configuration) (old next : ℕ → Part) (records : List Ordered) (least found now : Option Finding) (number : ℕ) → IsLeastWith least found now
+has_been : (configuration : Configuration) (old next : ℕ → Part) (records : List Ordered) (least found now : Option Refused) (number : ℕ) → IsLeastWith least found now
     → HasGone configuration number (old number) records found (next number) → HasBeen configuration old records next now number
 has_been configuration old next records least None now number is gone = inl gone
 has_been configuration old next records least (Some found) now number (one, is, lesser) gone =
     inr (found, gone, subst (λ now. IsNoSooner now found) (sym is) (no_sooner_next least found one lesser))
 
-pub been_more : (configuration : Configuration) (old now next : ℕ → Part) (records : List Ordered) (least found after : Option Finding) (number : ℕ) → IsLeastWith least found after
+pub been_more : (configuration : Configuration) (old now next : ℕ → Part) (records : List Ordered) (least found after : Option Refused) (number : ℕ) → IsLeastWith least found after
     → ((one : ℕ) → one < number → HasBeen configuration old records now least one) → ((one : ℕ) → one < number → next one ≡ now one)
     → HasGone configuration number (old number) records found (next number)
     → (one : ℕ) → one < number + 1 → HasBeen configuration old records next after one
@@ -191,18 +191,18 @@ been_more configuration old now next records least found after number is been sa
     stays one less (inr (other, went, later)) = inr (other, went, no_sooner_with least found after other is later)
 
 -- what was found below a number was found below the next one
-found_below : (configuration : Configuration) (old : ℕ → Part) (records : List Ordered) (number : ℕ) (least : Option Finding)
+found_below : (configuration : Configuration) (old : ℕ → Part) (records : List Ordered) (number : ℕ) (least : Option Refused)
     → IsFound configuration old records number least → IsFound configuration old records (number + 1) least
 found_below configuration old records number None found = tt
 found_below configuration old records number (Some least) found = (omega (arith, found.0), found.1)
 
-found_next : (configuration : Configuration) (old : ℕ → Part) (records : List Ordered) (number : ℕ) (next : Finding) (part : Part)
+found_next : (configuration : Configuration) (old : ℕ → Part) (records : List Ordered) (number : ℕ) (next : Refused) (part : Part)
     → HasGone configuration number (old number) records (Some next) part → IsFound configuration old records (number + 1) (Some next)
 found_next configuration old records number next part (of, among) =
     (omega (arith, of), (refl, subst (λ one. RefusesAmong configuration (piece_at configuration one) (old one) records next.pos next.cause) (sym of) among))
 
-found_lesser : (configuration : Configuration) (old : ℕ → Part) (records : List Ordered) (number : ℕ) (least : Option Finding) (next one : Finding) (part : Part)
-    → IsLesser least next one → IsFound configuration old records number least → HasGone configuration number (old number) records (Some next) part
+found_lesser : (configuration : Configuration) (old : ℕ → Part) (records : List Ordered) (number : ℕ) (least : Option Refused) (next one : Refused) (part : Part)
+    → IsLesser Precedes least next one → IsFound configuration old records number least → HasGone configuration number (old number) records (Some next) part
     → IsFound configuration old records (number + 1) (Some one)
 found_lesser configuration old records number None next one part is found gone =
     subst (λ f. IsFound configuration old records (number + 1) (Some f)) (sym is) (found_next configuration old records number next part gone)
@@ -211,33 +211,10 @@ found_lesser configuration old records number (Some least) next one part (inl (i
 found_lesser configuration old records number (Some least) next one part (inr (is, kept)) found gone =
     subst (λ f. IsFound configuration old records (number + 1) (Some f)) (sym is) (found_below configuration old records number (Some least) found)
 
-pub found_more : (configuration : Configuration) (old : ℕ → Part) (records : List Ordered) (number : ℕ) (least found after : Option Finding) (part : Part)
+pub found_more : (configuration : Configuration) (old : ℕ → Part) (records : List Ordered) (number : ℕ) (least found after : Option Refused) (part : Part)
     → IsLeastWith least found after → IsFound configuration old records number least → HasGone configuration number (old number) records found part
     → IsFound configuration old records (number + 1) after
 found_more configuration old records number least None after part is found gone =
     subst (IsFound configuration old records (number + 1)) (sym is) (found_below configuration old records number least found)
 found_more configuration old records number least (Some next) after part (one, is, lesser) found gone =
     subst (IsFound configuration old records (number + 1)) (sym is) (found_lesser configuration old records number least next one part lesser found gone)
-
--- the end of a round
-
-pub round_is : (configuration : Configuration) (start now next : Judging) (records : List Ordered) (least : Option Finding) → ArePlaced start.count records
-    → next.pieces ≡ now.pieces → next.count ≡ start.count + length records → length now.pieces ≡ length (pieces configuration)
-    → ((number : ℕ) → number < length (pieces configuration) → IsOf configuration (holding_at now.pieces number))
-    → ((number : ℕ) → number < length (pieces configuration) → IsBehind (start.count + length records) (parts_of now number))
-    → ((number : ℕ) → number < length (pieces configuration) → HasBeen configuration (parts_of start) records (parts_of now) least number)
-    → IsFound configuration (parts_of start) records (length (pieces configuration)) least
-    → IsRound configuration start records least next
-round_is configuration start now next records None placed pieces_same counted whole of_module behind been found =
-    let same : (number : ℕ) → parts_of now number ≡ parts_of next number = λ number. ap (λ list. (holding_at list number).part) (sym pieces_same) in (
-      (λ number within. subst (λ part. PieceRun configuration (piece_at configuration number) (parts_of start number) records part) (same number)
-          (none_ran configuration (parts_of start) (parts_of now) records been number within)),
-      counted,
-      record {
-        whole = ap length pieces_same ∙ whole;
-        of_module = λ number within. subst (λ list. IsOf configuration (holding_at list number)) (sym pieces_same) (of_module number within);
-        behind = λ number within. subst (IsBehind next.count) (same number) (subst (λ place. IsBehind place (parts_of now number)) (sym counted) (behind number within));
-      },
-    )
-round_is configuration start now next records (Some least) placed pieces_same counted whole of_module behind been found =
-    least_is_no configuration (parts_of start) (parts_of now) records start.count least (parts_of start least.piece) placed found.0 found.1 been

@@ -11,12 +11,9 @@ use Rattle.apex_machine.specs.Runs.{ArePlaced, PieceRun}
 use Rattle.apex_machine.specs.State.{State, cold_state}
 use Rattle.apex_laws.proofs.Runs.{one_run}
 use Rattle.apex_laws.proofs.Stays.{stays_tied}
-use Rattle.verdict_merge.specs.declared.verdict.Verdict.{Verdict}
-use Rattle.verdict_merge.specs.declared.verdict.Verdict.TheVariants.{Yes, No}
 use Rattle.verdict_merge.specs.Rounds.{Runs, cold_parts}
-use Rattle.verdict_merge.specs.Verdicts.{IsRunWhereYes, IsVerdict}
 
-abbrev Among : Piece → List Piece → Type 0
+abbrev pub Among : Piece → List Piece → Type 0
 Among piece [] = ⊥
 Among piece (other ∷ others) = (piece ≡ other) ⊎ Among piece others
 
@@ -102,7 +99,7 @@ channel_there configuration number false is has =
     (queuing_there number configuration.queuing [] has)
 
 -- a configured piece is one of the pieces
-is_one : (configuration : Configuration) (piece : Piece) → is_configured configuration piece ≡ true → Among piece (pieces configuration)
+pub is_one : (configuration : Configuration) (piece : Piece) → is_configured configuration piece ≡ true → Among piece (pieces configuration)
 is_one configuration Module has = inl refl
 is_one configuration (OfPartition number) has =
     inr (Among-left (OfPartition number) (map (λ l. OfPartition l.number) configuration.partitions) (map (λ n. OfChannel n) (channel_numbers configuration))
@@ -112,7 +109,7 @@ is_one configuration (OfChannel number) has =
     (channel_there configuration number (is_some (sampling_of configuration number)) refl has))
 
 -- one of the pieces stands at a number
-numbered : (piece : Piece) (others : List Piece) → Among piece others → (number : ℕ) × (number < length others) × (slice_index_or others number Module ≡ piece)
+pub numbered : (piece : Piece) (others : List Piece) → Among piece others → (number : ℕ) × (number < length others) × (slice_index_or others number Module ≡ piece)
 numbered piece [] among = absurd among
 numbered piece (other ∷ others) among = elim among [
   | inl same ↦ (0, omega arith, sym same)
@@ -143,10 +140,3 @@ machine_runs configuration records windows placed runs =
     let each = run_to configuration records runs in
     let run = one_run configuration (cold_state configuration) records (λ piece. (each piece).0) windows (stays_tied.0 configuration) placed (λ piece. (each piece).1) in
     (run.0, run.1)
-
-pub run_where_yes : (configuration : Configuration) (records : List Ordered) (verdict : Verdict)
-    → WindowsAreConfigured configuration → ArePlaced 0 records → IsVerdict configuration records verdict → IsRunWhereYes configuration records verdict
-run_where_yes configuration records (Yes count) windows placed (counted, (final, all)) =
-    let run = machine_runs configuration records windows placed (λ number within. (final number, all number within)) in
-    (run.0, run.1, omega (arith, counted))
-run_where_yes configuration records (No pos piece cause) windows placed verdict = tt

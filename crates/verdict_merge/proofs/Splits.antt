@@ -48,7 +48,7 @@ up_to Fact count below last number less = elim (same_or number count) [
 ]
 
 -- the place of a record by its number among them
-place_at : (first : ℕ) (records : List Ordered) (index : ℕ) (default : Ordered) → ArePlaced first records → index < length records → (get_or records index default).pos ≡ first + index
+pub place_at : (first : ℕ) (records : List Ordered) (index : ℕ) (default : Ordered) → ArePlaced first records → index < length records → (get_or records index default).pos ≡ first + index
 place_at first [] index default placed within = absurd (omega arith)
 place_at first (ordered ∷ others) zero default placed within = omega (arith, placed.0)
 place_at first (ordered ∷ others) (suc index) default placed within = omega (arith, place_at (suc first) others index default placed.1 (omega arith))

@@ -11,18 +11,22 @@ use Rattle.apex_machine.specs.State.{cold_state}
 use Rattle.apex_laws.proofs.Joins.{found_is_refused, nothing_found_is_a_run, refused_found, run_finds_nothing}
 use Rattle.apex_laws.proofs.Refusals.{one_first_refusal}
 use Rattle.piece_check.specs.Parts.{piece_at}
-use Rattle.verdict_merge.specs.declared.finding.Finding.{Finding}
+use Rattle.apex_types.specs.declared.view.View.{View}
+use Rattle.user_rules.specs.declared.broken.Broken.{Broken as BrokenView}
+use Rattle.user_rules.specs.FirstBroken.{IsFirstBroken}
+use Rattle.verdict_merge.specs.declared.finding.Refused.{Refused}
 use Rattle.verdict_merge.specs.declared.verdict.Verdict.{Verdict}
-use Rattle.verdict_merge.specs.declared.verdict.Verdict.TheVariants.{Yes, No}
+use Rattle.verdict_merge.specs.declared.verdict.Verdict.TheVariants.{Yes, No, Broken}
 use Rattle.verdict_merge.specs.Findings.{IsLeast, Precedes}
 use Rattle.verdict_merge.specs.Rounds.{AllRun, HasGone, IsNo, Runs, cold_parts}
-use Rattle.verdict_merge.specs.Verdicts.{AllFind, Follows, IsVerdict, OneVerdict, VerdictIsOfTheFindings, findings_of}
+use Rattle.verdict_merge.specs.Verdicts.{AllFind, Follows, IsVerdict, VerdictIsOfTheFindings, findings_of}
+use Rattle.verdict_merge.proofs.Among.{contains_behind, contains_cases, contains_here, contains_none}
 use Rattle.verdict_merge.proofs.Least.{not_itself, through}
 use Rattle.verdict_merge.proofs.Rounds.{least_is_no, runs_front}
 use Rattle.verdict_merge.proofs.Splits.{begins_with, place_behind}
 
 -- two numbers in order
-order_of : (one other : ℕ) → (one < other) ⊎ ((one ≡ other) ⊎ (other < one))
+pub order_of : (one other : ℕ) → (one < other) ⊎ ((one ≡ other) ⊎ (other < one))
 order_of zero zero = inr (inl refl)
 order_of zero (suc other) = inl (omega arith)
 order_of (suc one) zero = inr (inr (omega arith))
@@ -31,6 +35,12 @@ order_of (suc one) (suc other) = elim (order_of one other) [
   | inr (inl same) ↦ inr (inl (ap suc same))
   | inr (inr more) ↦ inr (inr (omega (arith, more)))
 ]
+
+-- what the pieces say of one order of records, whatever the rules
+abbrev pub IsPiecesVerdict : Configuration → List Ordered → Verdict → Type 0
+IsPiecesVerdict configuration records (Yes all) = (all ≡ length records + 0) × ((final : ℕ → Part) × AllRun configuration (cold_parts configuration) records final)
+IsPiecesVerdict configuration records (No pos piece cause) = IsNo configuration (cold_parts configuration) records (record { pos = pos; piece = piece; cause = cause })
+IsPiecesVerdict configuration records (Broken pos rule) = ⊥
 
 -- one verdict
 
@@ -41,7 +51,7 @@ one_refusal : (one other : Refusal) → ◌≡◌ {A = Option Refusal} (Some one
 one_refusal one other e = cc
 
 -- a piece that runs through a record does not refuse it
-runs_and_refuses : (configuration : Configuration) (piece : Piece) (old : Part) (before : List Ordered) (ordered : Ordered) (cause : Cause) (final : Part)
+pub runs_and_refuses : (configuration : Configuration) (piece : Piece) (old : Part) (before : List Ordered) (ordered : Ordered) (cause : Cause) (final : Part)
     → PieceRun configuration piece old (before ++ ordered ∷ []) final → Refuses configuration piece old before ordered cause → ⊥
 runs_and_refuses configuration piece old before ordered cause final run refuses =
     let refusal : Refusal = record { pos = ordered.pos; cause = cause } in
@@ -50,13 +60,13 @@ runs_and_refuses configuration piece old before ordered cause final run refuses 
     (refused_found configuration piece old before ordered [] refusal refl refuses))
 
 -- the record of a No stands where its place tells
-no_at : (configuration : Configuration) (parts : ℕ → Part) (first : ℕ) (records : List Ordered) (found : Finding) → ArePlaced first records
+pub no_at : (configuration : Configuration) (parts : ℕ → Part) (first : ℕ) (records : List Ordered) (found : Refused) → ArePlaced first records
     → (stands : IsNo configuration parts records found) → found.pos ≡ first + length stands.before
 no_at configuration parts first records found placed stands =
     stands.place ∙ place_behind first stands.before stands.ordered stands.after (subst (ArePlaced first) stands.split placed)
 
 -- each piece runs up to the record of a No
-runs_up_to : (configuration : Configuration) (parts : ℕ → Part) (records : List Ordered) (found : Finding) (stands : IsNo configuration parts records found)
+pub runs_up_to : (configuration : Configuration) (parts : ℕ → Part) (records : List Ordered) (found : Refused) (stands : IsNo configuration parts records found)
     → (number : ℕ) → number < length (pieces configuration) → Runs configuration parts number stands.before
 runs_up_to configuration parts records found stands number within = elim (order_of number found.piece) [
   | inl less ↦ runs_front configuration parts number stands.before (stands.ordered ∷ []) (stands.smaller number less)
@@ -65,7 +75,7 @@ runs_up_to configuration parts records found stands number within = elim (order_
 ]
 
 -- the piece of a No runs over no longer list of the same records
-runs_no_longer : (configuration : Configuration) (parts : ℕ → Part) (records : List Ordered) (found : Finding) (stands : IsNo configuration parts records found)
+pub runs_no_longer : (configuration : Configuration) (parts : ℕ → Part) (records : List Ordered) (found : Refused) (stands : IsNo configuration parts records found)
     → (long rest : List Ordered) → records ≡ long ++ rest → length stands.before < length long → Runs configuration parts found.piece long → ⊥
 runs_no_longer configuration parts records found stands long rest split less runs =
     let front = begins_with stands.before stands.ordered stands.after long rest (sym stands.split ∙ split) less in
@@ -77,7 +87,7 @@ longer [] ordered = omega arith
 longer (one ∷ list) ordered = omega (arith, longer list ordered)
 
 -- of two Nos of the same records none precedes the other
-no_sooner : (configuration : Configuration) (parts : ℕ → Part) (first : ℕ) (records : List Ordered) (one other : Finding) → ArePlaced first records
+no_sooner : (configuration : Configuration) (parts : ℕ → Part) (first : ℕ) (records : List Ordered) (one other : Refused) → ArePlaced first records
     → IsNo configuration parts records one → IsNo configuration parts records other → Precedes one other → ⊥
 no_sooner configuration parts first records one other placed stands also (inl sooner) =
     runs_no_longer configuration parts records one stands also.before (also.ordered ∷ also.after) also.split
@@ -92,7 +102,7 @@ no_less : (a b : ℕ) → ¬ (a < b) → ¬ (b < a) → a ≡ b
 no_less a b not also = omega (arith, not, also)
 
 -- what the piece of a No finds in all the records
-no_finds : (configuration : Configuration) (parts : ℕ → Part) (records : List Ordered) (found : Finding) → IsNo configuration parts records found
+no_finds : (configuration : Configuration) (parts : ℕ → Part) (records : List Ordered) (found : Refused) → IsNo configuration parts records found
     → Finds configuration (piece_at configuration found.piece) (parts found.piece) records (Some (record { pos = found.pos; cause = found.cause }))
 no_finds configuration parts records found stands =
     subst (λ list. Finds configuration (piece_at configuration found.piece) (parts found.piece) list (Some (record { pos = found.pos; cause = found.cause }))) (sym stands.split)
@@ -103,8 +113,8 @@ one_no : (configuration : Configuration) (parts : ℕ → Part) (first : ℕ) (r
     → IsNo configuration parts records (record { pos = pos; piece = piece; cause = cause }) → IsNo configuration parts records (record { pos = pos'; piece = piece'; cause = cause' })
     → ◌≡◌ {A = Verdict} (No pos piece cause) (No pos' piece' cause')
 one_no configuration parts first records pos piece cause pos' piece' cause' placed stands also =
-    let one : Finding = record { pos = pos; piece = piece; cause = cause } in
-    let other : Finding = record { pos = pos'; piece = piece'; cause = cause' } in
+    let one : Refused = record { pos = pos; piece = piece; cause = cause } in
+    let other : Refused = record { pos = pos'; piece = piece'; cause = cause' } in
     let not = no_sooner configuration parts first records one other placed stands also in
     let nor = no_sooner configuration parts first records other one placed also stands in
     let same : pos ≡ pos' = no_less pos pos' (λ less. not (inl less)) (λ less. nor (inl less)) in
@@ -118,7 +128,7 @@ one_no configuration parts first records pos piece cause pos' piece' cause' plac
     cc
 
 -- where each piece runs over all the records there is no No
-no_yes : (configuration : Configuration) (records : List Ordered) (found : Finding) (final : ℕ → Part) → AllRun configuration (cold_parts configuration) records final
+no_yes : (configuration : Configuration) (records : List Ordered) (found : Refused) (final : ℕ → Part) → AllRun configuration (cold_parts configuration) records final
     → IsNo configuration (cold_parts configuration) records found → ⊥
 no_yes configuration records found final all stands =
     runs_no_longer configuration (cold_parts configuration) records found stands (stands.before ++ stands.ordered ∷ []) stands.after
@@ -126,45 +136,37 @@ no_yes configuration records found final all stands =
     (runs_front configuration (cold_parts configuration) found.piece (stands.before ++ stands.ordered ∷ []) stands.after
     (subst (Runs configuration (cold_parts configuration) found.piece) (stands.split ∙ sym (append_assoc stands.before (stands.ordered ∷ []) stands.after)) (final found.piece, all found.piece stands.piece)))
 
-pub one_verdict : OneVerdict
-one_verdict configuration records (Yes count) (Yes count') placed (is, (final, all)) (also, (final', all')) = ap Yes (is ∙ sym also)
-one_verdict configuration records (Yes count) (No pos piece cause) placed (is, (final, all)) stands =
+-- the pieces say one thing
+pub one_pieces_verdict : (configuration : Configuration) (records : List Ordered) (one other : Verdict) → ArePlaced 0 records
+    → IsPiecesVerdict configuration records one → IsPiecesVerdict configuration records other → one ≡ other
+one_pieces_verdict configuration records (Yes count) (Yes count') placed (is, (final, all)) (also, (final', all')) = ap Yes (is ∙ sym also)
+one_pieces_verdict configuration records (Yes count) (No pos piece cause) placed (is, (final, all)) stands =
     absurd (no_yes configuration records (record { pos = pos; piece = piece; cause = cause }) final all stands)
-one_verdict configuration records (No pos piece cause) (Yes count) placed stands (is, (final, all)) =
+one_pieces_verdict configuration records (No pos piece cause) (Yes count) placed stands (is, (final, all)) =
     absurd (no_yes configuration records (record { pos = pos; piece = piece; cause = cause }) final all stands)
-one_verdict configuration records (No pos piece cause) (No pos' piece' cause') placed stands also =
+one_pieces_verdict configuration records (No pos piece cause) (No pos' piece' cause') placed stands also =
     one_no configuration (cold_parts configuration) 0 records pos piece cause pos' piece' cause' placed stands also
+one_pieces_verdict configuration records (Broken pos rule) other placed is also = absurd is
+one_pieces_verdict configuration records (Yes count) (Broken pos rule) placed is also = absurd also
+one_pieces_verdict configuration records (No place piece cause) (Broken pos rule) placed is also = absurd also
 
 -- lists of findings
 
-contains_here : {A : Type 0} (one : A) (rest : List A) → Contains (one ∷ rest) one
-contains_here one rest = (0, omega arith, refl)
-
-contains_behind : {A : Type 0} (one other : A) (rest : List A) → Contains rest other → Contains (one ∷ rest) other
-contains_behind one other rest (k, within, is) = (suc k, omega (arith, within), is)
-
-contains_cases : {A : Type 0} (one other : A) (rest : List A) → Contains (one ∷ rest) other → (other ≡ one) ⊎ Contains rest other
-contains_cases one other rest (zero, within, is) = inl (sym is)
-contains_cases one other rest (suc k, within, is) = inr (k, omega (arith, within), is)
-
-contains_none : {A : Type 0} (one : A) → Contains [] one → ⊥
-contains_none one (k, within, is) = absurd (omega (arith, within))
-
-contains_later : (number : ℕ) (found : Option Refusal) (later : List Finding) (one : Finding) → Contains later one → Contains (findings_of number found ++ later) one
+contains_later : (number : ℕ) (found : Option Refusal) (later : List Refused) (one : Refused) → Contains later one → Contains (findings_of number found ++ later) one
 contains_later number None later one there = there
 contains_later number (Some refusal) later one there = contains_behind (record { pos = refusal.pos; piece = number; cause = refusal.cause }) one later there
 
 -- the finding of a piece's refusal
-abbrev as_finding : ℕ → Refusal → Finding
+abbrev as_finding : ℕ → Refusal → Refused
 as_finding number refusal = record { pos = refusal.pos; piece = number; cause = refusal.cause }
 
 -- what a piece finds, and that it is among the findings
-abbrev FoundAt : Configuration → List Ordered → List Finding → ℕ → Piece → Type 0
+abbrev FoundAt : Configuration → List Ordered → List Refused → ℕ → Piece → Type 0
 FoundAt configuration records findings number piece =
     (found : Option Refusal) × Finds configuration piece (part piece (cold_state configuration)) records found
     × ((refusal : Refusal) → found ≡ Some refusal → Contains findings (as_finding number refusal))
 
-found_at : (configuration : Configuration) (number : ℕ) (others : List Piece) (records : List Ordered) (findings : List Finding) → AllFind configuration number others records findings
+found_at : (configuration : Configuration) (number : ℕ) (others : List Piece) (records : List Ordered) (findings : List Refused) → AllFind configuration number others records findings
     → (index : ℕ) → index < length others → FoundAt configuration records findings (number + index) (slice_index_or others index Module)
 found_at configuration number [] records findings all index within = absurd (omega (arith, within))
 found_at configuration number (piece ∷ others) records findings (found, later, finds, rest, is) zero within = (
@@ -182,17 +184,17 @@ found_at configuration number (piece ∷ others) records findings (found, later,
     )
 
 -- who found one of the findings
-abbrev FoundBy : Configuration → ℕ → List Piece → List Ordered → Finding → Type 0
+abbrev FoundBy : Configuration → ℕ → List Piece → List Ordered → Refused → Type 0
 FoundBy configuration number others records one =
     (index : ℕ) × (index < length others) × (one.piece ≡ number + index)
     × Finds configuration (slice_index_or others index Module) (part (slice_index_or others index Module) (cold_state configuration)) records (Some (record { pos = one.pos; cause = one.cause }))
 
-found_behind : (configuration : Configuration) (number : ℕ) (piece : Piece) (others : List Piece) (records : List Ordered) (one : Finding)
+found_behind : (configuration : Configuration) (number : ℕ) (piece : Piece) (others : List Piece) (records : List Ordered) (one : Refused)
     → FoundBy configuration (suc number) others records one → FoundBy configuration number (piece ∷ others) records one
 found_behind configuration number piece others records one (index, within, at, finds) = (suc index, omega (arith, within), omega (arith, at), finds)
 
-found_by : (configuration : Configuration) (number : ℕ) (others : List Piece) (records : List Ordered) (findings : List Finding) → AllFind configuration number others records findings
-    → (one : Finding) → Contains findings one → FoundBy configuration number others records one
+found_by : (configuration : Configuration) (number : ℕ) (others : List Piece) (records : List Ordered) (findings : List Refused) → AllFind configuration number others records findings
+    → (one : Refused) → Contains findings one → FoundBy configuration number others records one
 found_by configuration number [] records findings all one there = absurd (contains_none one (subst (λ list. Contains list one) all there))
 found_by configuration number (piece ∷ others) records findings (None, later, finds, rest, is) one there =
     found_behind configuration number piece others records one (found_by configuration (suc number) others records later rest one (subst (λ list. Contains list one) is there))
@@ -209,7 +211,7 @@ found_by configuration number (piece ∷ others) records findings (Some refusal,
 
 -- the least of a list
 
-decided : (one other : Finding) → Precedes one other ⊎ ¬ Precedes one other
+decided : (one other : Refused) → Precedes one other ⊎ ¬ Precedes one other
 decided one other = elim (order_of one.pos other.pos) [
   | inl sooner ↦ inl (inl sooner)
   | inr (inl same) ↦ elim (order_of one.piece other.piece) [
@@ -229,7 +231,7 @@ decided one other = elim (order_of one.pos other.pos) [
     by_later (inr (same, less)) later = absurd (omega (arith, same, later))
 
 -- what no other precedes is before what one of those precedes
-before_too : (one least next : Finding) → ¬ Precedes one least → Precedes one next → Precedes least next
+before_too : (one least next : Refused) → ¬ Precedes one least → Precedes one next → Precedes least next
 before_too one least next not (inl sooner) = elim (order_of least.pos next.pos) [
   | inl less ↦ inl less
   | inr (inl same) ↦ absurd (not (inl (omega (arith, sooner, same))))
@@ -245,11 +247,11 @@ before_too one least next not (inr (same, less)) = elim (order_of least.pos next
   | inr (inr more) ↦ absurd (not (inl (omega (arith, same, more))))
 ]
 
-least_of : (findings : List Finding) → (found : Option Finding) × IsLeast findings found
+least_of : (findings : List Refused) → (found : Option Refused) × IsLeast Precedes findings found
 least_of [] = (None, refl)
 least_of (next ∷ findings) = with_next (least_of findings)
   where
-    with_next : (found : Option Finding) × IsLeast findings found → (found : Option Finding) × IsLeast (next ∷ findings) found
+    with_next : (found : Option Refused) × IsLeast Precedes findings found → (found : Option Refused) × IsLeast Precedes (next ∷ findings) found
     with_next (None, none) = (
       Some next,
       (
@@ -295,13 +297,13 @@ part_where count Fact found number = elim (order_of number count) [
 ]
 
 -- what the piece of a number finds
-found_zero : (configuration : Configuration) (records : List Ordered) (findings : List Finding) → AllFind configuration 0 (pieces configuration) records findings
+found_zero : (configuration : Configuration) (records : List Ordered) (findings : List Refused) → AllFind configuration 0 (pieces configuration) records findings
     → (number : ℕ) → number < length (pieces configuration) → FoundAt configuration records findings number (piece_at configuration number)
 found_zero configuration records findings all number within =
     subst (λ n. FoundAt configuration records findings n (piece_at configuration number)) (let e : 0 + number ≡ number = omega arith in e)
     (found_at configuration 0 (pieces configuration) records findings all number within)
 
-no_findings : (configuration : Configuration) (records : List Ordered) (findings : List Finding) → AllFind configuration 0 (pieces configuration) records findings → findings ≡ []
+no_findings : (configuration : Configuration) (records : List Ordered) (findings : List Refused) → AllFind configuration 0 (pieces configuration) records findings → findings ≡ []
     → (number : ℕ) → number < length (pieces configuration) → Runs configuration (cold_parts configuration) number records
 no_findings configuration records findings all none number within = by (found_zero configuration records findings all number within)
   where
@@ -310,15 +312,15 @@ no_findings configuration records findings all none number within = by (found_ze
     by (Some refusal, finds, tells) = absurd (contains_none (as_finding number refusal) (subst (λ list. Contains list (as_finding number refusal)) none (tells refusal refl)))
 
 -- what became of each piece beside the least of the findings
-been_so : (configuration : Configuration) (records : List Ordered) (findings : List Finding) (least : Finding) → AllFind configuration 0 (pieces configuration) records findings
-    → ((other : Finding) → Contains findings other → ¬ Precedes other least) → (number : ℕ) → number < length (pieces configuration)
+been_so : (configuration : Configuration) (records : List Ordered) (findings : List Refused) (least : Refused) → AllFind configuration 0 (pieces configuration) records findings
+    → ((other : Refused) → Contains findings other → ¬ Precedes other least) → (number : ℕ) → number < length (pieces configuration)
     → (final : Part) × (PieceRun configuration (piece_at configuration number) (cold_parts configuration number) records final
-    ⊎ ((other : Finding) × HasGone configuration number (cold_parts configuration number) records (Some other) final × ¬ Precedes other least))
+    ⊎ ((other : Refused) × HasGone configuration number (cold_parts configuration number) records (Some other) final × ¬ Precedes other least))
 been_so configuration records findings least all no_other number within = by (found_zero configuration records findings all number within)
   where
     by : FoundAt configuration records findings number (piece_at configuration number)
         → (final : Part) × (PieceRun configuration (piece_at configuration number) (cold_parts configuration number) records final
-        ⊎ ((other : Finding) × HasGone configuration number (cold_parts configuration number) records (Some other) final × ¬ Precedes other least))
+        ⊎ ((other : Refused) × HasGone configuration number (cold_parts configuration number) records (Some other) final × ¬ Precedes other least))
     by (None, finds, tells) =
         let run = (nothing_found_is_a_run configuration (piece_at configuration number) (cold_parts configuration number) records).0 finds in
         (run.0, inl run.1)
@@ -331,39 +333,56 @@ been_so configuration records findings least all no_other number within = by (fo
       ),
     )
 
-least_no : (configuration : Configuration) (records : List Ordered) (findings : List Finding) (least : Finding) → ArePlaced 0 records
-    → AllFind configuration 0 (pieces configuration) records findings → IsLeast findings (Some least) → IsNo configuration (cold_parts configuration) records least
+least_no : (configuration : Configuration) (records : List Ordered) (findings : List Refused) (least : Refused) → ArePlaced 0 records
+    → AllFind configuration 0 (pieces configuration) records findings → IsLeast Precedes findings (Some least) → IsNo configuration (cold_parts configuration) records least
 least_no configuration records findings least placed all (there, no_other) =
     let by = found_by configuration 0 (pieces configuration) records findings all least there in
     let at : least.piece ≡ by.0 = by.2 ∙ omega arith in
     let finds = subst (λ number. Finds configuration (piece_at configuration number) (cold_parts configuration number) records (Some (record { pos = least.pos; cause = least.cause }))) (sym at) by.3 in
     let been = part_where (length (pieces configuration))
     (λ number final. PieceRun configuration (piece_at configuration number) (cold_parts configuration number) records final
-    ⊎ ((other : Finding) × HasGone configuration number (cold_parts configuration number) records (Some other) final × ¬ Precedes other least))
+    ⊎ ((other : Refused) × HasGone configuration number (cold_parts configuration number) records (Some other) final × ¬ Precedes other least))
     (been_so configuration records findings least all no_other) in
     least_is_no configuration (cold_parts configuration) (λ number. (been number).0) records 0 least (cold_parts configuration least.piece) placed (omega (arith, at, by.1))
     (refl, (found_is_refused configuration (piece_at configuration least.piece) (cold_parts configuration least.piece) records (record { pos = least.pos; cause = least.cause })).0 finds)
     (λ number within. (been number).1 within)
 
-follows_is : (configuration : Configuration) (records : List Ordered) (findings : List Finding) (verdict : Verdict) → ArePlaced 0 records
-    → AllFind configuration 0 (pieces configuration) records findings → Follows findings (length records) verdict → IsVerdict configuration records verdict
+follows_is : (configuration : Configuration) (records : List Ordered) (findings : List Refused) (verdict : Verdict) → ArePlaced 0 records
+    → AllFind configuration 0 (pieces configuration) records findings → Follows findings (length records) verdict → IsPiecesVerdict configuration records verdict
 follows_is configuration records findings (Yes count) placed all (none, counted) =
     let runs = part_where (length (pieces configuration)) (λ number final. PieceRun configuration (piece_at configuration number) (cold_parts configuration number) records final)
     (no_findings configuration records findings all none) in
     (omega (arith, counted), ((λ number. (runs number).0), λ number within. (runs number).1 within))
 follows_is configuration records findings (No pos piece cause) placed all least =
     least_no configuration records findings (record { pos = pos; piece = piece; cause = cause }) placed all least
+follows_is configuration records findings (Broken pos rule) placed all follows = absurd follows
 
-some_follows : (findings : List Finding) (count : ℕ) → (verdict : Verdict) × Follows findings count verdict
+some_follows : (findings : List Refused) (count : ℕ) → (verdict : Verdict) × Follows findings count verdict
 some_follows findings count = by (least_of findings)
   where
-    by : (found : Option Finding) × IsLeast findings found → (verdict : Verdict) × Follows findings count verdict
+    by : (found : Option Refused) × IsLeast Precedes findings found → (verdict : Verdict) × Follows findings count verdict
     by (None, none) = (Yes count, (none, refl))
     by (Some least, is) = (No least.pos least.piece least.cause, is)
+
+-- without a rule no rule is broken
+pub no_rule_broken : (views : List View) (broken : BrokenView) → ¬ IsFirstBroken [] views (Some broken)
+no_rule_broken views broken is = nothing_split is.first.earlier is.first.relation is.first.later is.first.split
+  where
+    nothing_split : {A : Type 0} (earlier : List A) (one : A) (later : List A) → ◌≡◌ {A = List A} [] (earlier ++ one ∷ later) → ⊥
+    nothing_split [] one later e = cc
+    nothing_split (first ∷ earlier) one later e = cc
+
+-- without a rule the verdict is that of the pieces
+pieces_verdict : (configuration : Configuration) (records : List Ordered) (verdict : Verdict)
+    → (IsVerdict configuration [] records verdict → IsPiecesVerdict configuration records verdict) × (IsPiecesVerdict configuration records verdict → IsVerdict configuration [] records verdict)
+pieces_verdict configuration records (Yes all) = (λ is. (is.0, is.1), λ is. (is.0, is.1, tt))
+pieces_verdict configuration records (No pos piece cause) = (λ is. is.0, λ is. (is, tt))
+pieces_verdict configuration records (Broken pos rule) = (λ is. no_rule_broken is.views is.broken is.first, λ is. absurd is)
 
 pub verdict_is_of_the_findings : VerdictIsOfTheFindings
 verdict_is_of_the_findings configuration records findings verdict placed all = (
   λ is. let some = some_follows findings (length records) in
-      subst (Follows findings (length records)) (one_verdict configuration records some.0 verdict placed (follows_is configuration records findings some.0 placed all some.1) is) some.1,
-  follows_is configuration records findings verdict placed all,
+      subst (Follows findings (length records))
+      (one_pieces_verdict configuration records some.0 verdict placed (follows_is configuration records findings some.0 placed all some.1) ((pieces_verdict configuration records verdict).0 is)) some.1,
+  λ follows. (pieces_verdict configuration records verdict).1 (follows_is configuration records findings verdict placed all follows),
 )

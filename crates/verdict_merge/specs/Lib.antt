@@ -1,3 +1,4 @@
 pub mod Findings
 pub mod Rounds
 pub mod Verdicts
+pub mod Views

@@ -1,13 +1,25 @@
 -- What all pieces make of the next records.
-use Rattle.std.specs.Prelude.{◌≡◌, ◌<◌, ◌+◌, IsTrue, false, ℕ, zero, suc, List, [], ◌∷◌, ◌++◌, Option, Some, None, length}
+use Rattle.std.specs.Prelude.{◌≡◌, ◌<◌, ◌+◌, Bool, false, ℕ, zero, suc, List, [], ◌∷◌, ◌++◌, Option, Some, None, length, map, slice_index_or}
 use Rattle.apex_types.specs.declared.cause.Cause.{Cause}
 use Rattle.apex_types.specs.declared.record.Ordered.{Ordered}
 use Rattle.apex_machine.specs.Configuration.{Configuration}
+use Rattle.apex_machine.specs.Demands.{FirstFails, LocalStep, demands}
 use Rattle.apex_machine.specs.Pieces.{ModulePart, Part, Piece, part, pieces}
-use Rattle.apex_machine.specs.Runs.{ArePlaced, PieceRun, Refuses}
+use Rattle.apex_machine.specs.Runs.{PieceRun, Refuses}
 use Rattle.apex_machine.specs.State.{cold_state}
-use Rattle.piece_check.specs.Parts.{Holding, IsBehind, IsOf, piece_at}
-use Rattle.verdict_merge.specs.declared.finding.Finding.{Finding}
+use Rattle.apex_machine.specs.Views.{view_in}
+use Rattle.piece_check.specs.declared.fault.PieceFault.{PieceFault}
+use Rattle.piece_check.specs.Parts.{Holding, IsBehind, IsOf, IsPartOf, piece_at}
+use Rattle.apex_types.specs.declared.view.View.{View}
+use Rattle.verdict_merge.specs.declared.finding.Refused.{Refused}
+use Rattle.verdict_merge.specs.declared.gone.Gone.{Gone}
+use Rattle.verdict_merge.specs.declared.gone.Judgement.{Judgement}
+use Rattle.verdict_merge.specs.declared.gone.Judgement.TheVariants.{Accepted}
+use Rattle.verdict_merge.specs.declared.gone.Judgement.TheVariants as judgement
+use Rattle.verdict_merge.specs.Findings.{refusal_of}
+use Rattle.verdict_merge.specs.declared.survey.Survey.{Survey}
+use Rattle.verdict_merge.specs.declared.judged.Judged.{Judged}
+use Rattle.verdict_merge.specs.Views.{AreWanted, HasSeen, wanted_of}
 
 -- the parts of all pieces by their numbers, as they are before the first record
 abbrev pub cold_parts : Configuration → ℕ → Part
@@ -24,7 +36,7 @@ AllRun configuration old records new =
 
 -- a No among records: the piece runs up to the record at that place and refuses it for that cause; the pieces of smaller number
 -- run through it, all others run up to it; nothing is said of the records behind it
-pub record IsNo (configuration : Configuration) (parts : ℕ → Part) (records : List Ordered) (found : Finding) : Type 0 where
+pub record IsNo (configuration : Configuration) (parts : ℕ → Part) (records : List Ordered) (found : Refused) : Type 0 where
   pub before : List Ordered
   pub ordered : Ordered
   pub after : List Ordered
@@ -44,24 +56,46 @@ RefusesAmong configuration piece old records place cause =
     × Refuses configuration piece old before ordered cause
 
 -- what became of the piece of this number: it ran over the records, or refused one of them
-abbrev pub HasGone : Configuration → ℕ → Part → List Ordered → Option Finding → Part → Type 0
+abbrev pub HasGone : Configuration → ℕ → Part → List Ordered → Option Refused → Part → Type 0
 HasGone configuration number old records None new = PieceRun configuration (piece_at configuration number) old records new
 HasGone configuration number old records (Some found) new =
     (found.piece ≡ number) × RefusesAmong configuration (piece_at configuration number) old records found.pos found.cause
 
--- a piece may go over these records: it is of this module, and behind the first record's place
-pub record IsGoing (configuration : Configuration) (records : List Ordered) (holding : Holding) : Type 0 where
-  pub place : ℕ
-  pub placed : ArePlaced place records
+-- the piece of this number may go over records from this place on: it is of this module, and behind the place
+pub record IsGoing (configuration : Configuration) (number place : ℕ) (holding : Holding) : Type 0 where
   pub of_module : IsOf configuration holding
+  pub whose : IsPartOf (piece_at configuration number) holding.part
   pub behind : IsBehind place holding.part
+
+-- what the piece of this number made of a record that touches it: its step, with the view that was wanted; or the first demand that
+-- fails, which leaves its part
+abbrev pub HasJudged : Configuration → ℕ → Bool → Ordered → Holding → Judgement → Holding → Type 0
+HasJudged configuration number watched ordered old (Accepted view) new =
+    LocalStep configuration old.part ordered new.part × (view ≡ wanted_of watched (view_in old.part ordered)) × IsBehind (ordered.pos + 1) new.part
+HasJudged configuration number watched ordered old (judgement.Refused refused) new =
+    (refused.pos ≡ ordered.pos) × (refused.piece ≡ number) × FirstFails (demands configuration old.part ordered) refused.cause × (new.part ≡ old.part)
+
+-- the refusal that a fault of the piece of this number is
+abbrev pub IsRefusal : PieceFault → ℕ → Judgement → Type 0
+IsRefusal fault number (Accepted view) = ⊥
+IsRefusal fault number (judgement.Refused refused) = refusal_of fault number ≡ Some refused
+
+-- the piece of this number went over records from this place on: what became of it, and what it has seen; it may go over those behind
+-- them
+pub record IsGoneOver (configuration : Configuration) (number first : ℕ) (records : List Ordered) (watched : Bool) (old : Holding) (gone : Gone) (new : Holding) : Type 0 where
+  pub found : HasGone configuration number old.part records gone.found new.part
+  pub seen : HasSeen watched configuration (piece_at configuration number) old.part records gone.found gone.seen.items
+  pub going : IsGoing configuration number (first + length records) new
 
 -- all pieces together
 
--- what callers see of the pieces: how many records they have judged, and each by its number
+-- what callers see of the pieces: how many records they have judged, each piece by its number, whether views are wanted, and those
+-- of the last round
 pub record Judging : Type 0 where
   pub count : ℕ
   pub pieces : List Holding
+  pub watched : Bool
+  pub views : List View
 
 -- a piece by its number
 abbrev pub holding_at : List Holding → ℕ → Holding
@@ -69,22 +103,47 @@ holding_at [] number = record { part = ModulePart []; settings = None; spent = f
 holding_at (holding ∷ others) zero = holding
 holding_at (holding ∷ others) (suc number) = holding_at others number
 
+-- the parts of pieces by their numbers
+abbrev pub parts_in : List Holding → ℕ → Part
+parts_in holdings number = (holding_at holdings number).part
+
 -- the parts of the pieces by their numbers
 abbrev pub parts_of : Judging → ℕ → Part
-parts_of judging number = (holding_at judging.pieces number).part
+parts_of judging number = parts_in judging.pieces number
+
+-- all pieces are there, and may go over records from this place on
+pub record AreGoing (configuration : Configuration) (place : ℕ) (holdings : List Holding) : Type 0 where
+  pub whole : length holdings ≡ length (pieces configuration)
+  pub each : (number : ℕ) → number < length (pieces configuration) → IsGoing configuration number place (holding_at holdings number)
+
+-- what became of all pieces: each ran over the records; or one is the first to refuse a record among them
+abbrev pub HaveGone : Configuration → List Holding → List Ordered → Option Refused → List Holding → Type 0
+HaveGone configuration old records None new = AllRun configuration (parts_in old) records (parts_in new)
+HaveGone configuration old records (Some found) new = IsNo configuration (parts_in old) records found
+
+-- each of these pieces went over records from this place on; one for each stands at its number
+pub record AreGoneOver (configuration : Configuration) (first : ℕ) (records : List Ordered) (watched : Bool) (old : List Holding) (judged : List Judged) : Type 0 where
+  pub whole : length judged ≡ length old
+  pub each : (number : ℕ) → number < length old → (one : Judged) → one ≡ slice_index_or judged number one
+      → IsGoneOver configuration number first records watched (holding_at old number) one.gone one.piece
+
+-- the pieces, as they were left
+abbrev pub pieces_in : List Judged → List Holding
+pieces_in judged = map (λ one. one.piece) judged
+
+-- all pieces went over records from this place on: what became of them, and the views that were wanted; they may go over those
+-- behind them
+pub record IsSurveyed (configuration : Configuration) (first : ℕ) (records : List Ordered) (watched : Bool) (old : List Holding) (survey : Survey) : Type 0 where
+  pub gone : HaveGone configuration old records survey.found survey.pieces.items
+  pub viewed : AreWanted watched configuration (parts_in old) records survey.found survey.views.items
+  pub going : AreGoing configuration (first + length records) survey.pieces.items
 
 -- all pieces are there, and may go over the records behind those that they have judged
-pub record IsReady (configuration : Configuration) (judging : Judging) : Type 0 where
-  pub whole : length judging.pieces ≡ length (pieces configuration)
-  pub of_module : (number : ℕ) → number < length (pieces configuration) → IsOf configuration (holding_at judging.pieces number)
-  pub behind : (number : ℕ) → number < length (pieces configuration) → IsBehind judging.count (parts_of judging number)
+abbrev pub IsReady : Configuration → Judging → Type 0
+IsReady configuration judging = AreGoing configuration judging.count judging.pieces
 
--- a round: where nothing is found each piece ran over the records, and may go on; else the finding is a No among them
-abbrev pub IsRound : Configuration → Judging → List Ordered → Option Finding → Judging → Type 0
+-- a round: where nothing is refused each piece ran over the records, and may go on; else there is a No among them
+abbrev pub IsRound : Configuration → Judging → List Ordered → Option Refused → Judging → Type 0
 IsRound configuration old records None new =
     AllRun configuration (parts_of old) records (parts_of new) × (new.count ≡ old.count + length records) × IsReady configuration new
 IsRound configuration old records (Some found) new = IsNo configuration (parts_of old) records found
-
--- a piece was refused memory
-abbrev pub IsSpent : Judging → Type 0
-IsSpent judging = (number : ℕ) × IsTrue (holding_at judging.pieces number).spent

@@ -1,68 +1,115 @@
 -- The verdict over one order of records.
-use Rattle.std.specs.Prelude.{◌≡◌, ◌↔◌, ◌+◌, ℕ, suc, List, [], ◌∷◌, ◌++◌, Option, Some, None, length}
+use Rattle.std.specs.Prelude.{◌≡◌, ◌↔◌, ◌<◌, ◌+◌, ℕ, suc, List, [], ◌∷◌, ◌++◌, Bool, true, Option, Some, None, length}
+use Rattle.std.specs.List.{All}
 use Rattle.apex_types.specs.declared.record.Ordered.{Ordered}
+use Rattle.apex_types.specs.declared.view.View.{View}
 use Rattle.apex_machine.specs.Configuration.{Configuration}
 use Rattle.apex_machine.specs.Pieces.{Part, Piece, part, pieces}
 use Rattle.apex_machine.specs.Runs.{ArePlaced, Finds, Refusal}
 use Rattle.apex_machine.specs.State.{State, cold_state}
 use Rattle.apex_machine.specs.Step.{Run}
-use Rattle.verdict_merge.specs.declared.finding.Finding.{Finding}
+use Rattle.apex_machine.specs.Views.{run_views}
+use Rattle.user_rules.specs.declared.broken.Broken.{Broken as BrokenView}
+use Rattle.user_rules.specs.declared.relation.Relation.{Relation}
+use Rattle.user_rules.specs.FirstBroken.{IsFirstBroken, MeetsAll}
+use Rattle.verdict_merge.specs.declared.finding.Refused.{Refused}
 use Rattle.verdict_merge.specs.declared.verdict.Verdict.{Verdict}
-use Rattle.verdict_merge.specs.declared.verdict.Verdict.TheVariants.{Yes, No}
-use Rattle.verdict_merge.specs.Findings.{IsLeast}
-use Rattle.verdict_merge.specs.Rounds.{AllRun, IsNo, cold_parts}
+use Rattle.verdict_merge.specs.declared.verdict.Verdict.TheVariants.{Yes, No, Broken}
+use Rattle.verdict_merge.specs.Findings.{IsLeast, Precedes}
+use Rattle.verdict_merge.specs.Rounds.{AllRun, IsNo, Runs, cold_parts}
+use Rattle.verdict_merge.specs.Views.{AreViews}
 
--- the No of a finding
-abbrev pub no_of : Finding → Verdict
+-- the No of a refusal
+abbrev pub no_of : Refused → Verdict
 no_of found = No found.pos found.piece found.cause
 
--- the verdict over records behind so many that the pieces have judged, whose parts these are: Yes with the number of all where
--- each piece has a run over them; else a No by what stands up to its place
-abbrev pub IsVerdictFrom : Configuration → (ℕ → Part) → ℕ → List Ordered → Verdict → Type 0
-IsVerdictFrom configuration parts count records (Yes all) = (all ≡ length records + count) × ((final : ℕ → Part) × AllRun configuration parts records final)
-IsVerdictFrom configuration parts count records (No pos piece cause) = IsNo configuration parts records (record { pos = pos; piece = piece; cause = cause })
+-- views are wanted where there is a rule
+abbrev pub IsWatched : List Relation → Bool → Type 0
+IsWatched [] watched = Unit {0}
+IsWatched (relation ∷ relations) watched = watched ≡ true
+
+-- each view of these records meets every relation; where there is no relation nothing is said
+abbrev pub ViewsMeet : Configuration → List Relation → (ℕ → Part) → List Ordered → Type 0
+ViewsMeet configuration [] parts records = Unit {0}
+ViewsMeet configuration (relation ∷ relations) parts records =
+    (views : List View) × AreViews configuration parts records views × All (MeetsAll (relation ∷ relations)) views
+
+-- a broken rule among records behind so many that the pieces have judged: all pieces run through the record at that place, the views
+-- before it meet every relation, and its own view is the first that does not, by this rule; nothing is said of the records behind it
+pub record IsBroken (configuration : Configuration) (relations : List Relation) (parts : ℕ → Part) (count : ℕ) (records : List Ordered) (pos rule : ℕ) : Type 0 where
+  pub through : List Ordered
+  pub after : List Ordered
+  pub split : records ≡ through ++ after
+  pub runs : (number : ℕ) → number < length (pieces configuration) → Runs configuration parts number through
+  pub views : List View
+  pub viewed : AreViews configuration parts through views
+  pub broken : BrokenView
+  pub first : IsFirstBroken relations views (Some broken)
+  pub last : length through ≡ suc broken.view
+  pub place : pos ≡ count + broken.view
+  pub number : rule ≡ broken.rule
+
+-- the verdict over records behind so many that the pieces have judged, where these are their parts: Yes with the number of all
+-- where each piece has a run over them and each view meets every relation; else a No by what stands up to its place, whose views
+-- meet every relation; or the first rule that is broken
+abbrev pub IsVerdictFrom : Configuration → List Relation → (ℕ → Part) → ℕ → List Ordered → Verdict → Type 0
+IsVerdictFrom configuration relations parts count records (Yes all) =
+    (all ≡ length records + count) × ((final : ℕ → Part) × AllRun configuration parts records final) × ViewsMeet configuration relations parts records
+IsVerdictFrom configuration relations parts count records (No pos piece cause) =
+    (stands : IsNo configuration parts records (record { pos = pos; piece = piece; cause = cause })) × ViewsMeet configuration relations parts stands.before
+IsVerdictFrom configuration relations parts count records (Broken pos rule) = IsBroken configuration relations parts count records pos rule
 
 -- the verdict over one order of records, from the cold state on
-abbrev pub IsVerdict : Configuration → List Ordered → Verdict → Type 0
-IsVerdict configuration records verdict = IsVerdictFrom configuration (cold_parts configuration) 0 records verdict
+abbrev pub IsVerdict : Configuration → List Relation → List Ordered → Verdict → Type 0
+IsVerdict configuration relations records verdict = IsVerdictFrom configuration relations (cold_parts configuration) 0 records verdict
 
--- what a Yes means: the records are a run of the machine from the cold state
-abbrev pub IsRunWhereYes : Configuration → List Ordered → Verdict → Type 0
-IsRunWhereYes configuration records (Yes count) = (final : State) × Run configuration (cold_state configuration) records final × (count ≡ length records)
-IsRunWhereYes configuration records (No pos piece cause) = Unit {0}
+-- what a Yes means: the records are a run of the machine from the cold state, in which each view meets every relation
+abbrev pub IsRunWhereYes : Configuration → List Relation → List Ordered → Verdict → Type 0
+IsRunWhereYes configuration relations records (Yes count) =
+    (final : State) × (run : Run configuration (cold_state configuration) records final)
+    × All (MeetsAll relations) (run_views configuration (cold_state configuration) records final run) × (count ≡ length records)
+IsRunWhereYes configuration relations records (No pos piece cause) = Unit {0}
+IsRunWhereYes configuration relations records (Broken pos rule) = Unit {0}
 
--- the verdict by what each piece finds in all the records
+-- what decides against a recording in a round whose first record stands at this place: the rule that is broken, else the refusal
+abbrev pub against : ℕ → Option Refused → Option BrokenView → Option Verdict
+against first found (Some broken) = Some (Broken (first + broken.view) broken.rule)
+against first (Some refused) None = Some (no_of refused)
+against first None None = None
 
--- a refusal of the piece of this number, as a list of findings
-abbrev pub findings_of : ℕ → Option Refusal → List Finding
+-- the verdict where there is no rule, by what each piece finds in all the records
+
+-- a refusal of the piece of this number, as a list of refusals
+abbrev pub findings_of : ℕ → Option Refusal → List Refused
 findings_of piece None = []
 findings_of piece (Some refusal) = record { pos = refusal.pos; piece = piece; cause = refusal.cause } ∷ []
 
 -- the findings of these pieces, whose numbers begin here: the first refusal of each, from the cold state on
-abbrev pub AllFind : Configuration → ℕ → List Piece → List Ordered → List Finding → Type 0
+abbrev pub AllFind : Configuration → ℕ → List Piece → List Ordered → List Refused → Type 0
 AllFind configuration number [] records findings = findings ≡ []
 AllFind configuration number (piece ∷ others) records findings =
-    (found : Option Refusal) × (later : List Finding)
+    (found : Option Refusal) × (later : List Refused)
     × Finds configuration piece (part piece (cold_state configuration)) records found
     × AllFind configuration (suc number) others records later
     × (findings ≡ findings_of number found ++ later)
 
 -- what follows from these findings: Yes with the number of records where there is none, else No with the least
-abbrev pub Follows : List Finding → ℕ → Verdict → Type 0
+abbrev pub Follows : List Refused → ℕ → Verdict → Type 0
 Follows findings count (Yes records) = (findings ≡ []) × (records ≡ count)
-Follows findings count (No pos piece cause) = IsLeast findings (Some (record { pos = pos; piece = piece; cause = cause }))
+Follows findings count (No pos piece cause) = IsLeast Precedes findings (Some (record { pos = pos; piece = piece; cause = cause }))
+Follows findings count (Broken pos rule) = ⊥
 
 -- the laws
 
 -- an order of records has at most one verdict
 abbrev pub OneVerdict : Type 0
 OneVerdict =
-    (configuration : Configuration) (records : List Ordered) (one other : Verdict) → ArePlaced 0 records
-    → IsVerdict configuration records one → IsVerdict configuration records other → one ≡ other
+    (configuration : Configuration) (relations : List Relation) (records : List Ordered) (one other : Verdict) → ArePlaced 0 records
+    → IsVerdict configuration relations records one → IsVerdict configuration relations records other → one ≡ other
 
--- where it is known what each piece finds in all the records, the verdict is exactly what follows from that
+-- where there is no rule, and it is known what each piece finds in all the records, the verdict is exactly what follows from that
 abbrev pub VerdictIsOfTheFindings : Type 0
 VerdictIsOfTheFindings =
-    (configuration : Configuration) (records : List Ordered) (findings : List Finding) (verdict : Verdict) → ArePlaced 0 records
+    (configuration : Configuration) (records : List Ordered) (findings : List Refused) (verdict : Verdict) → ArePlaced 0 records
     → AllFind configuration 0 (pieces configuration) records findings
-    → IsVerdict configuration records verdict ↔ Follows findings (length records) verdict
+    → IsVerdict configuration [] records verdict ↔ Follows findings (length records) verdict

@@ -1,27 +1,36 @@
-// What the pieces find, and the least of it.
+// What decides against a recording: a piece that refuses a record, or a rule that a view breaks; and the least of it.
 
 ghost use Rattle.std.specs.Prelude.{◌≡◌, ◌↔◌, IsTrue};
-ghost use Rattle.verdict_merge.specs.Findings.{IsLeast, IsLeastWith, IsLesser, Precedes, finding_of};
+ghost use Rattle.verdict_merge.specs.Findings.{ComesBefore, IsLeast, IsLeastWith, IsLesser, Precedes, refusal_of};
 
 use apex_types::{Cause, Place};
 use piece_check::PieceFault;
 
 /// A piece refuses the record at a place.
 #[derive(Clone, Copy, Debug, PartialEq, Eq)]
-pub struct Finding {
+pub struct Refused {
     pub pos: Place,
-    /// The number of the piece: 0 is the module, then come the partitions in rising order.
+    /// The number of the piece: 0 is the module, then come the partitions and then the channels, each in rising order.
     pub piece: usize,
     pub cause: Cause,
 }
 
-// The finding that a refusal of the piece of this number is; want of memory is none.
-pub(crate) fn finding_from(fault: PieceFault, piece: usize) -> Option<Finding>
-    ensures { result ≡ finding_of fault piece }
+/// What decides against a recording at a place.
+#[derive(Clone, Copy, Debug, PartialEq, Eq)]
+pub enum Finding {
+    /// A piece refuses the record.
+    Piece(Refused),
+    /// The view of the record breaks the rule of this number.
+    Rule { pos: Place, rule: usize },
+}
+
+// The refusal of the piece of this number, as its step tells it; want of memory is none.
+pub(crate) fn refused_by(fault: PieceFault, piece: usize) -> Option<Refused>
+    ensures { result ≡ refusal_of fault piece }
 {
     match fault {
-        PieceFault::Unlawful { pos, cause } => Some(Finding { pos, piece, cause }),
-        PieceFault::OutsideProfile { pos } => Some(Finding {
+        PieceFault::Unlawful { pos, cause } => Some(Refused { pos, piece, cause }),
+        PieceFault::OutsideProfile { pos } => Some(Refused {
             pos,
             piece,
             cause: Cause::OutsideProfile,
@@ -31,16 +40,16 @@ pub(crate) fn finding_from(fault: PieceFault, piece: usize) -> Option<Finding>
 }
 
 // Whether the first stands at a smaller place, or at the same one with a smaller piece.
-fn precedes(first: &Finding, second: &Finding) -> bool
+fn precedes(first: &Refused, second: &Refused) -> bool
     ensures { IsTrue result ↔ Precedes first.now second.now }
 {
     first.pos.number() < second.pos.number()
         || (first.pos.number() == second.pos.number() && first.piece < second.piece)
 }
 
-// The lesser of the least finding so far and the next one.
-fn lesser(least: Option<Finding>, next: Finding) -> Finding
-    ensures { IsLesser least next result }
+// The lesser of the least refusal so far and the next one.
+fn lesser(least: Option<Refused>, next: Refused) -> Refused
+    ensures { IsLesser Precedes least next result }
 {
     let Some(found) = least else {
         return next;
@@ -49,8 +58,8 @@ fn lesser(least: Option<Finding>, next: Finding) -> Finding
     if sooner { next } else { found }
 }
 
-// The lesser of the least finding so far and what was found next, if anything was.
-pub(crate) fn least_with(least: Option<Finding>, found: Option<Finding>) -> Option<Finding>
+// The lesser of the least refusal so far and what was found next, if anything was.
+pub(crate) fn least_with(least: Option<Refused>, found: Option<Refused>) -> Option<Refused>
     ensures { IsLeastWith least found result }
 {
     match found {
@@ -59,13 +68,44 @@ pub(crate) fn least_with(least: Option<Finding>, found: Option<Finding>) -> Opti
     }
 }
 
-/// The least finding: the one that no other precedes; none where there is none. Takes no memory.
-pub fn merge(findings: &[Finding]) -> Option<Finding>
-    ensures { IsLeast findings.now result }
+// Whether a finding comes before another: at a smaller place; at one place pieces come by number, then rules by number.
+fn comes_before(first: &Finding, second: &Finding) -> bool
+    ensures { IsTrue result ↔ ComesBefore first.now second.now }
 {
-    let mut least = None;
-    for finding in findings {
-        least = Some(lesser(least, *finding));
+    match (first, second) {
+        (Finding::Piece(one), Finding::Piece(other)) => precedes(one, other),
+        (Finding::Piece(one), Finding::Rule { pos, .. }) => one.pos.number() <= pos.number(),
+        (Finding::Rule { pos, .. }, Finding::Piece(other)) => pos.number() < other.pos.number(),
+        (
+            Finding::Rule { pos, rule },
+            Finding::Rule {
+                pos: place,
+                rule: number,
+            },
+        ) => { pos.number() < place.number() || (pos.number() == place.number() && rule < number) }
     }
-    least
+}
+
+// The first of the first finding so far and the next one.
+fn first_of(first: Option<Finding>, next: Finding) -> Finding
+    ensures { IsLesser ComesBefore first next result }
+{
+    let Some(found) = first else {
+        return next;
+    };
+    let first = comes_before(&next, &found);
+    if first { next } else { found }
+}
+
+/// The first of the findings: the one that no other comes before; none where there is none. Takes no memory.
+///
+/// A finding at a smaller place comes first; at one place come the pieces by number, then the rules by number.
+pub fn merge(findings: &[Finding]) -> Option<Finding>
+    ensures { IsLeast ComesBefore findings.now result }
+{
+    let mut first = None;
+    for finding in findings {
+        first = Some(first_of(first, *finding));
+    }
+    first
 }

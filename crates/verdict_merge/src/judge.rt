@@ -1,17 +1,21 @@
 // All pieces of a module, which judge the records round by round.
 
-ghost use Rattle.std.specs.Prelude.{◌≡◌, ◌≢◌, ◌<◌, ◌+◌, ℕ, IfOk, OnErr, IsTrue, length};
+ghost use Rattle.std.specs.Prelude.{◌≡◌, ◌<◌, ◌≤◌, ◌+◌, ℕ, IfOk, length};
 ghost use Rattle.apex_machine.specs.Pieces.{pieces};
 ghost use Rattle.apex_machine.specs.Runs.{ArePlaced, AreOfCores};
-ghost use Rattle.piece_check.specs.Parts.{IsBehind, IsOf};
-ghost use Rattle.verdict_merge.specs.Rounds.{HasGone, IsGoing, IsReady, IsRound, IsSpent, cold_parts, holding_at, parts_of};
+ghost use Rattle.piece_check.specs.Touching.{AreSortedOut, indices_of};
+ghost use Rattle.verdict_merge.specs.Rounds.{IsReady, IsRound, cold_parts, parts_of};
+ghost use Rattle.verdict_merge.specs.Views.{AreWanted};
 
-use crate::finding::{Finding, finding_from, least_with};
-use apex_types::Ordered;
+use crate::finding::Refused;
+use crate::gone::Lent;
+use crate::survey::survey_round;
+use apex_types::{Ordered, View};
 use module_config::Config;
-use piece_check::{Piece, count, subject_of};
+use piece_check::{Piece, Touched, count};
 use std::alloc::Global;
 use std::marker::Model;
+use std::mem;
 use thiserror::Error;
 
 /// A growth of memory was refused.
@@ -19,11 +23,15 @@ use thiserror::Error;
 #[error("out of memory")]
 pub struct Memory;
 
-/// All pieces of a module, and how many records they have judged.
+/// All pieces of a module, how many records they have judged, and the views of the last round.
 #[derive(Drop)]
 pub struct Judge {
+    alloc: Global,
     count: u64,
     pieces: Vec<Piece>,
+    touched: Touched,
+    watched: bool,
+    views: Vec<View>,
 }
 
 impl Model for Judge {
@@ -31,16 +39,17 @@ impl Model for Judge {
 
     ghost Value = { Judging };
 
-    ghost view = { λ judge. record { count = judge.count; pieces = judge.pieces.items } };
+    ghost view = { λ judge. record { count = judge.count; pieces = judge.pieces.items; watched = judge.watched; views = judge.views.items } };
 }
 
 impl Judge {
-    /// All pieces as they stand before the first record.
+    /// All pieces as they stand before the first record. Whether views are wanted says whether `views` gives any.
     ///
     /// Memory where a growth is refused.
-    pub fn start(alloc: Global, config: &Config) -> Result<Judge, Memory>
+    pub fn start(alloc: Global, config: &Config, watched: bool) -> Result<Judge, Memory>
         ensures cold { IfOk result (λ judge. (number : ℕ) → number < length (pieces config.now) → parts_of judge number ≡ cold_parts config.now number) }
         ensures count { IfOk result (λ judge. judge.count ≡ 0) }
+        ensures watched { IfOk result (λ judge. judge.watched ≡ watched) }
         ensures ready { IfOk result (IsReady config.now) }
     {
         let mut pieces = Vec::new(alloc);
@@ -52,7 +61,17 @@ impl Judge {
                 return Err(Memory);
             }
         }
-        Ok(Judge { count: 0, pieces })
+        let Ok(touched) = Touched::new(alloc) else {
+            return Err(Memory);
+        };
+        Ok(Judge {
+            alloc,
+            count: 0,
+            pieces,
+            touched,
+            watched,
+            views: Vec::new(alloc),
+        })
     }
 
     /// How many records were judged.
@@ -62,49 +81,62 @@ impl Judge {
         self.count
     }
 
+    /// The views of the records of the last round, one for each in their order, up to the one that was refused; none where
+    /// no views are wanted.
+    pub fn views(&self) -> &[View]
+        ensures { result.now ≡ self.now.views }
+    {
+        &self.views
+    }
+
     /// Judges the next records: each piece goes over those that touch it, up to its first refusal. None where no piece
-    /// refuses one; else the least finding, after which no further round is judged.
+    /// refuses one; else the least refusal, after which no further round is judged.
     ///
-    /// Memory where a piece was refused memory.
-    pub fn round(&mut self, config: &Config, records: &[Ordered]) -> Result<Option<Finding>, Memory>
+    /// Memory where a growth was refused, after which no further round is judged either.
+    pub fn round(&mut self, config: &Config, records: &[Ordered]) -> Result<Option<Refused>, Memory>
         requires ready { IsReady config.now self.old }
         requires placed { ArePlaced self.old.count records.now }
         requires cores { AreOfCores config.now.cores records.now }
         ensures judged { IfOk result (λ found. IsRound config.now self.old records.now found self.new) }
-        ensures memory { OnErr result (IsSpent self.new) }
+        ensures viewed { IfOk result (λ found. AreWanted self.old.watched config.now (parts_of self.old) records.now found self.new.views) }
+        ensures watched { self.new.watched ≡ self.old.watched }
     {
-        let mut least = None;
-        'pieces: for number in 0..self.pieces.len() {
-            let found = match self.advance(config, number, records) {
-                Ok(found) => found,
-                Err(memory) => return Err(memory),
-            };
-            least = least_with(least, found);
+        if self.touched.sort_out(config, records).is_err() {
+            return Err(Memory);
         }
+        let lent = lend(config, self.count, records, &self.touched, self.watched);
+        let pieces = mem::replace(&mut self.pieces, Vec::new(self.alloc));
+        let surveyed = match survey_round(self.alloc, &lent, pieces) {
+            Ok(surveyed) => surveyed,
+            Err(memory) => return Err(memory),
+        };
+        self.pieces = surveyed.pieces;
+        self.views = surveyed.views;
         self.count = place_behind(self.count, records);
-        Ok(least)
+        Ok(surveyed.found)
     }
+}
 
-    // The piece of this number goes over the records that touch it, up to its first refusal.
-    fn advance(
-        &mut self,
-        config: &Config,
-        number: usize,
-        records: &[Ordered],
-    ) -> Result<Option<Finding>, Memory>
-        requires piece { number < length self.old.pieces }
-        requires known { length self.old.pieces ≡ length (pieces config.now) }
-        requires going { IsGoing config.now records.now (holding_at self.old.pieces number) }
-        requires cores { AreOfCores config.now.cores records.now }
-        ensures gone { IfOk result (λ found. HasGone config.now number (parts_of self.old number) records.now found (parts_of self.new number)) }
-        ensures kept { IfOk result (λ _. (place : ℕ) → ArePlaced place records.now → IsBehind place (parts_of self.old number) → IsBehind (place + length records.now) (parts_of self.new number)) }
-        ensures of_module { IfOk result (λ _. IsOf config.now (holding_at self.new.pieces number)) }
-        ensures others { (other : ℕ) → other ≢ number → holding_at self.new.pieces other ≡ holding_at self.old.pieces other }
-        ensures count { self.new.count ≡ self.old.count }
-        ensures pieces { length self.new.pieces ≡ length self.old.pieces }
-        ensures memory { OnErr result (IsSpent self.new) }
-    {
-        go_over(config, number, &mut self.pieces[number], records)
+// What is lent to each piece.
+fn lend<'a>(
+    config: &'a Config,
+    first: u64,
+    records: &'a [Ordered],
+    touched: &'a Touched,
+    watched: bool,
+) -> Lent<'a>
+    requires { AreSortedOut config.now records.now (indices_of touched.now) }
+    ensures config { result.config.now ≡ config.now }
+    ensures first { result.first ≡ first }
+    ensures records { result.records.now ≡ records.now }
+    ensures watched { result.watched ≡ watched }
+{
+    Lent {
+        config,
+        first,
+        records,
+        touched,
+        watched,
     }
 }
 
@@ -117,33 +149,4 @@ fn place_behind(first: u64, records: &[Ordered]) -> u64
         Some(last) => last.pos.number() + 1,
         None => first,
     }
-}
-
-// A piece, whose number this is, goes over the records that touch it, up to its first refusal.
-fn go_over(
-    config: &Config,
-    number: usize,
-    piece: &mut Piece,
-    records: &[Ordered],
-) -> Result<Option<Finding>, Memory>
-    requires piece { number < length (pieces config.now) }
-    requires going { IsGoing config.now records.now piece.old }
-    requires cores { AreOfCores config.now.cores records.now }
-    ensures gone { IfOk result (λ found. HasGone config.now number piece.old.part records.now found piece.new.part) }
-    ensures kept { IfOk result (λ _. (place : ℕ) → ArePlaced place records.now → IsBehind place piece.old.part → IsBehind (place + length records.now) piece.new.part) }
-    ensures of_module { IfOk result (λ _. IsOf config.now piece.new) }
-    ensures memory { OnErr result (IsTrue piece.new.spent) }
-{
-    let subject = subject_of(config, number);
-    for ordered in records {
-        if subject.is_touched(config, ordered) {
-            if let Err(fault) = piece.step(config, ordered) {
-                return match finding_from(fault, number) {
-                    Some(found) => Ok(Some(found)),
-                    None => Err(Memory),
-                };
-            }
-        }
-    }
-    Ok(None)
 }

@@ -1,19 +1,28 @@
-//! The verdict over one order of records, judged in rounds.
+//! The verdict over one order of records, judged in rounds, with the user's rules.
 //!
-//! Promises: the least finding of a list is one of them that no other precedes. A round in which nothing is found is a run of
-//! each piece; else the least finding is told, with what stands up to its place: its piece runs up to that record and refuses
-//! it, the pieces of smaller number run through it, all others run up to it. Where the verdict is Yes, the records are a run of
-//! the machine from the cold state.
+//! Promises: the first of a list of findings is one of them that no other comes before. A round in which nothing is refused is a
+//! run of each piece; else the least refusal is told, with what stands up to its place: its piece runs up to that record and
+//! refuses it, the pieces of smaller number run through it, all others run up to it. The views of a round are those of its records.
+//! Where the verdict is Yes, the records are a run of the machine from the cold state, in which the view of each record meets
+//! every rule.
 #![tactic(auto)]
 
 mod finding;
+mod gathering;
+mod gone;
 mod judge;
+mod judged;
 mod laws;
 mod plain;
+mod survey;
 mod verdict;
 
-pub use finding::{Finding, merge};
+pub use finding::{Finding, Refused, merge};
+pub use gathering::Gathering;
+pub use gone::{Gone, Lent, Seen, go_over};
 pub use judge::{Judge, Memory};
+pub use judged::{Judged, judge_in_turn, judge_piece};
 pub use laws::{one_verdict, verdict_is_of_the_findings};
 pub use plain::check_plain;
+pub use survey::{Survey, survey_round};
 pub use verdict::Verdict;

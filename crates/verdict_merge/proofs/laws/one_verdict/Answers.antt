@@ -1,4 +1,4 @@
-use Rattle.verdict_merge.proofs.Verdicts.{one_verdict}
+use Rattle.verdict_merge.proofs.Ruled.{one_verdict}
 use Rattle.verdict_merge.proofs.laws.one_verdict.Goals as goal
 
 pub returns : goal.returns

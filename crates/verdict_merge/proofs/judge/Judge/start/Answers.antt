@@ -2,7 +2,9 @@ use Rattle.std.proofs.Common.{◌≡◌, ◌<◌, ◌+◌, ◌++◌, ◌∷◌, 
 use Rattle.std.specs.Result.{is_ok}
 use Rattle.std.proofs.lemmas.List.{length-append}
 use Rattle.apex_machine.specs.Pieces.{pieces}
-use Rattle.piece_check.specs.Parts.{IsBehind, IsOf}
+use Rattle.apex_machine.specs.State.{cold_state}
+use Rattle.piece_check.proofs.Viewing.{IsPartOf_state}
+use Rattle.piece_check.specs.Parts.{IsBehind, IsOf, IsPartOf, piece_at}
 use Rattle.verdict_merge.specs.Rounds.{cold_parts, holding_at}
 use Rattle.verdict_merge.proofs.Holdings.{holding_at-front, holding_at-last}
 use Rattle.verdict_merge.proofs.Splits.{up_to}
@@ -36,8 +38,11 @@ returns-clause-ready c =
     let all : c.pieces.number ≡ length (pieces config) = search rules in
     record {
       whole = c.pieces.invariant.count ∙ all;
-      of_module = λ number within. c.pieces.invariant.of_module number (omega (arith, within, all));
-      behind = λ number within.
+      each = λ number within.
           let less : number < c.pieces.number = omega (arith, within, all) in
-          subst (IsBehind 0) (sym (c.pieces.invariant.cold number less)) (c.pieces.invariant.behind number less);
+          record {
+            of_module = c.pieces.invariant.of_module number less;
+            whose = subst (IsPartOf (piece_at config number)) (sym (c.pieces.invariant.cold number less)) (IsPartOf_state (piece_at config number) (cold_state config));
+            behind = subst (IsBehind 0) (sym (c.pieces.invariant.cold number less)) (c.pieces.invariant.behind number less);
+          };
     }

@@ -1,0 +1,381 @@
+-- The verdict with the user's rules: there is one, what a Yes means, and how rounds follow one another.
+use Rattle.std.proofs.Common.{◌≡◌, ◌⊎◌, ◌<◌, ◌≤◌, ◌+◌, ◌∙◌, ℕ, zero, suc, List, [], ◌∷◌, ◌++◌, append_assoc, Bool, true, false, Option, Some, None, length, map, not, refl, sym, ap, subst, inl, inr, arith}
+use Rattle.std.specs.List.{All}
+use Rattle.std.specs.Prelude.{IfSome, ◌==◌}
+use Rattle.std.proofs.lemmas.Bool.Decides.{nat_tests}
+use Rattle.std.proofs.lemmas.List.{append-nil, get_or_append_left, length-append}
+use Rattle.std.proofs.lemmas.List.Elements.{All-append}
+use Rattle.apex_types.specs.declared.record.Ordered.{Ordered}
+use Rattle.apex_types.specs.declared.view.View.{View}
+use Rattle.apex_machine.specs.Channels.{EndsAreApart}
+use Rattle.apex_machine.specs.Configuration.{Configuration, WindowsAreConfigured}
+use Rattle.apex_machine.specs.Pieces.{Part, pieces}
+use Rattle.apex_machine.specs.Runs.{ArePlaced, PieceRun}
+use Rattle.apex_machine.specs.State.{cold_state}
+use Rattle.apex_machine.specs.Views.{run_views}
+use Rattle.apex_laws.proofs.Stays.{stays_tied}
+use Rattle.piece_check.specs.Parts.{piece_at}
+use Rattle.user_rules.proofs.FirstBroken.{first_broken_behind, first_broken_stays, one_first_broken}
+use Rattle.user_rules.specs.declared.broken.Broken.{Broken as BrokenView}
+use Rattle.user_rules.specs.declared.relation.Relation.{Relation}
+use Rattle.user_rules.specs.FirstBroken.{IsFirstBroken, MeetsAll}
+use Rattle.verdict_merge.specs.declared.finding.Refused.{Refused}
+use Rattle.verdict_merge.specs.declared.survey.Survey.{Survey}
+use Rattle.verdict_merge.specs.declared.verdict.Verdict.{Verdict}
+use Rattle.verdict_merge.specs.declared.verdict.Verdict.TheVariants.{Yes, No, Broken}
+use Rattle.verdict_merge.specs.Rounds.{AllRun, AreGoing, HaveGone, IsNo, IsRound, IsSurveyed, Judging, Runs, cold_parts, parts_of}
+use Rattle.verdict_merge.specs.Verdicts.{IsBroken, IsRunWhereYes, IsVerdict, IsVerdictFrom, IsWatched, OneVerdict, ViewsMeet, against, no_of}
+use Rattle.verdict_merge.specs.Views.{AreViews, AreViewsBehind, AreWanted, before_place, up_to}
+use Rattle.verdict_merge.proofs.Giving.{HaveRun}
+use Rattle.verdict_merge.proofs.Rounds.{all_run_from, all_run_on, no_behind, no_from, no_on, runs_front, runs_on}
+use Rattle.verdict_merge.proofs.Silence.{machine_runs}
+use Rattle.verdict_merge.proofs.Splits.{begins, begins_with}
+use Rattle.verdict_merge.proofs.Verdicts.{no_rule_broken, one_pieces_verdict, order_of, runs_no_longer, runs_up_to}
+use Rattle.verdict_merge.proofs.Viewing.{before_of, up_to_front}
+use Rattle.verdict_merge.proofs.ViewedRun.{one_list_of_views, views_are_of_the_run, views_from, views_join, views_on}
+
+-- parts of lists of views
+
+-- the views of the front of some records
+pub views_front : (configuration : Configuration) (parts : ℕ → Part) (before front back : List Ordered) (views : List View)
+    → AreViewsBehind configuration parts before (front ++ back) views
+    → (first : List View) × (rest : List View) × (views ≡ first ++ rest) × AreViewsBehind configuration parts before front first
+views_front configuration parts before [] back views viewed = ([], views, refl, refl)
+views_front configuration parts before (ordered ∷ front) back views (view, more, is, here, behind) =
+    let further = views_front configuration parts (before ++ ordered ∷ []) front back more behind in
+    (view ∷ further.0, further.1, is ∙ ap (λ list. view ∷ list) further.2, (view, further.0, refl, here, further.3))
+
+all_front : {A : Type 0} (Fact : A → Type 0) (front back : List A) → All Fact (front ++ back) → All Fact front
+all_front Fact front back all = λ index one within.
+    subst Fact (get_or_append_left front back one index within) (all index one (omega (arith, within, length-append front back)))
+
+-- views that all meet every relation do so in front
+pub meet_front : (configuration : Configuration) (relations : List Relation) (parts : ℕ → Part) (front back : List Ordered)
+    → ViewsMeet configuration relations parts (front ++ back) → ViewsMeet configuration relations parts front
+meet_front configuration [] parts front back meet = tt
+meet_front configuration (relation ∷ relations) parts front back (views, viewed, meet) =
+    let parted = views_front configuration parts [] front back views viewed in
+    (parted.0, parted.3, all_front (MeetsAll (relation ∷ relations)) parted.0 parted.1 (subst (All (MeetsAll (relation ∷ relations))) parted.2 meet))
+
+-- what follows behind
+pub meet_on : (configuration : Configuration) (relations : List Relation) (old new : ℕ → Part) (front back : List Ordered) → AllRun configuration old front new
+    → ViewsMeet configuration relations old front → ViewsMeet configuration relations new back → ViewsMeet configuration relations old (front ++ back)
+meet_on configuration [] old new front back all meet also = tt
+meet_on configuration (relation ∷ relations) old new front back all (views, viewed, meet) (more, seen, also) = (
+  views ++ more,
+  views_join configuration old [] front back views more viewed (subst (λ list. AreViewsBehind configuration old list back more) (append-nil front) (views_on configuration old new front [] back more all seen)),
+  All-append (MeetsAll (relation ∷ relations)) views more meet also,
+)
+
+-- one verdict
+
+-- where a rule is broken, not all views of as many records meet every relation
+broken_not_met : (configuration : Configuration) (relations : List Relation) (records : List Ordered) (pos rule : ℕ)
+    → (is : IsBroken configuration relations (cold_parts configuration) 0 records pos rule) → (long rest : List Ordered) → records ≡ long ++ rest → length is.through ≤ length long
+    → ViewsMeet configuration relations (cold_parts configuration) long → ⊥
+broken_not_met configuration [] records pos rule is long rest split most meet = no_rule_broken is.views is.broken is.first
+broken_not_met configuration (relation ∷ relations) records pos rule is long rest split most (views, viewed, meet) =
+    let middle = begins is.through is.after long rest (sym is.split ∙ split) most in
+    let parted = views_front configuration (cold_parts configuration) [] is.through middle.0 views (subst (λ list. AreViewsBehind configuration (cold_parts configuration) [] list views) middle.1 viewed) in
+    let same : parted.0 ≡ is.views = one_list_of_views configuration [] is.through parted.0 is.views parted.3 is.viewed in
+    let met : IsFirstBroken (relation ∷ relations) is.views None =
+    subst (All (MeetsAll (relation ∷ relations))) same (all_front (MeetsAll (relation ∷ relations)) parted.0 parted.1 (subst (All (MeetsAll (relation ∷ relations))) parted.2 meet)) in
+    let none : ◌≡◌ {A = Option BrokenView} None (Some is.broken) = one_first_broken (relation ∷ relations) is.views None (Some is.broken) met is.first in
+    cc
+
+-- a No before which all views meet every relation, and a broken rule
+no_and_broken : (configuration : Configuration) (relations : List Relation) (records : List Ordered) (found : Refused) (pos rule : ℕ)
+    → (stands : IsNo configuration (cold_parts configuration) records found) → ViewsMeet configuration relations (cold_parts configuration) stands.before
+    → IsBroken configuration relations (cold_parts configuration) 0 records pos rule → ⊥
+no_and_broken configuration relations records found pos rule stands meet is = elim (order_of (length stands.before) (length is.through)) [
+  | inl less ↦ runs_no_longer configuration (cold_parts configuration) records found stands is.through is.after is.split less (is.runs found.piece stands.piece)
+  | inr most ↦ broken_not_met configuration relations records pos rule is stands.before (stands.ordered ∷ stands.after) stands.split (at_most most) meet
+]
+  where
+    at_most : (length stands.before ≡ length is.through) ⊎ (length is.through < length stands.before) → length is.through ≤ length stands.before
+    at_most (inl same) = omega (arith, same)
+    at_most (inr less) = omega (arith, less)
+
+-- where each piece runs over all the records and all views meet every relation, no rule is broken
+yes_and_broken : (configuration : Configuration) (relations : List Relation) (records : List Ordered) (pos rule : ℕ) → ViewsMeet configuration relations (cold_parts configuration) records
+    → IsBroken configuration relations (cold_parts configuration) 0 records pos rule → ⊥
+yes_and_broken configuration relations records pos rule meet is =
+    broken_not_met configuration relations records pos rule is records [] (sym (append-nil records)) (omega (arith, ap length is.split, length-append is.through is.after)) meet
+
+-- of two broken rules that begin alike the first view is one
+one_broken_of : (configuration : Configuration) (relations : List Relation) (records : List Ordered) (pos rule pos' rule' : ℕ)
+    → (is : IsBroken configuration relations (cold_parts configuration) 0 records pos rule) → (also : IsBroken configuration relations (cold_parts configuration) 0 records pos' rule')
+    → length is.through ≤ length also.through → is.broken ≡ also.broken
+one_broken_of configuration relations records pos rule pos' rule' is also most =
+    let middle = begins is.through is.after also.through also.after (sym is.split ∙ also.split) most in
+    let parted = views_front configuration (cold_parts configuration) [] is.through middle.0 also.views (subst (λ list. AreViewsBehind configuration (cold_parts configuration) [] list also.views) middle.1 also.viewed) in
+    let same : parted.0 ≡ is.views = one_list_of_views configuration [] is.through parted.0 is.views parted.3 is.viewed in
+    let here : IsFirstBroken relations also.views (Some is.broken) =
+    subst (λ list. IsFirstBroken relations list (Some is.broken)) (sym parted.2)
+    (first_broken_stays relations parted.0 parted.1 is.broken (subst (λ list. IsFirstBroken relations list (Some is.broken)) (sym same) is.first)) in
+    some_is is.broken also.broken (one_first_broken relations also.views (Some is.broken) (Some also.broken) here also.first)
+  where
+    some_is : (one other : BrokenView) → ◌≡◌ {A = Option BrokenView} (Some one) (Some other) → one ≡ other
+    some_is one other e = cc
+
+one_broken : (configuration : Configuration) (relations : List Relation) (records : List Ordered) (pos rule pos' rule' : ℕ)
+    → IsBroken configuration relations (cold_parts configuration) 0 records pos rule → IsBroken configuration relations (cold_parts configuration) 0 records pos' rule'
+    → ◌≡◌ {A = Verdict} (Broken pos rule) (Broken pos' rule')
+one_broken configuration relations records pos rule pos' rule' is also =
+    let same : is.broken ≡ also.broken = elim (order_of (length is.through) (length also.through)) [
+      | inl less ↦ one_broken_of configuration relations records pos rule pos' rule' is also (omega (arith, less))
+      | inr (inl alike) ↦ one_broken_of configuration relations records pos rule pos' rule' is also (omega (arith, alike))
+      | inr (inr more) ↦ sym (one_broken_of configuration relations records pos' rule' pos rule also is (omega (arith, more)))
+    ] in
+    let places : pos ≡ pos' = is.place ∙ ap (λ (broken : BrokenView). 0 + broken.view) same ∙ sym also.place in
+    let numbers : rule ≡ rule' = is.number ∙ ap (λ (broken : BrokenView). broken.rule) same ∙ sym also.number in
+    cc
+
+pub one_verdict : OneVerdict
+one_verdict configuration relations records (Yes all) (Yes all') placed is also = one_pieces_verdict configuration records (Yes all) (Yes all') placed (is.0, is.1) (also.0, also.1)
+one_verdict configuration relations records (Yes all) (No pos piece cause) placed is also = one_pieces_verdict configuration records (Yes all) (No pos piece cause) placed (is.0, is.1) also.0
+one_verdict configuration relations records (No pos piece cause) (Yes all) placed is also = one_pieces_verdict configuration records (No pos piece cause) (Yes all) placed is.0 (also.0, also.1)
+one_verdict configuration relations records (No pos piece cause) (No pos' piece' cause') placed is also =
+    one_pieces_verdict configuration records (No pos piece cause) (No pos' piece' cause') placed is.0 also.0
+one_verdict configuration relations records (Yes all) (Broken pos rule) placed is also = absurd (yes_and_broken configuration relations records pos rule is.2 also)
+one_verdict configuration relations records (Broken pos rule) (Yes all) placed is also = absurd (yes_and_broken configuration relations records pos rule also.2 is)
+one_verdict configuration relations records (No place piece cause) (Broken pos rule) placed is also =
+    absurd (no_and_broken configuration relations records (record { pos = place; piece = piece; cause = cause }) pos rule is.0 is.1 also)
+one_verdict configuration relations records (Broken pos rule) (No place piece cause) placed is also =
+    absurd (no_and_broken configuration relations records (record { pos = place; piece = piece; cause = cause }) pos rule also.0 also.1 is)
+one_verdict configuration relations records (Broken pos rule) (Broken pos' rule') placed is also = one_broken configuration relations records pos rule pos' rule' is also
+
+-- what a Yes means
+
+-- of no relation nothing is asked
+none_asked : (views : List View) → All (MeetsAll []) views
+none_asked views index view within rule relation below = absurd (omega (arith, below))
+
+pub run_where_yes : (configuration : Configuration) (relations : List Relation) (records : List Ordered) (verdict : Verdict)
+    → WindowsAreConfigured configuration → EndsAreApart configuration → ArePlaced 0 records → IsVerdict configuration relations records verdict
+    → IsRunWhereYes configuration relations records verdict
+run_where_yes configuration relations records (No pos piece cause) windows ends placed is = tt
+run_where_yes configuration relations records (Broken pos rule) windows ends placed is = tt
+run_where_yes configuration [] records (Yes count) windows ends placed (counted, (final, all), meet) =
+    let run = machine_runs configuration records windows placed (λ number within. (final number, all number within)) in
+    (run.0, run.1, none_asked (run_views configuration (cold_state configuration) records run.0 run.1), omega (arith, counted))
+run_where_yes configuration (relation ∷ relations) records (Yes count) windows ends placed (counted, (final, all), (views, viewed, meet)) =
+    let run = machine_runs configuration records windows placed (λ number within. (final number, all number within)) in
+    let same = views_are_of_the_run configuration (cold_state configuration) [] records run.0 views ends (stays_tied.0 configuration) (λ piece is. refl) viewed run.1 in
+    (run.0, run.1, subst (All (MeetsAll (relation ∷ relations))) same meet, omega (arith, counted))
+
+-- rounds
+
+-- a round from what all pieces made of it
+pub round_is : (configuration : Configuration) (old new : Judging) (records : List Ordered) (watched : Bool) (survey : Survey) → new.count ≡ old.count + length records
+    → IsSurveyed configuration old.count records watched old.pieces survey → survey.pieces.items ≡ new.pieces → IsRound configuration old records survey.found new
+round_is configuration old new records watched survey counted surveyed left =
+    by survey.found (subst (HaveGone configuration old.pieces records survey.found) left surveyed.gone)
+  where
+    by : (found : Option Refused) → HaveGone configuration old.pieces records found new.pieces → IsRound configuration old records found new
+    by None gone = (gone, counted, subst (λ place. AreGoing configuration place new.pieces) (sym counted) (subst (AreGoing configuration (old.count + length records)) left surveyed.going))
+    by (Some found) gone = gone
+
+-- how many views records have
+length_viewed : (configuration : Configuration) (parts : ℕ → Part) (before records : List Ordered) (views : List View) → AreViewsBehind configuration parts before records views
+    → length views ≡ length records
+length_viewed configuration parts before [] views none = ap length none
+length_viewed configuration parts before (ordered ∷ others) views (view, more, is, here, rest) =
+    ap length is ∙ ap suc (length_viewed configuration parts (before ++ ordered ∷ []) others more rest)
+
+-- the verdict over what is behind a round in which nothing was found is that over the round and it
+pub verdict_on : (configuration : Configuration) (relations : List Relation) (old new : ℕ → Part) (count : ℕ) (front back : List Ordered) (verdict : Verdict)
+    → AllRun configuration old front new → ViewsMeet configuration relations old front
+    → IsVerdictFrom configuration relations new (count + length front) back verdict → IsVerdictFrom configuration relations old count (front ++ back) verdict
+verdict_on configuration relations old new count front back (Yes all) runs meet (counted, (final, more), also) = (
+  omega (arith, counted, length-append front back),
+  (final, all_run_on configuration old new final front back runs more),
+  meet_on configuration relations old new front back runs meet also,
+)
+verdict_on configuration relations old new count front back (No pos piece cause) runs meet (stands, also) = (
+  no_on configuration old new front back (record { pos = pos; piece = piece; cause = cause }) runs stands,
+  meet_on configuration relations old new front stands.before runs meet also,
+)
+verdict_on configuration [] old new count front back (Broken pos rule) runs meet is = absurd (no_rule_broken is.views is.broken is.first)
+verdict_on configuration (relation ∷ relations) old new count front back (Broken pos rule) runs (views, viewed, meet) is =
+    let counted : length views ≡ length front = length_viewed configuration old [] front views viewed in
+    record {
+      through = front ++ is.through;
+      after = is.after;
+      split = ap (λ list. front ++ list) is.split ∙ sym (append_assoc front is.through is.after);
+      runs = λ number within. runs_on configuration old new number front is.through (runs number within) (is.runs number within);
+      views = views ++ is.views;
+      viewed = views_join configuration old [] front is.through views is.views viewed
+          (subst (λ list. AreViewsBehind configuration old list is.through is.views) (append-nil front) (views_on configuration old new front [] is.through is.views runs is.viewed));
+      broken = record { view = length views + is.broken.view; rule = is.broken.rule };
+      first = first_broken_behind (relation ∷ relations) views is.views (Some is.broken) meet is.first;
+      last = length-append front is.through ∙ omega (arith, is.last, counted);
+      place = omega (arith, is.place, counted);
+      number = is.number;
+    }
+
+-- a No in a round stands, whatever comes behind
+pub no_here : (configuration : Configuration) (relations : List Relation) (parts : ℕ → Part) (count : ℕ) (records more : List Ordered) (found : Refused) → ArePlaced count records
+    → IsNo configuration parts records found → ViewsMeet configuration relations parts (up_to (Some found) records)
+    → IsVerdictFrom configuration relations parts count (records ++ more) (no_of found)
+no_here configuration relations parts count records more found placed stands meet =
+    let here : up_to (Some found) records ≡ stands.before =
+    ap (before_place found.pos) stands.split ∙ before_of count stands.before stands.ordered stands.after found.pos (subst (ArePlaced count) stands.split placed) stands.place in
+    (no_behind configuration parts records more found stands, subst (ViewsMeet configuration relations parts) here meet)
+
+-- all pieces run over the front of what stands before a refusal
+run_up_to : (configuration : Configuration) (parts : ℕ → Part) (count : ℕ) (records : List Ordered) (found : Option Refused) → ArePlaced count records → HaveRun configuration parts records found
+    → (number : ℕ) → number < length (pieces configuration) → (front back : List Ordered) → up_to found records ≡ front ++ back → Runs configuration parts number front
+run_up_to configuration parts count records None placed gone number within front back split =
+    runs_front configuration parts number front back (subst (Runs configuration parts number) split (gone number within))
+run_up_to configuration parts count records (Some found) placed stands number within front back split =
+    let here : up_to (Some found) records ≡ stands.before =
+    ap (before_place found.pos) stands.split ∙ before_of count stands.before stands.ordered stands.after found.pos (subst (ArePlaced count) stands.split placed) stands.place in
+    runs_front configuration parts number front back (subst (Runs configuration parts number) (sym here ∙ split) (runs_up_to configuration parts records found stands number within))
+
+-- the record of an index, and those up to it
+split_through : (records : List Ordered) (index : ℕ) → index < length records → (through : List Ordered) × (after : List Ordered) × (records ≡ through ++ after) × (length through ≡ suc index)
+split_through [] index within = absurd (omega (arith, within))
+split_through (ordered ∷ others) zero within = (ordered ∷ [], others, refl, refl)
+split_through (ordered ∷ others) (suc index) within =
+    let rest = split_through others index (omega (arith, within)) in
+    (ordered ∷ rest.0, rest.1, ap (λ list. ordered ∷ list) rest.2, ap suc rest.3)
+
+-- the first broken view is the first of those up to it
+first_through : (relations : List Relation) (front back : List View) (broken : BrokenView) → length front ≡ suc broken.view → IsFirstBroken relations (front ++ back) (Some broken)
+    → IsFirstBroken relations front (Some broken)
+first_through relations front back broken counted is =
+    let parted = begins_with is.before is.view is.after front back (sym is.split) (omega (arith, counted, is.counted)) in
+    let none : parted.0 ≡ [] = no_more parted.0 (omega (arith, counted, is.counted, ap length parted.1, length-append (is.before ++ is.view ∷ []) parted.0, length-append is.before (is.view ∷ []))) in
+    record {
+      before = is.before;
+      view = is.view;
+      after = [];
+      split = parted.1 ∙ ap (λ list. (is.before ++ is.view ∷ []) ++ list) none ∙ append-nil (is.before ++ is.view ∷ []);
+      counted = is.counted;
+      met = is.met;
+      first = is.first;
+    }
+  where
+    no_more : {A : Type 0} (list : List A) → length list ≡ 0 → list ≡ []
+    no_more [] e = refl
+    no_more (one ∷ list) e = absurd (omega (arith, e))
+
+-- a view of a round that breaks a rule stands, whatever comes behind
+pub broken_here : (configuration : Configuration) (relations : List Relation) (parts : ℕ → Part) (count : ℕ) (records more : List Ordered) (found : Option Refused) (views : List View) (broken : BrokenView)
+    → ArePlaced count records → HaveRun configuration parts records found → AreViews configuration parts (up_to found records) views → IsFirstBroken relations views (Some broken)
+    → IsVerdictFrom configuration relations parts count (records ++ more) (Broken (count + broken.view) broken.rule)
+broken_here configuration relations parts count records more found views broken placed gone viewed first =
+    let front = up_to_front records found in
+    let counted : length views ≡ length (up_to found records) = length_viewed configuration parts [] (up_to found records) views viewed in
+    let inside : broken.view < length (up_to found records) = omega (arith, counted, ap length first.split, length-append first.before (first.view ∷ first.after), first.counted) in
+    let cut = split_through (up_to found records) broken.view inside in
+    let parted = views_front configuration parts [] cut.0 cut.1 views (subst (λ list. AreViewsBehind configuration parts [] list views) cut.2 viewed) in
+    let many : length parted.0 ≡ suc broken.view = length_viewed configuration parts [] cut.0 parted.0 parted.3 ∙ cut.3 in
+    record {
+      through = cut.0;
+      after = (cut.1 ++ front.0) ++ more;
+      split = ap (λ list. list ++ more) (front.1 ∙ ap (λ list. list ++ front.0) cut.2 ∙ append_assoc cut.0 cut.1 front.0) ∙ append_assoc cut.0 (cut.1 ++ front.0) more;
+      runs = λ number within. run_up_to configuration parts count records found placed gone number within cut.0 cut.1 cut.2;
+      views = parted.0;
+      viewed = parted.3;
+      broken = broken;
+      first = first_through relations parted.0 parted.1 broken many (subst (λ list. IsFirstBroken relations list (Some broken)) parted.2 first);
+      last = cut.3;
+      place = refl;
+      number = refl;
+    }
+
+-- the verdict of a round
+
+-- views are wanted where there is a rule
+pub is_watched : {X : Type 0} (relation : X → Relation) (rules : List X) → IsWatched (map relation rules) (not (length rules == 0))
+is_watched relation [] = tt
+is_watched relation (rule ∷ rules) = grind (arith, nat_tests)
+
+wanted_true : (watched : Bool) (configuration : Configuration) (parts : ℕ → Part) (records : List Ordered) (found : Option Refused) (views : List View) → watched ≡ true
+    → AreWanted watched configuration parts records found views → AreViews configuration parts (up_to found records) views
+wanted_true true configuration parts records found views is wanted = wanted
+wanted_true false configuration parts records found views is wanted = absurd cc
+
+-- where no view that was wanted breaks a rule, all meet every relation
+pub meet_wanted : (configuration : Configuration) (relations : List Relation) (parts : ℕ → Part) (records : List Ordered) (watched : Bool) (found : Option Refused) (views : List View)
+    → IsWatched relations watched → AreWanted watched configuration parts records found views → IsFirstBroken relations views None
+    → ViewsMeet configuration relations parts (up_to found records)
+meet_wanted configuration [] parts records watched found views is wanted meet = tt
+meet_wanted configuration (relation ∷ relations) parts records watched found views is wanted meet =
+    (views, wanted_true watched configuration parts records found views is wanted, meet)
+
+-- the view that breaks a rule is one of the records'
+pub broken_within : (configuration : Configuration) (relations : List Relation) (parts : ℕ → Part) (records : List Ordered) (watched : Bool) (found : Option Refused) (views : List View) (broken : Option BrokenView)
+    → AreWanted watched configuration parts records found views → IsFirstBroken relations views broken → IfSome broken (λ one. one.view < length records)
+broken_within configuration relations parts records watched found views None wanted first = tt
+broken_within configuration relations parts records watched found views (Some broken) wanted first = by watched wanted
+  where
+    inside : broken.view < length views
+    inside = omega (arith, ap length first.split, length-append first.before (first.view ∷ first.after), first.counted)
+
+    by : (watched : Bool) → AreWanted watched configuration parts records found views → broken.view < length records
+    by false none = absurd (omega (arith, ap length none, inside))
+    by true viewed =
+        let front = up_to_front records found in
+        omega (arith, inside, length_viewed configuration parts [] (up_to found records) views viewed, ap length front.1, length-append (up_to found records) front.0)
+
+-- what became of all pieces in a round
+run_of_round : (configuration : Configuration) (old new : Judging) (records : List Ordered) (found : Option Refused) → IsRound configuration old records found new
+    → HaveRun configuration (parts_of old) records found
+run_of_round configuration old new records None is = λ number within. (parts_of new number, is.0 number within)
+run_of_round configuration old new records (Some found) is = is
+
+-- the verdict that ends a round stands, whatever comes behind
+pub ends_here : (configuration : Configuration) (relations : List Relation) (old new : Judging) (records more : List Ordered) (found : Option Refused) (views : List View) (broken : Option BrokenView) (verdict : Verdict)
+    → ArePlaced old.count records → IsWatched relations old.watched → IsRound configuration old records found new → AreWanted old.watched configuration (parts_of old) records found views
+    → IsFirstBroken relations views broken → against old.count found broken ≡ Some verdict → IsVerdictFrom configuration relations (parts_of old) old.count (records ++ more) verdict
+ends_here configuration [] old new records more found views (Some broken) verdict placed watched round wanted first is = absurd (no_rule_broken views broken first)
+ends_here configuration (relation ∷ relations) old new records more found views (Some broken) verdict placed watched round wanted first is =
+    let same : Broken (old.count + broken.view) broken.rule ≡ verdict = cc in
+    subst (IsVerdictFrom configuration (relation ∷ relations) (parts_of old) old.count (records ++ more)) same
+    (broken_here configuration (relation ∷ relations) (parts_of old) old.count records more found views broken placed (run_of_round configuration old new records found round)
+    (wanted_true old.watched configuration (parts_of old) records found views watched wanted) first)
+ends_here configuration relations old new records more (Some found) views None verdict placed watched round wanted first is =
+    let same : no_of found ≡ verdict = cc in
+    subst (IsVerdictFrom configuration relations (parts_of old) old.count (records ++ more)) same
+    (no_here configuration relations (parts_of old) old.count records more found placed round (meet_wanted configuration relations (parts_of old) records old.watched (Some found) views watched wanted first))
+ends_here configuration relations old new records more None views None verdict placed watched round wanted first is = let none : ◌≡◌ {A = Option Verdict} None (Some verdict) = is in cc
+
+-- where nothing decides against a round, all pieces ran over it, and its views meet every relation
+pub goes_on_here : (configuration : Configuration) (relations : List Relation) (old new : Judging) (records : List Ordered) (found : Option Refused) (views : List View) (broken : Option BrokenView)
+    → IsWatched relations old.watched → IsRound configuration old records found new → AreWanted old.watched configuration (parts_of old) records found views
+    → IsFirstBroken relations views broken → against old.count found broken ≡ None
+    → IsRound configuration old records None new × ViewsMeet configuration relations (parts_of old) records
+goes_on_here configuration relations old new records found views (Some broken) watched round wanted first is = let some : ◌≡◌ {A = Option Verdict} (Some (Broken (old.count + broken.view) broken.rule)) None = is in cc
+goes_on_here configuration relations old new records (Some found) views None watched round wanted first is = let some : ◌≡◌ {A = Option Verdict} (Some (no_of found)) None = is in cc
+goes_on_here configuration relations old new records None views None watched round wanted first is =
+    (round, meet_wanted configuration relations (parts_of old) records old.watched None views watched wanted first)
+
+meet_from : (configuration : Configuration) (relations : List Relation) (one other : ℕ → Part) (records : List Ordered)
+    → ((number : ℕ) → number < length (pieces configuration) → one number ≡ other number) → ViewsMeet configuration relations one records → ViewsMeet configuration relations other records
+meet_from configuration [] one other records same meet = tt
+meet_from configuration (relation ∷ relations) one other records same (views, viewed, meet) = (views, views_from configuration one other [] records views same viewed, meet)
+
+-- a verdict from parts that are the same
+pub verdict_from : (configuration : Configuration) (relations : List Relation) (one other : ℕ → Part) (count : ℕ) (records : List Ordered) (verdict : Verdict)
+    → ((number : ℕ) → number < length (pieces configuration) → one number ≡ other number) → IsVerdictFrom configuration relations one count records verdict
+    → IsVerdictFrom configuration relations other count records verdict
+verdict_from configuration relations one other count records (Yes all) same (counted, (final, runs), meet) =
+    (counted, (final, all_run_from configuration one other records final same runs), meet_from configuration relations one other records same meet)
+verdict_from configuration relations one other count records (No pos piece cause) same (stands, meet) =
+    (no_from configuration one other records (record { pos = pos; piece = piece; cause = cause }) same stands, meet_from configuration relations one other stands.before same meet)
+verdict_from configuration relations one other count records (Broken pos rule) same is = record {
+  through = is.through;
+  after = is.after;
+  split = is.split;
+  runs = λ number within. let run = is.runs number within in (run.0, subst (λ part. PieceRun configuration (piece_at configuration number) part is.through run.0) (same number within) run.1);
+  views = is.views;
+  viewed = views_from configuration one other [] is.through is.views same is.viewed;
+  broken = is.broken;
+  first = is.first;
+  last = is.last;
+  place = is.place;
+  number = is.number;
+}

@@ -1,0 +1,72 @@
+// All pieces go over a round, and what they found is gathered.
+
+ghost use Rattle.std.specs.Prelude.{◌≡◌, IfOk};
+ghost use Rattle.apex_machine.specs.Runs.{ArePlaced, AreOfCores};
+ghost use Rattle.verdict_merge.specs.Rounds.{AreGoing, IsSurveyed, pieces_in};
+
+use crate::finding::Refused;
+use crate::gathering::Gathering;
+use crate::gone::Lent;
+use crate::judge::Memory;
+use crate::judged::{Judged, judge_in_turn};
+use apex_types::View;
+use piece_check::Piece;
+use std::alloc::Global;
+
+/// What all pieces made of a round.
+#[derive(Drop)]
+pub struct Survey {
+    /// The least refusal, if a piece refused a record.
+    pub found: Option<Refused>,
+    /// The views of the records, one for each in their order, up to the one that was refused; none where none are wanted.
+    pub views: Vec<View>,
+    /// The pieces, as they were left.
+    pub pieces: Vec<Piece>,
+}
+
+/// All pieces go over a round, one after another, and what they found is gathered in order of number.
+///
+/// Memory where a growth was refused.
+pub fn survey_round(alloc: Global, lent: &Lent, pieces: Vec<Piece>) -> Result<Survey, Memory>
+    requires going { AreGoing lent.now.config.now lent.now.first pieces.items }
+    requires placed { ArePlaced lent.now.first lent.now.records.now }
+    requires cores { AreOfCores lent.now.config.now.cores lent.now.records.now }
+    ensures { IfOk result (IsSurveyed lent.now.config.now lent.now.first lent.now.records.now lent.now.watched pieces.items) }
+{
+    let judged = match judge_in_turn(alloc, lent, pieces) {
+        Ok(judged) => judged,
+        Err(memory) => return Err(memory),
+    };
+    let Ok(mut gathering) = Gathering::new(alloc, lent.watched, lent.records.len()) else {
+        return Err(Memory);
+    };
+    'pieces: for number in 0..judged.len() {
+        gathering.take_in(&judged[number].gone);
+    }
+    let Ok(views) = gathering.views(alloc, lent.watched, lent.first, lent.records) else {
+        return Err(Memory);
+    };
+    let found = gathering.found;
+    match pieces_left(alloc, judged) {
+        Ok(pieces) => Ok(Survey {
+            found,
+            views,
+            pieces,
+        }),
+        Err(memory) => Err(memory),
+    }
+}
+
+// The pieces, as they were left. Memory where it is refused for their list.
+fn pieces_left(alloc: Global, judged: Vec<Judged>) -> Result<Vec<Piece>, Memory>
+    ensures { IfOk result (λ left. left.items ≡ pieces_in judged.items) }
+{
+    let Ok(mut left) = Vec::with_capacity(alloc, judged.len()) else {
+        return Err(Memory);
+    };
+    'judged: for one in judged {
+        let Judged { piece, gone: _ } = one;
+        left.push_reserved(piece);
+    }
+    Ok(left)
+}
