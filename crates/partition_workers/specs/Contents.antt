@@ -1,0 +1,85 @@
+-- What a round is, and what becomes of its pieces.
+use Rattle.std.specs.Prelude.{◌≡◌, ◌<◌, ℕ, zero, suc, List, [], ◌∷◌, Bool, false, None, length, map, slice_index_or}
+use Rattle.apex_types.specs.declared.record.Ordered.{Ordered}
+use Rattle.apex_machine.specs.Configuration.{Configuration}
+use Rattle.apex_machine.specs.Pieces.{ModulePart, Part, pieces}
+use Rattle.apex_machine.specs.Runs.{ArePlaced, AreOfCores}
+use Rattle.piece_check.specs.Parts.{Holding}
+use Rattle.verdict_merge.specs.declared.gone.Lent.{Lent}
+use Rattle.verdict_merge.specs.Rounds.{IsGoing, IsGoneOver}
+use Rattle.verdict_merge.specs.declared.judged.Judged.{Judged}
+
+-- a round: the module, the place of its first record, its records, whether views are wanted, and the parts of the pieces before it
+pub record Content : Type 0 where
+  pub configuration : Configuration
+  pub first : ℕ
+  pub records : List Ordered
+  pub watched : Bool
+  pub parts : List Part
+
+-- the parts that pieces hold
+abbrev pub parts_held : List Holding → List Part
+parts_held pieces = map (λ piece. piece.part) pieces
+
+-- a part by the number of its piece
+abbrev pub part_at : List Part → ℕ → Part
+part_at [] number = ModulePart []
+part_at (part ∷ others) zero = part
+part_at (part ∷ others) (suc number) = part_at others number
+
+-- the round of what is lent to pieces of these parts
+abbrev pub content_of : Lent → List Part → Content
+content_of lent parts = record {
+  configuration = lent.config.now;
+  first = lent.first;
+  records = lent.records.now;
+  watched = lent.watched;
+  parts = parts;
+}
+
+-- the round of no records and no pieces
+abbrev pub no_content : Content
+no_content = record {
+  configuration = record { cores = 0; frame = 0; skew = 0; partitions = []; windows = []; sampling = []; queuing = [] };
+  first = 0;
+  records = [];
+  watched = false;
+  parts = [];
+}
+
+-- the round may be judged: all pieces are there, and its records stand in order and are of configured cores
+pub record IsOpen (content : Content) : Type 0 where
+  pub whole : length content.parts ≡ length (pieces content.configuration)
+  pub placed : ArePlaced content.first content.records
+  pub cores : AreOfCores content.configuration.cores content.records
+
+-- the pieces from this number on may go over records from this place on
+abbrev pub AreGoingFrom : Configuration → ℕ → ℕ → List Holding → Type 0
+AreGoingFrom configuration place number [] = Unit {0}
+AreGoingFrom configuration place number (holding ∷ others) = IsGoing configuration number place holding × AreGoingFrom configuration place (suc number) others
+
+-- a piece of which no more than the part is known
+abbrev pub holding_of : Part → Holding
+holding_of part = record { part = part; settings = None; spent = false }
+
+-- the piece of this number went over the records of the round, and this became of it
+abbrev pub IsJudged : Content → ℕ → Judged → Type 0
+IsJudged content number judged =
+    IsGoneOver content.configuration number content.first content.records content.watched (holding_of (part_at content.parts number)) judged.gone judged.piece
+
+-- each piece of the round went over its records; one for each stands at its number
+pub record AreJudged (content : Content) (judged : List Judged) : Type 0 where
+  pub whole : length judged ≡ length content.parts
+  pub each : (number : ℕ) → number < length content.parts → (one : Judged) → one ≡ slice_index_or judged number one → IsJudged content number one
+
+-- what callers see of a claimed piece: who has claimed it, its number, and the piece
+pub record Claimed : Type 0 where
+  pub worker : ℕ
+  pub number : ℕ
+  pub piece : Holding
+
+-- what callers see of a piece that went over the records: who has claimed it, its number, and what became of it
+pub record Finished : Type 0 where
+  pub worker : ℕ
+  pub number : ℕ
+  pub judged : Judged

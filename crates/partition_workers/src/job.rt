@@ -1,0 +1,68 @@
+// A piece that a worker has claimed.
+
+ghost use Rattle.std.specs.Prelude.{◌≡◌, IfOk};
+ghost use Rattle.partition_workers.specs.Contents.{IsJudged};
+
+use crate::done::Done;
+use crate::round::Naming;
+use piece_check::Piece;
+use std::alloc::Global;
+use std::marker::{Model, PhantomData};
+use verdict_merge::{Lent, Memory, judge_piece};
+
+/// A piece of the round that a worker has claimed.
+#[derive(Drop)]
+pub struct Job<'a, J: Naming> {
+    pub(crate) worker: usize,
+    pub(crate) number: usize,
+    pub(crate) piece: Piece,
+    pub(crate) lent: Lent<'a>,
+    pub(crate) of: PhantomData<J>,
+}
+
+impl<'a, J: Naming> Model for Job<'a, J> {
+    ghost use Rattle.std.specs.Prelude.{◌≡◌, ◌<◌, length};
+    ghost use Rattle.verdict_merge.specs.Rounds.{IsGoing};
+    ghost use Rattle.partition_workers.specs.Contents.{Claimed, IsOpen, content_of, part_at};
+
+    ghost Value = { Claimed };
+
+    ghost view = { λ job. record { worker = job.worker; number = job.number; piece = job.piece } };
+
+    ghost invariant = { λ job. (job.number < length J.round.parts) × (job.piece.part ≡ part_at J.round.parts job.number) × IsGoing J.round.configuration job.number J.round.first job.piece × (content_of job.lent J.round.parts ≡ J.round) × IsOpen J.round };
+}
+
+impl<'a, J: Naming> Job<'a, J> {
+    /// The number of the piece.
+    pub fn number(&self) -> usize
+        ensures { result ≡ self.now.number }
+    {
+        self.number
+    }
+
+    /// Lets the piece go over the records of the round.
+    ///
+    /// Memory where a growth was refused; the piece is then given up.
+    pub fn run(self, alloc: Global) -> Result<Done<J>, Memory>
+        ensures worker { IfOk result (λ done. done.worker ≡ self.entry.worker) }
+        ensures number { IfOk result (λ done. done.number ≡ self.entry.number) }
+        ensures judged { IfOk result (λ done. IsJudged J.round done.number done.judged) }
+    {
+        let Job {
+            worker,
+            number,
+            piece,
+            lent,
+            of: _,
+        } = self;
+        match judge_piece(alloc, &lent, number, piece) {
+            Ok(judged) => Ok(Done {
+                worker,
+                number,
+                judged,
+                of: PhantomData,
+            }),
+            Err(memory) => Err(memory),
+        }
+    }
+}

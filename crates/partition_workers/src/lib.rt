@@ -1,0 +1,26 @@
+//! The pieces of a round, judged by several threads.
+//!
+//! Promises: what is answered of a round is what each piece makes of its records by itself, one value for each piece at its
+//! number, for every number of workers and whatever order they claim and post in. A board keeps the values: whenever its lock is
+//! free its history is legal, and each posted value is that of its own piece over the round that the board is of.
+//!
+//! Not promised: that a thread gets on.
+#![tactic(auto)]
+
+mod board;
+mod done;
+mod fault;
+mod job;
+mod log;
+mod round;
+#[cfg(test)]
+mod tests;
+mod workers;
+
+pub use board::Board;
+pub use done::Done;
+pub use fault::{PostFault, PostRefusal, RoundFault};
+pub use job::Job;
+pub use log::Event;
+pub use round::{Naming, Round};
+pub use workers::{Gate, Open, judge_round};

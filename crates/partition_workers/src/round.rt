@@ -1,0 +1,57 @@
+// The round whose pieces are judged.
+
+ghost use Rattle.std.specs.Prelude.{◌≡◌};
+ghost use Rattle.partition_workers.specs.Contents.{AreGoingFrom, IsOpen, content_of, parts_held};
+
+use piece_check::Piece;
+use std::marker::{Brand, Model, PhantomData};
+use verdict_merge::Lent;
+
+/// Names a round in the types of its board, its jobs and their values, so that a value of one round is none of another. The
+/// caller that judges a round picks what it is.
+pub trait Naming {
+    ghost use Rattle.partition_workers.specs.Contents.{Content};
+
+    ghost round: { Content };
+}
+
+impl Naming for Brand {
+    ghost use Rattle.partition_workers.specs.Contents.{no_content};
+
+    ghost round = { no_content };
+}
+
+/// A round: what is lent to its pieces, and the pieces. Contracts see what the round is.
+#[derive(Drop)]
+pub struct Round<'a, J: Naming> {
+    pub(crate) lent: Lent<'a>,
+    pub(crate) pieces: Vec<Piece>,
+    pub(crate) of: PhantomData<J>,
+}
+
+impl<'a, J: Naming> Model for Round<'a, J> {
+    ghost use Rattle.std.specs.Prelude.{◌≡◌};
+    ghost use Rattle.partition_workers.specs.Contents.{AreGoingFrom, Content, IsOpen, content_of, parts_held};
+
+    ghost Value = { Content };
+
+    ghost view = { λ round. content_of round.lent (parts_held round.pieces.items) };
+
+    ghost invariant = { λ round. (content_of round.lent (parts_held round.pieces.items) ≡ J.round) × IsOpen J.round × AreGoingFrom J.round.configuration J.round.first 0 round.pieces.items };
+}
+
+impl<'a, J: Naming> Round<'a, J> {
+    /// The round in which these pieces go over the records that are lent. Takes no memory.
+    pub fn new(lent: Lent<'a>, pieces: Vec<Piece>) -> Round<'a, J>
+        requires named { content_of lent (parts_held pieces.items) ≡ J.round }
+        requires open { IsOpen J.round }
+        requires going { AreGoingFrom J.round.configuration J.round.first 0 pieces.items }
+        ensures { result ≡ content_of lent.entry (parts_held pieces.items) }
+    {
+        Round {
+            lent,
+            pieces,
+            of: PhantomData,
+        }
+    }
+}

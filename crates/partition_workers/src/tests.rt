@@ -1,0 +1,464 @@
+// What no clause says: that several threads claim pieces at one time, and how a board tells its refusals.
+
+ghost use Rattle.std.specs.Prelude.{◌≡◌, ◌<◌, ℕ, IfOk, IfSome, length};
+ghost use Rattle.apex_machine.specs.Pieces.{pieces as all_pieces};
+ghost use Rattle.apex_machine.specs.Runs.{ArePlaced, AreOfCores};
+ghost use Rattle.piece_check.specs.Touching.{AreSortedOut, indices_of};
+ghost use Rattle.verdict_merge.specs.Rounds.{AreGoing, cold_parts, holding_at};
+ghost use Rattle.partition_workers.specs.Contents.{AreGoingFrom, IsOpen, content_of, parts_held};
+
+use crate::{Board, Done, Gate, Naming, Open, PostRefusal, Round, RoundFault, judge_round};
+use apex_types::{Body, Cause, CoreId, Ordered, PartId, Place, ProcId, Record, Who, Woken};
+use module_config::Config;
+use piece_check::{Piece, Touched, count};
+use std::alloc::{AllocError, Global};
+use std::marker::Brand;
+use std::sync::Wait;
+use std::sync::atomic::{AtomicUsize, Ordering};
+use std::test::Fail;
+use std::thread;
+use std::thread::Threads;
+use verdict_merge::{Judged, Lent, Memory, Refused};
+
+// Two cores, each of a partition of its own, and two channels: five pieces.
+const CONFIG: &str = "\
+cores = 2
+frame = 10
+skew = 6
+[[partition]]
+number = 0
+period = 10
+cores = [0]
+processes = 4
+buffers = 2
+blackboards = 1
+semaphores = 1
+events = 1
+mutexes = 2
+[[partition]]
+number = 1
+period = 10
+cores = [1]
+processes = 4
+buffers = 2
+blackboards = 1
+semaphores = 1
+events = 1
+mutexes = 2
+[[window]]
+core = 0
+partition = 0
+start = 0
+length = 10
+[[window]]
+core = 1
+partition = 1
+start = 0
+length = 10
+[[queuing]]
+channel = 0
+size = 4
+capacity = 1
+source = { partition = 0, port = \"Q\" }
+source_discipline = \"FIFO\"
+destination = { partition = 1, port = \"Q\" }
+destination_discipline = \"FIFO\"
+[[sampling]]
+channel = 1
+size = 4
+refresh = 5
+source = { partition = 0, port = \"S\" }
+destinations = [{ partition = 1, port = \"S\" }]
+";
+
+// A record at its place.
+fn ordered(pos: Place, core: u8, body: Body) -> Ordered
+    ensures place { result.pos ≡ pos }
+    ensures core { result.core ≡ core }
+{
+    Ordered {
+        pos,
+        core: CoreId::new(core),
+        rec: Record { seq: 0, body },
+    }
+}
+
+// The core is given to the process of this number.
+fn dispatch(pos: Place, core: u8, process: u32) -> Ordered
+    ensures place { result.pos ≡ pos }
+    ensures core { result.core ≡ core }
+{
+    let who = Who {
+        part: PartId::new(core),
+        proc: ProcId::new(process),
+    };
+    ordered(pos, core, Body::Disp(Some(who)))
+}
+
+// A tick of core 0.
+fn tick(alloc: Global, pos: Place) -> Ordered
+    ensures place { result.pos ≡ pos }
+    ensures core { result.core ≡ 0 }
+{
+    ordered(pos, 0, Body::Tick(Woken::none(alloc)))
+}
+
+// Partition 1 knows no process 3, so that it refuses place 1; and the seventh tick is one ahead of the skew, so that the module
+// refuses place 8.
+fn records(alloc: Global) -> Result<Vec<Ordered>, AllocError>
+    ensures placed { IfOk result (λ records. ArePlaced 0 records.items) }
+    ensures cores { IfOk result (λ records. AreOfCores 2 records.items) }
+{
+    let records = vec![in alloc;
+        dispatch(Place::new(0), 0, 0),
+        dispatch(Place::new(1), 1, 3),
+        tick(alloc, Place::new(2)),
+        tick(alloc, Place::new(3)),
+        tick(alloc, Place::new(4)),
+        tick(alloc, Place::new(5)),
+        tick(alloc, Place::new(6)),
+        tick(alloc, Place::new(7)),
+        tick(alloc, Place::new(8)),
+    ]?;
+    Ok(records)
+}
+
+// All pieces as they stand before the first record.
+fn started(alloc: Global, config: &Config) -> Result<Vec<Piece>, Memory>
+    ensures going { IfOk result (λ pieces. AreGoing config.now 0 pieces.items) }
+    ensures cold { IfOk result (λ pieces. (number : ℕ) → number < length (all_pieces config.now) → (holding_at pieces.items number).part ≡ cold_parts config.now number) }
+{
+    let mut pieces = Vec::new(alloc);
+    'pieces: for number in 0..count(config) {
+        let Ok(piece) = Piece::start(alloc, config, number) else {
+            return Err(Memory);
+        };
+        if pieces.push(piece).is_err() {
+            return Err(Memory);
+        }
+    }
+    Ok(pieces)
+}
+
+// The module that the text configures.
+fn read_config(alloc: Global) -> Option<Config>
+    ensures { IfSome result (λ config. config.cores ≡ 2) }
+{
+    let Ok(config) = Config::read(alloc, CONFIG.as_bytes()) else {
+        return None;
+    };
+    if config.cores() == 2 {
+        Some(config)
+    } else {
+        None
+    }
+}
+
+// Which records touch each piece.
+fn sort_out(alloc: Global, config: &Config, records: &[Ordered]) -> Option<Touched>
+    ensures { IfSome result (λ touched. AreSortedOut config.now records.now (indices_of touched)) }
+{
+    let Ok(mut touched) = Touched::new(alloc) else {
+        return None;
+    };
+    if touched.sort_out(config, records).is_err() {
+        return None;
+    }
+    Some(touched)
+}
+
+// What is lent to each piece of the round.
+fn lend<'a>(
+    config: &'a Config,
+    records: &'a [Ordered],
+    touched: &'a Touched,
+    watched: bool,
+) -> Lent<'a>
+    requires { AreSortedOut config.now records.now (indices_of touched.now) }
+    ensures config { result.config.now ≡ config.now }
+    ensures first { result.first ≡ 0 }
+    ensures records { result.records.now ≡ records.now }
+{
+    Lent {
+        config,
+        first: 0,
+        records,
+        touched,
+        watched,
+    }
+}
+
+// What the round makes of each piece, by so many workers.
+fn judge_all<G: Gate + Sync, R: Threads + Wait + Sync>(
+    rt: &R,
+    alloc: Global,
+    watched: bool,
+    workers: usize,
+    gate: &G,
+) -> Result<Vec<Judged>, RoundFault> {
+    let Some(config) = read_config(alloc) else {
+        return Err(RoundFault::Memory);
+    };
+    let Ok(records) = records(alloc) else {
+        return Err(RoundFault::Memory);
+    };
+    let Some(touched) = sort_out(alloc, &config, &records) else {
+        return Err(RoundFault::Memory);
+    };
+    let Ok(pieces) = started(alloc, &config) else {
+        return Err(RoundFault::Memory);
+    };
+    let lent = lend(&config, &records, &touched, watched);
+    judge_round(rt, alloc, &lent, pieces, workers, gate)
+}
+
+// What has to come of the piece of this number: its refusal, and how many records it has seen. Only the module sees dispatches
+// and ticks.
+fn has_come(number: usize, watched: bool, one: &Judged) -> bool {
+    let (place, cause, seen) = match number {
+        0 => (8, Cause::Skew, 8),
+        2 => (1, Cause::Choice, 0),
+        _ => return one.gone.found.is_none() && one.gone.seen.is_empty(),
+    };
+    let found = Refused {
+        pos: Place::new(place),
+        piece: number,
+        cause,
+    };
+    one.gone.found == Some(found) && one.gone.seen.len() == if watched { seen } else { 0 }
+}
+
+// Whether what has to come of all five pieces has come.
+fn have_come(watched: bool, all: &[Judged]) -> bool {
+    for (number, one) in all.iter().enumerate() {
+        if !has_come(number, watched, one) {
+            return false;
+        }
+    }
+    all.len() == 5
+}
+
+#[test]
+fn any_number_of_workers_gives_the_same(rt: HostRuntime) -> Result<(), Fail> {
+    let alloc = rt.alloc();
+    for watched in [false, true] {
+        for workers in [1, 2, 5] {
+            let Ok(all) = judge_all(&rt, alloc, watched, workers, &Open) else {
+                return Err(Fail::from("no round"));
+            };
+            assert!(rt; have_come(watched, &all), "{workers} workers");
+        }
+    }
+    Ok(())
+}
+
+#[test]
+fn no_worker_is_refused(rt: HostRuntime) -> Result<(), Fail> {
+    let judged = judge_all(&rt, rt.alloc(), false, 0, &Open);
+    assert!(rt; matches!(judged, Err(RoundFault::NoWorkers)));
+    Ok(())
+}
+
+// Holds each claim until so many pieces are claimed, for 1,000,000 yields at most, and counts the claims that saw them.
+#[derive(Drop)]
+struct Meeting {
+    wanted: usize,
+    claimed: AtomicUsize,
+    met: AtomicUsize,
+}
+
+impl Gate for Meeting {
+    fn at_claim(&self, _worker: usize, _piece: usize) {
+        self.claimed.fetch_add(1, Ordering::SeqCst);
+        for _ in 0..1_000_000 {
+            if self.claimed.load(Ordering::SeqCst) >= self.wanted {
+                self.met.fetch_add(1, Ordering::SeqCst);
+                return;
+            }
+            thread::yield_now();
+        }
+    }
+
+    fn at_post(&self, _worker: usize, _piece: usize) {}
+}
+
+// A worker that is held makes no claim. So where all five claims saw so many others, as many threads held a piece at one time.
+#[test]
+fn two_claims_meet(rt: HostRuntime) -> Result<(), Fail> {
+    let alloc = rt.alloc();
+    for workers in [2, 5] {
+        let gate = Meeting {
+            wanted: workers,
+            claimed: AtomicUsize::new(0),
+            met: AtomicUsize::new(0),
+        };
+        let judged = judge_all(&rt, alloc, false, workers, &gate);
+        assert!(rt; judged.is_ok());
+        assert_eq!(rt; gate.met.load(Ordering::SeqCst), 5, "{workers} workers");
+    }
+    Ok(())
+}
+
+// What a board tells of what it refuses, and how many events its history then has.
+#[derive(Clone, Copy, Debug, PartialEq, Eq)]
+struct Told {
+    refusal: PostRefusal,
+    worker: usize,
+    number: usize,
+    events: usize,
+}
+
+// Posts what is refused, and gives it back with what the board tells; none where it is not refused.
+fn refuse<J: Naming>(board: &mut Board<J>, done: Done<J>) -> Option<(Told, Done<J>)> {
+    match board.post(done) {
+        Ok(()) => None,
+        Err(fault) => {
+            let told = Told {
+                refusal: fault.refusal,
+                worker: fault.done.worker(),
+                number: fault.done.number(),
+                events: board.log().len(),
+            };
+            Some((told, fault.done))
+        }
+    }
+}
+
+// What a board tells of what it refuses.
+fn told_by<J: Naming>(board: &mut Board<J>, done: Done<J>) -> Option<Told> {
+    match refuse(board, done) {
+        Some((told, _done)) => Some(told),
+        None => None,
+    }
+}
+
+// What becomes of the next piece of the board, claimed by this worker.
+fn finish_next<J: Naming>(alloc: Global, board: &mut Board<J>, worker: usize) -> Option<Done<J>> {
+    let Some(job) = board.claim(worker) else {
+        return None;
+    };
+    match job.run(alloc) {
+        Ok(done) => Some(done),
+        Err(_) => None,
+    }
+}
+
+// Posts the first, and then the second.
+fn told_of_second<J: Naming>(
+    board: &mut Board<J>,
+    first: Done<J>,
+    second: Done<J>,
+) -> Option<Told> {
+    if board.post(first).is_err() {
+        return None;
+    }
+    told_by(board, second)
+}
+
+// Posts to a board what another board's worker 1 made of the first piece, before and after that piece is claimed and posted by a
+// worker 1 of its own.
+fn refuse_first<J: Naming>(
+    alloc: Global,
+    board: &mut Board<J>,
+    other: &mut Board<J>,
+) -> Option<[Told; 2]> {
+    let Some(done) = finish_next(alloc, other, 1) else {
+        return None;
+    };
+    let Some((not_claimed, done)) = refuse(board, done) else {
+        return None;
+    };
+    let Some(own) = finish_next(alloc, board, 1) else {
+        return None;
+    };
+    match told_of_second(board, own, done) {
+        Some(repeated) => Some([not_claimed, repeated]),
+        None => None,
+    }
+}
+
+// Posts to a board, where worker 3 has claimed the next piece, what another board's worker 2 made of it.
+fn refuse_next<J: Naming>(
+    alloc: Global,
+    board: &mut Board<J>,
+    other: &mut Board<J>,
+) -> Option<Told> {
+    if board.claim(3).is_none() {
+        return None;
+    }
+    match finish_next(alloc, other, 2) {
+        Some(done) => told_by(board, done),
+        None => None,
+    }
+}
+
+// The three refusals, by two boards of one round.
+fn refuse_all<J: Naming>(
+    alloc: Global,
+    lent: &Lent,
+    pieces: Vec<Piece>,
+    others: Vec<Piece>,
+) -> Option<[Told; 3]>
+    requires named { content_of lent.now (parts_held pieces.items) ≡ J.round }
+    requires other_named { content_of lent.now (parts_held others.items) ≡ J.round }
+    requires open { IsOpen J.round }
+    requires going { AreGoingFrom J.round.configuration J.round.first 0 pieces.items }
+    requires other_going { AreGoingFrom J.round.configuration J.round.first 0 others.items }
+{
+    let Ok(mut board) = Board::new(alloc, Round::<J>::new(*lent, pieces)) else {
+        return None;
+    };
+    let Ok(mut other) = Board::new(alloc, Round::<J>::new(*lent, others)) else {
+        return None;
+    };
+    let Some(first) = refuse_first(alloc, &mut board, &mut other) else {
+        return None;
+    };
+    match refuse_next(alloc, &mut board, &mut other) {
+        Some(foreign) => Some([first[0], first[1], foreign]),
+        None => None,
+    }
+}
+
+// The same, of the round that the tests judge.
+fn refuse_in_round(alloc: Global) -> Option<[Told; 3]> {
+    let Some(config) = read_config(alloc) else {
+        return None;
+    };
+    let Ok(records) = records(alloc) else {
+        return None;
+    };
+    let Some(touched) = sort_out(alloc, &config, &records) else {
+        return None;
+    };
+    let Ok(pieces) = started(alloc, &config) else {
+        return None;
+    };
+    let Ok(others) = started(alloc, &config) else {
+        return None;
+    };
+    let lent = lend(&config, &records, &touched, false);
+    refuse_all::<Brand>(alloc, &lent, pieces, others)
+}
+
+// What has to be told of a refusal.
+fn refused_as(refusal: PostRefusal, worker: usize, number: usize, events: usize) -> Told {
+    Told {
+        refusal,
+        worker,
+        number,
+        events,
+    }
+}
+
+#[test]
+fn a_board_gives_back_what_it_refuses(rt: HostRuntime) -> Result<(), Fail> {
+    let refused = refuse_in_round(rt.alloc());
+    let wanted = Some([
+        refused_as(PostRefusal::NotClaimed, 1, 0, 0),
+        refused_as(PostRefusal::Repeated, 1, 0, 2),
+        refused_as(PostRefusal::Foreign, 2, 1, 3),
+    ]);
+    assert_eq!(rt; refused, wanted);
+    Ok(())
+}

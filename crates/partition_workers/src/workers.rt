@@ -1,0 +1,122 @@
+// Workers that claim the pieces of a round, let them go over its records, and post what became of them.
+
+ghost use Rattle.std.specs.Prelude.{◌≡◌, ◌↔◌, Err, IfOk};
+ghost use Rattle.apex_machine.specs.Runs.{ArePlaced, AreOfCores};
+ghost use Rattle.verdict_merge.specs.Rounds.{AreGoing, AreGoneOver};
+ghost use Rattle.partition_workers.specs.Contents.{AreGoingFrom, AreJudged, IsOpen, content_of, parts_held};
+
+use crate::board::Board;
+use crate::fault::RoundFault;
+use crate::round::{Naming, Round};
+use piece_check::Piece;
+use std::alloc::Global;
+use std::marker::Brand;
+use std::sync::{Mutex, Wait};
+use std::thread;
+use std::thread::Threads;
+use verdict_merge::{Judged, Lent, Memory};
+
+/// What stands between a worker and the board: it is told of each claim and each post, while the board is free for others.
+pub trait Gate {
+    /// This worker has claimed the piece of this number, and goes on once the call returns.
+    fn at_claim(&self, worker: usize, piece: usize);
+
+    /// This worker has posted the piece of this number, and goes on once the call returns.
+    fn at_post(&self, worker: usize, piece: usize);
+}
+
+/// The gate that lets every worker through at once.
+#[derive(Clone, Copy, Debug)]
+pub struct Open;
+
+impl Gate for Open {
+    fn at_claim(&self, _worker: usize, _piece: usize) {}
+
+    fn at_post(&self, _worker: usize, _piece: usize) {}
+}
+
+/// Lets the pieces go over the records of a round, by so many workers, each in a thread of its own where there are several; one
+/// value for each piece, at its number.
+///
+/// NoWorkers where there is no worker. Memory where a growth or a thread was refused; all threads are joined before the answer.
+pub fn judge_round<G: Gate + Sync, R: Threads + Wait + Sync>(
+    rt: &R,
+    alloc: Global,
+    lent: &Lent,
+    pieces: Vec<Piece>,
+    workers: usize,
+    gate: &G,
+) -> Result<Vec<Judged>, RoundFault>
+    requires going { AreGoing lent.now.config.now lent.now.first pieces.items }
+    requires placed { ArePlaced lent.now.first lent.now.records.now }
+    requires cores { AreOfCores lent.now.config.now.cores lent.now.records.now }
+    ensures judged { IfOk result (λ judged. AreGoneOver lent.now.config.now lent.now.first lent.now.records.now lent.now.watched pieces.items judged.items) }
+    ensures no_workers { result ≡ Err RoundFault.NoWorkers ↔ workers ≡ 0 }
+{
+    if workers == 0 {
+        return Err(RoundFault::NoWorkers);
+    }
+    match judge_named::<Brand, G, R>(rt, alloc, lent, pieces, workers, gate) {
+        Ok(judged) => Ok(judged),
+        Err(_) => Err(RoundFault::Memory),
+    }
+}
+
+// The same of the round that J names.
+fn judge_named<J: Naming + Send + Sync, G: Gate + Sync, R: Threads + Wait + Sync>(
+    rt: &R,
+    alloc: Global,
+    lent: &Lent,
+    pieces: Vec<Piece>,
+    workers: usize,
+    gate: &G,
+) -> Result<Vec<Judged>, Memory>
+    requires named { content_of lent.now (parts_held pieces.items) ≡ J.round }
+    requires open { IsOpen J.round }
+    requires going { AreGoingFrom J.round.configuration J.round.first 0 pieces.items }
+    ensures { IfOk result (λ judged. AreJudged J.round judged.items) }
+{
+    let board = match Board::new(alloc, Round::<J>::new(*lent, pieces)) {
+        Ok(board) => Mutex::new(board),
+        Err(memory) => return Err(memory),
+    };
+    let shared = &board;
+    let worked = thread::map_indices(
+        rt,
+        alloc,
+        workers,
+        &|worker: usize| work(rt, alloc, shared, worker, gate),
+    );
+    if worked.is_err() {
+        return Err(Memory);
+    }
+    board.into_inner().finish(alloc)
+}
+
+// Claims a piece, lets it go over the records and posts what became of it, until no piece is left. Memory where a growth was
+// refused; the piece is then never posted.
+fn work<J: Naming, G: Gate, R: Wait>(
+    rt: &R,
+    alloc: Global,
+    board: &Mutex<Board<J>>,
+    worker: usize,
+    gate: &G,
+) -> Result<(), Memory> {
+    for _ in rt.forever() {
+        let claimed = board.lock(rt).claim(worker);
+        let Some(job) = claimed else {
+            return Ok(());
+        };
+        let number = job.number();
+        gate.at_claim(worker, number);
+        let done = match job.run(alloc) {
+            Ok(done) => done,
+            Err(memory) => return Err(memory),
+        };
+        if board.lock(rt).post(done).is_err() {
+            return Err(Memory);
+        }
+        gate.at_post(worker, number);
+    }
+    unreachable!()
+}
