@@ -3,21 +3,23 @@
 use crate::texts::{CONFIG, ORDER, RECORDING};
 use order_cert::CertFault;
 use record_read::RowFault;
-use report::{CheckFault, Verdict, check};
+use report::{CheckFault, Settings, Verdict, check};
 use std::alloc::{AllocError, Global};
 use std::io;
 use std::io::{ErrorKind, Read};
+use std::sync::Wait;
 use std::test::Fail;
+use std::thread::Threads;
 
 // Gives its text at most `step` bytes at a time, and fails in place of each read past the first `given` bytes.
 #[derive(Clone, Copy)]
-struct Failing<'a> {
-    text: &'a [u8],
+struct Failing {
+    text: &'static [u8],
     step: usize,
     given: usize,
 }
 
-impl<'a> Read for Failing<'a> {
+impl Read for Failing {
     fn read(&mut self, buf: &mut [u8]) -> io::Result<usize> {
         if self.given == 0 {
             return Err(io::Error::from(ErrorKind::BrokenPipe));
@@ -33,7 +35,7 @@ impl<'a> Read for Failing<'a> {
 }
 
 // A reader of a text that fails past so many bytes.
-fn reader_of(text: &str, step: usize, given: usize) -> Failing<'_> {
+fn reader_of(text: &'static str, step: usize, given: usize) -> Failing {
     Failing {
         text: text.as_bytes(),
         step,
@@ -42,13 +44,18 @@ fn reader_of(text: &str, step: usize, given: usize) -> Failing<'_> {
 }
 
 // The outcome for these readers.
-fn outcome(
+fn outcome<T>(
+    rt: T,
     alloc: Global,
-    recording: Failing<'_>,
-    order: Failing<'_>,
-) -> Result<Result<Verdict, CheckFault>, AllocError> {
+    recording: Failing,
+    order: Failing,
+    settings: Settings,
+) -> Result<Result<Verdict, CheckFault>, AllocError>
+where
+    T: Threads + Wait + Sync + Copy + Send + 'static,
+{
     let readers = vec![in alloc; recording]?;
-    Ok(check(alloc, CONFIG.as_bytes(), readers, order))
+    Ok(check(rt, alloc, CONFIG.as_bytes(), readers, order, &[], settings))
 }
 
 // How many rows are whole in the first bytes of a text.
@@ -66,13 +73,14 @@ fn whole_rows(text: &str, bytes: usize) -> u64 {
 fn readers_fail(rt: HostRuntime) -> Result<(), Fail> {
     let alloc = rt.alloc();
     let whole = usize::MAX;
-    for step in [1, 7, 1000] {
+    for (step, depth) in [(1, 1), (7, 2), (1000, 64)] {
+        let settings = Settings { depth };
         let (recording, order) = (
             reader_of(RECORDING, step, whole),
             reader_of(ORDER, step, whole),
         );
         assert_eq!(rt;
-            outcome(alloc, recording, order)?,
+            outcome(rt, alloc, recording, order, settings)?,
             Ok(Verdict::Yes { records: 13 }),
             "by {step}"
         );
@@ -80,7 +88,7 @@ fn readers_fail(rt: HostRuntime) -> Result<(), Fail> {
             let cut = reader_of(RECORDING, step, given);
             let (core, seq, fault) = (0, whole_rows(RECORDING, given), RowFault::Read);
             assert_eq!(rt;
-                outcome(alloc, cut, order)?,
+                outcome(rt, alloc, cut, order, settings)?,
                 Err(CheckFault::Row { core, seq, fault }),
                 "a recording of {given} bytes by {step}"
             );
@@ -89,7 +97,7 @@ fn readers_fail(rt: HostRuntime) -> Result<(), Fail> {
             let cut = reader_of(ORDER, step, given);
             let (place, fault) = (whole_rows(ORDER, given), CertFault::Read);
             assert_eq!(rt;
-                outcome(alloc, recording, cut)?,
+                outcome(rt, alloc, recording, cut, settings)?,
                 Err(CheckFault::Cert { place, fault }),
                 "a certificate of {given} bytes by {step}"
             );

@@ -1,7 +1,7 @@
 // Writers that fail in mid-line, in the place of standard output.
 
 use crate::texts::{CONFIG, ORDER, RECORDING};
-use report::{check, write_report};
+use report::{Settings, check, write_report};
 use sink::{WriteFault, WriterSink};
 use std::io;
 use std::io::{ErrorKind, Write};
@@ -33,13 +33,22 @@ impl<'a> Write for Narrow<'a> {
 #[test]
 fn writers_fail(rt: HostRuntime) -> Result<(), Fail> {
     let alloc = rt.alloc();
+    let settings = Settings { depth: 4 };
     for (order, line) in [
         (ORDER, "YES records=13\n"),
         ("0,x", "REFUSED cert place=0 fault=BadNumber\n"),
         ("9,0", "REFUSED order place=0 core=9 fault=NoSuchCore\n"),
     ] {
         let readers = vec![in alloc; RECORDING.as_bytes()]?;
-        let outcome = check(alloc, CONFIG.as_bytes(), readers, order.as_bytes());
+        let outcome = check(
+            rt,
+            alloc,
+            CONFIG.as_bytes(),
+            readers,
+            order.as_bytes(),
+            &[],
+            settings,
+        );
         for room in 0..line.len().saturating_add(1) {
             let mut taken = Vec::new(alloc);
             let mut sink = WriterSink::new(Narrow {

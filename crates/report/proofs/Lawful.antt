@@ -22,8 +22,9 @@ use Rattle.placement.specs.Scan.{Scan, and_then, end_of, ends_of, ends_so, keepi
 use Rattle.placement.proofs.Readings.{put-here, put-other, put-back, same_or}
 use Rattle.record_read.specs.declared.fault.RowFault.TheVariants as row
 use Rattle.record_read.specs.Row.{Item}
+use Rattle.user_rules.specs.declared.relation.Relation.{Relation}
 use Rattle.verdict_merge.specs.declared.verdict.Verdict.{Verdict}
-use Rattle.verdict_merge.specs.declared.verdict.Verdict.TheVariants.{Yes, No}
+use Rattle.verdict_merge.specs.declared.verdict.Verdict.TheVariants.{Yes, No, Broken}
 use Rattle.verdict_merge.specs.Verdicts.{IsRunWhereYes}
 use Rattle.report.specs.declared.fault.CheckFault.{CheckFault}
 use Rattle.report.specs.declared.fault.CheckFault.TheVariants as refusal
@@ -185,21 +186,23 @@ scan_placed cores items certificate scanned (left, pairs, reads, certs, is) = su
 yes_of : (verdict : Verdict) (end : Result (Unit {0}) InputFault) (count : ℕ) → ◌≡◌ {A = Result Verdict CheckFault} (Ok (Yes count)) (answer_with verdict end)
     → (verdict ≡ Yes count) × (end ≡ Ok tt)
 yes_of (No pos piece cause) end count e = cc
+yes_of (Broken pos rule) end count e = cc
 yes_of (Yes records) (Ok u) count e = (cc, refl)
 yes_of (Yes records) (Err fault) count e = cc
 
-pub yes_means : (config : List ℕ) (texts : List (List ℕ)) (certificate : List ℕ) (configuration : Configuration) (scanned : Scan) (verdict : Verdict) (result : Result Verdict CheckFault)
+pub yes_means : (config : List ℕ) (texts : List (List ℕ)) (certificate : List ℕ) (relations : List Relation) (configuration : Configuration) (scanned : Scan) (verdict : Verdict) (result : Result Verdict CheckFault)
     → configuration_of config ≡ Ok configuration → length texts ≡ configuration.cores
-    → IsScanOf (length texts) none_taken 0 (items_at texts) (pairs_of certificate) scanned → IsRunWhereYes configuration scanned.placed verdict → result ≡ answer_with verdict scanned.end
-    → YesMeansRun config texts certificate result
-yes_means config texts certificate configuration scanned verdict (Err fault) read count scan run e = tt
-yes_means config texts certificate configuration scanned verdict (Ok (No pos piece cause)) read count scan run e = tt
-yes_means config texts certificate configuration scanned verdict (Ok (Yes records)) read count (left, items, reads, certs, is) run e =
+    → IsScanOf (length texts) none_taken 0 (items_at texts) (pairs_of certificate) scanned → IsRunWhereYes configuration relations scanned.placed verdict → result ≡ answer_with verdict scanned.end
+    → YesMeansRun config texts certificate relations result
+yes_means config texts certificate relations configuration scanned verdict (Err fault) read count scan run e = tt
+yes_means config texts certificate relations configuration scanned verdict (Ok (No pos piece cause)) read count scan run e = tt
+yes_means config texts certificate relations configuration scanned verdict (Ok (Broken pos rule)) read count scan run e = tt
+yes_means config texts certificate relations configuration scanned verdict (Ok (Yes records)) read count (left, items, reads, certs, is) run e =
     let yes = yes_of verdict scanned.end records e in
     let whole : scan configuration.cores none_taken 0 left items ≡ record { placed = scanned.placed; end = Ok tt } =
     subst (λ n. scan n none_taken 0 left items ≡ record { placed = scanned.placed; end = Ok tt }) count (is ∙ ap (λ x. record { placed = scanned.placed; end = x }) yes.1) in
     let p = scanned_well configuration.cores none_taken 0 scanned.placed left items whole in
-    let final = subst (IsRunWhereYes configuration scanned.placed) yes.0 run in
+    let final = subst (IsRunWhereYes configuration relations scanned.placed) yes.0 run in
     record {
       configuration = configuration;
       configured = read;
@@ -213,10 +216,11 @@ yes_means config texts certificate configuration scanned verdict (Ok (Yes record
       ordered = p.ordered;
       final = final.0;
       run = final.1;
-      counted = final.2;
+      meets = final.2;
+      counted = final.3;
     }
 
 -- want of memory is no Yes
-pub memory_means : (config : List ℕ) (texts : List (List ℕ)) (certificate : List ℕ) (result : Result Verdict CheckFault) → result ≡ Err refusal.Memory
-    → YesMeansRun config texts certificate result
-memory_means config texts certificate result e = subst (YesMeansRun config texts certificate) (sym e) tt
+pub memory_means : (config : List ℕ) (texts : List (List ℕ)) (certificate : List ℕ) (relations : List Relation) (result : Result Verdict CheckFault) → result ≡ Err refusal.Memory
+    → YesMeansRun config texts certificate relations result
+memory_means config texts certificate relations result e = subst (YesMeansRun config texts certificate relations) (sym e) tt

@@ -11,7 +11,7 @@ use Rattle.order_cert.specs.declared.fault.OrderFault.TheVariants as order
 use Rattle.record_read.specs.declared.fault.RowFault.{RowFault}
 use Rattle.record_read.specs.declared.fault.RowFault.TheVariants as row
 use Rattle.verdict_merge.specs.declared.verdict.Verdict.{Verdict}
-use Rattle.verdict_merge.specs.declared.verdict.Verdict.TheVariants.{Yes, No}
+use Rattle.verdict_merge.specs.declared.verdict.Verdict.TheVariants.{Yes, No, Broken}
 use Rattle.report.specs.declared.fault.ArgumentFault.{ArgumentFault}
 use Rattle.report.specs.declared.fault.ArgumentFault.TheVariants as argument
 use Rattle.report.specs.declared.fault.CheckFault.{CheckFault}
@@ -37,6 +37,8 @@ cause_name cause.Woken = codes "Woken"
 
 -- the name of a fault of the arguments
 abbrev pub argument_fault_name : ArgumentFault → List ℕ
+argument_fault_name argument.NoDepth = codes "NoDepth"
+argument_fault_name argument.TooDeep = codes "TooDeep"
 argument_fault_name argument.ReaderCount = codes "ReaderCount"
 
 -- the name of a fault of the configuration
@@ -92,6 +94,7 @@ abbrev pub report_of : Result Verdict CheckFault → List ℕ
 report_of (Ok (Yes records)) = codes "YES records=" ++ (decimal records ++ codes "\n")
 report_of (Ok (No pos piece cause)) =
     codes "NO place=" ++ (decimal pos ++ (codes " piece=" ++ (decimal piece ++ (codes " cause=" ++ (cause_name cause ++ codes "\n")))))
+report_of (Ok (Broken pos rule)) = codes "NO place=" ++ (decimal pos ++ (codes " rule=" ++ (decimal rule ++ codes "\n")))
 report_of (Err (Arguments fault)) = codes "REFUSED arguments=" ++ (argument_fault_name fault ++ codes "\n")
 report_of (Err (Config fault)) = codes "REFUSED config=" ++ (config_fault_name fault ++ codes "\n")
 report_of (Err (Cert place fault)) =

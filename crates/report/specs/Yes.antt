@@ -1,8 +1,10 @@
 -- What a Yes means.
 use Rattle.std.specs.Prelude.{◌≡◌, ◌<◌, ℕ, suc, List, [], ◌∷◌, Result, Ok, Err, map, length}
+use Rattle.std.specs.List.{All}
 use Rattle.apex_machine.specs.Configuration.{Configuration}
 use Rattle.apex_machine.specs.State.{State, cold_state}
 use Rattle.apex_machine.specs.Step.{Run}
+use Rattle.apex_machine.specs.Views.{run_views}
 use Rattle.apex_types.specs.declared.record.Ordered.{Ordered}
 use Rattle.apex_types.specs.declared.record.Pair.{Pair}
 use Rattle.apex_types.specs.declared.record.Record.{Record}
@@ -11,8 +13,10 @@ use Rattle.order_cert.specs.Kept.{put}
 use Rattle.order_cert.specs.Order.{IsLawfulOrder}
 use Rattle.order_cert.specs.Row.{pairs_of}
 use Rattle.placement.specs.Scan.{placed_at}
+use Rattle.user_rules.specs.declared.relation.Relation.{Relation}
+use Rattle.user_rules.specs.FirstBroken.{MeetsAll}
 use Rattle.verdict_merge.specs.declared.verdict.Verdict.{Verdict}
-use Rattle.verdict_merge.specs.declared.verdict.Verdict.TheVariants.{Yes, No}
+use Rattle.verdict_merge.specs.declared.verdict.Verdict.TheVariants.{Yes, No, Broken}
 use Rattle.report.specs.declared.fault.CheckFault.{CheckFault}
 use Rattle.report.specs.Outcome.{items_at}
 
@@ -25,8 +29,9 @@ AreInOrder cores place (pair ∷ pairs) rest records =
     × AreInOrder cores (suc place) pairs (put rest pair.core more) later
 
 -- the texts are a configuration, recordings and a certificate without a fault; the certificate's pairs are a lawful order
--- of the recordings' records; and in that order the records are a run of the configured machine from the cold state
-pub record IsLawfulRun (config : List ℕ) (texts : List (List ℕ)) (certificate : List ℕ) (count : ℕ) : Type 0 where
+-- of the recordings' records; and in that order the records are a run of the configured machine from the cold state, in which the
+-- view of each record meets every relation
+pub record IsLawfulRun (config : List ℕ) (texts : List (List ℕ)) (certificate : List ℕ) (relations : List Relation) (count : ℕ) : Type 0 where
   pub configuration : Configuration
   pub configured : configuration_of config ≡ Ok configuration
   pub readers : length texts ≡ configuration.cores
@@ -39,10 +44,12 @@ pub record IsLawfulRun (config : List ℕ) (texts : List (List ℕ)) (certificat
   pub ordered : AreInOrder configuration.cores 0 pairs recordings records
   pub final : State
   pub run : Run configuration (cold_state configuration) records final
+  pub meets : All (MeetsAll relations) (run_views configuration (cold_state configuration) records final run)
   pub counted : count ≡ length records
 
--- where the answer is Yes, the recordings are lawful in the order of the certificate
-abbrev pub YesMeansRun : List ℕ → List (List ℕ) → List ℕ → Result Verdict CheckFault → Type 0
-YesMeansRun config texts certificate (Ok (Yes records)) = IsLawfulRun config texts certificate records
-YesMeansRun config texts certificate (Ok (No pos piece cause)) = Unit {0}
-YesMeansRun config texts certificate (Err fault) = Unit {0}
+-- where the answer is Yes, the recordings are lawful in the order of the certificate, and every relation holds in their run
+abbrev pub YesMeansRun : List ℕ → List (List ℕ) → List ℕ → List Relation → Result Verdict CheckFault → Type 0
+YesMeansRun config texts certificate relations (Ok (Yes records)) = IsLawfulRun config texts certificate relations records
+YesMeansRun config texts certificate relations (Ok (No pos piece cause)) = Unit {0}
+YesMeansRun config texts certificate relations (Ok (Broken pos rule)) = Unit {0}
+YesMeansRun config texts certificate relations (Err fault) = Unit {0}

@@ -1,20 +1,26 @@
 // The check.
 
 ghost use Rattle.std.specs.Prelude.{◌≡◌, ◌≤◌, ℕ, List, Some, map};
+ghost use Rattle.user_rules.specs.Rules.{relations_of};
 ghost use Rattle.report.specs.Outcome.{IsOutcome, config_refusal_of};
 ghost use Rattle.report.specs.Yes.{YesMeansRun};
 
 use crate::fault::{ArgumentFault, CheckFault};
 use crate::rounds::judge_all;
+use crate::settings::Settings;
+use core_intake::Intake;
 use module_config::{Config, ConfigFault};
 use order_cert::CertSource;
-use placement::{Lanes, Placer};
+use placement::Placer;
 use std::alloc::Global;
 use std::io::Read;
+use std::sync::Wait;
+use std::thread::Threads;
+use user_rules::Rule;
 use verdict_merge::Verdict;
 
-// The most records that a round holds.
-const MOST_RECORDS: usize = 4096;
+/// The most records that a round holds.
+pub const MOST_RECORDS: usize = 4096;
 
 // The refusal that a fault of the configuration is.
 fn config_refusal(fault: ConfigFault) -> CheckFault
@@ -26,38 +32,71 @@ fn config_refusal(fault: ConfigFault) -> CheckFault
     }
 }
 
-/// Checks the recordings, one reader for each core in order, against the configuration and the order that the certificate
-/// proposes.
+/// Checks the recordings, one reader for each core in order, against the configuration, the order that the certificate
+/// proposes, and the user's rules.
 ///
-/// Yes with the number of records where the order is lawful and the records in it are a run of the machine; No with the
-/// first place that is not, the piece that refuses it and its cause; else the refusal that comes first. Memory comes
-/// where a growth was refused, at whatever point. A reader that answers an error ends its text there, with the fault Read.
-pub fn check<R: Read + Drop, C: Read + Drop>(
+/// Each recording is read by a thread of its own, beside the judging of what was read.
+///
+/// Yes with the number of records where the order is lawful, the records in it are a run of the machine, and each rule holds of
+/// the view of each record; No with the first place that is not, the piece that refuses it and its cause; or the first place
+/// whose view breaks a rule, with the number of the rule; else the refusal that comes first: that of the settings, of the
+/// configuration, of the number of readers, and then of the least place. It is the same for all settings that are not refused, and
+/// however the threads take turns. Memory comes where a growth or a thread was refused, at whatever point. A reader
+/// that answers an error ends its text there, with the fault Read.
+///
+/// All threads have ended when it answers. A reader that waits in a read of its own holds it until that read returns.
+pub fn check<T, R, C>(
+    rt: T,
     alloc: Global,
     config: &[u8],
     readers: Vec<R>,
     cert: C,
+    rules: &[Rule],
+    settings: Settings,
 ) -> Result<Verdict, CheckFault>
-    ensures outcome { (texts : List (List ℕ)) (certificate : List ℕ) → map (λ reader. R.remaining reader) readers.items ≡ map Some texts → C.remaining cert ≡ Some certificate → IsOutcome config.now texts certificate result }
-    ensures yes { (texts : List (List ℕ)) (certificate : List ℕ) → map (λ reader. R.remaining reader) readers.items ≡ map Some texts → C.remaining cert ≡ Some certificate → YesMeansRun config.now texts certificate result }
+where
+    T: Threads + Wait + Sync + Copy + Send + 'static,
+    R: Read + Drop + Send + 'static,
+    C: Read + Drop,
+    ensures outcome { (texts : List (List ℕ)) (certificate : List ℕ) → map (λ reader. R.remaining reader) readers.items ≡ map Some texts → C.remaining cert ≡ Some certificate → IsOutcome settings config.now texts certificate (relations_of rules.now) result }
+    ensures yes { (texts : List (List ℕ)) (certificate : List ℕ) → map (λ reader. R.remaining reader) readers.items ≡ map Some texts → C.remaining cert ≡ Some certificate → YesMeansRun config.now texts certificate (relations_of rules.now) result }
 {
-    check_in_rounds(alloc, config, readers, cert, MOST_RECORDS)
+    check_in_rounds(
+        rt,
+        alloc,
+        config,
+        readers,
+        cert,
+        rules,
+        settings,
+        MOST_RECORDS,
+    )
 }
 
-/// The same check with rounds of at most this many records, from 1 to 4,096. No more than a round is held at a time, and
-/// behind a round in which a record is refused nothing further is read.
-pub fn check_in_rounds<R: Read + Drop, C: Read + Drop>(
+/// The same check with rounds of at most this many records, from 1 to 4,096. No more is held at a time than a round, and of each
+/// core what was read ahead. Behind a round in which a record is refused nothing further is taken, and the threads are stopped.
+pub fn check_in_rounds<T, R, C>(
+    rt: T,
     alloc: Global,
     config: &[u8],
     readers: Vec<R>,
     cert: C,
+    rules: &[Rule],
+    settings: Settings,
     size: usize,
 ) -> Result<Verdict, CheckFault>
+where
+    T: Threads + Wait + Sync + Copy + Send + 'static,
+    R: Read + Drop + Send + 'static,
+    C: Read + Drop,
     requires least { 1 ≤ size }
     requires most { size ≤ 4096 }
-    ensures outcome { (texts : List (List ℕ)) (certificate : List ℕ) → map (λ reader. R.remaining reader) readers.items ≡ map Some texts → C.remaining cert ≡ Some certificate → IsOutcome config.now texts certificate result }
-    ensures yes { (texts : List (List ℕ)) (certificate : List ℕ) → map (λ reader. R.remaining reader) readers.items ≡ map Some texts → C.remaining cert ≡ Some certificate → YesMeansRun config.now texts certificate result }
+    ensures outcome { (texts : List (List ℕ)) (certificate : List ℕ) → map (λ reader. R.remaining reader) readers.items ≡ map Some texts → C.remaining cert ≡ Some certificate → IsOutcome settings config.now texts certificate (relations_of rules.now) result }
+    ensures yes { (texts : List (List ℕ)) (certificate : List ℕ) → map (λ reader. R.remaining reader) readers.items ≡ map Some texts → C.remaining cert ≡ Some certificate → YesMeansRun config.now texts certificate (relations_of rules.now) result }
 {
+    if let Some(fault) = settings.fault() {
+        return Err(CheckFault::Arguments(fault));
+    }
     let config = match Config::read(alloc, config) {
         Ok(config) => config,
         Err(fault) => return Err(config_refusal(fault)),
@@ -65,14 +104,12 @@ pub fn check_in_rounds<R: Read + Drop, C: Read + Drop>(
     if readers.len() != config.cores() as usize {
         return Err(CheckFault::Arguments(ArgumentFault::ReaderCount));
     }
-    let Ok(lanes) = Lanes::open(alloc, readers) else {
+    let Ok(intake) = Intake::open(rt, alloc, readers, settings.depth) else {
         return Err(CheckFault::Memory);
     };
     config.keeps_limits();
-    judge_all(
-        alloc,
-        &config,
-        Placer::new(lanes, CertSource::new(alloc, cert)),
-        size,
-    )
+    let mut placer = Placer::new(intake, CertSource::new(alloc, cert));
+    let answer = judge_all(&rt, alloc, &config, &mut placer, rules, size);
+    placer.close(&rt);
+    answer
 }

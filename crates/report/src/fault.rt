@@ -9,9 +9,16 @@ use placement::InputFault;
 use record_read::RowFault;
 use thiserror::Error;
 
-/// What is wrong with the arguments of a check.
+/// What is wrong with the arguments of a check. The faults are looked for in this order; those of the configuration come before
+/// the last.
 #[derive(Clone, Copy, Debug, Drop, PartialEq, Eq, Error)]
 pub enum ArgumentFault {
+    /// There are to be 0 records of a core that are read ahead.
+    #[error("no record is to be read ahead")]
+    NoDepth,
+    /// There are to be more than 4,096 records of a core that are read ahead.
+    #[error("more than 4,096 records of a core are to be read ahead")]
+    TooDeep,
     /// There is not one recording for each core.
     #[error("there is not one recording for each core")]
     ReaderCount,

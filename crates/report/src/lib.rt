@@ -1,17 +1,25 @@
 //! The check of recordings against a configuration and a proposed order, and the report of its outcome.
 //!
-//! Promises: the outcome is that of the inputs' bytes; where it is Yes, the proposed order lists every record of every core
-//! once and in that core's own order, and in that order the records are a run of the configured machine from the cold
-//! state; no more than a round of records is held at a time; a report that is answered as written went out whole.
+//! Promises: the outcome is that of the inputs' bytes and the rules; where it is Yes, the proposed order lists every record of
+//! every core once and in that core's own order, and in that order the records are a run of the configured machine from the cold
+//! state in which every rule holds; a report that is answered as written went out whole.
+//!
+//! No more is held at a time than a round of records and, of each core, what was read ahead: the depth and two batches.
+//!
+//! Whoever has relations, and no tests of their own, calls `check_relations`.
 #![tactic(auto)]
 
 mod checking;
 mod fault;
 mod names;
+mod relations;
 mod rounds;
+mod settings;
 mod text;
 
-pub use checking::{check, check_in_rounds};
+pub use checking::{MOST_RECORDS, check, check_in_rounds};
 pub use fault::{ArgumentFault, CheckFault};
+pub use relations::check_relations;
+pub use settings::Settings;
 pub use text::write_report;
 pub use verdict_merge::Verdict;

@@ -2,8 +2,9 @@
 
 ghost use Rattle.std.specs.Prelude.{◌≡◌, ◌⊎◌, ◌≤◌, ◌↔◌, [], Err, IsTrue, length, false};
 ghost use Rattle.order_cert.specs.Kept.{place_of};
-ghost use Rattle.placement.specs.Lanes.{IsAhead};
+ghost use Rattle.placement.specs.Lanes.{AreHonest, IsAhead};
 ghost use Rattle.placement.specs.Scan.{Scan};
+ghost use Rattle.user_rules.specs.Rules.{relations_of};
 ghost use Rattle.report.specs.Outcome.{IsJudged};
 ghost use Rattle.report.specs.Rounds.{IsJudgedRound, MayGoOn, answer_of};
 
@@ -13,23 +14,30 @@ use module_config::Config;
 use placement::{Filled, InputFault, Placer};
 use std::alloc::Global;
 use std::io::Read;
-use verdict_merge::{Finding, Judge, Verdict};
+use std::sync::Wait;
+use std::thread::Threads;
+use user_rules::{Rule, first_broken};
+use verdict_merge::{Judge, Verdict};
 
-/// Judges all records that are ahead of the placer, in rounds of at most this many. Behind a round with a finding nothing
-/// further is taken.
-pub fn judge_all<R: Read + Drop, C: Read + Drop>(
+/// Judges all records that are ahead of the placer, in rounds of at most this many. Behind a round with a finding nothing further
+/// is taken.
+///
+/// What is promised holds once the placer's threads are joined, since it is known then what they read.
+pub fn judge_all<T: Threads + Wait + Sync, R: Read, C: Read>(
+    rt: &T,
     alloc: Global,
     config: &Config,
-    mut placer: Placer<R, C>,
+    placer: &mut Placer<R, C>,
+    rules: &[Rule],
     size: usize,
 ) -> Result<Verdict, CheckFault>
     requires least { 1 ≤ size }
-    requires going { placer.ended ≡ false }
-    requires first { place_of placer.kept ≡ 0 }
-    requires cores { length placer.lanes ≡ config.now.cores }
-    ensures { (result ≡ Err CheckFault.Memory) ⊎ ((scanned : Scan) × IsAhead placer scanned × IsJudged config.now scanned result) }
+    requires going { placer.old.ended ≡ false }
+    requires first { place_of placer.old.kept ≡ 0 }
+    requires cores { length placer.old.lanes ≡ config.now.cores }
+    ensures { AreHonest placer.new.lanes → (result ≡ Err CheckFault.Memory) ⊎ ((scanned : Scan) × IsAhead placer.old scanned × IsJudged config.now (relations_of rules.now) scanned result) }
 {
-    let Ok(mut judge) = Judge::start(alloc, config) else {
+    let Ok(mut judge) = Judge::start(alloc, config, !rules.is_empty()) else {
         return Err(CheckFault::Memory);
     };
     let Ok(mut round) = Vec::with_capacity(alloc, size) else {
@@ -38,7 +46,7 @@ pub fn judge_all<R: Read + Drop, C: Read + Drop>(
     // There are fewer places than this many rounds.
     'rounds: for _ in 0..u64::MAX {
         round.clear();
-        if let Some(answer) = judge_round(config, &mut placer, &mut judge, &mut round, size) {
+        if let Some(answer) = judge_round(rt, config, placer, &mut judge, &mut round, rules, size) {
             return answer;
         }
     }
@@ -46,18 +54,21 @@ pub fn judge_all<R: Read + Drop, C: Read + Drop>(
 }
 
 // Fills a round and judges it: the answer of the check, or None where it goes on.
-fn judge_round<R: Read, C: Read>(
+fn judge_round<T: Threads + Wait + Sync, R: Read, C: Read>(
+    rt: &T,
     config: &Config,
     placer: &mut Placer<R, C>,
     judge: &mut Judge,
     round: &mut Vec<Ordered>,
+    rules: &[Rule],
     size: usize,
 ) -> Option<Result<Verdict, CheckFault>>
-    requires on { MayGoOn config.now placer.old judge.old }
+    requires on { MayGoOn config.now (relations_of rules.now) placer.old judge.old }
     requires empty { round.old.items ≡ [] }
-    ensures { IsJudgedRound config.now placer.old judge.old round.new.items result placer.new judge.new }
+    ensures judged { IsJudgedRound config.now (relations_of rules.now) placer.old judge.old round.new.items result placer.new judge.new }
+    ensures honest { AreHonest placer.new.lanes → AreHonest placer.old.lanes }
 {
-    let filled = placer.fill(round, size);
+    let filled = placer.fill(rt, round, size);
     if is_memory(filled) {
         return Some(Err(CheckFault::Memory));
     }
@@ -65,7 +76,12 @@ fn judge_round<R: Read, C: Read>(
         Ok(found) => found,
         Err(_) => return Some(Err(CheckFault::Memory)),
     };
-    answer(found, filled, judge.count())
+    let broken = first_broken(rt, rules, judge.views());
+    answer(
+        Verdict::against(round, found, broken),
+        filled,
+        judge.count(),
+    )
 }
 
 // Whether memory was refused while a round was filled.
@@ -78,13 +94,17 @@ fn is_memory(filled: Filled) -> bool
     }
 }
 
-// The answer behind a round: a No with its finding; else, where the input has ended, Yes with the number of records judged or
-// the refusal behind them.
-fn answer(found: Option<Finding>, filled: Filled, count: u64) -> Option<Result<Verdict, CheckFault>>
-    ensures { result ≡ answer_of found filled count }
+// The answer behind a round: what decides against it; else, where the input has ended, Yes with the number of records judged
+// or the refusal behind them.
+fn answer(
+    against: Option<Verdict>,
+    filled: Filled,
+    count: u64,
+) -> Option<Result<Verdict, CheckFault>>
+    ensures { result ≡ answer_of against filled count }
 {
-    match (found, filled) {
-        (Some(found), _) => Some(Ok(Verdict::no(found))),
+    match (against, filled) {
+        (Some(verdict), _) => Some(Ok(verdict)),
         (None, Filled::Full) => None,
         (None, Filled::Ended(Ok(()))) => Some(Ok(Verdict::Yes { records: count })),
         (None, Filled::Ended(Err(fault))) => Some(Err(refusal(fault))),

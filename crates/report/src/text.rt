@@ -57,6 +57,16 @@ fn write_verdict<W: Sink>(w: &mut W, verdict: &Verdict) -> Result<(), WriteFault
                 b"\n",
             ],
         ),
+        Verdict::Broken { pos, rule } => put_parts(
+            w,
+            &[
+                b"NO place=",
+                first.format(pos.number()).as_bytes(),
+                b" rule=",
+                second.format(*rule).as_bytes(),
+                b"\n",
+            ],
+        ),
     }
 }
 
