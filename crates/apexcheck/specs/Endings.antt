@@ -1,6 +1,6 @@
 -- How a run of the program ends: its exit status and its line.
 use Rattle.std.specs.Prelude.{ℕ, List, Ok, Err, codes}
-use Rattle.verdict_merge.specs.declared.verdict.Verdict.TheVariants.{Yes, No}
+use Rattle.verdict_merge.specs.declared.verdict.Verdict.TheVariants.{Yes, No, Broken}
 use Rattle.report.specs.declared.fault.CheckFault.TheVariants as fault
 use Rattle.report.specs.Text.{report_of}
 use Rattle.apexcheck.specs.declared.ending.Ending.{Ending}
@@ -10,6 +10,7 @@ use Rattle.apexcheck.specs.declared.ending.Ending.TheVariants.{Checked, BadUsage
 abbrev pub exit_status_of : Ending → ℕ
 exit_status_of (Checked (Ok (Yes records))) = 0
 exit_status_of (Checked (Ok (No pos piece cause))) = 1
+exit_status_of (Checked (Ok (Broken pos rule))) = 1
 exit_status_of (Checked (Err fault.Memory)) = 3
 exit_status_of (Checked (Err (fault.Arguments which))) = 2
 exit_status_of (Checked (Err (fault.Config which))) = 2

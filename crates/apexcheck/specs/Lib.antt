@@ -1,3 +1,5 @@
 pub mod Endings
 pub mod Files
+pub mod Ruled
+pub mod Settings
 pub mod Words

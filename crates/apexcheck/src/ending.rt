@@ -30,7 +30,7 @@ pub fn status_of(ending: &Ending) -> u8
 {
     match ending {
         Ending::Checked(Ok(Verdict::Yes { .. })) | Ending::Version => 0,
-        Ending::Checked(Ok(Verdict::No { .. })) => 1,
+        Ending::Checked(Ok(Verdict::No { .. } | Verdict::Broken { .. })) => 1,
         Ending::Checked(Err(CheckFault::Memory)) => 3,
         Ending::Checked(Err(_)) | Ending::BadUsage | Ending::Unopened => 2,
     }

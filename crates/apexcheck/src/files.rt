@@ -6,12 +6,16 @@ ghost use Rattle.module_config.specs.Reading.{configuration_of};
 ghost use Rattle.apexcheck.specs.Files.{IsOfFiles, ending_of};
 
 use crate::ending::Ending;
-use crate::usage::FileNames;
-use report::{CheckFault, check};
+use crate::ruled::{check_ruled, tell_broken};
+use crate::usage::{FileNames, FilesAsked};
+use report::{CheckFault, Settings};
+use rule_options::RuleOption;
 use std::alloc::{AllocFailed, Global};
 use std::fs::{File, Files};
 use std::io;
 use std::io::{ErrorKind, Read};
+use std::sync::Wait;
+use std::thread::Threads;
 
 // The most bytes that a configuration has. `check` refuses a longer one as `TooMany` by the rule of `Config::read`, and
 // the byte behind them is enough to see that it is longer.
@@ -20,22 +24,18 @@ const LONGEST_CONFIG: u64 = 1_048_576;
 /// Opens the files of a run and checks what they hold. The configuration is read first, then the order is opened, then
 /// the recordings, core 0 first.
 ///
-/// Where a file can't be opened, or the configuration can't be read, standard error names it and tells why.
-pub fn check_files<R: Files<File = File> + Eprint + AllocGlobal>(
-    rt: &R,
-    alloc: Global,
-    names: &FileNames,
-) -> Ending
+/// Where a file can't be opened, or the configuration can't be read, standard error names it and tells why. Where a rule is
+/// broken, standard error tells which.
+pub fn check_files<R>(rt: &R, alloc: Global, asked: &FilesAsked) -> Ending
+where
+    R: Files<File = File> + Eprint + AllocGlobal + Threads + Wait + Sync + Copy + Send + 'static,
     ensures { IsOfFiles result }
 {
-    match Opened::open(rt, alloc, names) {
-        Ok(
-            Opened {
-                config,
-                order,
-                cores,
-            },
-        ) => Ending::Checked(check(alloc, &config, cores, order)),
+    let Ok(options) = asked.rules.in_order(alloc) else {
+        return end_by(OpenFault::Memory);
+    };
+    match Opened::open(rt, alloc, &asked.names) {
+        Ok(opened) => opened.check(rt, alloc, &options, asked.settings),
         Err(fault) => end_by(fault),
     }
 }
@@ -78,6 +78,22 @@ impl Opened {
             order,
             cores,
         })
+    }
+
+    // Checks what the files hold, under the rules of these options and with these settings.
+    fn check<R>(self, rt: &R, alloc: Global, options: &[RuleOption], settings: Settings) -> Ending
+    where
+        R: Eprint + Threads + Wait + Sync + Copy + Send + 'static,
+        ensures { IsOfFiles result }
+    {
+        let Opened {
+            config,
+            order,
+            cores,
+        } = self;
+        let outcome = check_ruled(*rt, alloc, &config, cores, order, options, settings);
+        tell_broken(rt, options, &outcome);
+        Ending::Checked(outcome)
     }
 }
 

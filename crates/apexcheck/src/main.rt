@@ -1,11 +1,14 @@
 //! The program: checks recordings against a configuration and a proposed order, and prints one line.
 //!
 //! Promises: what is printed is the text of how the run ended, and the exit status is the one of that end; where the
-//! output could not be written, the status is the one that says so.
+//! output could not be written, the status is the one that says so. What is checked under options that ask for rules has the
+//! outcome of relations that say what they ask for.
 #![tactic(auto)]
 
 mod ending;
 mod files;
+mod ruled;
+mod settings;
 mod stored;
 mod usage;
 
@@ -17,6 +20,8 @@ use std::fs::{File, Files};
 use std::io;
 use std::process::ExitCode;
 use std::rt::Env;
+use std::sync::Wait;
+use std::thread::Threads;
 use usage::{Asked, UsageFault};
 
 fn main(rt: HostRuntime) -> ExitCode {
@@ -26,11 +31,23 @@ fn main(rt: HostRuntime) -> ExitCode {
 }
 
 // Does what the command line asks for. The words are judged first, then the files are opened, then comes the check.
-fn run<R: Env + Files<File = File> + Eprint + AllocGlobal>(rt: &R, alloc: Global) -> Ending {
+fn run<R>(rt: &R, alloc: Global) -> Ending
+where
+    R: Env
+        + Files<File = File>
+        + Eprint
+        + AllocGlobal
+        + Threads
+        + Wait
+        + Sync
+        + Copy
+        + Send
+        + 'static,
+{
     match usage::from_words(rt, alloc) {
-        Ok(Asked::StoredRun) => Ending::Checked(stored::check_stored(alloc)),
+        Ok(Asked::StoredRun) => Ending::Checked(stored::check_stored(*rt, alloc)),
         Ok(Asked::Version) => Ending::Version,
-        Ok(Asked::Files(names)) => files::check_files(rt, alloc, &names),
+        Ok(Asked::Files(asked)) => files::check_files(rt, alloc, &asked),
         Err(UsageFault::Usage) => {
             // Standard error only helps a person, so that a failure there changes nothing.
             let _ = rt.eprintln(usage::USAGE);

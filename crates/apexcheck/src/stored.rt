@@ -4,8 +4,11 @@ ghost use Rattle.std.specs.Prelude.{[], ◌∷◌};
 ghost use Rattle.report.specs.Outcome.{IsOutcome};
 ghost use Rattle.report.specs.Yes.{YesMeansRun};
 
-use report::{CheckFault, Verdict, check};
+use crate::settings::USUAL_DEPTH;
+use report::{CheckFault, Settings, Verdict, check};
 use std::alloc::Global;
+use std::sync::Wait;
+use std::thread::Threads;
 
 // One core, which belongs to one partition all the time.
 const CONFIG: &[u8] = b"cores = 1
@@ -62,13 +65,17 @@ const ORDER: &[u8] = b"0,0
 0,12
 ";
 
-/// Checks the run that stands in the program. Memory comes where memory was refused.
-pub fn check_stored(alloc: Global) -> Result<Verdict, CheckFault>
-    ensures outcome { IsOutcome CONFIG.now (RECORDING.now ∷ []) ORDER.now result }
-    ensures yes { YesMeansRun CONFIG.now (RECORDING.now ∷ []) ORDER.now result }
+const SETTINGS: Settings = Settings { depth: USUAL_DEPTH };
+
+/// Checks the run that stands in the program, as if no `--depth` were given. Memory comes where memory was refused.
+pub fn check_stored<T>(rt: T, alloc: Global) -> Result<Verdict, CheckFault>
+where
+    T: Threads + Wait + Sync + Copy + Send + 'static,
+    ensures outcome { IsOutcome SETTINGS CONFIG.now (RECORDING.now ∷ []) ORDER.now [] result }
+    ensures yes { YesMeansRun CONFIG.now (RECORDING.now ∷ []) ORDER.now [] result }
 {
     let Ok(readers) = vec![in alloc; RECORDING] else {
         return Err(CheckFault::Memory);
     };
-    check(alloc, CONFIG, readers, ORDER)
+    check(rt, alloc, CONFIG, readers, ORDER, &[], SETTINGS)
 }

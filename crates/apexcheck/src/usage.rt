@@ -1,23 +1,33 @@
 // The words of the command line.
 
-ghost use Rattle.std.specs.Prelude.{◌≡◌, ◌<◌, ◌≤◌, IfOk, Ok, false, length, map, string_bytes, true};
+ghost use Rattle.std.specs.Prelude.{◌≡◌, ◌<◌, ◌≤◌, IfOk, Ok, codes, false, length, map, option_map, string_bytes, true};
+ghost use Rattle.std.specs.Option.{ok_or};
+ghost use Rattle.clap.specs.Words.{first_value, found_of};
+ghost use Rattle.rule_options.specs.Options.{values_of};
+ghost use Rattle.apexcheck.specs.Settings.{settings_of};
 ghost use Rattle.apexcheck.specs.Words.{NamesFiles, asks_version};
 
+use crate::settings::read_settings;
 use clap::error::ErrorKind;
-use clap::{Arg, ArgAction, Command, Error};
+use clap::{Arg, ArgAction, ArgMatches, Command, Error};
+use report::Settings;
+use rule_options::RuleOptions;
 use std::alloc::{AllocError, Global};
 use std::rt::Env;
 use std::{env, io};
 
 /// What a person is told whose command line is refused.
-pub const USAGE: &str = "usage: apexcheck --config FILE --order FILE CORE...
+pub const USAGE: &str = "usage: apexcheck --config FILE --order FILE [--depth N]
+                 [--max-elapsed N] [--forbid SERVICE] CORE...
        apexcheck
        apexcheck --version
 
 Checks the recordings, one file CORE for each core with core 0 first, against the
-configuration and the order that are given. With no words it checks a run that
-stands in the program. With --version alone it prints its version, and the kit that
-it is proved with.";
+configuration and the order that are given. --depth says how many records ahead
+each file is read, 1 to 4096; it is 64 if not given. With --max-elapsed no call may
+return more than N ticks later, with --forbid no call may be of SERVICE. With no words
+it checks a run that stands in the program. With --version alone it prints its version,
+and the kit that it is proved with.";
 
 /// What the command line asks for.
 #[derive(Debug, Drop)]
@@ -27,7 +37,18 @@ pub enum Asked {
     /// The one word is `--version`.
     Version,
     /// The run whose texts stand in files.
-    Files(FileNames),
+    Files(FilesAsked),
+}
+
+/// A run over files, as the command line asks for it.
+#[derive(Debug, Drop)]
+pub struct FilesAsked {
+    /// The files that hold its texts.
+    pub names: FileNames,
+    /// The rules that are asked for by options of their own.
+    pub rules: RuleOptions,
+    /// How the check is carried out.
+    pub settings: Settings,
 }
 
 /// The files of a run, as the command line names them.
@@ -69,13 +90,49 @@ fn read_words(alloc: Global, words: &[String]) -> Result<Asked, UsageFault>
     match words {
         [] | [_] => Ok(Asked::StoredRun),
         [_, word] if word.as_str() == "--version" => Ok(Asked::Version),
-        words => Ok(Asked::Files(file_names(alloc, words)?)),
+        words => Ok(Asked::Files(files_asked(alloc, words)?)),
     }
 }
 
-// The files that the words name. The first word is the program's own name.
-fn file_names(alloc: Global, words: &[String]) -> Result<FileNames, UsageFault> {
+// The run over files that the words ask for. The first word is the program's own name.
+fn files_asked(alloc: Global, words: &[String]) -> Result<FilesAsked, UsageFault> {
     let matches = command(alloc)?.try_get_matches_from(words)?;
+    Ok(FilesAsked {
+        names: file_names(alloc, &matches)?,
+        rules: rules_of(&matches)?,
+        settings: settings_asked(&matches)?,
+    })
+}
+
+// The values of the options that say how the check is carried out.
+fn settings_asked(matches: &ArgMatches<'_>) -> Result<Settings, UsageFault>
+    ensures { result ≡ ok_or (settings_of (first_value (found_of matches.now) (codes "depth"))) UsageFault.Usage }
+{
+    let depth = text_of(matches, "depth");
+    read_settings(depth).ok_or(UsageFault::Usage)
+}
+
+// The values of the options that ask for rules.
+fn rules_of(matches: &ArgMatches<'_>) -> Result<RuleOptions, UsageFault>
+    ensures { result ≡ ok_or (values_of (first_value (found_of matches.now) (codes "max-elapsed")) (first_value (found_of matches.now) (codes "forbid"))) UsageFault.Usage }
+{
+    let max_elapsed = text_of(matches, "max-elapsed");
+    let forbidden = text_of(matches, "forbid");
+    RuleOptions::read(max_elapsed, forbidden).ok_or(UsageFault::Usage)
+}
+
+// The text that an option is given, if it is.
+fn text_of<'a>(matches: &ArgMatches<'a>, name: &str) -> Option<&'a [u8]>
+    ensures { option_map (λ text. text.now) result ≡ first_value (found_of matches.now) name.now }
+{
+    match matches.get_str(name) {
+        Some(text) => Some(text.as_bytes()),
+        None => None,
+    }
+}
+
+// The files that a command line names.
+fn file_names(alloc: Global, matches: &ArgMatches<'_>) -> Result<FileNames, UsageFault> {
     let (Some(config), Some(order), Some(cores)) = (
         matches.get_str("config"),
         matches.get_str("order"),
@@ -93,12 +150,15 @@ fn file_names(alloc: Global, words: &[String]) -> Result<FileNames, UsageFault> 
     })
 }
 
-// `apexcheck --config FILE --order FILE CORE...`: no word twice but CORE, which stands once or more.
+// The words of a run over files: no option twice, and CORE once or more.
 fn command<'a>(alloc: Global) -> Result<Command<'a>, AllocError> {
     Command::new(alloc, "apexcheck")
         .disable_help_flag(true)
-        .arg(file_option(alloc, "config"))?
-        .arg(file_option(alloc, "order"))?
+        .arg(option(alloc, "config").required(true))?
+        .arg(option(alloc, "order").required(true))?
+        .arg(option(alloc, "depth"))?
+        .arg(option(alloc, "max-elapsed"))?
+        .arg(option(alloc, "forbid"))?
         .arg(
             Arg::new(alloc, "core")
                 .required(true)
@@ -107,11 +167,9 @@ fn command<'a>(alloc: Global) -> Result<Command<'a>, AllocError> {
         )
 }
 
-fn file_option<'a>(alloc: Global, name: &'static str) -> Arg<'a> {
-    Arg::new(alloc, name)
-        .long(name)
-        .required(true)
-        .action(ArgAction::Set)
+// The option of this name, which has a value.
+fn option<'a>(alloc: Global, name: &'static str) -> Arg<'a> {
+    Arg::new(alloc, name).long(name).action(ArgAction::Set)
 }
 
 impl From<AllocError> for UsageFault {

@@ -1,12 +1,18 @@
 // What a check answers for texts in memory.
 
-ghost use Rattle.std.specs.Prelude.{◌≡◌, ◌≤◌, ◌↔◌, ◌++◌, ◌∷◌, [], IfOk, IsTrue, Some, map};
+ghost use Rattle.std.specs.Prelude.{◌≡◌, ◌↔◌, ◌++◌, ◌∷◌, [], IfOk, IsTrue, Some, map};
+ghost use Rattle.std.specs.Io.Cursor.{cursor_remaining};
 ghost use Rattle.case_runner.specs.Answers.{IsAnswer, exit_status_of};
 
 use crate::fields::LINE_FEED;
-use report::{CheckFault, Verdict, check_in_rounds, write_report};
+use crate::manner::Manner;
+use report::{CheckFault, Verdict, check_relations, write_report};
+use rule_options::{RuleOption, relations_of};
 use sink::{FailureCount, Sink, SinkFault};
 use std::alloc::{AllocError, Global};
+use std::io::Cursor;
+use std::sync::Wait;
+use std::thread::Threads;
 
 /// What came of a check.
 #[derive(Debug, Drop)]
@@ -33,42 +39,33 @@ impl Answer {
     }
 }
 
-/// How many records each round of a check holds.
-#[derive(Clone, Copy, Debug)]
-pub enum Rounds {
-    OfOne,
-    OfSeven,
-    /// As many as a round can hold.
-    OfMost,
-}
-
-impl Rounds {
-    /// The most records of such a round.
-    pub fn size(self) -> usize
-        ensures least { 1 ≤ result }
-        ensures most { result ≤ 4096 }
-    {
-        match self {
-            Rounds::OfOne => 1,
-            Rounds::OfSeven => 7,
-            Rounds::OfMost => 4096,
-        }
-    }
-}
-
-/// The answer of the check for these texts: the configuration, one recording for each core, the certificate. The records are
-/// judged in such rounds.
-pub fn answer_to(
+/// The answer of the check for these texts: the configuration, one recording for each core, the certificate; and for the rules
+/// that these options ask for. It is run in this manner.
+pub fn answer_to<T>(
+    rt: T,
     alloc: Global,
     config: &[u8],
     recordings: &[Vec<u8>],
     order: &[u8],
-    rounds: Rounds,
+    options: &[RuleOption],
+    manner: Manner,
 ) -> Result<Answer, AllocError>
-    ensures { IfOk result (λ answer. IsAnswer config.now (map (λ recording. recording.items) recordings.now) order.now answer.line.items answer.status) }
+where
+    T: Threads + Wait + Sync + Copy + Send + 'static,
+    ensures { IfOk result (λ answer. IsAnswer manner.settings config.now (map (λ recording. recording.items) recordings.now) order.now options.now answer.line.items answer.status) }
 {
     let readers = readers_of(alloc, recordings)?;
-    let outcome = check_in_rounds(alloc, config, readers, order, rounds.size());
+    let relations = relations_of(alloc, options)?;
+    let outcome = check_relations(
+        rt,
+        alloc,
+        config,
+        readers,
+        order,
+        relations,
+        manner.settings,
+        manner.rounds.size(),
+    );
     let mut kept = Kept::new(alloc);
     match write_report(&mut kept, &outcome) {
         Ok(()) => {
@@ -86,15 +83,22 @@ pub fn answer_to(
     }
 }
 
-// A reader for each recording, which gives its bytes.
-fn readers_of(alloc: Global, recordings: &[Vec<u8>]) -> Result<Vec<&[u8]>, AllocError>
-    ensures { IfOk result (λ readers. map (λ reader. Some reader.now) readers.items ≡ map Some (map (λ recording. recording.items) recordings.now)) }
+// A reader for each recording, which gives a copy of its bytes.
+fn readers_of(alloc: Global, recordings: &[Vec<u8>]) -> Result<Vec<Cursor<Vec<u8>>>, AllocError>
+    ensures { IfOk result (λ readers. map (λ reader. cursor_remaining (λ text. Some text.items) reader) readers.items ≡ map Some (map (λ recording. recording.items) recordings.now)) }
 {
     let mut readers = Vec::new(alloc);
     for recording in recordings {
-        readers.push(recording.as_slice())?;
+        readers.push(reader_of(alloc, recording)?)?;
     }
     Ok(readers)
+}
+
+// A reader that gives a copy of a recording's bytes.
+fn reader_of(alloc: Global, recording: &[u8]) -> Result<Cursor<Vec<u8>>, AllocError>
+    ensures { IfOk result (λ reader. cursor_remaining (λ text. Some text.items) reader ≡ Some recording.now) }
+{
+    Ok(Cursor::new(Vec::from_slice(alloc, recording)?))
 }
 
 // The exit status of an outcome: 0 yes, 1 no, 2 refused, 3 out of memory.
@@ -103,7 +107,7 @@ fn status_of(outcome: &Result<Verdict, CheckFault>) -> u64
 {
     match outcome {
         Ok(Verdict::Yes { .. }) => 0,
-        Ok(Verdict::No { .. }) => 1,
+        Ok(Verdict::No { .. } | Verdict::Broken { .. }) => 1,
         Err(CheckFault::Memory) => 3,
         Err(_) => 2,
     }

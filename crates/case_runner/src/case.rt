@@ -5,7 +5,9 @@ use crate::archive::Section;
 use crate::editing::{EditFault, apply};
 use crate::fields::{line_count, split_line, split_word};
 use crate::heading::{Change, Heading, TextName};
+use crate::manner::Named;
 use csv_rows::read_decimal;
+use rule_options::{RuleOption, RuleOptions};
 use std::alloc::{AllocError, AllocFailed, Global};
 
 /// What has to come where a recording ends after so many bytes, up to the next cut.
@@ -24,6 +26,8 @@ pub enum CaseFault {
     NoSuchLine,
     /// A recording is given before that of the core below it.
     CoreBelowMissing,
+    /// The rules are not options with their values, each at most once.
+    NoRules,
     /// There is no one line that has to come.
     NoReport,
     /// There is no number of a status.
@@ -41,6 +45,8 @@ pub struct Case<'a> {
     config: Vec<u8>,
     recordings: Vec<Vec<u8>>,
     order: Option<Vec<u8>>,
+    rules: &'a [u8],
+    named: Named,
     report: Option<&'a [u8]>,
     status: Option<&'a [u8]>,
     cuts: Option<&'a [u8]>,
@@ -54,6 +60,8 @@ impl<'a> Case<'a> {
             config: Vec::new(alloc),
             recordings: Vec::new(alloc),
             order: None,
+            rules: &[],
+            named: Named { depth: None },
             report: None,
             status: None,
             cuts: None,
@@ -65,6 +73,8 @@ impl<'a> Case<'a> {
         match Heading::of(section.heading).ok_or(CaseFault::UnknownHeading)? {
             Heading::Case(_) => return Err(CaseFault::UnknownHeading),
             Heading::Text(name, how) => self.take_text(name, how, section.body)?,
+            Heading::Rules => self.rules = section.body,
+            Heading::Depth(depth) => self.named.depth = Some(depth),
             Heading::Report => self.report = Some(section.body),
             Heading::Status => self.status = Some(section.body),
             Heading::Cuts => self.cuts = Some(section.body),
@@ -118,6 +128,35 @@ impl<'a> Case<'a> {
             }
         }
         Ok(order)
+    }
+
+    /// The options that ask for rules, in the order in which their rules are numbered.
+    #[tactic(auto, using(crate::proofs::Texts::behind_is_shorter))]
+    pub fn rules(&self) -> Result<Vec<RuleOption>, CaseFault> {
+        let (mut max_elapsed, mut forbidden) = (None, None);
+        let mut left = self.rules;
+        while !left.is_empty() {
+            let (line, behind) = split_line(left);
+            let (option, value) = split_word(line);
+            let text = if option == b"max-elapsed".as_slice() {
+                &mut max_elapsed
+            } else if option == b"forbid".as_slice() {
+                &mut forbidden
+            } else {
+                return Err(CaseFault::NoRules);
+            };
+            if text.replace(value).is_some() {
+                return Err(CaseFault::NoRules);
+            }
+            left = behind;
+        }
+        let given = RuleOptions::read(max_elapsed, forbidden).ok_or(CaseFault::NoRules)?;
+        Ok(given.in_order(self.alloc)?)
+    }
+
+    /// The settings that the case names.
+    pub fn named(&self) -> Named {
+        self.named
     }
 
     /// What has to come of the whole texts. None where only cuts are told.

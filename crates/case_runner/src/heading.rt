@@ -9,6 +9,9 @@ const LAST_CORE: u64 = 15;
 /// The greatest number of a line, and of repetitions.
 const LAST_LINE: u64 = 1_000_000;
 
+/// The greatest depth. A check refuses smaller ones too.
+const LAST_DEPTH: u64 = 1_000_000;
+
 /// What the lines of a section are.
 #[derive(Clone, Copy, Debug)]
 pub enum Heading<'a> {
@@ -16,6 +19,10 @@ pub enum Heading<'a> {
     Case(&'a [u8]),
     /// `config.toml`, `core0.csv` and on, `order.csv`: a text of the check, or a change in one.
     Text(TextName, Change),
+    /// `rules`: the options of the program that ask for rules.
+    Rules,
+    /// `depth N`: how many records of a core wait at most until they are judged, in all checks of the case.
+    Depth(usize),
     /// `report`: the line that has to come.
     Report,
     /// `status`: the exit status that belongs to it.
@@ -51,6 +58,9 @@ pub enum Change {
 impl<'a> Heading<'a> {
     /// What a heading says. None where it is none of these.
     pub fn of(heading: &'a [u8]) -> Option<Heading<'a>> {
+        if heading == b"rules".as_slice() {
+            return Some(Heading::Rules);
+        }
         if heading == b"report".as_slice() {
             return Some(Heading::Report);
         }
@@ -63,6 +73,9 @@ impl<'a> Heading<'a> {
         let (first, rest) = split_word(heading);
         if first == b"case".as_slice() {
             return Some(Heading::Case(rest));
+        }
+        if first == b"depth".as_slice() {
+            return Some(Heading::Depth(read_decimal(rest, LAST_DEPTH)? as usize));
         }
         Some(Heading::Text(TextName::of(first)?, Change::of(rest)?))
     }

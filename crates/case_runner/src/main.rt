@@ -1,7 +1,8 @@
 //! The program that runs worked cases: recordings in files, each with the line and the status that a check has to answer.
 //! It ends with status 0 where there was a case and all were answered as their files expect, and else with 1.
 //!
-//! Promises: what a case is compared with is the line and the status of an outcome that its texts have.
+//! Promises: what a case is compared with is the line and the status of an outcome that its texts have under its rules, with the
+//! settings of the check.
 #![tactic(auto)]
 
 mod answering;
@@ -10,6 +11,7 @@ mod case;
 mod editing;
 mod fields;
 mod heading;
+mod manner;
 mod running;
 mod tally;
 
@@ -25,7 +27,7 @@ fn main(rt: HostRuntime) -> io::Result<ExitCode> {
     let Some((_, names)) = words.as_slice().split_first() else {
         return Ok(ExitCode::from(1));
     };
-    match run_files(&rt, &mut output, names) {
+    match run_files(rt, &mut output, names) {
         Ok(true) => Ok(ExitCode::from(0)),
         Ok(false) => Ok(ExitCode::from(1)),
         Err(_) => {

@@ -2,16 +2,20 @@
 
 ghost use Rattle.std.specs.Prelude.{◌≡◌, ◌++◌};
 
-use crate::answering::{Answer, Expected, Rounds, answer_to};
+use crate::answering::{Answer, Expected, answer_to};
 use crate::archive::{Section, sections};
 use crate::case::{Case, CaseFault, Cut};
 use crate::heading::Heading;
+use crate::manner::{Manner, Named, Rounds};
 use crate::tally::Tally;
 use itoa::Buffer;
+use rule_options::RuleOption;
 use sink::{Sink, WriteFault, put_all, put_parts};
 use std::alloc::{AllocError, Global};
 use std::fs;
 use std::rt::Files;
+use std::sync::Wait;
+use std::thread::Threads;
 
 /// Why a run ends before its last case.
 #[derive(Clone, Copy, Debug, PartialEq, Eq)]
@@ -25,15 +29,22 @@ pub enum RunFault {
 /// Runs the cases of these files. Tells each case that fails and why, and at last how many there were.
 ///
 /// Whether there was a case, and all were answered as expected.
-pub fn run_files<R: Files + AllocGlobal, W: Sink>(
-    rt: &R,
-    output: &mut W,
-    names: &[String],
-) -> Result<bool, RunFault> {
+pub fn run_files<R, W>(rt: R, output: &mut W, names: &[String]) -> Result<bool, RunFault>
+where
+    R: Files + AllocGlobal + Threads + Wait + Sync + Copy + Send + 'static,
+    W: Sink,
+{
     let mut tally = Tally::new();
     for name in names {
-        match fs::read(rt, name) {
-            Ok(archive) => run_archive(rt.alloc(), output, name.as_bytes(), &archive, &mut tally)?,
+        match fs::read(&rt, name) {
+            Ok(archive) => run_archive(
+                rt,
+                rt.alloc(),
+                output,
+                name.as_bytes(),
+                &archive,
+                &mut tally,
+            )?,
             Err(_) => {
                 tally.count(false);
                 put_parts(output, &[name.as_bytes(), b": cannot be read\n"])?;
@@ -54,13 +65,18 @@ pub fn run_files<R: Files + AllocGlobal, W: Sink>(
 }
 
 // Runs the cases of one archive.
-fn run_archive<W: Sink>(
+fn run_archive<T, W>(
+    rt: T,
     alloc: Global,
     output: &mut W,
     file: &[u8],
     archive: &[u8],
     tally: &mut Tally,
-) -> Result<(), RunFault> {
+) -> Result<(), RunFault>
+where
+    T: Threads + Wait + Sync + Copy + Send + 'static,
+    W: Sink,
+{
     let sections = sections(alloc, archive)?;
     let (base, mut left) = up_to_case(&sections);
     if left.is_empty() {
@@ -69,7 +85,7 @@ fn run_archive<W: Sink>(
     }
     while let Some((first, behind)) = left.split_first() {
         let (own, rest) = up_to_case(behind);
-        let outcome = run_case(alloc, base, own);
+        let outcome = run_case(rt, alloc, base, own);
         tally.count(matches!(outcome, Ok(None)));
         tell(output, &[file, b": ", first.heading, b": "], outcome)?;
         left = rest;
@@ -97,18 +113,21 @@ fn is_case(section: &Section<'_>) -> bool {
 struct Difference<'a> {
     // After how many bytes the recording was cut.
     cut: Option<usize>,
-    // How many records each round held.
-    size: usize,
+    manner: Manner,
     expected: Expected<'a>,
     found: Answer,
 }
 
 // Runs a case: the sections that all cases of its file begin with, and its own.
-fn run_case<'a>(
+fn run_case<'a, T>(
+    rt: T,
     alloc: Global,
     base: &[Section<'a>],
     own: &[Section<'a>],
-) -> Result<Option<Difference<'a>>, CaseFault> {
+) -> Result<Option<Difference<'a>>, CaseFault>
+where
+    T: Threads + Wait + Sync + Copy + Send + 'static,
+{
     let mut case = Case::new(alloc);
     for section in base {
         case.take(*section)?;
@@ -117,51 +136,55 @@ fn run_case<'a>(
         case.take(*section)?;
     }
     let order = case.order_text()?;
+    let rules = case.rules()?;
+    let texts = Texts {
+        config: case.config(),
+        recordings: case.recordings(),
+        order: &order,
+        rules: &rules,
+        named: case.named(),
+        cut: None,
+    };
     if let Some(expected) = case.expected()? {
-        let texts = Texts {
-            config: case.config(),
-            recordings: case.recordings(),
-            order: &order,
-            cut: None,
-        };
-        if let Some(difference) = texts.difference(alloc, expected)? {
+        if let Some(difference) = texts.difference(rt, alloc, expected)? {
             return Ok(Some(difference));
         }
     }
     let cuts = case.cuts()?;
-    run_cuts(alloc, case.config(), case.recordings(), &order, &cuts)
+    run_cuts(rt, alloc, texts, &cuts)
 }
 
 // Runs a case for each first part of the recording of core 0.
-fn run_cuts<'a>(
+fn run_cuts<'a, T>(
+    rt: T,
     alloc: Global,
-    config: &[u8],
-    recordings: &[Vec<u8>],
-    order: &[u8],
+    whole: Texts<'_>,
     cuts: &[Cut<'a>],
-) -> Result<Option<Difference<'a>>, CaseFault> {
+) -> Result<Option<Difference<'a>>, CaseFault>
+where
+    T: Threads + Wait + Sync + Copy + Send + 'static,
+{
     let Some(last) = cuts.last() else {
         return Ok(None);
     };
-    let whole = recordings.first().ok_or(CaseFault::NoCuts)?;
-    if last.bytes > whole.len() {
+    let recording = whole.recordings.first().ok_or(CaseFault::NoCuts)?;
+    if last.bytes > recording.len() {
         return Err(CaseFault::NoCuts);
     }
-    for bytes in 0..whole.len() + 1 {
+    for bytes in 0..recording.len() + 1 {
         let expected = cuts
             .iter()
             .filter(|cut| cut.bytes <= bytes)
             .last()
             .ok_or(CaseFault::NoCuts)?
             .expected;
-        let cut = vec![in alloc; Vec::from_slice(alloc, &whole[..bytes])?]?;
+        let cut = vec![in alloc; Vec::from_slice(alloc, &recording[..bytes])?]?;
         let texts = Texts {
-            config,
             recordings: &cut,
-            order,
             cut: Some(bytes),
+            ..whole
         };
-        if let Some(difference) = texts.difference(alloc, expected)? {
+        if let Some(difference) = texts.difference(rt, alloc, expected)? {
             return Ok(Some(difference));
         }
     }
@@ -174,22 +197,37 @@ struct Texts<'b> {
     config: &'b [u8],
     recordings: &'b [Vec<u8>],
     order: &'b [u8],
+    rules: &'b [RuleOption],
+    named: Named,
     cut: Option<usize>,
 }
 
 impl<'b> Texts<'b> {
     // The first answer that is not the expected one, in rounds of each size.
-    fn difference<'a>(
+    fn difference<'a, T>(
         &self,
+        rt: T,
         alloc: Global,
         expected: Expected<'a>,
-    ) -> Result<Option<Difference<'a>>, AllocError> {
+    ) -> Result<Option<Difference<'a>>, AllocError>
+    where
+        T: Threads + Wait + Sync + Copy + Send + 'static,
+    {
         for rounds in [Rounds::OfOne, Rounds::OfSeven, Rounds::OfMost] {
-            let found = answer_to(alloc, self.config, self.recordings, self.order, rounds)?;
+            let manner = self.named.in_rounds(rounds);
+            let found = answer_to(
+                rt,
+                alloc,
+                self.config,
+                self.recordings,
+                self.order,
+                self.rules,
+                manner,
+            )?;
             if !found.is(expected) {
                 return Ok(Some(Difference {
                     cut: self.cut,
-                    size: rounds.size(),
+                    manner,
                     expected,
                     found,
                 }));
@@ -231,19 +269,26 @@ fn tell_difference<W: Sink>(output: &mut W, difference: &Difference<'_>) -> Resu
             ],
         )?;
     }
-    put_parts(
-        output,
-        &[
-            b"in rounds of ",
-            Buffer::new().format(difference.size).as_bytes(),
-            b": expected ",
-        ],
-    )?;
+    put_manner(output, difference.manner)?;
+    put_all(output, b": expected ")?;
     put_answer(output, difference.expected.status, difference.expected.line)?;
     put_all(output, b", found ")?;
     put_answer(output, difference.found.status, &difference.found.line)?;
     put_all(output, b"\n")?;
     Ok(())
+}
+
+// Puts out how a check was run.
+fn put_manner<W: Sink>(output: &mut W, manner: Manner) -> Result<(), WriteFault> {
+    put_parts(
+        output,
+        &[
+            b"in rounds of ",
+            Buffer::new().format(manner.rounds.size()).as_bytes(),
+            b" at depth ",
+            Buffer::new().format(manner.settings.depth).as_bytes(),
+        ],
+    )
 }
 
 // Puts out a status and a line.
@@ -265,6 +310,7 @@ fn text_of(fault: CaseFault) -> &'static [u8] {
         CaseFault::UnknownHeading => b"a heading is unknown",
         CaseFault::NoSuchLine => b"a change is at a line that there is not",
         CaseFault::CoreBelowMissing => b"a recording is given before that of the core below",
+        CaseFault::NoRules => b"the rules are not options with their values",
         CaseFault::NoReport => b"there is not one line of a report",
         CaseFault::NoStatus => b"there is no status",
         CaseFault::NoCuts => b"the cuts do not rise from 0 to the end of the recording",

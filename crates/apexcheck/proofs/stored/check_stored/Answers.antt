@@ -3,4 +3,4 @@ use Rattle.apexcheck.specs.declared.stored.TheConstants.{RECORDING, ORDER}
 use Rattle.apexcheck.proofs.stored.check_stored.Goals as goal
 
 pub returns-clause-yes : goal.returns-clause-yes
-returns-clause-yes c = c.check.ensures.yes (RECORDING.now ∷ []) ORDER.now (rw c.in-Ok.ensures.items refl) refl
+returns-clause-yes g c = c.check.ensures.yes (RECORDING.now ∷ []) ORDER.now (rw c.in-Ok.ensures.items refl) refl

@@ -1,0 +1,33 @@
+// How the command line says that a check is carried out.
+
+ghost use Rattle.std.specs.Prelude.{◌≡◌, option_map};
+ghost use Rattle.csv_rows.specs.Decimal.{decimal};
+ghost use Rattle.apexcheck.specs.Settings.{settings_of};
+
+use csv_rows::read_decimal;
+use report::Settings;
+
+/// The depth where no `--depth` is given.
+pub const USUAL_DEPTH: usize = 64;
+
+/// The settings that the text of `--depth` gives, if there is one. None where it is no number from 0 to 4,294,967,295 in
+/// canonical decimal. Takes no memory.
+pub fn read_settings(depth: Option<&[u8]>) -> Option<Settings>
+    ensures { result ≡ settings_of (option_map (λ text. text.now) depth.entry) }
+{
+    let depth = match depth {
+        Some(text) => read_number(text)?,
+        None => USUAL_DEPTH,
+    };
+    Some(Settings { depth })
+}
+
+// The number that a text gives.
+fn read_number(text: &[u8]) -> Option<usize>
+    ensures { result ≡ decimal 4294967295 text.now }
+{
+    match read_decimal(text, u32::MAX as u64) {
+        Some(number) => Some(number as usize),
+        None => None,
+    }
+}

@@ -1,0 +1,69 @@
+// How a case is checked: in what rounds, and how far ahead its recordings are read.
+
+ghost use Rattle.std.specs.Prelude.{◌≡◌, ◌≤◌, IfSome, None};
+ghost use Rattle.report.specs.Outcome.{argument_fault_of};
+
+use report::Settings;
+
+/// How many records each round of a check holds.
+#[derive(Clone, Copy, Debug)]
+pub enum Rounds {
+    OfOne,
+    OfSeven,
+    /// As many as a round can hold.
+    OfMost,
+}
+
+impl Rounds {
+    /// The most records of such a round.
+    pub fn size(self) -> usize
+        ensures least { 1 ≤ result }
+        ensures most { result ≤ 4096 }
+    {
+        match self {
+            Rounds::OfOne => 1,
+            Rounds::OfSeven => 7,
+            Rounds::OfMost => 4096,
+        }
+    }
+
+    // The settings of a check in such rounds, where its case names none.
+    fn settings(self) -> Settings
+        ensures { argument_fault_of result ≡ None }
+    {
+        let depth = match self {
+            Rounds::OfOne => 1,
+            Rounds::OfSeven => 2,
+            Rounds::OfMost => 4096,
+        };
+        Settings { depth }
+    }
+}
+
+/// The settings that a case names. They may be such as a check refuses.
+#[derive(Clone, Copy, Debug)]
+pub struct Named {
+    /// How many records of a core wait at most until they are judged.
+    pub depth: Option<usize>,
+}
+
+impl Named {
+    /// How a check of the case is run in these rounds: with the settings that it names, and else with those of the rounds.
+    pub fn in_rounds(self, rounds: Rounds) -> Manner
+        ensures rounds { result.rounds ≡ rounds }
+        ensures depth { IfSome self.depth (λ depth. result.settings.depth ≡ depth) }
+    {
+        let usual = rounds.settings();
+        let settings = Settings {
+            depth: self.depth.unwrap_or(usual.depth),
+        };
+        Manner { rounds, settings }
+    }
+}
+
+/// How a check is run.
+#[derive(Clone, Copy, Debug)]
+pub struct Manner {
+    pub rounds: Rounds,
+    pub settings: Settings,
+}
