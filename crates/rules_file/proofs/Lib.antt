@@ -1,0 +1,4 @@
+pub mod Counts
+pub mod Relations
+pub mod Texts
+pub mod Fronts

@@ -1,0 +1,68 @@
+-- How the value under one key is read.
+use Rattle.std.specs.Prelude.{◌≡◌, ◌≢◌, ℕ, suc, List, length, Option, Some, None, Result, Ok, Err, IsOk, Bool, ◌&&◌, nat_le, if◌then◌else◌}
+use Rattle.std.specs.List.{list_all}
+use Rattle.toml.specs.Data.{Data, string, array, Items, Members, no_members, member}
+use Rattle.rules_file.specs.declared.fault.RuleFault.{RuleFault}
+use Rattle.rules_file.specs.declared.fault.RuleFault.TheVariants.{BadName, Missing, UnknownKey, WrongType}
+
+infixl 10 ◌>>=◌
+-- a reading and then the next one; the first refusal stands
+abbrev pub ◌>>=◌ : {A B F : Type 0} → Result A F → (A → Result B F) → Result B F
+(Ok value) >>= next = next value
+(Err fault) >>= next = Err fault
+
+-- what a call gave is the reading: its value as the definitions see it, or its refusal
+abbrev pub Reads : {A B F : Type 0} → (A → B) → Result A F → Result B F → Type 0
+Reads view (Ok value) reading = reading ≡ Ok (view value)
+Reads view (Err fault) reading = reading ≡ Err fault
+
+-- what a call built is the reading; it gave nothing where memory ran out, and then the reading is no refusal
+abbrev pub Builds : {A B F : Type 0} → (A → B) → Result (Option A) F → Result B F → Type 0
+Builds view (Ok (Some value)) reading = reading ≡ Ok (view value)
+Builds view (Ok None) reading = IsOk reading
+Builds view (Err fault) reading = reading ≡ Err fault
+
+-- what a call gave is the reading, unless it is this fault, want of memory
+abbrev pub Gives : {A B F : Type 0} → F → (A → B) → Result A F → Result B F → Type 0
+Gives memory view (Ok value) reading = reading ≡ Ok (view value)
+Gives memory view (Err fault) reading = fault ≢ memory → reading ≡ Err fault
+
+-- a value that has to be there
+abbrev pub required : Option Data → Result Data RuleFault
+required None = Err Missing
+required (Some value) = Ok value
+
+-- how many keys a table has
+abbrev pub member_count : Members → ℕ
+member_count no_members = 0
+member_count (member key value members) = suc (member_count members)
+
+-- a table has this many keys at most
+abbrev pub no_more : ℕ → Members → Result Unit RuleFault
+no_more count keys = if nat_le (member_count keys) count then Ok tt else Err UnknownKey
+
+-- a string
+abbrev pub text_in : Data → Result (List ℕ) RuleFault
+text_in (string text) = Ok text
+text_in _ = Err WrongType
+
+-- a list
+abbrev pub list_in : Data → Result Items RuleFault
+list_in (array items) = Ok items
+list_in _ = Err WrongType
+
+-- a byte of printable ASCII
+abbrev pub is_printable : ℕ → Bool
+is_printable byte = nat_le 0x20 byte && nat_le byte 0x7E
+
+-- the name of a rule has at most this many bytes
+abbrev pub longest_name : ℕ
+longest_name = 64
+
+-- a text of 1 to 64 bytes, all printable
+abbrev pub is_name : List ℕ → Bool
+is_name text = nat_le 1 (length text) && (nat_le (length text) longest_name && list_all is_printable text)
+
+-- the name of a rule
+abbrev pub name_in : Data → Result (List ℕ) RuleFault
+name_in value = text_in value >>= (λ text. if is_name text then Ok text else Err BadName)

@@ -1,0 +1,5 @@
+pub mod Names
+pub mod Keys
+pub mod Relations
+pub mod Joins
+pub mod Reading

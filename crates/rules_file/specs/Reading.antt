@@ -1,0 +1,88 @@
+-- The rules of a text, or its first refusal.
+use Rattle.std.specs.Prelude.{◌≡◌, ℕ, ◌+◌, ◌++◌, List, Vec, [], ◌∷◌, length, Option, Some, None, Result, Ok, Err, codes, nat_lt, string_bytes, if◌then◌else◌}
+use Rattle.std.specs.Str.{is_utf8}
+use Rattle.std.specs.declared.alloc.Global.{Global}
+use Rattle.toml.specs.Data.{Data, table, Items, no_items, item, Members, get_member}
+use Rattle.toml.specs.Parse.{parse_document}
+use Rattle.user_rules.specs.Meets.{meets}
+use Rattle.rules_file.specs.declared.fault.RuleFault.{RuleFault}
+use Rattle.rules_file.specs.declared.fault.RuleFault.TheVariants.{NotToml, TooMany, WrongType}
+use Rattle.rules_file.specs.declared.fault.RulesFault.{RulesFault}
+use Rattle.rules_file.specs.declared.fault.RulesFault.TheVariants.{File, Rule}
+use Rattle.rules_file.specs.declared.rule.NamedRule.{NamedRule}
+use Rattle.rules_file.specs.Keys.{◌>>=◌, list_in, name_in, no_more, required}
+use Rattle.rules_file.specs.Relations.{Holds, at_most, most_levels, relation_in}
+
+-- a text of rules has at most this many bytes
+abbrev pub longest_text : ℕ
+longest_text = 1048576
+
+-- and this many rules
+abbrev pub most_rules : ℕ
+most_rules = 1024
+
+-- a rule as the text says it: its name, and of which views it holds
+pub record SaidRule : Type 0 where
+  pub name : List ℕ
+  pub holds : Holds
+
+-- what a rule of code says
+abbrev pub said : NamedRule → SaidRule
+said rule = record { name = string_bytes rule.name; holds = meets rule.relation }
+
+-- rules with one more behind them; there are none where memory ran out
+abbrev pub IsAdded : Option (Vec NamedRule Global) → Option NamedRule → Option (Vec NamedRule Global) → Type 0
+IsAdded rules rule None = Unit {0}
+IsAdded (Some rules) (Some rule) (Some all) = all.items ≡ rules.items ++ rule ∷ []
+IsAdded _ _ (Some all) = ⊥
+
+-- the rule that a table describes: `name`, `holds` and no other key
+abbrev pub rule_under : Members → Result SaidRule RuleFault
+rule_under keys =
+    no_more 2 keys >>= (λ _.
+    required (get_member (codes "name") keys) >>= name_in >>= (λ name.
+    required (get_member (codes "holds") keys) >>= relation_in most_levels >>= (λ holds.
+    Ok (record { name = name; holds = holds }))))
+
+-- the rule that a value describes, which has to be a table
+abbrev pub rule_in : Data → Result SaidRule RuleFault
+rule_in (table keys) = rule_under keys
+rule_in _ = Err WrongType
+
+-- what is read of the rule of this number
+abbrev pub of_rule : {A : Type 0} → ℕ → Result A RuleFault → Result A RulesFault
+of_rule number (Ok value) = Ok value
+of_rule number (Err fault) = Err (Rule number fault)
+
+-- what is read of the text around the rules
+abbrev pub of_file : {A : Type 0} → Result A RuleFault → Result A RulesFault
+of_file (Ok value) = Ok value
+of_file (Err fault) = Err (File fault)
+
+-- the rules that the items of a list describe, numbered from this one on
+abbrev pub rules_from : ℕ → Items → Result (List SaidRule) RulesFault
+rules_from number no_items = Ok []
+rules_from number (item value items) =
+    of_rule number (rule_in value) >>= (λ rule.
+    rules_from (number + 1) items >>= (λ rules. Ok (rule ∷ rules)))
+
+-- the list of rules of a table: it stands under `rule`, and there is no other key
+abbrev pub listed_under : Members → Result Items RuleFault
+listed_under keys = no_more 1 keys >>= (λ _. required (get_member (codes "rule") keys) >>= list_in >>= at_most most_rules)
+
+-- the rules of a table
+abbrev pub rules_under : Members → Result (List SaidRule) RulesFault
+rules_under keys = of_file (listed_under keys) >>= rules_from 0
+
+-- the table that a text is, where it is UTF-8 and TOML
+abbrev pub document_of : List ℕ → Option Members
+document_of text = if is_utf8 text then parse_document text else None
+
+-- the rules of a document, where the text is one
+abbrev pub rules_in : Option Members → Result (List SaidRule) RulesFault
+rules_in None = Err (File NotToml)
+rules_in (Some keys) = rules_under keys
+
+-- the rules of a text; a text of more than 1,048,576 bytes is not looked into
+abbrev pub rules_of : List ℕ → Result (List SaidRule) RulesFault
+rules_of text = if nat_lt longest_text (length text) then Err (File TooMany) else rules_in (document_of text)

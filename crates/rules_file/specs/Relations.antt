@@ -1,0 +1,91 @@
+-- Of which views the relation that a value describes holds.
+use Rattle.std.specs.Prelude.{ℕ, ℤ, zero, suc, Bool, ◌&&◌, ◌||◌, not, int_lt, Option, Some, None, Result, Ok, Err, codes, nat_le, if◌then◌else◌}
+use Rattle.std.specs.Option.{ok_or}
+use Rattle.std.specs.Ordering.{int_eq}
+use Rattle.toml.specs.Data.{Data, integer, string, table, Items, no_items, item, Members, get_member}
+use Rattle.apex_types.specs.declared.view.Field.{Field}
+use Rattle.apex_types.specs.declared.view.View.{View}
+use Rattle.apex_types.specs.Fields.{field_of}
+use Rattle.rules_file.specs.declared.fault.RuleFault.{RuleFault}
+use Rattle.rules_file.specs.declared.fault.RuleFault.TheVariants.{Empty, Missing, TooDeep, TooMany, UnknownField, UnknownName, WrongType}
+use Rattle.rules_file.specs.Keys.{◌>>=◌, list_in, no_more, required, text_in}
+use Rattle.rules_file.specs.Names.{field_named, number_named}
+
+-- of which views a relation holds
+abbrev pub Holds : Type 0
+Holds = View → Bool
+
+-- a relation has at most this many levels
+abbrev pub most_levels : ℕ
+most_levels = 16
+
+-- a list has at most this many relations
+abbrev pub most_relations : ℕ
+most_relations = 64
+
+-- the field of this name
+abbrev pub field_in : Data → Result Field RuleFault
+field_in value = text_in value >>= (λ name. ok_or (field_named name) UnknownField)
+
+-- the number that a field is compared with: an integer, or a name that stands for one in this field
+abbrev pub number_in : Field → Data → Result ℤ RuleFault
+number_in field (integer number) = Ok number
+number_in field (string name) = ok_or (number_named field name) UnknownName
+number_in field _ = Err WrongType
+
+-- the field is compared by the first of `less`, `equal` and `greater` that is there
+abbrev pub compared : Field → Option Data → Option Data → Option Data → Result Holds RuleFault
+compared field (Some value) equal greater = number_in field value >>= (λ number. Ok (λ view. int_lt (field_of view field) number))
+compared field None (Some value) greater = number_in field value >>= (λ number. Ok (λ view. int_eq (field_of view field) number))
+compared field None None (Some value) = number_in field value >>= (λ number. Ok (λ view. int_lt number (field_of view field)))
+compared field None None None = Err Missing
+
+-- the comparison that a table describes: `field`, one of `less`, `equal` and `greater`, and no other key
+abbrev pub comparison_under : Members → Result Holds RuleFault
+comparison_under keys =
+    no_more 2 keys >>= (λ _.
+    required (get_member (codes "field") keys) >>= field_in >>= (λ field.
+    compared field (get_member (codes "less") keys) (get_member (codes "equal") keys) (get_member (codes "greater") keys)))
+
+-- relations put together, one behind the other
+abbrev pub joined : (Bool → Bool → Bool) → (Data → Result Holds RuleFault) → Items → Result Holds RuleFault
+joined join reading no_items = Err Empty
+joined join reading (item value no_items) = reading value
+joined join reading (item value (item next items)) =
+    reading value >>= (λ first.
+    joined join reading (item next items) >>= (λ others.
+    Ok (λ view. join (first view) (others view))))
+
+-- how many items a list has
+abbrev pub item_count : Items → ℕ
+item_count no_items = 0
+item_count (item value items) = suc (item_count items)
+
+-- a list of this many items at most
+abbrev pub at_most : ℕ → Items → Result Items RuleFault
+at_most most items = if nat_le (item_count items) most then Ok items else Err TooMany
+
+-- the relations of a list of 1 to 64, put together
+abbrev pub joined_in : (Bool → Bool → Bool) → (Data → Result Holds RuleFault) → Data → Result Holds RuleFault
+joined_in join reading value = list_in value >>= at_most most_relations >>= joined join reading
+
+-- a relation that holds where the one of a value does not
+abbrev pub negated_in : (Data → Result Holds RuleFault) → Data → Result Holds RuleFault
+negated_in reading value = reading value >>= (λ negated. Ok (λ view. not (negated view)))
+
+-- the relation that a table describes by what stands under `not`, `and` and `or`, else by a comparison
+abbrev pub described : (Data → Result Holds RuleFault) → Members → Option Data → Option Data → Option Data → Result Holds RuleFault
+described reading keys (Some value) all any = no_more 1 keys >>= (λ _. negated_in reading value)
+described reading keys None (Some value) any = no_more 1 keys >>= (λ _. joined_in (λ one other. one && other) reading value)
+described reading keys None None (Some value) = no_more 1 keys >>= (λ _. joined_in (λ one other. one || other) reading value)
+described reading keys None None None = comparison_under keys
+
+-- the relation that a table describes
+abbrev pub relation_under : (Data → Result Holds RuleFault) → Members → Result Holds RuleFault
+relation_under reading keys = described reading keys (get_member (codes "not") keys) (get_member (codes "and") keys) (get_member (codes "or") keys)
+
+-- the relation that a value describes, which has to be a table, with this many levels at most
+unfoldable pub relation_in : ℕ → Data → Result Holds RuleFault
+relation_in zero value = Err TooDeep
+relation_in (suc levels) (table keys) = relation_under (relation_in levels) keys
+relation_in (suc levels) _ = Err WrongType

@@ -1,0 +1,93 @@
+// The values under the keys of a table, each judged by itself.
+
+ghost use Rattle.std.specs.Prelude.{◌≡◌, option_map};
+ghost use Rattle.std.specs.List.{list_all};
+ghost use Rattle.toml.specs.Data.{get_member};
+ghost use Rattle.toml.specs.View.{view, table_view, items_view};
+ghost use Rattle.rules_file.specs.Keys.{Reads, is_name, is_printable, list_in, member_count, name_in, no_more, required, text_in};
+
+use crate::fault::RuleFault;
+use toml::{Table, Value};
+
+/// The most bytes that the name of a rule has.
+const LONGEST_NAME: usize = 64;
+
+/// The value under a key, if the key is there.
+pub(crate) fn member<'a>(table: &'a Table, key: &str) -> Option<&'a Value>
+    ensures { option_map (λ value. view value.now) result ≡ get_member key.now (table_view table.now) }
+{
+    table.get(key)
+}
+
+/// The value under a key, which must be there.
+pub(crate) fn required<'a>(table: &'a Table, key: &str) -> Result<&'a Value, RuleFault>
+    ensures { Reads (λ value. view value.now) result (required (get_member key.now (table_view table.now))) }
+{
+    match member(table, key) {
+        Some(value) => Ok(value),
+        None => Err(RuleFault::Missing),
+    }
+}
+
+/// Refuses a table of more keys than these.
+#[tactic(auto, using(crate::proofs::Counts::keys_counted))]
+pub(crate) fn no_more(table: &Table, count: usize) -> Result<(), RuleFault>
+    ensures { result ≡ no_more count (table_view table.now) }
+{
+    if table.len() > count {
+        return Err(RuleFault::UnknownKey);
+    }
+    Ok(())
+}
+
+/// The text that a value is.
+pub(crate) fn text<'a>(value: &'a Value) -> Result<&'a str, RuleFault>
+    ensures { Reads (λ text. text.now) result (text_in (view value.now)) }
+{
+    match value.as_str() {
+        Some(text) => Ok(text),
+        None => Err(RuleFault::WrongType),
+    }
+}
+
+/// The items of the list that a value is.
+pub(crate) fn list<'a>(value: &'a Value) -> Result<&'a [Value], RuleFault>
+    ensures { Reads (λ items. items_view items.now) result (list_in (view value.now)) }
+{
+    match value.as_array() {
+        Some(array) => Ok(array.as_slice()),
+        None => Err(RuleFault::WrongType),
+    }
+}
+
+/// The name that a value is: 1 to 64 bytes, all printable ASCII.
+pub(crate) fn name<'a>(value: &'a Value) -> Result<&'a str, RuleFault>
+    ensures { Reads (λ name. name.now) result (name_in (view value.now)) }
+{
+    let name = text(value)?;
+    if !is_name(name.as_bytes()) {
+        return Err(RuleFault::BadName);
+    }
+    Ok(name)
+}
+
+// Whether a text has 1 to 64 bytes, all printable ASCII.
+fn is_name(bytes: &[u8]) -> bool
+    ensures { result ≡ is_name bytes.now }
+{
+    !bytes.is_empty() && bytes.len() <= LONGEST_NAME && are_printable(bytes)
+}
+
+// Whether each byte is printable ASCII.
+fn are_printable(bytes: &[u8]) -> bool
+    ensures { result ≡ list_all is_printable bytes.now }
+{
+    bytes.iter().all(|byte| is_printable(*byte))
+}
+
+// Whether a byte is printable ASCII.
+fn is_printable(byte: u8) -> bool
+    ensures { result ≡ is_printable byte }
+{
+    0x20 <= byte && byte <= 0x7E
+}

@@ -1,0 +1,324 @@
+use super::*;
+use apex_types::View;
+use std::alloc::Global;
+use std::test::*;
+
+// The view of a call of SEND_BUFFER in partition 0, at time 7.
+fn call_of_send_buffer() -> View {
+    View {
+        kind: 0,
+        core: 1,
+        time: 7,
+        part: 0,
+        proc: 3,
+        service: 16,
+        prio: 10,
+        out: 7,
+        val: -1,
+        elapsed: -1,
+        woken: 0,
+    }
+}
+
+// A text of one rule that holds of what this says.
+fn rule_text(alloc: Global, holds: &str) -> Result<Vec<u8>, Fail> {
+    let mut text = Vec::new(alloc);
+    text.extend_from_slice(b"[[rule]]\nname = \"r\"\nholds = ")?;
+    text.extend_from_slice(holds.as_bytes())?;
+    Ok(text)
+}
+
+// A text of one rule: a comparison behind so many times `not`.
+fn negated_text(alloc: Global, count: usize) -> Result<Vec<u8>, Fail> {
+    let mut text = rule_text(alloc, "")?;
+    for _ in 0..count {
+        text.extend_from_slice(b"{ not = ")?;
+    }
+    text.extend_from_slice(b"{ field = \"core\", equal = 1 }")?;
+    for _ in 0..count {
+        text.extend_from_slice(b" }")?;
+    }
+    Ok(text)
+}
+
+// A text of one rule: so many comparisons with `or` between them.
+fn listed_text(alloc: Global, count: usize) -> Result<Vec<u8>, Fail> {
+    let mut text = rule_text(alloc, "{ or = [")?;
+    for _ in 0..count {
+        text.extend_from_slice(b"{ field = \"core\", equal = 1 },")?;
+    }
+    text.extend_from_slice(b"] }")?;
+    Ok(text)
+}
+
+fn refusal(alloc: Global, text: &[u8]) -> Option<RulesFault> {
+    match read(alloc, text) {
+        Ok(_) => None,
+        Err(fault) => Some(fault),
+    }
+}
+
+// What the first rule of a text answers of a view.
+fn answer(alloc: Global, text: &[u8], view: &View) -> Option<bool> {
+    match read(alloc, text) {
+        Ok(rules) => Some(rules.first()?.relation.holds(view)),
+        Err(_) => None,
+    }
+}
+
+// Two rules keep their order, their names and what they say.
+#[test]
+fn reads_two_rules(rt: HostRuntime) -> Result<(), Fail> {
+    let text = b"
+        [[rule]]
+        name = \"partition 1 is quick\"
+        holds = { or = [ { not = { field = \"part\", equal = 1 } }, { field = \"elapsed\", less = 100 } ] }
+
+        [[rule]]
+        name = \"no buffers in partition 0\"
+        holds = { not = { and = [ { field = \"part\", equal = 0 }, { field = \"service\", equal = \"SEND_BUFFER\" } ] } }
+    ";
+    let rules = match read(rt.alloc(), text) {
+        Ok(rules) => rules,
+        Err(fault) => panic!(rt; "{fault}"),
+    };
+    assert_eq!(rt; rules.len(), 2);
+    assert_eq!(rt; rules[0].name.as_str(), "partition 1 is quick");
+    assert_eq!(rt; rules[1].name.as_str(), "no buffers in partition 0");
+    let view = call_of_send_buffer();
+    assert_eq!(rt; rules[0].relation.holds(&view), true);
+    assert_eq!(rt; rules[1].relation.holds(&view), false);
+    let slow = View {
+        part: 1,
+        elapsed: 100,
+        ..view
+    };
+    assert_eq!(rt; rules[0].relation.holds(&slow), false);
+    assert_eq!(rt; rules[1].relation.holds(&slow), true);
+    Ok(())
+}
+
+// Each field is compared by each comparison: below its number, at it and above it.
+#[test]
+fn compares_each_field(rt: HostRuntime) -> Result<(), Fail> {
+    let heap: Global = rt.alloc();
+    let view = View {
+        val: 4,
+        elapsed: 9,
+        woken: 2,
+        ..call_of_send_buffer()
+    };
+    for (field, number) in [
+        ("kind", 0i64),
+        ("core", 1),
+        ("time", 7),
+        ("part", 0),
+        ("proc", 3),
+        ("service", 16),
+        ("prio", 10),
+        ("out", 7),
+        ("val", 4),
+        ("elapsed", 9),
+        ("woken", 2),
+    ] {
+        for (comparison, below, at, above) in [
+            ("less", false, false, true),
+            ("equal", false, true, false),
+            ("greater", true, false, false),
+        ] {
+            for (against, expected) in [
+                (number.saturating_sub(1), below),
+                (number, at),
+                (number.saturating_add(1), above),
+            ] {
+                let holds = format!(in heap;
+                    "{{ field = \"{field}\", {comparison} = {against} }}"
+                )?;
+                assert_eq!(rt;
+                    answer(heap, &rule_text(heap, &holds)?, &view),
+                    Some(expected),
+                    "{holds}"
+                );
+            }
+        }
+    }
+    Ok(())
+}
+
+// Kinds, services and outcomes go by the names that recordings have for them; the last one is that of the number.
+#[test]
+fn knows_names(rt: HostRuntime) -> Result<(), Fail> {
+    let heap: Global = rt.alloc();
+    for (field, name, number) in [
+        ("kind", "call", 0),
+        ("kind", "ret", 1),
+        ("kind", "disp", 2),
+        ("kind", "tick", 3),
+        ("service", "CREATE_PROCESS", 1),
+        ("service", "SEND_BUFFER", 16),
+        ("service", "RECEIVE_QUEUING_MESSAGE", 37),
+        ("out", "NO_ERROR", 0),
+        ("out", "TIMED_OUT", 6),
+        ("out", "wait", 7),
+        ("out", "none", 8),
+    ] {
+        let view = View {
+            kind: number,
+            service: number,
+            out: number,
+            ..call_of_send_buffer()
+        };
+        let holds = format!(in heap; "{{ field = \"{field}\", equal = \"{name}\" }}")?;
+        assert_eq!(rt;
+            answer(heap, &rule_text(heap, &holds)?, &view),
+            Some(true),
+            "{holds}"
+        );
+    }
+    Ok(())
+}
+
+// A fault of the only rule.
+#[test]
+fn refuses_rules(rt: HostRuntime) -> Result<(), Fail> {
+    let heap: Global = rt.alloc();
+    for (holds, fault) in [
+        ("3", RuleFault::WrongType),
+        ("{}", RuleFault::Missing),
+        ("{ field = \"part\" }", RuleFault::Missing),
+        ("{ equal = 3 }", RuleFault::Missing),
+        ("{ field = 3, equal = 3 }", RuleFault::WrongType),
+        ("{ field = \"Part\", equal = 3 }", RuleFault::UnknownField),
+        ("{ field = \"part\", equal = 3.0 }", RuleFault::WrongType),
+        (
+            "{ field = \"part\", equal = \"call\" }",
+            RuleFault::UnknownName,
+        ),
+        (
+            "{ field = \"kind\", equal = \"START\" }",
+            RuleFault::UnknownName,
+        ),
+        (
+            "{ field = \"service\", equal = \"NO_ERROR\" }",
+            RuleFault::UnknownName,
+        ),
+        (
+            "{ field = \"out\", equal = \"START\" }",
+            RuleFault::UnknownName,
+        ),
+        (
+            "{ field = \"part\", equal = 3, less = 4 }",
+            RuleFault::UnknownKey,
+        ),
+        (
+            "{ not = { field = \"part\", equal = 3 }, field = \"part\" }",
+            RuleFault::UnknownKey,
+        ),
+        ("{ not = [] }", RuleFault::WrongType),
+        (
+            "{ and = { field = \"part\", equal = 3 } }",
+            RuleFault::WrongType,
+        ),
+        ("{ and = [] }", RuleFault::Empty),
+        ("{ or = [] }", RuleFault::Empty),
+        (
+            "{ field = \"part\", equal = 3 }\nnote = 1",
+            RuleFault::UnknownKey,
+        ),
+    ] {
+        let expected = Some(RulesFault::Rule { rule: 0, fault });
+        assert_eq!(rt;
+            refusal(heap, &rule_text(heap, holds)?),
+            expected,
+            "{holds}"
+        );
+    }
+    Ok(())
+}
+
+// A fault of the text around the rules, or of a rule behind others.
+#[test]
+fn refuses_texts(rt: HostRuntime) -> Result<(), Fail> {
+    let heap: Global = rt.alloc();
+    for (text, fault) in [
+        (b"rule = ".as_slice(), RulesFault::File(RuleFault::NotToml)),
+        (
+            b"name = \"\xFF\"".as_slice(),
+            RulesFault::File(RuleFault::NotToml),
+        ),
+        (b"".as_slice(), RulesFault::File(RuleFault::Missing)),
+        (
+            b"[[rules]]".as_slice(),
+            RulesFault::File(RuleFault::Missing),
+        ),
+        (
+            b"rule = []\nrules = []".as_slice(),
+            RulesFault::File(RuleFault::UnknownKey),
+        ),
+        (b"[rule]".as_slice(), RulesFault::File(RuleFault::WrongType)),
+        (
+            b"rule = [{ name = \"\", holds = {} }]".as_slice(),
+            RulesFault::Rule {
+                rule: 0,
+                fault: RuleFault::BadName,
+            },
+        ),
+        (
+            b"rule = [{ name = \"r\", holds = { field = \"part\", less = 2 } }, 3]".as_slice(),
+            RulesFault::Rule {
+                rule: 1,
+                fault: RuleFault::WrongType,
+            },
+        ),
+        (
+            b"rule = [{ name = \"r\", holds = { field = \"part\", less = 2 } }, { name = \"s\" }]".as_slice(),
+            RulesFault::Rule {
+                rule: 1,
+                fault: RuleFault::Missing,
+            },
+        ),
+    ] {
+        assert_eq!(rt; refusal(heap, text), Some(fault));
+    }
+    assert_eq!(rt; refusal(heap, b"rule = []"), None);
+    Ok(())
+}
+
+// The most levels, relations of a list, rules and bytes are served, and one more is refused.
+#[test]
+fn keeps_limits(rt: HostRuntime) -> Result<(), Fail> {
+    let heap: Global = rt.alloc();
+    let too_deep = RulesFault::Rule {
+        rule: 0,
+        fault: RuleFault::TooDeep,
+    };
+    assert_eq!(rt; refusal(heap, &negated_text(heap, 15)?), None);
+    assert_eq!(rt; refusal(heap, &negated_text(heap, 16)?), Some(too_deep));
+    let not_toml = RulesFault::File(RuleFault::NotToml);
+    assert_eq!(rt; refusal(heap, &negated_text(heap, 80)?), Some(not_toml));
+    let too_long = RulesFault::Rule {
+        rule: 0,
+        fault: RuleFault::TooMany,
+    };
+    assert_eq!(rt; refusal(heap, &listed_text(heap, 64)?), None);
+    assert_eq!(rt; refusal(heap, &listed_text(heap, 65)?), Some(too_long));
+    let too_many = RulesFault::File(RuleFault::TooMany);
+    let mut rules = Vec::new(heap);
+    for _ in 0..1024 {
+        rules.extend_from_slice(
+            b"[[rule]]\nname = \"r\"\nholds = { field = \"part\", less = 2 }\n",
+        )?;
+    }
+    assert_eq!(rt; refusal(heap, &rules), None);
+    rules.extend_from_slice(b"[[rule]]")?;
+    assert_eq!(rt; refusal(heap, &rules), Some(too_many));
+    let mut text = Vec::new(heap);
+    text.extend_from_slice(b"rule = []")?;
+    for _ in text.len()..1_048_576 {
+        text.push(b' ')?;
+    }
+    assert_eq!(rt; refusal(heap, &text), None);
+    text.push(b' ')?;
+    assert_eq!(rt; refusal(heap, &text), Some(too_many));
+    Ok(())
+}

@@ -1,0 +1,109 @@
+// The rules of a text.
+
+ghost use Rattle.std.specs.Prelude.{◌≡◌, ◌↔◌, ◌<◌, Err, IfErr, length, map};
+ghost use Rattle.toml.specs.Errors.{IsMemory};
+ghost use Rattle.toml.specs.View.{table_view, items_view};
+ghost use Rattle.rules_file.specs.declared.fault.RuleFault.TheVariants.{NotToml, TooMany};
+ghost use Rattle.rules_file.specs.declared.fault.RulesFault.TheVariants.{File, Memory};
+ghost use Rattle.rules_file.specs.Keys.{Gives, Reads};
+ghost use Rattle.rules_file.specs.Reading.{IsAdded, listed_under, rules_from, rules_of, rules_under, said};
+
+use crate::fault::{RuleFault, RulesFault};
+use crate::keys::{list, no_more, required};
+use crate::rule::NamedRule;
+use std::alloc::Global;
+use toml::de::Error;
+use toml::{Table, Value};
+
+/// The most bytes that a text of rules may have.
+const LONGEST_TEXT: usize = 1_048_576;
+
+/// The most rules that a text may have.
+const MOST_RULES: usize = 1024;
+
+/// Reads the rules that a text gives, in TOML, in its order.
+///
+/// Every fault but `Memory` is the first that the text has: a text above 1,048,576 bytes is `TooMany`, then comes `NotToml`,
+/// then the list of rules, then each rule in turn. Once the text is a table, each rule is judged whatever memory there is.
+pub fn read(alloc: Global, text: &[u8]) -> Result<Vec<NamedRule>, RulesFault>
+    ensures value { Gives Memory (λ rules. map said rules.items) result (rules_of text.now) }
+    ensures too_long { 1048576 < length text.now → result ≡ Err (File TooMany) }
+{
+    if text.len() > LONGEST_TEXT {
+        return Err(RulesFault::File(RuleFault::TooMany));
+    }
+    match toml::table_from_slice(alloc, text) {
+        Ok(keys) => rules_under(alloc, &keys),
+        Err(fault) => Err(text_fault(&fault)),
+    }
+}
+
+// Why a text was not read as a table.
+fn text_fault(fault: &Error) -> RulesFault
+    ensures memory { (result ≡ Memory) ↔ IsMemory fault.now }
+    ensures not_toml { (result ≡ File NotToml) ↔ (¬ IsMemory fault.now) }
+{
+    if fault.is_memory() {
+        RulesFault::Memory
+    } else {
+        RulesFault::File(RuleFault::NotToml)
+    }
+}
+
+// The rules of a table.
+fn rules_under(alloc: Global, keys: &Table) -> Result<Vec<NamedRule>, RulesFault>
+    ensures value { Gives Memory (λ rules. map said rules.items) result (rules_under (table_view keys.now)) }
+    ensures refused { IfErr (rules_under (table_view keys.now)) (λ fault. result ≡ Err fault) }
+{
+    match listed_under(keys) {
+        Ok(items) => rules_from(alloc, items),
+        Err(fault) => Err(RulesFault::File(fault)),
+    }
+}
+
+// The list of rules of a table.
+#[tactic(auto, using(crate::proofs::Counts::items_counted))]
+fn listed_under<'a>(keys: &'a Table) -> Result<&'a [Value], RuleFault>
+    ensures { Reads (λ items. items_view items.now) result (listed_under (table_view keys.now)) }
+{
+    no_more(keys, 1)?;
+    let items = list(required(keys, "rule")?)?;
+    if items.len() > MOST_RULES {
+        return Err(RuleFault::TooMany);
+    }
+    Ok(items)
+}
+
+// The rules that the items of a list describe. Where memory runs out the rules behind are judged all the same.
+fn rules_from(alloc: Global, items: &[Value]) -> Result<Vec<NamedRule>, RulesFault>
+    ensures value { Gives Memory (λ rules. map said rules.items) result (rules_from 0 (items_view items.now)) }
+    ensures refused { IfErr (rules_from 0 (items_view items.now)) (λ fault. result ≡ Err fault) }
+{
+    let mut rules = Some(Vec::new(alloc));
+    for (number, item) in items.iter().enumerate() {
+        match NamedRule::read(alloc, item) {
+            Ok(rule) => rules = added(rules, rule),
+            Err(fault) => {
+                return Err(RulesFault::Rule {
+                    rule: number,
+                    fault,
+                });
+            }
+        }
+    }
+    match rules {
+        Some(rules) => Ok(rules),
+        None => Err(RulesFault::Memory),
+    }
+}
+
+// Rules with one more behind them.
+fn added(rules: Option<Vec<NamedRule>>, rule: Option<NamedRule>) -> Option<Vec<NamedRule>>
+    ensures { IsAdded rules rule result }
+{
+    let mut rules = rules?;
+    match rules.push(rule?) {
+        Ok(()) => Some(rules),
+        Err(_) => None,
+    }
+}
