@@ -1,7 +1,8 @@
 #!/usr/bin/env bash
 # All tests: the program on one example through real files; every proof, every wrong body that the prover must refuse,
 # every test and the program as two compilers build it; the program as its users run it; and each of its allocations
-# refused in turn, without rules and with them. At the end stands what each crate cost. The last line is `N passed, 0 failed`.
+# refused in turn, without rules, with options that ask for rules, and with a text of rules. At the end stands what each
+# crate cost. The last line is `N passed, 0 failed`.
 set -euo pipefail
 cd "$(dirname "$0")"
 report=$(bash examples/run timed_wait)
@@ -18,5 +19,7 @@ bash .ci/run_examples "$program"
 bash .ci/refuse_allocations "$program"
 late=examples/return_too_late
 bash .ci/refuse_allocations "$program" --config "$late/config.toml" --order "$late/order.csv" --max-elapsed 1 --forbid STOP "$late/core0.csv"
+slow=examples/partition_waits_too_long
+bash .ci/refuse_allocations "$program" --config "$slow/config.toml" --order "$slow/order.csv" --rules "$slow/rules.toml" "$slow/core0.csv" "$slow/core1.csv"
 cat "$room/times"
 tail -n 1 "$room/log"

@@ -1,11 +1,14 @@
 // How a run of the program ends: its line on standard output and its exit status.
 
 ghost use Rattle.std.specs.Prelude.{◌≡◌, ◌≢◌, ◌<◌, OnErr, OnOk};
-ghost use Rattle.apexcheck.specs.Endings.{exit_status_of, line_of};
+ghost use Rattle.apexcheck.specs.declared.ending.Ending.TheVariants.{BadRule, BadRules};
+ghost use Rattle.apexcheck.specs.Endings.{exit_status_of, line_of, refused_by, rule_fault_name};
 ghost use Rattle.sink.specs.Written.{IsCut, IsWritten};
 
+use itoa::Buffer;
 use report::{CheckFault, Verdict, write_report};
-use sink::{Sink, WriteFault, WriterSink, put_all};
+use rules_file::{RuleFault, RulesFault};
+use sink::{Sink, WriteFault, WriterSink, put_all, put_parts};
 use std::io::Write;
 
 /// The exit status where the line could not be written.
@@ -18,8 +21,12 @@ pub enum Ending {
     Checked(Result<Verdict, CheckFault>),
     /// The words of the command line are not those of the usage.
     BadUsage,
-    /// A file could not be opened, or the configuration could not be read.
+    /// A file could not be opened, or the configuration or the text of rules could not be read.
     Unopened,
+    /// The text of rules has this fault, outside of its rules.
+    BadRules(RuleFault),
+    /// The rule of this number of the text, counted from 0, has this fault.
+    BadRule { rule: usize, fault: RuleFault },
     /// The version was asked for.
     Version,
 }
@@ -32,7 +39,40 @@ pub fn status_of(ending: &Ending) -> u8
         Ending::Checked(Ok(Verdict::Yes { .. })) | Ending::Version => 0,
         Ending::Checked(Ok(Verdict::No { .. } | Verdict::Broken { .. })) => 1,
         Ending::Checked(Err(CheckFault::Memory)) => 3,
-        Ending::Checked(Err(_)) | Ending::BadUsage | Ending::Unopened => 2,
+        Ending::Checked(Err(_))
+        | Ending::BadUsage
+        | Ending::Unopened
+        | Ending::BadRules(_)
+        | Ending::BadRule { .. } => 2,
+    }
+}
+
+/// The end that a refusal of a text of rules is. Want of memory is the check's own.
+pub fn refused_by(fault: RulesFault) -> Ending
+    ensures { result ≡ refused_by fault }
+{
+    match fault {
+        RulesFault::File(fault) => Ending::BadRules(fault),
+        RulesFault::Rule { rule, fault } => Ending::BadRule { rule, fault },
+        RulesFault::Memory => Ending::Checked(Err(CheckFault::Memory)),
+    }
+}
+
+// The name of a fault of a rule, or of a text of rules.
+fn name_of_rule_fault(fault: RuleFault) -> &'static [u8]
+    ensures { result.now ≡ rule_fault_name fault }
+{
+    match fault {
+        RuleFault::NotToml => b"NotToml",
+        RuleFault::TooMany => b"TooMany",
+        RuleFault::UnknownKey => b"UnknownKey",
+        RuleFault::Missing => b"Missing",
+        RuleFault::WrongType => b"WrongType",
+        RuleFault::BadName => b"BadName",
+        RuleFault::UnknownField => b"UnknownField",
+        RuleFault::UnknownName => b"UnknownName",
+        RuleFault::Empty => b"Empty",
+        RuleFault::TooDeep => b"TooDeep",
     }
 }
 
@@ -51,8 +91,43 @@ pub fn write_ending<W: Sink>(w: &mut W, ending: &Ending) -> Result<(), WriteFaul
         Ending::Checked(outcome) => write_report(w, outcome),
         Ending::BadUsage => put_all(w, b"REFUSED usage\n"),
         Ending::Unopened => put_all(w, b"REFUSED open\n"),
+        Ending::BadRules(fault) => write_bad_rules(w, *fault),
+        Ending::BadRule { rule, fault } => write_bad_rule(w, *rule, *fault),
         Ending::Version => put_all(w, b"apexcheck 0.1.0 (proved with rattle-kit-13b)\n"),
     }
+}
+
+// Puts out the refusal of a text of rules for this fault.
+fn write_bad_rules<W: Sink>(w: &mut W, fault: RuleFault) -> Result<(), WriteFault>
+    ensures whole { OnOk result (IsWritten (W.bytes w.old) (line_of (BadRules fault)) (W.bytes w.new)) }
+    ensures same { OnOk result (W.failures w.new ≡ W.failures w.old) }
+    ensures cut { OnErr result (IsCut (W.bytes w.old) (line_of (BadRules fault)) (W.bytes w.new)) }
+    ensures failed { OnErr result (W.failures w.old < W.failures w.new) }
+{
+    put_parts(
+        w,
+        &[b"REFUSED rules fault=", name_of_rule_fault(fault), b"\n"],
+    )
+}
+
+// Puts out the refusal of the rule of this number for this fault.
+fn write_bad_rule<W: Sink>(w: &mut W, rule: usize, fault: RuleFault) -> Result<(), WriteFault>
+    ensures whole { OnOk result (IsWritten (W.bytes w.old) (line_of (BadRule rule fault)) (W.bytes w.new)) }
+    ensures same { OnOk result (W.failures w.new ≡ W.failures w.old) }
+    ensures cut { OnErr result (IsCut (W.bytes w.old) (line_of (BadRule rule fault)) (W.bytes w.new)) }
+    ensures failed { OnErr result (W.failures w.old < W.failures w.new) }
+{
+    let mut number = Buffer::new();
+    put_parts(
+        w,
+        &[
+            b"REFUSED rules rule=",
+            number.format(rule).as_bytes(),
+            b" fault=",
+            name_of_rule_fault(fault),
+            b"\n",
+        ],
+    )
 }
 
 /// Puts out the line of an end through a writer that is flushed then, and gives the exit status of the run. Takes no

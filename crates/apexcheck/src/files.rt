@@ -1,15 +1,18 @@
 // The check of files.
 
-ghost use Rattle.std.specs.Prelude.{◌≡◌, ◌≢◌, ◌+◌, IfErr, IfOk, IfSome, take, vec_len};
+ghost use Rattle.std.specs.Prelude.{◌≡◌, ◌≢◌, ◌+◌, ℕ, IfErr, IfOk, IfSome, List, Some, is_some, length, map, option_map, take, vec_len};
 ghost use Rattle.std.specs.IoError.{error_kind};
 ghost use Rattle.module_config.specs.Reading.{configuration_of};
+ghost use Rattle.rules_file.specs.Reading.{rules_of};
 ghost use Rattle.apexcheck.specs.Files.{IsOfFiles, ending_of};
+ghost use Rattle.apexcheck.specs.Ruled.{IsRuledEnding};
 
-use crate::ending::Ending;
-use crate::ruled::{check_ruled, tell_broken};
+use crate::ending::{Ending, refused_by};
+use crate::ruled::{check_ruled, read_rules, tell_broken};
 use crate::usage::{FileNames, FilesAsked};
-use report::{CheckFault, Settings};
+use report::CheckFault;
 use rule_options::RuleOption;
+use rules_file::RulesFault;
 use std::alloc::{AllocFailed, Global};
 use std::fs::{File, Files};
 use std::io;
@@ -17,25 +20,25 @@ use std::io::{ErrorKind, Read};
 use std::sync::Wait;
 use std::thread::Threads;
 
-// The most bytes that a configuration has. `check` refuses a longer one as `TooMany` by the rule of `Config::read`, and
-// the byte behind them is enough to see that it is longer.
-const LONGEST_CONFIG: u64 = 1_048_576;
+// The most bytes that a configuration has, and a text of rules. Of a longer one the byte behind them is enough to see that
+// it is longer: `check` and `rules_file::read` refuse it as `TooMany`.
+const LONGEST_TEXT: u64 = 1_048_576;
 
-/// Opens the files of a run and checks what they hold. The configuration is read first, then the order is opened, then
-/// the recordings, core 0 first.
+/// Opens the files of a run and checks what they hold. The configuration is read first, then the text of rules, if one is
+/// named; then the order is opened, then the recordings, core 0 first. The text of rules is judged behind that.
 ///
-/// Where a file can't be opened, or the configuration can't be read, standard error names it and tells why. Where a rule is
-/// broken, standard error tells which.
+/// Where a file can't be opened, or the configuration or the text of rules can't be read, standard error names it and tells
+/// why, and so where the text of rules is refused. Where a rule is broken, standard error tells which.
 pub fn check_files<R>(rt: &R, alloc: Global, asked: &FilesAsked) -> Ending
 where
     R: Files<File = File> + Eprint + AllocGlobal + Threads + Wait + Sync + Copy + Send + 'static,
-    ensures { IsOfFiles result }
+    ensures { IsOfFiles (is_some asked.now.names.rules) result }
 {
-    let Ok(options) = asked.rules.in_order(alloc) else {
+    let Ok(options) = asked.options.in_order(alloc) else {
         return end_by(OpenFault::Memory);
     };
     match Opened::open(rt, alloc, &asked.names) {
-        Ok(opened) => opened.check(rt, alloc, &options, asked.settings),
+        Ok(opened) => opened.check(rt, alloc, &options, asked),
         Err(fault) => end_by(fault),
     }
 }
@@ -53,70 +56,132 @@ fn end_by(fault: OpenFault) -> Ending
 // What is opened for a check. The order and the recordings are read as the check goes on, in pieces of 8 KiB: the reader
 // of rows has that buffer of its own.
 #[derive(Drop)]
-struct Opened {
+struct Opened<F> {
     config: Vec<u8>,
-    order: File,
-    cores: Vec<File>,
+    rules: Option<Vec<u8>>,
+    order: F,
+    cores: Vec<F>,
 }
 
-impl Opened {
+impl Opened<File> {
     fn open<R: Files<File = File> + Eprint + AllocGlobal>(
         rt: &R,
         alloc: Global,
         names: &FileNames,
-    ) -> Result<Opened, OpenFault>
-        ensures { IfOk result (λ opened. vec_len opened.cores ≡ vec_len names.now.cores) }
+    ) -> Result<Opened<File>, OpenFault>
+        ensures cores { IfOk result (λ opened. vec_len opened.cores ≡ vec_len names.now.cores) }
+        ensures rules { IfOk result (λ opened. is_some opened.rules ≡ is_some names.now.rules) }
     {
-        let config = told(rt, &names.config, open_config(rt, alloc, &names.config))?;
+        let config = told(rt, &names.config, open_text(rt, alloc, &names.config))?;
+        let rules = open_rules(rt, alloc, &names.rules)?;
         let order = told(rt, &names.order, File::open(rt, &names.order))?;
-        let mut cores = Vec::new(alloc);
-        for name in &names.cores {
-            cores.push(told(rt, name, File::open(rt, name))?)?;
-        }
+        let cores = open_cores(rt, alloc, &names.cores)?;
         Ok(Opened {
             config,
+            rules,
             order,
             cores,
         })
     }
+}
 
-    // Checks what the files hold, under the rules of these options and with these settings.
-    fn check<R>(self, rt: &R, alloc: Global, options: &[RuleOption], settings: Settings) -> Ending
+impl<F: Read + Drop + Send + 'static> Opened<F> {
+    // Checks what the files hold, under the rules of these options and of the text, with the settings that are asked for.
+    fn check<R>(self, rt: &R, alloc: Global, options: &[RuleOption], asked: &FilesAsked) -> Ending
     where
         R: Eprint + Threads + Wait + Sync + Copy + Send + 'static,
-        ensures { IsOfFiles result }
+        ensures of_files { IsOfFiles (is_some self.rules) result }
+        ensures ending { (texts : List (List ℕ)) (certificate : List ℕ) → map (λ reader. F.remaining reader) self.cores.items ≡ map Some texts → F.remaining self.order ≡ Some certificate → IsRuledEnding asked.now.settings self.config.items texts certificate options.now (option_map (λ text. text.items) self.rules) result }
     {
         let Opened {
             config,
+            rules,
             order,
             cores,
         } = self;
-        let outcome = check_ruled(*rt, alloc, &config, cores, order, options, settings);
-        tell_broken(rt, options, &outcome);
+        let rules = match read_rules(alloc, rules.as_deref()) {
+            Ok(rules) => rules,
+            Err(fault) => {
+                tell_refused(rt, &asked.names, &fault);
+                return refused_by(fault);
+            }
+        };
+        let outcome = check_ruled(
+            *rt,
+            alloc,
+            &config,
+            cores,
+            order,
+            options,
+            &rules,
+            asked.settings,
+        );
+        tell_broken(rt, options, &rules, &outcome);
         Ending::Checked(outcome)
     }
 }
 
-// The configuration in the file of this name, as `read_config` reads it.
-fn open_config<R: Files<File = File>>(rt: &R, alloc: Global, name: &str) -> io::Result<Vec<u8>> {
-    read_config(alloc, File::open(rt, name)?)
+// Tells a person why the text of rules is refused. Want of memory is told by the line alone.
+fn tell_refused(rt: &impl Eprint, names: &FileNames, fault: &RulesFault) {
+    match (&names.rules, fault) {
+        (None, _) | (_, RulesFault::Memory) => {}
+        (Some(name), fault) => {
+            // Standard error only helps a person, so that a failure there changes nothing.
+            let _ = rt.eprintln(format_args!("apexcheck: {name}: {fault}"));
+        }
+    }
 }
 
-// The text that a reader gives, or its first bytes where it is longer than a configuration: these configure what the whole
-// text does.
-fn read_config<R: Read + Drop>(alloc: Global, reader: R) -> io::Result<Vec<u8>>
-    ensures first { IfOk result (λ config. IfSome (R.remaining reader) (λ text. config.items ≡ take (LONGEST_CONFIG + 1) text)) }
-    ensures same { IfOk result (λ config. IfSome (R.remaining reader) (λ text. configuration_of config.items ≡ configuration_of text)) }
+// The text of rules in the file of this name, if one is named.
+fn open_rules<R: Files<File = File> + Eprint>(
+    rt: &R,
+    alloc: Global,
+    name: &Option<String>,
+) -> Result<Option<Vec<u8>>, OpenFault>
+    ensures { IfOk result (λ rules. is_some rules ≡ is_some name.now) }
 {
-    let mut config = Vec::new(alloc);
-    reader.take(LONGEST_CONFIG + 1).read_to_end(&mut config)?;
-    Ok(config)
+    match name {
+        Some(name) => Ok(Some(told(rt, name, open_text(rt, alloc, name))?)),
+        None => Ok(None),
+    }
+}
+
+// The recordings in the files of these names, in their order.
+fn open_cores<R: Files<File = File> + Eprint>(
+    rt: &R,
+    alloc: Global,
+    names: &[String],
+) -> Result<Vec<File>, OpenFault>
+    ensures { IfOk result (λ cores. vec_len cores ≡ length names.now) }
+{
+    let mut cores = Vec::new(alloc);
+    for name in names {
+        cores.push(told(rt, name, File::open(rt, name))?)?;
+    }
+    Ok(cores)
+}
+
+// The text in the file of this name, as `read_text` reads it.
+fn open_text<R: Files<File = File>>(rt: &R, alloc: Global, name: &str) -> io::Result<Vec<u8>> {
+    read_text(alloc, File::open(rt, name)?)
+}
+
+// The text that a reader gives, or its first bytes where it is longer than a configuration or a text of rules may be: these
+// configure what the whole text does, and say the rules that it does.
+fn read_text<R: Read + Drop>(alloc: Global, reader: R) -> io::Result<Vec<u8>>
+    ensures first { IfOk result (λ read. IfSome (R.remaining reader) (λ text. read.items ≡ take (LONGEST_TEXT + 1) text)) }
+    ensures configures { IfOk result (λ read. IfSome (R.remaining reader) (λ text. configuration_of read.items ≡ configuration_of text)) }
+    ensures rules { IfOk result (λ read. IfSome (R.remaining reader) (λ text. rules_of read.items ≡ rules_of text)) }
+{
+    let mut text = Vec::new(alloc);
+    reader.take(LONGEST_TEXT + 1).read_to_end(&mut text)?;
+    Ok(text)
 }
 
 // Why the files of a run are not all there.
 #[derive(Clone, Copy, Debug, PartialEq, Eq)]
 enum OpenFault {
-    // One can't be opened, or the configuration can't be read.
+    // One can't be opened, or the configuration or the text of rules can't be read.
     Unopened,
     // Memory was refused on the way.
     Memory,

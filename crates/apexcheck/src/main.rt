@@ -1,8 +1,9 @@
 //! The program: checks recordings against a configuration and a proposed order, and prints one line.
 //!
 //! Promises: what is printed is the text of how the run ended, and the exit status is the one of that end; where the
-//! output could not be written, the status is the one that says so. What is checked under options that ask for rules has the
-//! outcome of relations that say what they ask for.
+//! output could not be written, the status is the one that says so. A run under options that ask for rules and a text of rules
+//! ends by the text's first refusal, or by the outcome of relations that say what the options ask for and then what the rules
+//! of the text say.
 #![tactic(auto)]
 
 mod ending;
@@ -30,7 +31,8 @@ fn main(rt: HostRuntime) -> ExitCode {
     ExitCode::from(conclude(&mut output, &ending))
 }
 
-// Does what the command line asks for. The words are judged first, then the files are opened, then comes the check.
+// Does what the command line asks for. The words are judged first, then the files are opened, then the text of rules is
+// judged, then comes the check.
 fn run<R>(rt: &R, alloc: Global) -> Ending
 where
     R: Env

@@ -1,17 +1,32 @@
-// The check under the rules that options ask for.
+// The check under the rules that options ask for and those of a text.
 
-ghost use Rattle.std.specs.Prelude.{◌≡◌, ℕ, List, Some, map};
-ghost use Rattle.apexcheck.specs.Ruled.{IsRuledOutcome};
+ghost use Rattle.std.specs.Prelude.{◌≡◌, ℕ, IfOk, List, Some, map, option_map};
+ghost use Rattle.rules_file.specs.declared.fault.RulesFault.TheVariants.{Memory};
+ghost use Rattle.rules_file.specs.Keys.{Gives};
+ghost use Rattle.rules_file.specs.Reading.{said};
+ghost use Rattle.apexcheck.specs.Ruled.{HoldInTurn, IsRuledOutcome, SayBoth, rules_given};
 
 use report::{CheckFault, MOST_RECORDS, Settings, Verdict, check_relations};
 use rule_options::{RuleOption, relations_of};
-use std::alloc::Global;
+use rules_file::{NamedRule, RulesFault};
+use std::alloc::{AllocError, Global};
 use std::io::Read;
 use std::sync::Wait;
 use std::thread::Threads;
+use user_rules::Relation;
 
-/// Checks the recordings, one reader for each core in order, against the configuration, the proposed order and the rules that
-/// these options ask for, numbered in their order. It is carried out as the settings say.
+/// The rules that a text gives, in its order; none where there is no text.
+pub fn read_rules(alloc: Global, text: Option<&[u8]>) -> Result<Vec<NamedRule>, RulesFault>
+    ensures { Gives Memory (λ rules. map said rules.items) result (rules_given (option_map (λ text. text.now) text.entry)) }
+{
+    match text {
+        Some(text) => rules_file::read(alloc, text),
+        None => Ok(Vec::new(alloc)),
+    }
+}
+
+/// Checks the recordings, one reader for each core in order, against the configuration, the proposed order and rules: those
+/// that these options ask for, numbered in their order, and the named ones behind them. It is carried out as the settings say.
 pub fn check_ruled<T, R, C>(
     rt: T,
     alloc: Global,
@@ -19,15 +34,16 @@ pub fn check_ruled<T, R, C>(
     readers: Vec<R>,
     order: C,
     options: &[RuleOption],
+    rules: &[NamedRule],
     settings: Settings,
 ) -> Result<Verdict, CheckFault>
 where
     T: Threads + Wait + Sync + Copy + Send + 'static,
     R: Read + Drop + Send + 'static,
     C: Read + Drop,
-    ensures { (texts : List (List ℕ)) (certificate : List ℕ) → map (λ reader. R.remaining reader) readers.items ≡ map Some texts → C.remaining order ≡ Some certificate → IsRuledOutcome settings config.now texts certificate options.now result }
+    ensures { (texts : List (List ℕ)) (certificate : List ℕ) → map (λ reader. R.remaining reader) readers.items ≡ map Some texts → C.remaining order ≡ Some certificate → IsRuledOutcome settings config.now texts certificate options.now (map said rules.now) result }
 {
-    let Ok(relations) = relations_of(alloc, options) else {
+    let Ok(relations) = all_relations(alloc, options, rules) else {
         return Err(CheckFault::Memory);
     };
     check_relations(
@@ -42,19 +58,51 @@ where
     )
 }
 
-/// Tells a person which rule is broken, if one is, by the words of its option.
+// The relations that options ask for, and behind them those of rules.
+fn all_relations(
+    alloc: Global,
+    options: &[RuleOption],
+    rules: &[NamedRule],
+) -> Result<Vec<Relation>, AllocError>
+    ensures { IfOk result (λ relations. SayBoth options.now (map said rules.now) relations.items) }
+{
+    let mut relations = relations_of(alloc, options)?;
+    let mut behind = relations_in(alloc, rules)?;
+    relations.append(&mut behind)?;
+    Ok(relations)
+}
+
+// The relations of rules, in their order.
+fn relations_in(alloc: Global, rules: &[NamedRule]) -> Result<Vec<Relation>, AllocError>
+    ensures { IfOk result (λ relations. HoldInTurn (map said rules.now) relations.items) }
+{
+    let mut relations = Vec::new(alloc);
+    for rule in rules {
+        relations.push(rule.relation.clone()?)?;
+    }
+    Ok(relations)
+}
+
+/// Tells a person which rule is broken, if one is: that of an option by its words, one of a text by its name.
 pub fn tell_broken(
     rt: &impl Eprint,
     options: &[RuleOption],
+    rules: &[NamedRule],
     outcome: &Result<Verdict, CheckFault>,
 ) {
-    if let Ok(Verdict::Broken { pos, rule }) = outcome {
-        if let Some(option) = options.get(*rule) {
-            let place = pos.number();
-            // Standard error only helps a person, so that a failure there changes nothing.
-            let _ = rt.eprintln(format_args!(
-                "apexcheck: the record in place {place} breaks rule {rule}: {option}"
-            ));
-        }
+    let Ok(Verdict::Broken { pos, rule }) = outcome else {
+        return;
+    };
+    let place = pos.number();
+    // Standard error only helps a person, so that a failure there changes nothing.
+    if let Some(option) = options.get(*rule) {
+        let _ = rt.eprintln(format_args!(
+            "apexcheck: the record in place {place} breaks rule {rule}: {option}"
+        ));
+    } else if let Some(named) = rules.get(*rule - options.len()) {
+        let name = &named.name;
+        let _ = rt.eprintln(format_args!(
+            "apexcheck: the record in place {place} breaks rule {rule}: {name}"
+        ));
     }
 }

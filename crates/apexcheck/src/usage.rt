@@ -18,16 +18,16 @@ use std::{env, io};
 
 /// What a person is told whose command line is refused.
 pub const USAGE: &str = "usage: apexcheck --config FILE --order FILE [--depth N]
-                 [--max-elapsed N] [--forbid SERVICE] CORE...
+                 [--max-elapsed N] [--forbid SERVICE] [--rules FILE] CORE...
        apexcheck
        apexcheck --version
 
 Checks the recordings, one file CORE for each core with core 0 first, against the
 configuration and the order that are given. --depth says how many records ahead
 each file is read, 1 to 4096; it is 64 if not given. With --max-elapsed no call may
-return more than N ticks later, with --forbid no call may be of SERVICE. With no words
-it checks a run that stands in the program. With --version alone it prints its version,
-and the kit that it is proved with.";
+return more than N ticks later, with --forbid no call may be of SERVICE, with --rules
+the rules of FILE may not be broken. With no words it checks a run that stands in the
+program. With --version alone it prints its version, and the kit that it is proved with.";
 
 /// What the command line asks for.
 #[derive(Debug, Drop)]
@@ -46,7 +46,7 @@ pub struct FilesAsked {
     /// The files that hold its texts.
     pub names: FileNames,
     /// The rules that are asked for by options of their own.
-    pub rules: RuleOptions,
+    pub options: RuleOptions,
     /// How the check is carried out.
     pub settings: Settings,
 }
@@ -56,6 +56,8 @@ pub struct FilesAsked {
 pub struct FileNames {
     /// The configuration.
     pub config: String,
+    /// The text of rules, if there is one.
+    pub rules: Option<String>,
     /// The certificate, which proposes the order.
     pub order: String,
     /// The recordings, one for each core, core 0 first.
@@ -99,7 +101,7 @@ fn files_asked(alloc: Global, words: &[String]) -> Result<FilesAsked, UsageFault
     let matches = command(alloc)?.try_get_matches_from(words)?;
     Ok(FilesAsked {
         names: file_names(alloc, &matches)?,
-        rules: rules_of(&matches)?,
+        options: rule_options(&matches)?,
         settings: settings_asked(&matches)?,
     })
 }
@@ -113,7 +115,7 @@ fn settings_asked(matches: &ArgMatches<'_>) -> Result<Settings, UsageFault>
 }
 
 // The values of the options that ask for rules.
-fn rules_of(matches: &ArgMatches<'_>) -> Result<RuleOptions, UsageFault>
+fn rule_options(matches: &ArgMatches<'_>) -> Result<RuleOptions, UsageFault>
     ensures { result ≡ ok_or (values_of (first_value (found_of matches.now) (codes "max-elapsed")) (first_value (found_of matches.now) (codes "forbid"))) UsageFault.Usage }
 {
     let max_elapsed = text_of(matches, "max-elapsed");
@@ -142,12 +144,23 @@ fn file_names(alloc: Global, matches: &ArgMatches<'_>) -> Result<FileNames, Usag
     };
     Ok(FileNames {
         config: String::from_str(alloc, config)?,
+        rules: rules_name(alloc, matches)?,
         order: String::from_str(alloc, order)?,
         cores: cores
             .iter()
             .map(|core| String::from_str(alloc, core))
             .try_collect(alloc)?,
     })
+}
+
+// The name of the file of rules, if one is named.
+fn rules_name(alloc: Global, matches: &ArgMatches<'_>) -> Result<Option<String>, UsageFault>
+    ensures { IfOk result (λ name. option_map string_bytes name ≡ first_value (found_of matches.now) (codes "rules")) }
+{
+    match matches.get_str("rules") {
+        Some(name) => Ok(Some(String::from_str(alloc, name)?)),
+        None => Ok(None),
+    }
 }
 
 // The words of a run over files: no option twice, and CORE once or more.
@@ -159,6 +172,7 @@ fn command<'a>(alloc: Global) -> Result<Command<'a>, AllocError> {
         .arg(option(alloc, "depth"))?
         .arg(option(alloc, "max-elapsed"))?
         .arg(option(alloc, "forbid"))?
+        .arg(option(alloc, "rules"))?
         .arg(
             Arg::new(alloc, "core")
                 .required(true)
