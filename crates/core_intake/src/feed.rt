@@ -10,14 +10,12 @@ ghost use Rattle.core_intake.specs.Batches.{WasFed, all_answers};
 
 use crate::batch::Batch;
 use crate::rule::{Sender, Sends, Side};
-use crossbeam_channel::TrySendError;
 use record_read::RowSource;
 use std::alloc::Global;
 use std::io::Read;
 use std::snapshot::Snapshot;
 use std::sync::Wait;
-use std::sync::atomic::{AtomicBool, Ordering};
-use std::thread;
+use std::sync::atomic::AtomicBool;
 use std::thread::Promise;
 
 /// What a reader's thread gives back: its end of the channel, with what was sent.
@@ -81,7 +79,7 @@ fn send_all<R: Read, T: Wait>(
     for _ in rt.forever() {
         let batch = Batch::read(alloc, source, length, stop);
         let is_last = batch.end.is_some();
-        if !offer(rt, sender, side, stop, batch) {
+        if !send(rt, sender, side, batch) {
             return;
         }
         if is_last {
@@ -91,32 +89,13 @@ fn send_all<R: Read, T: Wait>(
     unreachable!()
 }
 
-// Sends the batch, or finds that the thread is to stop.
-fn offer<T: Wait>(
-    rt: &T,
-    sender: &Sender,
-    side: &mut Side,
-    stop: &AtomicBool,
-    mut batch: Batch,
-) -> bool
+// Sends the batch, once the channel has room; or finds that nobody receives any more.
+fn send<T: Wait>(rt: &T, sender: &Sender, side: &mut Side, batch: Batch) -> bool
     requires seat { IsSeatAt (sends_on sender.now) side.old }
     requires sends { (view side.old).sends ≡ true }
     ensures seat { IsSeatAt (sends_on sender.now) side.new }
     ensures sent { result ≡ true → view side.new ≡ log (view side.old).sends (view side.old).receives ((view side.old).sent ++ batch ∷ []) (view side.old).received }
     ensures kept { result ≡ false → view side.new ≡ view side.old }
 {
-    for _ in rt.forever() {
-        match sender.try_send_as::<Sends, T>(rt, side, batch) {
-            Ok(()) => return true,
-            Err(TrySendError::Full(back)) => {
-                batch = back;
-                if stop.load(Ordering::SeqCst) {
-                    return false;
-                }
-                thread::yield_now();
-            }
-            Err(_) => return false,
-        }
-    }
-    unreachable!()
+    sender.send_as::<Sends, T>(rt, side, batch).is_ok()
 }

@@ -128,13 +128,14 @@ impl<R: Read> Lane<R> {
             reader,
         } = self;
         stop.store(true, Ordering::SeqCst);
+        // A thread that waits for room finds that nobody receives any more.
+        drop(receiver);
         let Fed {
             sender,
             side: mut theirs,
         } = reader.join(rt);
         sender.absorb::<Roles>(&mut theirs, side);
         sender.learn_as::<Total>(&mut theirs);
-        drop(receiver);
     }
 }
 

@@ -3,7 +3,7 @@ use Rattle.crossbeam_channel.specs.Claims.{view}
 use Rattle.core_intake.proofs.Chains.{sent_so_far}
 use Rattle.core_intake.proofs.feed.send_all.Goals as goal
 
-pub returns-then-not-offer-clause-sent : goal.returns-then-not-offer-clause-sent
-returns-then-not-offer-clause-sent g c =
-    let same : view c.offer.new.side ≡ view c.loop.side = search rules in
+pub returns-then-not-send-clause-sent : goal.returns-then-not-send-clause-sent
+returns-then-not-send-clause-sent g c =
+    let same : view c.send.new.side ≡ view c.loop.side = search rules in
     rw same (sent_so_far c.args.source.now.left c.loop.source.left (view c.loop.side).sent c.loop.invariant.3)
