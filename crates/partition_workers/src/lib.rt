@@ -1,7 +1,8 @@
-//! The pieces of a round, judged by several threads.
+//! The pieces of a module, judged round by round by several threads.
 //!
 //! Promises: what is answered of a round is what each piece makes of its records by itself, one value for each piece at its
-//! number, for every number of workers and whatever order they claim and post in. A board keeps the values: whenever its lock is
+//! number, for every number of workers and whatever order they claim and post in. A round in which nothing is refused is a run of
+//! each piece; else the least refusal is told, with what stands up to its place. A board keeps the values: whenever its lock is
 //! free its history is legal, and each posted value is that of its own piece over the round that the board is of.
 //!
 //! Not promised: that a thread gets on.
@@ -11,6 +12,7 @@ mod board;
 mod done;
 mod fault;
 mod job;
+mod judge;
 mod log;
 mod round;
 #[cfg(test)]
@@ -21,6 +23,7 @@ pub use board::Board;
 pub use done::Done;
 pub use fault::{PostFault, PostRefusal, RoundFault};
 pub use job::Job;
+pub use judge::Judge;
 pub use log::Event;
 pub use round::{Naming, Round};
 pub use workers::{Gate, Open, judge_round};

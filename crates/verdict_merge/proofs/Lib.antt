@@ -16,3 +16,4 @@ pub mod Watching
 pub mod Between
 pub mod Coming
 pub mod Working
+pub mod Gathered

@@ -5,9 +5,9 @@ ghost use Rattle.apex_types.specs.declared.view.View.{View as ViewOfRecord};
 ghost use Rattle.verdict_merge.specs.Findings.{IsLeastWith};
 ghost use Rattle.verdict_merge.specs.Views.{HaveSlots, put_in, slot_at, slot_count, wanted_count};
 
+use crate::fault::Memory;
 use crate::finding::{Refused, least_with};
 use crate::gone::{Gone, Seen};
-use crate::judge::Memory;
 use apex_types::{Ordered, View};
 use std::alloc::Global;
 

@@ -9,8 +9,8 @@ ghost use Rattle.piece_check.specs.Touching.{AreSortedOut, indices_of};
 ghost use Rattle.verdict_merge.specs.Rounds.{HasJudged, IsGoing, IsGoneOver, IsRefusal};
 ghost use Rattle.verdict_merge.specs.Views.{seen_of, wanted_of};
 
+use crate::fault::Memory;
 use crate::finding::{Refused, refused_by};
-use crate::judge::Memory;
 use apex_types::{Ordered, View};
 use module_config::Config;
 use piece_check::{Piece, PieceFault, Touched, subject_of};
@@ -29,6 +29,31 @@ pub struct Lent<'a> {
     /// Whether the views of the records are wanted.
     pub watched: bool,
     pub ghost sorted: { AreSortedOut config.now records.now (indices_of touched.now) },
+}
+
+impl<'a> Lent<'a> {
+    /// What is lent of records that are sorted out. Takes no memory.
+    pub fn new(
+        config: &'a Config,
+        first: u64,
+        records: &'a [Ordered],
+        touched: &'a Touched,
+        watched: bool,
+    ) -> Lent<'a>
+        requires { AreSortedOut config.now records.now (indices_of touched.now) }
+        ensures config { result.config.now ≡ config.now }
+        ensures first { result.first ≡ first }
+        ensures records { result.records.now ≡ records.now }
+        ensures watched { result.watched ≡ watched }
+    {
+        Lent {
+            config,
+            first,
+            records,
+            touched,
+            watched,
+        }
+    }
 }
 
 /// The view of a record, with the record's index in its round.

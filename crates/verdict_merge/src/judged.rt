@@ -5,8 +5,8 @@ ghost use Rattle.apex_machine.specs.Pieces.{pieces};
 ghost use Rattle.apex_machine.specs.Runs.{ArePlaced, AreOfCores};
 ghost use Rattle.verdict_merge.specs.Rounds.{AreGoing, AreGoneOver, IsGoing, IsGoneOver};
 
+use crate::fault::Memory;
 use crate::gone::{Gone, Lent, go_over};
-use crate::judge::Memory;
 use piece_check::Piece;
 use std::alloc::Global;
 

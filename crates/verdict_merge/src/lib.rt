@@ -7,22 +7,24 @@
 //! every rule.
 #![tactic(auto)]
 
+mod fault;
 mod finding;
 mod gathering;
 mod gone;
-mod judge;
 mod judged;
 mod laws;
 mod plain;
+mod start;
 mod survey;
 mod verdict;
 
+pub use fault::Memory;
 pub use finding::{Finding, Refused, merge};
 pub use gathering::Gathering;
 pub use gone::{Gone, Lent, Seen, go_over};
-pub use judge::{Judge, Memory};
 pub use judged::{Judged, judge_in_turn, judge_piece};
 pub use laws::{one_verdict, verdict_is_of_the_findings};
 pub use plain::check_plain;
-pub use survey::{Survey, survey_round};
+pub use start::start_pieces;
+pub use survey::{Survey, gather_round};
 pub use verdict::Verdict;

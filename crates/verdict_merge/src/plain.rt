@@ -1,14 +1,22 @@
 // The verdict over one order of records, on one thread.
 
-ghost use Rattle.std.specs.Prelude.{IfOk};
+ghost use Rattle.std.specs.Prelude.{◌≡◌, ◌<◌, ℕ, List, IfOk, length};
+ghost use Rattle.apex_machine.specs.Pieces.{pieces};
 ghost use Rattle.apex_machine.specs.Runs.{ArePlaced, AreOfCores};
+ghost use Rattle.piece_check.specs.Parts.{Holding};
 ghost use Rattle.user_rules.specs.Rules.{relations_of};
+ghost use Rattle.verdict_merge.specs.Rounds.{IsSurveyed, cold_parts, parts_in};
 ghost use Rattle.verdict_merge.specs.Verdicts.{IsRunWhereYes, IsVerdict};
 
-use crate::judge::{Judge, Memory};
+use crate::fault::Memory;
+use crate::gone::Lent;
+use crate::judged::judge_in_turn;
+use crate::start::start_pieces;
+use crate::survey::{Survey, gather_round};
 use crate::verdict::Verdict;
 use apex_types::Ordered;
 use module_config::Config;
+use piece_check::Touched;
 use std::alloc::Global;
 use user_rules::{Rule, first_broken_in_turn};
 
@@ -29,13 +37,35 @@ pub fn check_plain(
     ensures run { IfOk result (IsRunWhereYes config.now (relations_of rules.now) records.now) }
 {
     config.keeps_limits();
-    let mut judge = Judge::start(alloc, config, !rules.is_empty())?;
-    let found = judge.round(config, records)?;
-    let broken = first_broken_in_turn(rules, judge.views());
-    match Verdict::against(records, found, broken) {
+    let surveyed = survey_all(alloc, config, records, !rules.is_empty())?;
+    let broken = first_broken_in_turn(rules, &surveyed.views);
+    match Verdict::against(records, surveyed.found, broken) {
         Some(verdict) => Ok(verdict),
         None => Ok(Verdict::Yes {
-            records: judge.count(),
+            records: records.len() as u64,
         }),
     }
+}
+
+// All pieces go over all the records in one round, one piece after another.
+fn survey_all(
+    alloc: Global,
+    config: &Config,
+    records: &[Ordered],
+    watched: bool,
+) -> Result<Survey, Memory>
+    requires placed { ArePlaced 0 records.now }
+    requires cores { AreOfCores config.now.cores records.now }
+    ensures { IfOk result (λ survey. (cold : List Holding) × ((number : ℕ) → number < length (pieces config.now) → parts_in cold number ≡ cold_parts config.now number) × IsSurveyed config.now 0 records.now watched cold survey) }
+{
+    let pieces = start_pieces(alloc, config)?;
+    let Ok(mut touched) = Touched::new(alloc) else {
+        return Err(Memory);
+    };
+    if touched.sort_out(config, records).is_err() {
+        return Err(Memory);
+    }
+    let lent = Lent::new(config, 0, records, &touched, watched);
+    let judged = judge_in_turn(alloc, &lent, pieces)?;
+    gather_round(alloc, &lent, judged)
 }

@@ -1,14 +1,15 @@
-// All pieces go over a round, and what they found is gathered.
+// What all pieces made of a round, gathered.
 
-ghost use Rattle.std.specs.Prelude.{◌≡◌, IfOk};
+ghost use Rattle.std.specs.Prelude.{◌≡◌, List, IfOk};
 ghost use Rattle.apex_machine.specs.Runs.{ArePlaced, AreOfCores};
-ghost use Rattle.verdict_merge.specs.Rounds.{AreGoing, IsSurveyed, pieces_in};
+ghost use Rattle.piece_check.specs.Parts.{Holding};
+ghost use Rattle.verdict_merge.specs.Rounds.{AreGoing, AreGoneOver, IsSurveyed, pieces_in};
 
+use crate::fault::Memory;
 use crate::finding::Refused;
 use crate::gathering::Gathering;
 use crate::gone::Lent;
-use crate::judge::Memory;
-use crate::judged::{Judged, judge_in_turn};
+use crate::judged::Judged;
 use apex_types::View;
 use piece_check::Piece;
 use std::alloc::Global;
@@ -24,19 +25,15 @@ pub struct Survey {
     pub pieces: Vec<Piece>,
 }
 
-/// All pieces go over a round, one after another, and what they found is gathered in order of number.
+/// Gathers what became of each piece in a round, in order of number.
 ///
 /// Memory where a growth was refused.
-pub fn survey_round(alloc: Global, lent: &Lent, pieces: Vec<Piece>) -> Result<Survey, Memory>
-    requires going { AreGoing lent.now.config.now lent.now.first pieces.items }
+pub fn gather_round(alloc: Global, lent: &Lent, judged: Vec<Judged>) -> Result<Survey, Memory>
+    requires gone { (old : List Holding) × AreGoing lent.now.config.now lent.now.first old × AreGoneOver lent.now.config.now lent.now.first lent.now.records.now lent.now.watched old judged.items }
     requires placed { ArePlaced lent.now.first lent.now.records.now }
     requires cores { AreOfCores lent.now.config.now.cores lent.now.records.now }
-    ensures { IfOk result (IsSurveyed lent.now.config.now lent.now.first lent.now.records.now lent.now.watched pieces.items) }
+    ensures { (old : List Holding) → AreGoing lent.now.config.now lent.now.first old → AreGoneOver lent.now.config.now lent.now.first lent.now.records.now lent.now.watched old judged.items → IfOk result (IsSurveyed lent.now.config.now lent.now.first lent.now.records.now lent.now.watched old) }
 {
-    let judged = match judge_in_turn(alloc, lent, pieces) {
-        Ok(judged) => judged,
-        Err(memory) => return Err(memory),
-    };
     let Ok(mut gathering) = Gathering::new(alloc, lent.watched, lent.records.len()) else {
         return Err(Memory);
     };

@@ -8,7 +8,7 @@ use Rattle.piece_check.specs.Parts.{IsBehind, IsOf, IsPartOf, piece_at}
 use Rattle.verdict_merge.specs.Rounds.{cold_parts, holding_at}
 use Rattle.verdict_merge.proofs.Holdings.{holding_at-front, holding_at-last}
 use Rattle.verdict_merge.proofs.Splits.{up_to}
-use Rattle.verdict_merge.proofs.judge.Judge.start.Goals as goal
+use Rattle.verdict_merge.proofs.start.start_pieces.Goals as goal
 
 pub pieces-preserved : goal.pieces-preserved
 pieces-preserved c =
@@ -32,8 +32,8 @@ pieces-preserved c =
       behind = up_to (λ one. IsBehind 0 (cold_parts config one)) number c.pieces.invariant.behind (subst (IsBehind 0) c.in-Ok.ensures.part c.in-Ok.ensures.behind);
     }
 
-pub returns-clause-ready : goal.returns-clause-ready
-returns-clause-ready c =
+pub returns-clause-going : goal.returns-clause-going
+returns-clause-going c =
     let config = c.args.config.now in
     let all : c.pieces.number ≡ length (pieces config) = search rules in
     record {

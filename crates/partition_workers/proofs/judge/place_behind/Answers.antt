@@ -1,6 +1,6 @@
 use Rattle.std.proofs.Common.{◌∙◌, ◌+◌, ap, sym}
 use Rattle.verdict_merge.proofs.Splits.{last_place}
-use Rattle.verdict_merge.proofs.judge.place_behind.Goals as goal
+use Rattle.partition_workers.proofs.judge.place_behind.Goals as goal
 
 pub returns-in-Some : goal.returns-in-Some
 returns-in-Some c =

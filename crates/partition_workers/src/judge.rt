@@ -1,27 +1,22 @@
 // All pieces of a module, which judge the records round by round.
 
-ghost use Rattle.std.specs.Prelude.{◌≡◌, ◌<◌, ◌≤◌, ◌+◌, ℕ, IfOk, length};
+ghost use Rattle.std.specs.Prelude.{◌≡◌, ◌↔◌, ◌<◌, ◌+◌, ℕ, Err, IfOk, length};
 ghost use Rattle.apex_machine.specs.Pieces.{pieces};
 ghost use Rattle.apex_machine.specs.Runs.{ArePlaced, AreOfCores};
-ghost use Rattle.piece_check.specs.Touching.{AreSortedOut, indices_of};
 ghost use Rattle.verdict_merge.specs.Rounds.{IsReady, IsRound, cold_parts, parts_of};
 ghost use Rattle.verdict_merge.specs.Views.{AreWanted};
 
-use crate::finding::Refused;
-use crate::gone::Lent;
-use crate::survey::survey_round;
+use crate::fault::RoundFault;
+use crate::workers::{Gate, judge_round};
 use apex_types::{Ordered, View};
 use module_config::Config;
-use piece_check::{Piece, Touched, count};
+use piece_check::{Piece, Touched};
 use std::alloc::Global;
 use std::marker::Model;
 use std::mem;
-use thiserror::Error;
-
-/// A growth of memory was refused.
-#[derive(Clone, Copy, Debug, Drop, PartialEq, Eq, Error)]
-#[error("out of memory")]
-pub struct Memory;
+use std::sync::Wait;
+use std::thread::Threads;
+use verdict_merge::{Lent, Memory, Refused, gather_round, start_pieces};
 
 /// All pieces of a module, how many records they have judged, and the views of the last round.
 #[derive(Drop)]
@@ -52,15 +47,7 @@ impl Judge {
         ensures watched { IfOk result (λ judge. judge.watched ≡ watched) }
         ensures ready { IfOk result (IsReady config.now) }
     {
-        let mut pieces = Vec::new(alloc);
-        'pieces: for number in 0..count(config) {
-            let Ok(piece) = Piece::start(alloc, config, number) else {
-                return Err(Memory);
-            };
-            if pieces.push(piece).is_err() {
-                return Err(Memory);
-            }
-        }
+        let pieces = start_pieces(alloc, config)?;
         let Ok(touched) = Touched::new(alloc) else {
             return Err(Memory);
         };
@@ -89,54 +76,45 @@ impl Judge {
         &self.views
     }
 
-    /// Judges the next records: each piece goes over those that touch it, up to its first refusal. None where no piece
-    /// refuses one; else the least refusal, after which no further round is judged.
+    /// Judges the next records by so many workers: each piece goes over those that touch it, up to its first refusal. None where
+    /// no piece refuses one; else the least refusal, after which no further round is judged. The gate is told of each claim and
+    /// each post.
     ///
-    /// Memory where a growth was refused, after which no further round is judged either.
-    pub fn round(&mut self, config: &Config, records: &[Ordered]) -> Result<Option<Refused>, Memory>
+    /// NoWorkers where there is no worker. Memory where a growth or a thread was refused, after which no further round is judged.
+    pub fn round<G: Gate + Sync, R: Threads + Wait + Sync>(
+        &mut self,
+        rt: &R,
+        config: &Config,
+        records: &[Ordered],
+        workers: usize,
+        gate: &G,
+    ) -> Result<Option<Refused>, RoundFault>
         requires ready { IsReady config.now self.old }
         requires placed { ArePlaced self.old.count records.now }
         requires cores { AreOfCores config.now.cores records.now }
         ensures judged { IfOk result (λ found. IsRound config.now self.old records.now found self.new) }
         ensures viewed { IfOk result (λ found. AreWanted self.old.watched config.now (parts_of self.old) records.now found self.new.views) }
         ensures watched { self.new.watched ≡ self.old.watched }
+        ensures no_workers { result ≡ Err RoundFault.NoWorkers ↔ workers ≡ 0 }
     {
-        if self.touched.sort_out(config, records).is_err() {
-            return Err(Memory);
+        if workers == 0 {
+            return Err(RoundFault::NoWorkers);
         }
-        let lent = lend(config, self.count, records, &self.touched, self.watched);
+        if self.touched.sort_out(config, records).is_err() {
+            return Err(RoundFault::Memory);
+        }
+        let lent = Lent::new(config, self.count, records, &self.touched, self.watched);
         let pieces = mem::replace(&mut self.pieces, Vec::new(self.alloc));
-        let surveyed = match survey_round(self.alloc, &lent, pieces) {
-            Ok(surveyed) => surveyed,
-            Err(memory) => return Err(memory),
+        let Ok(judged) = judge_round(rt, self.alloc, &lent, pieces, workers, gate) else {
+            return Err(RoundFault::Memory);
+        };
+        let Ok(surveyed) = gather_round(self.alloc, &lent, judged) else {
+            return Err(RoundFault::Memory);
         };
         self.pieces = surveyed.pieces;
         self.views = surveyed.views;
         self.count = place_behind(self.count, records);
         Ok(surveyed.found)
-    }
-}
-
-// What is lent to each piece.
-fn lend<'a>(
-    config: &'a Config,
-    first: u64,
-    records: &'a [Ordered],
-    touched: &'a Touched,
-    watched: bool,
-) -> Lent<'a>
-    requires { AreSortedOut config.now records.now (indices_of touched.now) }
-    ensures config { result.config.now ≡ config.now }
-    ensures first { result.first ≡ first }
-    ensures records { result.records.now ≡ records.now }
-    ensures watched { result.watched ≡ watched }
-{
-    Lent {
-        config,
-        first,
-        records,
-        touched,
-        watched,
     }
 }
 

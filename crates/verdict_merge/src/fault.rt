@@ -1,0 +1,8 @@
+// Why a round has no answer.
+
+use thiserror::Error;
+
+/// A growth of memory was refused.
+#[derive(Clone, Copy, Debug, Drop, PartialEq, Eq, Error)]
+#[error("out of memory")]
+pub struct Memory;
