@@ -1,5 +1,6 @@
 -- The outcome of a check, from the bytes of its inputs.
-use Rattle.std.specs.Prelude.{◌≡◌, ◌⊎◌, ℕ, zero, suc, List, [], ◌∷◌, Bool, true, false, Option, Some, None, Result, Ok, Err, length, nat_eq, nat_lt, if◌then◌else◌}
+use Rattle.std.specs.Prelude.{◌≡◌, ◌⊎◌, ◌↔◌, ℕ, zero, suc, List, [], ◌∷◌, Bool, true, false, Option, Some, None, Result, Ok, Err, length, nat_eq, nat_lt, if◌then◌else◌}
+use Rattle.std.specs.Option.{option_or}
 use Rattle.apex_machine.specs.Configuration.{Configuration}
 use Rattle.module_config.specs.declared.fault.ConfigFault.{ConfigFault}
 use Rattle.module_config.specs.declared.fault.ConfigFault.TheVariants as config
@@ -16,7 +17,7 @@ use Rattle.verdict_merge.specs.declared.verdict.Verdict.{Verdict}
 use Rattle.verdict_merge.specs.declared.verdict.Verdict.TheVariants.{Yes, No, Broken}
 use Rattle.verdict_merge.specs.Verdicts.{IsVerdict}
 use Rattle.report.specs.declared.fault.ArgumentFault.{ArgumentFault}
-use Rattle.report.specs.declared.fault.ArgumentFault.TheVariants.{NoDepth, TooDeep, ReaderCount}
+use Rattle.report.specs.declared.fault.ArgumentFault.TheVariants.{NoWorkers, TooManyWorkers, NoDepth, TooDeep, ReaderCount}
 use Rattle.report.specs.declared.fault.CheckFault.{CheckFault}
 use Rattle.report.specs.declared.settings.Settings.{Settings}
 use Rattle.report.specs.declared.fault.CheckFault.TheVariants.{Arguments, Config, Cert, Order, Row, Memory}
@@ -63,9 +64,17 @@ IsOutcomeBy (Err fault) texts certificate relations result = result ≡ Err (Con
 IsOutcomeBy (Ok configuration) texts certificate relations result =
     IsOutcomeUnder (nat_eq (length texts) configuration.cores) configuration texts certificate relations result
 
--- what is wrong with the settings of a check: 1 to 4,096 records of a core may be read ahead
+-- what is wrong with the number of workers: 1 to 64 may judge
+abbrev pub worker_fault_of : ℕ → Option ArgumentFault
+worker_fault_of workers = if nat_eq workers 0 then Some NoWorkers else if nat_lt 64 workers then Some TooManyWorkers else None
+
+-- what is wrong with the depth: 1 to 4,096 records of a core may be read ahead
+abbrev pub depth_fault_of : ℕ → Option ArgumentFault
+depth_fault_of depth = if nat_eq depth 0 then Some NoDepth else if nat_lt 4096 depth then Some TooDeep else None
+
+-- what is wrong with the settings of a check, the workers first
 abbrev pub argument_fault_of : Settings → Option ArgumentFault
-argument_fault_of settings = if nat_eq settings.depth 0 then Some NoDepth else if nat_lt 4096 settings.depth then Some TooDeep else None
+argument_fault_of settings = option_or (worker_fault_of settings.workers) (depth_fault_of settings.depth)
 
 -- the outcome of these texts, by what is wrong with the settings: where nothing is, it is the same for all settings
 abbrev pub IsOutcomeWith : Option ArgumentFault → List ℕ → List (List ℕ) → List ℕ → List Relation → Result Verdict CheckFault → Type 0
@@ -77,3 +86,16 @@ IsOutcomeWith None config texts certificate relations result = IsOutcomeBy (conf
 abbrev pub IsOutcome : Settings → List ℕ → List (List ℕ) → List ℕ → List Relation → Result Verdict CheckFault → Type 0
 IsOutcome settings config texts certificate relations result =
     (result ≡ Err Memory) ⊎ IsOutcomeWith (argument_fault_of settings) config texts certificate relations result
+
+-- the law
+
+-- one worker, and one record of a core read ahead
+abbrev pub one_by_one : Settings
+one_by_one = record { workers = 1; depth = 1 }
+
+-- whatever the settings, where nothing is wrong with them, the outcomes are those of one worker
+abbrev pub SettingsChangeNoOutcome : Type 0
+SettingsChangeNoOutcome =
+    (settings : Settings) (config : List ℕ) (texts : List (List ℕ)) (certificate : List ℕ) (relations : List Relation) (result : Result Verdict CheckFault)
+    → argument_fault_of settings ≡ None
+    → IsOutcome settings config texts certificate relations result ↔ IsOutcome one_by_one config texts certificate relations result

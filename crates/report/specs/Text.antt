@@ -37,6 +37,8 @@ cause_name cause.Woken = codes "Woken"
 
 -- the name of a fault of the arguments
 abbrev pub argument_fault_name : ArgumentFault → List ℕ
+argument_fault_name argument.NoWorkers = codes "NoWorkers"
+argument_fault_name argument.TooManyWorkers = codes "TooManyWorkers"
 argument_fault_name argument.NoDepth = codes "NoDepth"
 argument_fault_name argument.TooDeep = codes "TooDeep"
 argument_fault_name argument.ReaderCount = codes "ReaderCount"

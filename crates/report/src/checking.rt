@@ -11,6 +11,7 @@ use crate::settings::Settings;
 use core_intake::Intake;
 use module_config::{Config, ConfigFault};
 use order_cert::CertSource;
+use partition_workers::Gate;
 use placement::Placer;
 use std::alloc::Global;
 use std::io::Read;
@@ -35,17 +36,18 @@ fn config_refusal(fault: ConfigFault) -> CheckFault
 /// Checks the recordings, one reader for each core in order, against the configuration, the order that the certificate
 /// proposes, and the user's rules.
 ///
-/// Each recording is read by a thread of its own, beside the judging of what was read.
+/// Each recording is read by a thread of its own, beside the judging of what was read. The pieces of a round are judged by the
+/// workers, of which the gate is told.
 ///
 /// Yes with the number of records where the order is lawful, the records in it are a run of the machine, and each rule holds of
 /// the view of each record; No with the first place that is not, the piece that refuses it and its cause; or the first place
 /// whose view breaks a rule, with the number of the rule; else the refusal that comes first: that of the settings, of the
-/// configuration, of the number of readers, and then of the least place. It is the same for all settings that are not refused, and
-/// however the threads take turns. Memory comes where a growth or a thread was refused, at whatever point. A reader
+/// configuration, of the number of readers, and then of the least place. It is the same for all settings that are not refused,
+/// for every gate, and however the threads take turns. Memory comes where a growth or a thread was refused, at whatever point. A reader
 /// that answers an error ends its text there, with the fault Read.
 ///
 /// All threads have ended when it answers. A reader that waits in a read of its own holds it until that read returns.
-pub fn check<T, R, C>(
+pub fn check<T, R, C, G>(
     rt: T,
     alloc: Global,
     config: &[u8],
@@ -53,11 +55,13 @@ pub fn check<T, R, C>(
     cert: C,
     rules: &[Rule],
     settings: Settings,
+    gate: &G,
 ) -> Result<Verdict, CheckFault>
 where
     T: Threads + Wait + Sync + Copy + Send + 'static,
     R: Read + Drop + Send + 'static,
     C: Read + Drop,
+    G: Gate + Sync,
     ensures outcome { (texts : List (List ℕ)) (certificate : List ℕ) → map (λ reader. R.remaining reader) readers.items ≡ map Some texts → C.remaining cert ≡ Some certificate → IsOutcome settings config.now texts certificate (relations_of rules.now) result }
     ensures yes { (texts : List (List ℕ)) (certificate : List ℕ) → map (λ reader. R.remaining reader) readers.items ≡ map Some texts → C.remaining cert ≡ Some certificate → YesMeansRun config.now texts certificate (relations_of rules.now) result }
 {
@@ -69,13 +73,14 @@ where
         cert,
         rules,
         settings,
+        gate,
         MOST_RECORDS,
     )
 }
 
 /// The same check with rounds of at most this many records, from 1 to 4,096. No more is held at a time than a round, and of each
 /// core what was read ahead. Behind a round in which a record is refused nothing further is taken, and the threads are stopped.
-pub fn check_in_rounds<T, R, C>(
+pub fn check_in_rounds<T, R, C, G>(
     rt: T,
     alloc: Global,
     config: &[u8],
@@ -83,12 +88,14 @@ pub fn check_in_rounds<T, R, C>(
     cert: C,
     rules: &[Rule],
     settings: Settings,
+    gate: &G,
     size: usize,
 ) -> Result<Verdict, CheckFault>
 where
     T: Threads + Wait + Sync + Copy + Send + 'static,
     R: Read + Drop + Send + 'static,
     C: Read + Drop,
+    G: Gate + Sync,
     requires least { 1 ≤ size }
     requires most { size ≤ 4096 }
     ensures outcome { (texts : List (List ℕ)) (certificate : List ℕ) → map (λ reader. R.remaining reader) readers.items ≡ map Some texts → C.remaining cert ≡ Some certificate → IsOutcome settings config.now texts certificate (relations_of rules.now) result }
@@ -109,7 +116,8 @@ where
     };
     config.keeps_limits();
     let mut placer = Placer::new(intake, CertSource::new(alloc, cert));
-    let answer = judge_all(&rt, alloc, &config, &mut placer, rules, size);
+    let workers = settings.workers;
+    let answer = judge_all(&rt, alloc, &config, &mut placer, rules, workers, gate, size);
     placer.close(&rt);
     answer
 }

@@ -13,6 +13,12 @@ use thiserror::Error;
 /// the last.
 #[derive(Clone, Copy, Debug, Drop, PartialEq, Eq, Error)]
 pub enum ArgumentFault {
+    /// There are to be 0 workers.
+    #[error("no worker is to judge")]
+    NoWorkers,
+    /// There are to be more than 64 workers.
+    #[error("more than 64 workers are to judge")]
+    TooManyWorkers,
     /// There are to be 0 records of a core that are read ahead.
     #[error("no record is to be read ahead")]
     NoDepth,

@@ -2,7 +2,8 @@
 //!
 //! Promises: the outcome is that of the inputs' bytes and the rules; where it is Yes, the proposed order lists every record of
 //! every core once and in that core's own order, and in that order the records are a run of the configured machine from the cold
-//! state in which every rule holds; a report that is answered as written went out whole.
+//! state in which every rule holds; and for every number of workers the answer is that of one. A report that is answered as
+//! written went out whole.
 //!
 //! No more is held at a time than a round of records and, of each core, what was read ahead: the depth and two batches.
 //!
@@ -11,6 +12,7 @@
 
 mod checking;
 mod fault;
+mod laws;
 mod names;
 mod relations;
 mod rounds;
@@ -19,6 +21,8 @@ mod text;
 
 pub use checking::{MOST_RECORDS, check, check_in_rounds};
 pub use fault::{ArgumentFault, CheckFault};
+pub use laws::settings_change_no_outcome;
+pub use partition_workers::{Gate, Open};
 pub use relations::check_relations;
 pub use settings::Settings;
 pub use text::write_report;

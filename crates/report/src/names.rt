@@ -35,6 +35,8 @@ pub fn name_of_argument_fault(fault: ArgumentFault) -> &'static [u8]
     ensures { result.now ≡ argument_fault_name fault }
 {
     match fault {
+        ArgumentFault::NoWorkers => b"NoWorkers",
+        ArgumentFault::TooManyWorkers => b"TooManyWorkers",
         ArgumentFault::NoDepth => b"NoDepth",
         ArgumentFault::TooDeep => b"TooDeep",
         ArgumentFault::ReaderCount => b"ReaderCount",

@@ -8,6 +8,7 @@ use crate::checking::check_in_rounds;
 use crate::fault::CheckFault;
 use crate::settings::Settings;
 use apex_types::View;
+use partition_workers::Gate;
 use std::alloc::Global;
 use std::io::Read;
 use std::sync::Wait;
@@ -16,7 +17,7 @@ use user_rules::{Relation, Rule, Test};
 use verdict_merge::Verdict;
 
 /// What `check_in_rounds` answers where the rules are these relations, each of which is its own test.
-pub fn check_relations<T, R, C>(
+pub fn check_relations<T, R, C, G>(
     rt: T,
     alloc: Global,
     config: &[u8],
@@ -24,12 +25,14 @@ pub fn check_relations<T, R, C>(
     cert: C,
     relations: Vec<Relation>,
     settings: Settings,
+    gate: &G,
     size: usize,
 ) -> Result<Verdict, CheckFault>
 where
     T: Threads + Wait + Sync + Copy + Send + 'static,
     R: Read + Drop + Send + 'static,
     C: Read + Drop,
+    G: Gate + Sync,
     requires least { 1 ≤ size }
     requires most { size ≤ 4096 }
     ensures outcome { (texts : List (List ℕ)) (certificate : List ℕ) → map (λ reader. R.remaining reader) readers.items ≡ map Some texts → C.remaining cert ≡ Some certificate → IsOutcome settings config.now texts certificate relations.items result }
@@ -48,5 +51,7 @@ where
             return Err(CheckFault::Memory);
         }
     }
-    check_in_rounds(rt, alloc, config, readers, cert, &rules, settings, size)
+    check_in_rounds(
+        rt, alloc, config, readers, cert, &rules, settings, gate, size,
+    )
 }

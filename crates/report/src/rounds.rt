@@ -11,24 +11,27 @@ ghost use Rattle.report.specs.Rounds.{IsJudgedRound, MayGoOn, answer_of};
 use crate::fault::{CheckFault, refusal};
 use apex_types::Ordered;
 use module_config::Config;
+use partition_workers::{Gate, Judge};
 use placement::{Filled, InputFault, Placer};
 use std::alloc::Global;
 use std::io::Read;
 use std::sync::Wait;
 use std::thread::Threads;
 use user_rules::{Rule, first_broken};
-use verdict_merge::{Judge, Verdict};
+use verdict_merge::Verdict;
 
-/// Judges all records that are ahead of the placer, in rounds of at most this many. Behind a round with a finding nothing further
-/// is taken.
+/// Judges all records that are ahead of the placer, in rounds of at most this many, each by so many workers. Behind a round with
+/// a finding nothing further is taken.
 ///
 /// What is promised holds once the placer's threads are joined, since it is known then what they read.
-pub fn judge_all<T: Threads + Wait + Sync, R: Read, C: Read>(
+pub fn judge_all<T: Threads + Wait + Sync, R: Read, C: Read, G: Gate + Sync>(
     rt: &T,
     alloc: Global,
     config: &Config,
     placer: &mut Placer<R, C>,
     rules: &[Rule],
+    workers: usize,
+    gate: &G,
     size: usize,
 ) -> Result<Verdict, CheckFault>
     requires least { 1 ≤ size }
@@ -46,7 +49,10 @@ pub fn judge_all<T: Threads + Wait + Sync, R: Read, C: Read>(
     // There are fewer places than this many rounds.
     'rounds: for _ in 0..u64::MAX {
         round.clear();
-        if let Some(answer) = judge_round(rt, config, placer, &mut judge, &mut round, rules, size) {
+        let answered = judge_round(
+            rt, config, placer, &mut judge, &mut round, rules, workers, gate, size,
+        );
+        if let Some(answer) = answered {
             return answer;
         }
     }
@@ -54,13 +60,15 @@ pub fn judge_all<T: Threads + Wait + Sync, R: Read, C: Read>(
 }
 
 // Fills a round and judges it: the answer of the check, or None where it goes on.
-fn judge_round<T: Threads + Wait + Sync, R: Read, C: Read>(
+fn judge_round<T: Threads + Wait + Sync, R: Read, C: Read, G: Gate + Sync>(
     rt: &T,
     config: &Config,
     placer: &mut Placer<R, C>,
     judge: &mut Judge,
     round: &mut Vec<Ordered>,
     rules: &[Rule],
+    workers: usize,
+    gate: &G,
     size: usize,
 ) -> Option<Result<Verdict, CheckFault>>
     requires on { MayGoOn config.now (relations_of rules.now) placer.old judge.old }
@@ -72,7 +80,7 @@ fn judge_round<T: Threads + Wait + Sync, R: Read, C: Read>(
     if is_memory(filled) {
         return Some(Err(CheckFault::Memory));
     }
-    let found = match judge.round(config, round) {
+    let found = match judge.round(rt, config, round, workers, gate) {
         Ok(found) => found,
         Err(_) => return Some(Err(CheckFault::Memory)),
     };

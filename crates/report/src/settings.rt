@@ -1,9 +1,12 @@
 // How a check is carried out.
 
 ghost use Rattle.std.specs.Prelude.{◌≡◌};
-ghost use Rattle.report.specs.Outcome.{argument_fault_of};
+ghost use Rattle.report.specs.Outcome.{argument_fault_of, depth_fault_of, worker_fault_of};
 
 use crate::fault::ArgumentFault;
+
+// The most workers that may judge.
+const MOST_WORKERS: usize = 64;
 
 // The most records of a core that may be read ahead.
 const DEEPEST: usize = 4096;
@@ -11,21 +14,39 @@ const DEEPEST: usize = 4096;
 /// How a check is carried out. What it answers is the same for all settings that are not refused.
 #[derive(Clone, Copy, Debug, PartialEq, Eq)]
 pub struct Settings {
+    /// How many workers judge the pieces of a round, 1 to 64. Several have a thread each; one has the caller's.
+    pub workers: usize,
     /// How many records of a core wait at most in its channel until they are judged: 1 to 4,096.
     pub depth: usize,
 }
 
 impl Settings {
-    /// What is wrong with the settings, if anything is.
+    /// What is wrong with the settings, if anything is: with the workers first, then with the depth.
     pub fn fault(&self) -> Option<ArgumentFault>
         ensures { result ≡ argument_fault_of self.now }
     {
-        if self.depth == 0 {
-            Some(ArgumentFault::NoDepth)
-        } else if self.depth > DEEPEST {
-            Some(ArgumentFault::TooDeep)
-        } else {
-            None
-        }
+        worker_fault(self.workers).or(depth_fault(self.depth))
+    }
+}
+
+// What is wrong with the number of workers, if anything is.
+fn worker_fault(workers: usize) -> Option<ArgumentFault>
+    ensures { result ≡ worker_fault_of workers }
+{
+    match workers {
+        0 => Some(ArgumentFault::NoWorkers),
+        1..=MOST_WORKERS => None,
+        _ => Some(ArgumentFault::TooManyWorkers),
+    }
+}
+
+// What is wrong with the depth, if anything is.
+fn depth_fault(depth: usize) -> Option<ArgumentFault>
+    ensures { result ≡ depth_fault_of depth }
+{
+    match depth {
+        0 => Some(ArgumentFault::NoDepth),
+        1..=DEEPEST => None,
+        _ => Some(ArgumentFault::TooDeep),
     }
 }

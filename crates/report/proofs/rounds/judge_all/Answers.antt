@@ -31,21 +31,21 @@ rounds-init g c = record {
 pub returns-in-Some : goal.returns-in-Some
 returns-in-Some g c =
     let gone = c.rounds.invariant.gone in λ honest.
-    answer_on c.args.config.now (relations_of c.args.rules.now) c.args.placer.now c.rounds.placer c.rounds.judge gone.0 c.in-Some.answer (gone.1 (c.judge_round.ensures.honest honest)) gone.2 gone.3 gone.4 (c.in-Some.ensures.judged honest)
+    answer_on c.args.config.now (relations_of c.args.rules.now) c.args.placer.now c.rounds.placer c.rounds.judge gone.0 c.in-Some.answer (gone.1 (c.judge_round-answered.ensures.honest honest)) gone.2 gone.3 gone.4 (c.in-Some.ensures.judged honest)
 
 pub rounds-preserved : goal.rounds-preserved
 rounds-preserved g c =
     let config = c.args.config.now in
     let gone = c.rounds.invariant.gone in
     let before : List Ordered = gone.0 in
-    let records = c.judge_round.new.round.items in
-    let round = rw c.in_default-judge_round.is at c.judge_round.ensures.judged in
+    let records = c.judge_round-answered.new.round.items in
+    let round = rw c.in_default-answered.is at c.judge_round-answered.ensures.judged in
     record {
       may = round.4;
       gone = (
         before ++ records,
-        (λ honest. lead_join c.args.placer.now c.rounds.placer c.judge_round.new.placer before records (gone.1 (c.judge_round.ensures.honest honest)) (round.0 honest)),
-        all_run_on config (cold_parts config) (parts_of c.rounds.judge) (parts_of c.judge_round.new.judge) before records gone.2 round.1,
+        (λ honest. lead_join c.args.placer.now c.rounds.placer c.judge_round-answered.new.placer before records (gone.1 (c.judge_round-answered.ensures.honest honest)) (round.0 honest)),
+        all_run_on config (cold_parts config) (parts_of c.rounds.judge) (parts_of c.judge_round-answered.new.judge) before records gone.2 round.1,
         meet_on config (relations_of c.args.rules.now) (cold_parts config) (parts_of c.rounds.judge) before records gone.2 gone.3 round.3,
         round.2 ∙ ap (λ n. n + length records) gone.4 ∙ sym (length-append before records),
       );
