@@ -6,7 +6,7 @@ ghost use Rattle.rules_file.specs.Keys.{Gives};
 ghost use Rattle.rules_file.specs.Reading.{said};
 ghost use Rattle.apexcheck.specs.Ruled.{HoldInTurn, IsRuledOutcome, SayBoth, rules_given};
 
-use report::{CheckFault, MOST_RECORDS, Settings, Verdict, check_relations};
+use report::{CheckFault, MOST_RECORDS, Open, Settings, Verdict, check_relations};
 use rule_options::{RuleOption, relations_of};
 use rules_file::{NamedRule, RulesFault};
 use std::alloc::{AllocError, Global};
@@ -54,6 +54,7 @@ where
         order,
         relations,
         settings,
+        &Open,
         MOST_RECORDS,
     )
 }

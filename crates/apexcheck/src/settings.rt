@@ -10,16 +10,17 @@ use report::Settings;
 /// The depth where no `--depth` is given.
 pub const USUAL_DEPTH: usize = 64;
 
-/// The settings that the text of `--depth` gives, if there is one. None where it is no number from 0 to 4,294,967,295 in
-/// canonical decimal. Takes no memory.
-pub fn read_settings(depth: Option<&[u8]>) -> Option<Settings>
-    ensures { result ≡ settings_of (option_map (λ text. text.now) depth.entry) }
+/// The settings that the text of `--workers` gives, and that of `--depth` if there is one. None where one of them is no number
+/// from 0 to 4,294,967,295 in canonical decimal. Takes no memory.
+pub fn read_settings(workers: &[u8], depth: Option<&[u8]>) -> Option<Settings>
+    ensures { result ≡ settings_of workers.now (option_map (λ text. text.now) depth.entry) }
 {
+    let workers = read_number(workers)?;
     let depth = match depth {
         Some(text) => read_number(text)?,
         None => USUAL_DEPTH,
     };
-    Some(Settings { depth })
+    Some(Settings { workers, depth })
 }
 
 // The number that a text gives.

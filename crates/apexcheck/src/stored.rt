@@ -5,7 +5,7 @@ ghost use Rattle.report.specs.Outcome.{IsOutcome};
 ghost use Rattle.report.specs.Yes.{YesMeansRun};
 
 use crate::settings::USUAL_DEPTH;
-use report::{CheckFault, Settings, Verdict, check};
+use report::{CheckFault, Open, Settings, Verdict, check};
 use std::alloc::Global;
 use std::sync::Wait;
 use std::thread::Threads;
@@ -65,9 +65,12 @@ const ORDER: &[u8] = b"0,0
 0,12
 ";
 
-const SETTINGS: Settings = Settings { depth: USUAL_DEPTH };
+const SETTINGS: Settings = Settings {
+    workers: 1,
+    depth: USUAL_DEPTH,
+};
 
-/// Checks the run that stands in the program, as if no `--depth` were given. Memory comes where memory was refused.
+/// Checks the run that stands in the program, by one worker, as if no `--depth` were given. Memory comes where memory was refused.
 pub fn check_stored<T>(rt: T, alloc: Global) -> Result<Verdict, CheckFault>
 where
     T: Threads + Wait + Sync + Copy + Send + 'static,
@@ -77,5 +80,5 @@ where
     let Ok(readers) = vec![in alloc; RECORDING] else {
         return Err(CheckFault::Memory);
     };
-    check(rt, alloc, CONFIG, readers, ORDER, &[], SETTINGS)
+    check(rt, alloc, CONFIG, readers, ORDER, &[], SETTINGS, &Open)
 }

@@ -1,6 +1,6 @@
 // The words of the command line.
 
-ghost use Rattle.std.specs.Prelude.{◌≡◌, ◌<◌, ◌≤◌, IfOk, Ok, codes, false, length, map, option_map, string_bytes, true};
+ghost use Rattle.std.specs.Prelude.{◌≡◌, ◌<◌, ◌≤◌, IfOk, Ok, codes, false, length, map, option_and_then, option_map, string_bytes, true};
 ghost use Rattle.std.specs.Option.{ok_or};
 ghost use Rattle.clap.specs.Words.{first_value, found_of};
 ghost use Rattle.rule_options.specs.Options.{values_of};
@@ -17,14 +17,15 @@ use std::rt::Env;
 use std::{env, io};
 
 /// What a person is told whose command line is refused.
-pub const USAGE: &str = "usage: apexcheck --config FILE --order FILE [--depth N]
+pub const USAGE: &str = "usage: apexcheck --config FILE --order FILE --workers N [--depth N]
                  [--max-elapsed N] [--forbid SERVICE] [--rules FILE] CORE...
        apexcheck
        apexcheck --version
 
 Checks the recordings, one file CORE for each core with core 0 first, against the
-configuration and the order that are given. --depth says how many records ahead
-each file is read, 1 to 4096; it is 64 if not given. With --max-elapsed no call may
+configuration and the order that are given. --workers says by how many threads the
+records are judged, 1 to 64; --depth how many records ahead each file is read, 1 to
+4096, which is 64 if not given. Neither changes the answer. With --max-elapsed no call may
 return more than N ticks later, with --forbid no call may be of SERVICE, with --rules
 the rules of FILE may not be broken. With no words it checks a run that stands in the
 program. With --version alone it prints its version, and the kit that it is proved with.";
@@ -108,10 +109,11 @@ fn files_asked(alloc: Global, words: &[String]) -> Result<FilesAsked, UsageFault
 
 // The values of the options that say how the check is carried out.
 fn settings_asked(matches: &ArgMatches<'_>) -> Result<Settings, UsageFault>
-    ensures { result ≡ ok_or (settings_of (first_value (found_of matches.now) (codes "depth"))) UsageFault.Usage }
+    ensures { result ≡ ok_or (option_and_then (λ workers. settings_of workers (first_value (found_of matches.now) (codes "depth"))) (first_value (found_of matches.now) (codes "workers"))) UsageFault.Usage }
 {
+    let workers = text_of(matches, "workers").ok_or(UsageFault::Usage)?;
     let depth = text_of(matches, "depth");
-    read_settings(depth).ok_or(UsageFault::Usage)
+    read_settings(workers, depth).ok_or(UsageFault::Usage)
 }
 
 // The values of the options that ask for rules.
@@ -169,6 +171,7 @@ fn command<'a>(alloc: Global) -> Result<Command<'a>, AllocError> {
         .disable_help_flag(true)
         .arg(option(alloc, "config").required(true))?
         .arg(option(alloc, "order").required(true))?
+        .arg(option(alloc, "workers").required(true))?
         .arg(option(alloc, "depth"))?
         .arg(option(alloc, "max-elapsed"))?
         .arg(option(alloc, "forbid"))?

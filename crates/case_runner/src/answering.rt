@@ -6,7 +6,7 @@ ghost use Rattle.case_runner.specs.Answers.{IsAnswer, exit_status_of};
 
 use crate::fields::LINE_FEED;
 use crate::manner::Manner;
-use report::{CheckFault, Verdict, check_relations, write_report};
+use report::{CheckFault, Open, Verdict, check_relations, write_report};
 use rule_options::{RuleOption, relations_of};
 use sink::{FailureCount, Sink, SinkFault};
 use std::alloc::{AllocError, Global};
@@ -64,6 +64,7 @@ where
         order,
         relations,
         manner.settings,
+        &Open,
         manner.rounds.size(),
     );
     let mut kept = Kept::new(alloc);

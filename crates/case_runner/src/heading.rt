@@ -9,8 +9,8 @@ const LAST_CORE: u64 = 15;
 /// The greatest number of a line, and of repetitions.
 const LAST_LINE: u64 = 1_000_000;
 
-/// The greatest depth. A check refuses smaller ones too.
-const LAST_DEPTH: u64 = 1_000_000;
+/// The greatest number of a setting. A check refuses smaller ones too.
+const LAST_SETTING: u64 = 1_000_000;
 
 /// What the lines of a section are.
 #[derive(Clone, Copy, Debug)]
@@ -21,6 +21,8 @@ pub enum Heading<'a> {
     Text(TextName, Change),
     /// `rules`: the options of the program that ask for rules.
     Rules,
+    /// `workers N`: how many workers judge, in all checks of the case.
+    Workers(usize),
     /// `depth N`: how many records of a core wait at most until they are judged, in all checks of the case.
     Depth(usize),
     /// `report`: the line that has to come.
@@ -74,8 +76,11 @@ impl<'a> Heading<'a> {
         if first == b"case".as_slice() {
             return Some(Heading::Case(rest));
         }
+        if first == b"workers".as_slice() {
+            return Some(Heading::Workers(read_decimal(rest, LAST_SETTING)? as usize));
+        }
         if first == b"depth".as_slice() {
-            return Some(Heading::Depth(read_decimal(rest, LAST_DEPTH)? as usize));
+            return Some(Heading::Depth(read_decimal(rest, LAST_SETTING)? as usize));
         }
         Some(Heading::Text(TextName::of(first)?, Change::of(rest)?))
     }

@@ -1,4 +1,4 @@
-// How a case is checked: in what rounds, and how far ahead its recordings are read.
+// How a case is checked: in what rounds, by how many workers, and how far ahead its recordings are read.
 
 ghost use Rattle.std.specs.Prelude.{◌≡◌, ◌≤◌, IfSome, None};
 ghost use Rattle.report.specs.Outcome.{argument_fault_of};
@@ -31,18 +31,20 @@ impl Rounds {
     fn settings(self) -> Settings
         ensures { argument_fault_of result ≡ None }
     {
-        let depth = match self {
-            Rounds::OfOne => 1,
-            Rounds::OfSeven => 2,
-            Rounds::OfMost => 4096,
+        let (workers, depth) = match self {
+            Rounds::OfOne => (1, 1),
+            Rounds::OfSeven => (2, 2),
+            Rounds::OfMost => (7, 4096),
         };
-        Settings { depth }
+        Settings { workers, depth }
     }
 }
 
 /// The settings that a case names. They may be such as a check refuses.
 #[derive(Clone, Copy, Debug)]
 pub struct Named {
+    /// How many workers judge.
+    pub workers: Option<usize>,
     /// How many records of a core wait at most until they are judged.
     pub depth: Option<usize>,
 }
@@ -51,10 +53,12 @@ impl Named {
     /// How a check of the case is run in these rounds: with the settings that it names, and else with those of the rounds.
     pub fn in_rounds(self, rounds: Rounds) -> Manner
         ensures rounds { result.rounds ≡ rounds }
+        ensures workers { IfSome self.workers (λ workers. result.settings.workers ≡ workers) }
         ensures depth { IfSome self.depth (λ depth. result.settings.depth ≡ depth) }
     {
         let usual = rounds.settings();
         let settings = Settings {
+            workers: self.workers.unwrap_or(usual.workers),
             depth: self.depth.unwrap_or(usual.depth),
         };
         Manner { rounds, settings }

@@ -171,6 +171,11 @@ where
     if last.bytes > recording.len() {
         return Err(CaseFault::NoCuts);
     }
+    // There are many of them, and threads cost time.
+    let named = Named {
+        workers: whole.named.workers.or(Some(1)),
+        ..whole.named
+    };
     for bytes in 0..recording.len() + 1 {
         let expected = cuts
             .iter()
@@ -181,6 +186,7 @@ where
         let cut = vec![in alloc; Vec::from_slice(alloc, &recording[..bytes])?]?;
         let texts = Texts {
             recordings: &cut,
+            named,
             cut: Some(bytes),
             ..whole
         };
@@ -285,7 +291,9 @@ fn put_manner<W: Sink>(output: &mut W, manner: Manner) -> Result<(), WriteFault>
         &[
             b"in rounds of ",
             Buffer::new().format(manner.rounds.size()).as_bytes(),
-            b" at depth ",
+            b", workers ",
+            Buffer::new().format(manner.settings.workers).as_bytes(),
+            b", depth ",
             Buffer::new().format(manner.settings.depth).as_bytes(),
         ],
     )

@@ -3,7 +3,7 @@
 use crate::texts::{CONFIG, ORDER, RECORDING};
 use order_cert::CertFault;
 use record_read::RowFault;
-use report::{CheckFault, Settings, Verdict, check};
+use report::{CheckFault, Open, Settings, Verdict, check};
 use std::alloc::{AllocError, Global};
 use std::io;
 use std::io::{ErrorKind, Read};
@@ -55,7 +55,16 @@ where
     T: Threads + Wait + Sync + Copy + Send + 'static,
 {
     let readers = vec![in alloc; recording]?;
-    Ok(check(rt, alloc, CONFIG.as_bytes(), readers, order, &[], settings))
+    Ok(check(
+        rt,
+        alloc,
+        CONFIG.as_bytes(),
+        readers,
+        order,
+        &[],
+        settings,
+        &Open,
+    ))
 }
 
 // How many rows are whole in the first bytes of a text.
@@ -73,8 +82,8 @@ fn whole_rows(text: &str, bytes: usize) -> u64 {
 fn readers_fail(rt: HostRuntime) -> Result<(), Fail> {
     let alloc = rt.alloc();
     let whole = usize::MAX;
-    for (step, depth) in [(1, 1), (7, 2), (1000, 64)] {
-        let settings = Settings { depth };
+    for (step, workers, depth) in [(1, 1, 1), (7, 2, 2), (1000, 7, 64)] {
+        let settings = Settings { workers, depth };
         let (recording, order) = (
             reader_of(RECORDING, step, whole),
             reader_of(ORDER, step, whole),

@@ -1,4 +1,4 @@
-// The run that the tests read: a wait of two ticks on one core.
+// The runs that the tests read: a wait of two ticks on one core, and a message from one partition to another.
 
 /// One core, which belongs to partition 0 all the time.
 pub const CONFIG: &str = "\
@@ -41,3 +41,89 @@ pub const RECORDING: &str = "\
 
 /// The records in their own order.
 pub const ORDER: &str = "0,0\n0,1\n0,2\n0,3\n0,4\n0,5\n0,6\n0,7\n0,8\n0,9\n0,10\n0,11\n0,12\n";
+
+/// Two cores, each of a partition of its own, a queuing and a sampling channel: five pieces.
+pub const MODULE: &str = "\
+cores = 2
+frame = 10
+skew = 6
+[[partition]]
+number = 0
+period = 10
+cores = [0]
+processes = 4
+buffers = 2
+blackboards = 1
+semaphores = 1
+events = 1
+mutexes = 2
+[[partition]]
+number = 1
+period = 10
+cores = [1]
+processes = 4
+buffers = 2
+blackboards = 1
+semaphores = 1
+events = 1
+mutexes = 2
+[[window]]
+core = 0
+partition = 0
+start = 0
+length = 10
+[[window]]
+core = 1
+partition = 1
+start = 0
+length = 10
+[[queuing]]
+channel = 0
+size = 4
+capacity = 1
+source = { partition = 0, port = \"Q\" }
+source_discipline = \"FIFO\"
+destination = { partition = 1, port = \"Q\" }
+destination_discipline = \"FIFO\"
+[[sampling]]
+channel = 1
+size = 4
+refresh = 5
+source = { partition = 0, port = \"S\" }
+destinations = [{ partition = 1, port = \"S\" }]
+";
+
+/// Process 1 of partition 0 sends a message, for which process 1 of partition 1 waits.
+pub const SENDER: &str = "\
+0,disp,0,0,,,,,,,,,,,,
+1,call,0,0,CREATE_PROCESS,10,-1,,P1,,0,NO_ERROR,1,,,
+2,ret,0,0,CREATE_PROCESS,,,,,,,NO_ERROR,1,,,
+3,call,0,0,CREATE_QUEUING_PORT,4,1,0,Q,,0,NO_ERROR,1,,,
+4,ret,0,0,CREATE_QUEUING_PORT,,,,,,,NO_ERROR,1,,,
+5,call,0,0,START,1,,,,,0,NO_ERROR,,,,
+6,ret,0,0,START,,,,,,,NO_ERROR,,,,
+7,call,0,0,SET_PARTITION_MODE,3,,,,,0,none,,,,
+8,disp,0,1,,,,,,,,,,,,
+9,call,0,1,SEND_QUEUING_MESSAGE,1,2,0,,cafe,10,NO_ERROR,,,0,1:1
+";
+
+/// Process 1 of partition 1 waits for the message, and returns with it.
+pub const RECEIVER: &str = "\
+0,disp,1,0,,,,,,,,,,,,
+1,call,1,0,CREATE_PROCESS,10,-1,,P1,,0,NO_ERROR,1,,,
+2,ret,1,0,CREATE_PROCESS,,,,,,,NO_ERROR,1,,,
+3,call,1,0,CREATE_QUEUING_PORT,4,1,1,Q,,0,NO_ERROR,1,,,
+4,ret,1,0,CREATE_QUEUING_PORT,,,,,,,NO_ERROR,1,,,
+5,call,1,0,START,1,,,,,0,NO_ERROR,,,,
+6,ret,1,0,START,,,,,,,NO_ERROR,,,,
+7,call,1,0,SET_PARTITION_MODE,3,,,,,0,none,,,,
+8,disp,1,1,,,,,,,,,,,,
+9,call,1,1,RECEIVE_QUEUING_MESSAGE,1,3,,,,10,wait,,,0,
+10,disp,,,,,,,,,,,,,,
+11,disp,1,1,,,,,,,,,,,,
+12,ret,1,1,RECEIVE_QUEUING_MESSAGE,,,,,,,NO_ERROR,,cafe,,
+";
+
+/// The records of both cores, in an order in which they are lawful.
+pub const BOTH: &str =
+    "0,0\n0,1\n0,2\n0,3\n0,4\n0,5\n0,6\n0,7\n1,0\n1,1\n1,2\n1,3\n1,4\n1,5\n1,6\n1,7\n1,8\n1,9\n1,10\n0,8\n0,9\n1,11\n1,12\n";

@@ -1,7 +1,7 @@
 // Writers that fail in mid-line, in the place of standard output.
 
 use crate::texts::{CONFIG, ORDER, RECORDING};
-use report::{Settings, check, write_report};
+use report::{Open, Settings, check, write_report};
 use sink::{WriteFault, WriterSink};
 use std::io;
 use std::io::{ErrorKind, Write};
@@ -33,7 +33,10 @@ impl<'a> Write for Narrow<'a> {
 #[test]
 fn writers_fail(rt: HostRuntime) -> Result<(), Fail> {
     let alloc = rt.alloc();
-    let settings = Settings { depth: 4 };
+    let settings = Settings {
+        workers: 1,
+        depth: 4,
+    };
     for (order, line) in [
         (ORDER, "YES records=13\n"),
         ("0,x", "REFUSED cert place=0 fault=BadNumber\n"),
@@ -48,6 +51,7 @@ fn writers_fail(rt: HostRuntime) -> Result<(), Fail> {
             order.as_bytes(),
             &[],
             settings,
+            &Open,
         );
         for room in 0..line.len().saturating_add(1) {
             let mut taken = Vec::new(alloc);

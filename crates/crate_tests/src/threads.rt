@@ -1,0 +1,194 @@
+// Workers that judge beside one another, and recordings that are read beside one another, in a whole check.
+
+use crate::texts::{BOTH, CONFIG, MODULE, RECEIVER, RECORDING, SENDER};
+use report::{Gate, Open, Settings, Verdict, check, check_in_rounds};
+use std::alloc::{AllocError, Global};
+use std::io::{Cursor, ErrorKind, Read};
+use std::sync::Arc;
+use std::sync::atomic::{AtomicBool, AtomicUsize, Ordering};
+use std::test::Fail;
+use std::{io, thread};
+
+// Holds each claim until so many pieces of its round are claimed, for 1,000,000 yields at most, and counts the claims that saw
+// them.
+#[derive(Drop)]
+struct Meeting {
+    pieces: usize,
+    wanted: usize,
+    claimed: AtomicUsize,
+    met: AtomicUsize,
+}
+
+impl Gate for Meeting {
+    fn at_claim(&self, _worker: usize, _piece: usize) {
+        let before = self.claimed.fetch_add(1, Ordering::SeqCst);
+        // All pieces of a round are claimed before the next round begins.
+        let in_round = before.checked_rem(self.pieces).unwrap_or(0);
+        let wanted = (before - in_round).saturating_add(self.wanted);
+        for _ in 0..1_000_000 {
+            if self.claimed.load(Ordering::SeqCst) >= wanted {
+                self.met.fetch_add(1, Ordering::SeqCst);
+                return;
+            }
+            thread::yield_now();
+        }
+    }
+
+    fn at_post(&self, _worker: usize, _piece: usize) {}
+}
+
+// The gate of a module of so many pieces, at which so many claims of a round have to meet.
+fn gate_for(pieces: usize, wanted: usize) -> Meeting {
+    Meeting {
+        pieces,
+        wanted,
+        claimed: AtomicUsize::new(0),
+        met: AtomicUsize::new(0),
+    }
+}
+
+// A worker that is held makes no claim. So where all claims of a round saw so many of it, as many threads held a piece at one
+// time. The pieces are the module, two partitions and two channels; rounds of 12 and of 4,096 records make two rounds and one.
+#[test]
+fn two_claims_meet(rt: HostRuntime) -> Result<(), Fail> {
+    let alloc = rt.alloc();
+    for (size, rounds) in [(12, 2), (4096, 1)] {
+        for workers in [2, 5] {
+            let gate = gate_for(5, workers);
+            let readers = vec![in alloc; SENDER.as_bytes(), RECEIVER.as_bytes()]?;
+            let settings = Settings { workers, depth: 4 };
+            let outcome = check_in_rounds(
+                rt,
+                alloc,
+                MODULE.as_bytes(),
+                readers,
+                BOTH.as_bytes(),
+                &[],
+                settings,
+                &gate,
+                size,
+            );
+            assert_eq!(rt;
+                outcome,
+                Ok(Verdict::Yes { records: 23 }),
+                "{workers} workers"
+            );
+            assert_eq!(rt;
+                gate.met.load(Ordering::SeqCst),
+                rounds * 5,
+                "{workers} workers"
+            );
+        }
+    }
+    Ok(())
+}
+
+// The recording of a partition that begins as `RECORDING` does up to its wait, and then asks for the time so often.
+fn asking(alloc: Global, times: u16) -> Result<Vec<u8>, AllocError> {
+    let mut text = Vec::new(alloc);
+    for line in RECORDING.lines().take(7) {
+        text.extend_from_slice(line.as_bytes())?;
+        text.push(b'\n')?;
+    }
+    for turn in 0..times {
+        let call = 7 + 2 * (turn as u32);
+        let back = call + 1;
+        let rows = format!(in alloc;
+            "{call},call,0,1,GET_TIME,,,,,,10,NO_ERROR,0,,,\n{back},ret,0,1,GET_TIME,,,,,,,NO_ERROR,0,,,\n"
+        )?;
+        text.extend_from_slice(rows.as_bytes())?;
+    }
+    Ok(text)
+}
+
+// The certificate of so many records of core 0.
+fn in_turn(alloc: Global, records: u32) -> Result<Vec<u8>, AllocError> {
+    let mut text = Vec::new(alloc);
+    for seq in 0..records {
+        let row = format!(in alloc; "0,{seq}\n")?;
+        text.extend_from_slice(row.as_bytes())?;
+    }
+    Ok(text)
+}
+
+// The pieces are the module and a partition. The last of 4,097 records stands in a second round.
+#[test]
+fn two_claims_meet_in_both_rounds(rt: HostRuntime) -> Result<(), Fail> {
+    let alloc = rt.alloc();
+    let gate = gate_for(2, 2);
+    let (recording, order) = (asking(alloc, 2045)?, in_turn(alloc, 4097)?);
+    let outcome = check(
+        rt,
+        alloc,
+        CONFIG.as_bytes(),
+        vec![in alloc; Cursor::new(recording)]?,
+        order.as_slice(),
+        &[],
+        Settings {
+            workers: 2,
+            depth: 64,
+        },
+        &gate,
+    );
+    assert_eq!(rt; outcome, Ok(Verdict::Yes { records: 4097 }));
+    assert_eq!(rt; gate.met.load(Ordering::SeqCst), 4);
+    Ok(())
+}
+
+// A reader whose first read waits until the other's has begun, for 1,000,000 yields at most, and else fails.
+#[derive(Drop)]
+struct Waiting {
+    text: &'static [u8],
+    begun: Arc<AtomicBool>,
+    other: Arc<AtomicBool>,
+}
+
+impl Read for Waiting {
+    fn read(&mut self, buf: &mut [u8]) -> io::Result<usize> {
+        self.begun.store(true, Ordering::SeqCst);
+        for _ in 0..1_000_000 {
+            if self.other.load(Ordering::SeqCst) {
+                return self.text.read(buf);
+            }
+            thread::yield_now();
+        }
+        Err(io::Error::from(ErrorKind::TimedOut))
+    }
+}
+
+#[test]
+fn two_readers_meet(rt: HostRuntime) -> Result<(), Fail> {
+    let alloc = rt.alloc();
+    for workers in [1, 2] {
+        let (first, second) = (
+            Arc::new(alloc, AtomicBool::new(false))?,
+            Arc::new(alloc, AtomicBool::new(false))?,
+        );
+        let sender = Waiting {
+            text: SENDER.as_bytes(),
+            begun: Arc::try_clone(&first)?,
+            other: Arc::try_clone(&second)?,
+        };
+        let receiver = Waiting {
+            text: RECEIVER.as_bytes(),
+            begun: second,
+            other: first,
+        };
+        let outcome = check(
+            rt,
+            alloc,
+            MODULE.as_bytes(),
+            vec![in alloc; sender, receiver]?,
+            BOTH.as_bytes(),
+            &[],
+            Settings { workers, depth: 1 },
+            &Open,
+        );
+        assert_eq!(rt;
+            outcome,
+            Ok(Verdict::Yes { records: 23 }),
+            "{workers} workers"
+        );
+    }
+    Ok(())
+}
