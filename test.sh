@@ -13,13 +13,17 @@ if [ "$report" != "$(cat examples/timed_wait/expected.txt)" ]; then
 fi
 room=$(mktemp -d)
 trap 'rm -rf "$room"' EXIT
-.ci/time_by_crate "$room/times" rt ci | tee "$room/log"
+if ! .ci/time_by_crate "$room/times" rt ci | tee "$room/log"; then
+    cat "$room/times"
+    tail -n 2 "$room/log"
+    exit 1
+fi
 program=crates/apexcheck/out/apexcheck
 bash .ci/run_examples "$program"
 bash .ci/refuse_allocations "$program"
 late=examples/return_too_late
-bash .ci/refuse_allocations "$program" --config "$late/config.toml" --order "$late/order.csv" --max-elapsed 1 --forbid STOP "$late/core0.csv"
+bash .ci/refuse_allocations "$program" --config "$late/config.toml" --order "$late/order.csv" --workers 2 --max-elapsed 1 --forbid STOP "$late/core0.csv"
 slow=examples/partition_waits_too_long
-bash .ci/refuse_allocations "$program" --config "$slow/config.toml" --order "$slow/order.csv" --rules "$slow/rules.toml" "$slow/core0.csv" "$slow/core1.csv"
+bash .ci/refuse_allocations "$program" --config "$slow/config.toml" --order "$slow/order.csv" --workers 2 --rules "$slow/rules.toml" "$slow/core0.csv" "$slow/core1.csv"
 cat "$room/times"
 tail -n 1 "$room/log"
