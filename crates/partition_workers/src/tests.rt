@@ -1,14 +1,16 @@
 // What no clause says: that several threads claim pieces at one time, and how a board tells its refusals.
 
-ghost use Rattle.std.specs.Prelude.{◌≡◌, IfOk, IfSome};
+ghost use Rattle.std.specs.Prelude.{◌≡◌, ◌<◌, ℕ, IfOk, IfSome, length};
+ghost use Rattle.apex_machine.specs.Pieces.{pieces as all_pieces};
 ghost use Rattle.apex_machine.specs.Runs.{ArePlaced, AreOfCores};
 ghost use Rattle.piece_check.specs.Touching.{AreSortedOut, indices_of};
+ghost use Rattle.verdict_merge.specs.Rounds.{AreGoing, cold_parts, holding_at};
 ghost use Rattle.partition_workers.specs.Contents.{AreGoingFrom, IsOpen, content_of, parts_held};
 
 use crate::{Board, Done, Gate, Naming, Open, PostRefusal, Round, RoundFault, judge_round};
 use apex_types::{Body, Cause, CoreId, Ordered, PartId, Place, ProcId, Record, Who, Woken};
 use module_config::Config;
-use piece_check::{Piece, Touched};
+use piece_check::{Piece, Touched, count};
 use std::alloc::{AllocError, Global};
 use std::marker::Brand;
 use std::sync::Wait;
@@ -16,7 +18,7 @@ use std::sync::atomic::{AtomicUsize, Ordering};
 use std::test::Fail;
 use std::thread;
 use std::thread::Threads;
-use verdict_merge::{Judged, Lent, Refused, start_pieces};
+use verdict_merge::{Judged, Lent, Memory, Refused};
 
 // Two cores, each of a partition of its own, and two channels: five pieces.
 const CONFIG: &str = "\
@@ -121,6 +123,23 @@ fn records(alloc: Global) -> Result<Vec<Ordered>, AllocError>
     Ok(records)
 }
 
+// All pieces as they stand before the first record.
+fn started(alloc: Global, config: &Config) -> Result<Vec<Piece>, Memory>
+    ensures going { IfOk result (λ pieces. AreGoing config.now 0 pieces.items) }
+    ensures cold { IfOk result (λ pieces. (number : ℕ) → number < length (all_pieces config.now) → (holding_at pieces.items number).part ≡ cold_parts config.now number) }
+{
+    let mut pieces = Vec::new(alloc);
+    'pieces: for number in 0..count(config) {
+        let Ok(piece) = Piece::start(alloc, config, number) else {
+            return Err(Memory);
+        };
+        if pieces.push(piece).is_err() {
+            return Err(Memory);
+        }
+    }
+    Ok(pieces)
+}
+
 // The module that the text configures.
 fn read_config(alloc: Global) -> Option<Config>
     ensures { IfSome result (λ config. config.cores ≡ 2) }
@@ -148,6 +167,27 @@ fn sort_out(alloc: Global, config: &Config, records: &[Ordered]) -> Option<Touch
     Some(touched)
 }
 
+// What is lent to each piece of the round.
+fn lend<'a>(
+    config: &'a Config,
+    records: &'a [Ordered],
+    touched: &'a Touched,
+    watched: bool,
+) -> Lent<'a>
+    requires { AreSortedOut config.now records.now (indices_of touched.now) }
+    ensures config { result.config.now ≡ config.now }
+    ensures first { result.first ≡ 0 }
+    ensures records { result.records.now ≡ records.now }
+{
+    Lent {
+        config,
+        first: 0,
+        records,
+        touched,
+        watched,
+    }
+}
+
 // What the round makes of each piece, by so many workers.
 fn judge_all<G: Gate + Sync, R: Threads + Wait + Sync>(
     rt: &R,
@@ -165,10 +205,10 @@ fn judge_all<G: Gate + Sync, R: Threads + Wait + Sync>(
     let Some(touched) = sort_out(alloc, &config, &records) else {
         return Err(RoundFault::Memory);
     };
-    let Ok(pieces) = start_pieces(alloc, &config) else {
+    let Ok(pieces) = started(alloc, &config) else {
         return Err(RoundFault::Memory);
     };
-    let lent = Lent::new(&config, 0, &records, &touched, watched);
+    let lent = lend(&config, &records, &touched, watched);
     judge_round(rt, alloc, &lent, pieces, workers, gate)
 }
 
@@ -391,13 +431,13 @@ fn refuse_in_round(alloc: Global) -> Option<[Told; 3]> {
     let Some(touched) = sort_out(alloc, &config, &records) else {
         return None;
     };
-    let Ok(pieces) = start_pieces(alloc, &config) else {
+    let Ok(pieces) = started(alloc, &config) else {
         return None;
     };
-    let Ok(others) = start_pieces(alloc, &config) else {
+    let Ok(others) = started(alloc, &config) else {
         return None;
     };
-    let lent = Lent::new(&config, 0, &records, &touched, false);
+    let lent = lend(&config, &records, &touched, false);
     refuse_all::<Brand>(alloc, &lent, pieces, others)
 }
 

@@ -1,0 +1,12 @@
+use Rattle.std.proofs.Common.{◌≡◌, ◌<◌, ℕ, length}
+use Rattle.piece_check.specs.Parts.{IsBehind, IsOf}
+use Rattle.verdict_merge.specs.Rounds.{cold_parts, holding_at}
+use Rattle.partition_workers.proofs.tests.started.Given as goal
+
+abbrev pub invariant-pieces : goal.invariant-pieces
+invariant-pieces l = record {
+  count : length l.pieces.items ≡ l.number;
+  cold : (number : ℕ) → number < l.number → (holding_at l.pieces.items number).part ≡ cold_parts l.config number;
+  of_module : (number : ℕ) → number < l.number → IsOf l.config (holding_at l.pieces.items number);
+  behind : (number : ℕ) → number < l.number → IsBehind 0 (cold_parts l.config number);
+}
