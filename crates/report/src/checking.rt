@@ -43,8 +43,8 @@ fn config_refusal(fault: ConfigFault) -> CheckFault
 /// the view of each record; No with the first place that is not, the piece that refuses it and its cause; or the first place
 /// whose view breaks a rule, with the number of the rule; else the refusal that comes first: that of the settings, of the
 /// configuration, of the number of readers, and then of the least place. It is the same for all settings that are not refused,
-/// for every gate, and however the threads take turns. Memory comes where a growth or a thread was refused, at whatever point. A reader
-/// that answers an error ends its text there, with the fault Read.
+/// for every gate, and however the threads take turns. Memory comes where a growth or a thread was refused, at whatever
+/// point. A reader that answers an error ends its text there, with the fault Read.
 ///
 /// All threads have ended when it answers. A reader that waits in a read of its own holds it until that read returns.
 pub fn check<T, R, C, G>(
