@@ -12,6 +12,7 @@ pub mod Viewing
 pub mod ViewedRun
 pub mod Giving
 pub mod Ruled
+pub mod Refusing
 pub mod Watching
 pub mod Between
 pub mod Coming

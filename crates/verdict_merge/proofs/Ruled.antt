@@ -11,7 +11,8 @@ use Rattle.apex_machine.specs.Channels.{EndsAreApart}
 use Rattle.apex_machine.specs.Configuration.{Configuration, WindowsAreConfigured}
 use Rattle.apex_machine.specs.Pieces.{Part, pieces}
 use Rattle.apex_machine.specs.Runs.{ArePlaced, PieceRun}
-use Rattle.apex_machine.specs.State.{cold_state}
+use Rattle.apex_machine.specs.State.{State, cold_state}
+use Rattle.apex_machine.specs.Step.{Run}
 use Rattle.apex_machine.specs.Views.{run_views}
 use Rattle.apex_laws.proofs.Stays.{stays_tied}
 use Rattle.piece_check.specs.Parts.{piece_at}
@@ -147,22 +148,23 @@ one_verdict configuration relations records (Broken pos rule) (Broken pos' rule'
 
 -- what a Yes means
 
--- of no relation nothing is asked
-none_asked : (views : List View) → All (MeetsAll []) views
-none_asked views index view within rule relation below = absurd (omega (arith, below))
+-- the views of a run that the pieces see are the machine's: where those meet every relation, these do
+pub run_meets : (configuration : Configuration) (relations : List Relation) (records : List Ordered) (final : State) (run : Run configuration (cold_state configuration) records final)
+    → EndsAreApart configuration → ViewsMeet configuration relations (cold_parts configuration) records
+    → All (MeetsAll relations) (run_views configuration (cold_state configuration) records final run)
+run_meets configuration [] records final run ends meet = λ index view within rule relation below. absurd (omega (arith, below))
+run_meets configuration (relation ∷ relations) records final run ends (views, viewed, meet) =
+    let same = views_are_of_the_run configuration (cold_state configuration) [] records final views ends (stays_tied.0 configuration) (λ piece is. refl) viewed run in
+    subst (All (MeetsAll (relation ∷ relations))) same meet
 
 pub run_where_yes : (configuration : Configuration) (relations : List Relation) (records : List Ordered) (verdict : Verdict)
     → WindowsAreConfigured configuration → EndsAreApart configuration → ArePlaced 0 records → IsVerdict configuration relations records verdict
     → IsRunWhereYes configuration relations records verdict
 run_where_yes configuration relations records (No pos piece cause) windows ends placed is = tt
 run_where_yes configuration relations records (Broken pos rule) windows ends placed is = tt
-run_where_yes configuration [] records (Yes count) windows ends placed (counted, (final, all), meet) =
+run_where_yes configuration relations records (Yes count) windows ends placed (counted, (final, all), meet) =
     let run = machine_runs configuration records windows placed (λ number within. (final number, all number within)) in
-    (run.0, run.1, none_asked (run_views configuration (cold_state configuration) records run.0 run.1), omega (arith, counted))
-run_where_yes configuration (relation ∷ relations) records (Yes count) windows ends placed (counted, (final, all), (views, viewed, meet)) =
-    let run = machine_runs configuration records windows placed (λ number within. (final number, all number within)) in
-    let same = views_are_of_the_run configuration (cold_state configuration) [] records run.0 views ends (stays_tied.0 configuration) (λ piece is. refl) viewed run.1 in
-    (run.0, run.1, subst (All (MeetsAll (relation ∷ relations))) same meet, omega (arith, counted))
+    (run.0, run.1, run_meets configuration relations records run.0 run.1 ends meet, omega (arith, counted))
 
 -- rounds
 

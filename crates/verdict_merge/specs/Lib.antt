@@ -1,4 +1,5 @@
 pub mod Findings
 pub mod Rounds
 pub mod Verdicts
+pub mod Refusals
 pub mod Views

@@ -4,7 +4,9 @@
 //! run of each piece; else the least refusal is told, with what stands up to its place: its piece runs up to that record and
 //! refuses it, the pieces of smaller number run through it, all others run up to it. The views of a round are those of its records.
 //! Where the verdict is Yes, the records are a run of the machine from the cold state, in which the view of each record meets
-//! every rule.
+//! every rule. Where it is No, the records before its place are such a run, behind which the machine has no step that takes the
+//! record at the place. Where a rule is broken, the records up to its place are a run, and the view there is the first that breaks
+//! a rule.
 #![tactic(auto)]
 
 mod fault;
@@ -23,7 +25,7 @@ pub use finding::{Finding, Refused, merge};
 pub use gathering::Gathering;
 pub use gone::{Gone, Lent, Seen, go_over};
 pub use judged::{Judged, judge_in_turn, judge_piece};
-pub use laws::{one_verdict, verdict_is_of_the_findings};
+pub use laws::{one_verdict, verdict_is_of_the_findings, verdict_is_of_the_machine};
 pub use plain::check_plain;
 pub use start::start_pieces;
 pub use survey::{Survey, gather_round};

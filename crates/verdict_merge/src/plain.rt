@@ -5,6 +5,7 @@ ghost use Rattle.apex_machine.specs.Pieces.{pieces};
 ghost use Rattle.apex_machine.specs.Runs.{ArePlaced, AreOfCores};
 ghost use Rattle.piece_check.specs.Parts.{Holding};
 ghost use Rattle.user_rules.specs.Rules.{relations_of};
+ghost use Rattle.verdict_merge.specs.Refusals.{IsRunUpToNo};
 ghost use Rattle.verdict_merge.specs.Rounds.{IsSurveyed, cold_parts, parts_in};
 ghost use Rattle.verdict_merge.specs.Verdicts.{IsRunWhereYes, IsVerdict};
 
@@ -24,6 +25,10 @@ use user_rules::{Rule, first_broken_in_turn};
 /// meets every rule; else what comes first, the least refusal of the pieces or a view before it that breaks a rule. The
 /// records stand at the places 0, 1, 2, .. and are of configured cores.
 ///
+/// Of the machine, from its cold state: where it is No, the records before the place are a run in which each view meets every
+/// rule, and there is no step that takes the record at the place. Where a rule is broken, the records up to the place are a run,
+/// and the view there is the first that breaks a rule.
+///
 /// Memory where a growth is refused.
 pub fn check_plain(
     alloc: Global,
@@ -35,6 +40,7 @@ pub fn check_plain(
     requires cores { AreOfCores config.now.cores records.now }
     ensures verdict { IfOk result (IsVerdict config.now (relations_of rules.now) records.now) }
     ensures run { IfOk result (IsRunWhereYes config.now (relations_of rules.now) records.now) }
+    ensures no { IfOk result (IsRunUpToNo config.now (relations_of rules.now) records.now) }
 {
     config.keeps_limits();
     let surveyed = survey_all(alloc, config, records, !rules.is_empty())?;

@@ -1,12 +1,12 @@
 use Rattle.std.proofs.Common.{◌≡◌, ◌∙◌, [], Some, None, length, not, refl, sym, ap, subst, arith}
 use Rattle.std.proofs.lemmas.List.{append-nil}
-use Rattle.apex_machine.specs.Runs.{ArePlaced}
 use Rattle.user_rules.specs.FirstBroken.{IsFirstBroken}
 use Rattle.user_rules.specs.Rules.{relations_of}
 use Rattle.verdict_merge.specs.declared.verdict.Verdict.TheVariants.{Yes}
 use Rattle.verdict_merge.specs.Rounds.{IsRound, Judging, cold_parts, parts_in}
 use Rattle.verdict_merge.specs.Verdicts.{IsVerdictFrom, IsWatched, against}
 use Rattle.verdict_merge.proofs.Ruled.{broken_within, ends_here, goes_on_here, is_watched, round_is, run_where_yes, verdict_from}
+use Rattle.verdict_merge.proofs.Refusing.{run_up_to_no}
 use Rattle.verdict_merge.proofs.plain.check_plain.Goals as goal
 
 pub against-requires : goal.against-requires
@@ -45,6 +45,11 @@ returns-in-Some-clause-verdict g c =
 pub returns-in-Some-clause-run : goal.returns-in-Some-clause-run
 returns-in-Some-clause-run g c =
     run_where_yes c.args.config.now (relations_of c.args.rules.now) c.args.records.now c.in-Some.verdict c.keeps_limits.ensures.windows c.keeps_limits.ensures.ends c.requires.placed
+    (returns-in-Some-clause-verdict g c)
+
+pub returns-in-Some-clause-no : goal.returns-in-Some-clause-no
+returns-in-Some-clause-no g c =
+    run_up_to_no c.args.config.now (relations_of c.args.rules.now) c.args.records.now c.in-Some.verdict c.keeps_limits.ensures.windows c.keeps_limits.ensures.ends c.requires.placed
     (returns-in-Some-clause-verdict g c)
 
 pub returns-clause-verdict : goal.returns-clause-verdict

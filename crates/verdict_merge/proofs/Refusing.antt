@@ -1,0 +1,137 @@
+-- What a No and a broken rule mean: up to there all pieces run, so the machine does.
+use Rattle.std.proofs.Common.{◌≡◌, ◌<◌, ◌≤◌, ◌-◌, ◌∙◌, ℕ, zero, suc, List, [], ◌∷◌, ◌++◌, true, false, Some, IsTrue, get_or, length, map, nat_eq, eq-eqb, refl, sym, ap, subst, inl, inr, arith}
+use Rattle.std.specs.Prelude.{if◌then◌else◌, is_some}
+use Rattle.apex_types.specs.declared.record.Ordered.{Ordered}
+use Rattle.apex_machine.specs.Channels.{EndsAreApart, channel_numbers}
+use Rattle.apex_machine.specs.Configuration.{Configuration, PartitionLimits, WindowsAreConfigured, limits_among}
+use Rattle.apex_machine.specs.Pieces.{is_configured, part, pieces}
+use Rattle.apex_machine.specs.Runs.{ArePlaced, PieceRun}
+use Rattle.apex_machine.specs.State.{State, cold_state}
+use Rattle.apex_machine.specs.Step.{Run, Step}
+use Rattle.apex_laws.proofs.Joins.{runs_join}
+use Rattle.apex_laws.proofs.Runs.{run_of_each}
+use Rattle.apex_laws.proofs.Stays.{stays_tied}
+use Rattle.module_config.proofs.Numbers.{number-at}
+use Rattle.piece_check.proofs.Numbering.{length-pieces, piece_at_channel, piece_at_partition}
+use Rattle.piece_check.specs.Parts.{piece_at}
+use Rattle.user_rules.specs.declared.broken.Broken.{Broken as BrokenView}
+use Rattle.user_rules.specs.declared.relation.Relation.{Relation}
+use Rattle.user_rules.specs.FirstBroken.{IsFirstBroken}
+use Rattle.verdict_merge.specs.declared.finding.Refused.{Refused}
+use Rattle.verdict_merge.specs.declared.verdict.Verdict.{Verdict}
+use Rattle.verdict_merge.specs.declared.verdict.Verdict.TheVariants.{Yes, No, Broken}
+use Rattle.verdict_merge.specs.Refusals.{IsBrokenAt, IsRefusedAt, IsRunUpToNo, VerdictIsOfTheMachine}
+use Rattle.verdict_merge.specs.Rounds.{IsNo, cold_parts}
+use Rattle.verdict_merge.specs.Verdicts.{IsBroken, IsVerdict, ViewsMeet}
+use Rattle.verdict_merge.proofs.Ruled.{run_meets, run_where_yes}
+use Rattle.verdict_merge.proofs.Silence.{machine_runs}
+use Rattle.verdict_merge.proofs.Splits.{placed_front}
+use Rattle.verdict_merge.proofs.Verdicts.{no_at, order_of, runs_and_refuses, runs_up_to}
+use Rattle.verdict_merge.proofs.ViewedRun.{views_are_of_the_run}
+
+-- each piece that has a number is configured
+
+partition_there : (partitions : List PartitionLimits) (index : ℕ) → index < length partitions
+    → is_some (limits_among (get_or (map (λ limits. limits.number) partitions) index 0) partitions) ≡ true
+partition_there [] index within = absurd (omega (arith, within))
+partition_there (first ∷ others) zero within = rw (eq-eqb first.number first.number refl) refl
+partition_there (first ∷ others) (suc index) within =
+    by (get_or (map (λ limits. limits.number) others) index 0) (partition_there others index (omega (arith, within)))
+  where
+    by : (number : ℕ) → is_some (limits_among number others) ≡ true → is_some (limits_among number (first ∷ others)) ≡ true
+    by number later = elim (nat_eq first.number number) as (λ same. is_some (if same then Some first else limits_among number others) ≡ true) [ true ↦ refl | false ↦ later ]
+
+channel_at : (configuration : Configuration) (index : ℕ) → suc index < length (pieces configuration) → length configuration.partitions ≤ index
+    → IsTrue (is_configured configuration (piece_at configuration (suc index)))
+channel_at configuration index within past =
+    let many = length-pieces configuration in
+    let below : suc index - 1 - length configuration.partitions < length (channel_numbers configuration) = omega (arith, within, many, past) in
+    rw (piece_at_channel configuration (suc index) (omega arith) (omega (arith, past)) below)
+    (number-at configuration (channel_numbers configuration) (suc index - 1 - length configuration.partitions) 0 refl below)
+
+configured_at : (configuration : Configuration) (number : ℕ) → number < length (pieces configuration) → IsTrue (is_configured configuration (piece_at configuration number))
+configured_at configuration zero within = refl
+configured_at configuration (suc index) within = elim (order_of index (length configuration.partitions)) [
+  | inl below ↦
+      rw (piece_at_partition configuration (suc index) (omega arith) (omega (arith, below)))
+      (partition_there configuration.partitions (suc index - 1) (omega (arith, below)))
+  | inr (inl same) ↦ channel_at configuration index within (omega (arith, same))
+  | inr (inr more) ↦ channel_at configuration index within (omega (arith, more))
+]
+
+-- a No
+
+-- a piece that runs over these records and refuses the next one has no local step there, so the machine has none
+no_step_there : (configuration : Configuration) (records : List Ordered) (found : Refused) → EndsAreApart configuration
+    → (stands : IsNo configuration (cold_parts configuration) records found) (reached : State) → Run configuration (cold_state configuration) stands.before reached
+    → (next : State) → ¬ Step configuration reached stands.ordered next
+no_step_there configuration records found ends stands reached run next step =
+    let piece = piece_at configuration found.piece in
+    let known = configured_at configuration found.piece stands.piece in
+    let cold = cold_state configuration in
+    let before = run_of_each configuration cold stands.before reached ends (stays_tied.0 configuration) run piece known in
+    let there = run_of_each configuration reached (stands.ordered ∷ []) next ends (stays_tied.2 configuration stands.before cold reached (stays_tied.0 configuration) run) (next, step, refl) piece known in
+    let whole : PieceRun configuration piece (part piece cold) (stands.before ++ stands.ordered ∷ []) (part piece next) =
+    (runs_join configuration piece (part piece cold) stands.before (stands.ordered ∷ []) (part piece next)).1 (part piece reached, before, there) in
+    runs_and_refuses configuration piece (part piece cold) stands.before stands.ordered found.cause (part piece next) whole stands.refused
+
+refused_at : (configuration : Configuration) (relations : List Relation) (records : List Ordered) (found : Refused)
+    → WindowsAreConfigured configuration → EndsAreApart configuration → ArePlaced 0 records
+    → (stands : IsNo configuration (cold_parts configuration) records found) → ViewsMeet configuration relations (cold_parts configuration) stands.before
+    → IsRefusedAt configuration relations records found.pos
+refused_at configuration relations records found windows ends placed stands meet =
+    let front = placed_front 0 stands.before (stands.ordered ∷ stands.after) (subst (ArePlaced 0) stands.split placed) in
+    let run = machine_runs configuration stands.before windows front (runs_up_to configuration (cold_parts configuration) records found stands) in
+    record {
+      before = stands.before;
+      ordered = stands.ordered;
+      after = stands.after;
+      split = stands.split;
+      place = omega (arith, no_at configuration (cold_parts configuration) 0 records found placed stands);
+      reached = run.0;
+      run = run.1;
+      meets = run_meets configuration relations stands.before run.0 run.1 ends meet;
+      no_step = no_step_there configuration records found ends stands run.0 run.1;
+    }
+
+-- a broken rule
+
+abbrev broken_of : ℕ → ℕ → BrokenView
+broken_of view rule = record { view = view; rule = rule }
+
+broken_at : (configuration : Configuration) (relations : List Relation) (records : List Ordered) (pos rule : ℕ)
+    → WindowsAreConfigured configuration → EndsAreApart configuration → ArePlaced 0 records
+    → IsBroken configuration relations (cold_parts configuration) 0 records pos rule → IsBrokenAt configuration relations records pos rule
+broken_at configuration relations records pos rule windows ends placed is =
+    let front = placed_front 0 is.through is.after (subst (ArePlaced 0) is.split placed) in
+    let run = machine_runs configuration is.through windows front is.runs in
+    let views = views_are_of_the_run configuration (cold_state configuration) [] is.through run.0 is.views ends (stays_tied.0 configuration) (λ piece known. refl) is.viewed run.1 in
+    let told : is.broken ≡ broken_of pos rule = same is.broken (omega (arith, is.place)) (sym is.number) in
+    record {
+      through = is.through;
+      after = is.after;
+      split = is.split;
+      place = omega (arith, is.last, is.place);
+      final = run.0;
+      run = run.1;
+      first = subst (λ list. IsFirstBroken relations list (Some (broken_of pos rule))) views (subst (λ broken. IsFirstBroken relations is.views (Some broken)) told is.first);
+    }
+  where
+    same : (broken : BrokenView) → broken.view ≡ pos → broken.rule ≡ rule → broken ≡ broken_of pos rule
+    same broken view number =
+        ap (λ one. broken_of one broken.rule) view ∙ ap (λ one. broken_of pos one) number
+
+-- the machine runs up to what a verdict tells
+pub run_up_to_no : (configuration : Configuration) (relations : List Relation) (records : List Ordered) (verdict : Verdict)
+    → WindowsAreConfigured configuration → EndsAreApart configuration → ArePlaced 0 records → IsVerdict configuration relations records verdict
+    → IsRunUpToNo configuration relations records verdict
+run_up_to_no configuration relations records (Yes count) windows ends placed is = tt
+run_up_to_no configuration relations records (No place piece cause) windows ends placed (stands, meet) =
+    refused_at configuration relations records (record { pos = place; piece = piece; cause = cause }) windows ends placed stands meet
+run_up_to_no configuration relations records (Broken place rule) windows ends placed is = broken_at configuration relations records place rule windows ends placed is
+
+pub verdict_is_of_the_machine : VerdictIsOfTheMachine
+verdict_is_of_the_machine configuration relations records verdict windows ends placed is = (
+  run_where_yes configuration relations records verdict windows ends placed is,
+  run_up_to_no configuration relations records verdict windows ends placed is,
+)
