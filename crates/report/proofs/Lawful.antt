@@ -1,7 +1,8 @@
--- What a Yes means, from the scan of the texts and the verdict over the records placed.
-use Rattle.std.proofs.Common.{◌≡◌, ◌≢◌, ◌<◌, ℕ, zero, suc, List, [], ◌∷◌, ◌++◌, Bool, true, false, Option, Some, None, Result, Ok, Err, length, map, refl, sym, ap, ◌∙◌, subst, inl, inr, arith, nat_eq, nat_lt, nat_le, ◌||◌, eqb-true, eq-eqb}
+-- What a Yes, a No and a broken rule mean, from the scan of the texts and the verdict over the records placed.
+use Rattle.std.proofs.Common.{◌≡◌, ◌≢◌, ◌<◌, ℕ, zero, suc, List, [], ◌∷◌, ◌++◌, Bool, true, false, Option, Some, None, Result, Ok, Err, length, map, take, refl, sym, ap, ◌∙◌, subst, inl, inr, arith, nat_eq, nat_lt, nat_le, ◌||◌, eqb-true, eq-eqb}
 use Rattle.std.specs.Prelude.{if◌then◌else◌}
 use Rattle.std.proofs.lemmas.Bool.Decides.{nat_tests}
+use Rattle.std.proofs.lemmas.List.{append-nil}
 use Rattle.apex_machine.specs.Configuration.{Configuration}
 use Rattle.apex_machine.specs.Runs.{ArePlaced}
 use Rattle.apex_types.specs.declared.record.Ordered.{Ordered}
@@ -12,26 +13,47 @@ use Rattle.module_config.specs.Reading.{configuration_of}
 use Rattle.order_cert.specs.declared.fault.CertFault.TheVariants as cert
 use Rattle.order_cert.specs.declared.fault.OrderFault.{OrderFault}
 use Rattle.order_cert.specs.declared.fault.OrderFault.TheVariants.{NoSuchCore, Skipped, Repeated}
+use Rattle.order_cert.specs.declared.fault.OrderFault.TheVariants as order
 use Rattle.order_cert.specs.Kept.{none_taken, put}
 use Rattle.order_cert.specs.Order.{AllKnown, following, misplaced, numbers_of}
 use Rattle.order_cert.specs.Row.{Item as CertItem, pairs_of}
 use Rattle.placement.specs.declared.fault.InputFault.{InputFault}
+use Rattle.placement.specs.declared.fault.InputFault.TheVariants as input
 use Rattle.placement.specs.Lanes.{IsScanOf}
 use Rattle.placement.specs.Reading.{Reads}
-use Rattle.placement.specs.Scan.{Scan, and_then, end_of, ends_of, ends_so, keeping, placed_at, scan, taking}
+use Rattle.placement.specs.Scan.{Scan, and_then, end_of, ends_of, ends_so, keeping, led_by, placed_at, scan, taking}
 use Rattle.placement.proofs.Readings.{put-here, put-other, put-back, same_or}
 use Rattle.record_read.specs.declared.fault.RowFault.TheVariants as row
 use Rattle.record_read.specs.Row.{Item}
 use Rattle.user_rules.specs.declared.relation.Relation.{Relation}
 use Rattle.verdict_merge.specs.declared.verdict.Verdict.{Verdict}
 use Rattle.verdict_merge.specs.declared.verdict.Verdict.TheVariants.{Yes, No, Broken}
+use Rattle.verdict_merge.specs.Refusals.{IsBrokenAt, IsRefusedAt, IsRunUpToNo}
 use Rattle.verdict_merge.specs.Verdicts.{IsRunWhereYes}
 use Rattle.report.specs.declared.fault.CheckFault.{CheckFault}
 use Rattle.report.specs.declared.fault.CheckFault.TheVariants as refusal
+use Rattle.report.specs.No.{IsLawfulUpTo, NoMeansRefusal}
 use Rattle.report.specs.Outcome.{answer_with, items_at}
 use Rattle.report.specs.Yes.{AreInOrder, YesMeansRun}
 
--- a reading with no fault is of items with no fault
+-- a reading that begins with no fault is of items that begin so
+reads_begun : {Value Fault : Type 0} (failure : Fault) (items : List (Result Value Fault)) (good : List Value) (more given : List (Result Value Fault))
+    → given ≡ map Ok good ++ more → Reads failure items given → take (length good) items ≡ map Ok good
+reads_begun {Value} {Fault} failure items good more given e (inl f) = ap (take (length good)) (sym f ∙ e) ∙ front good
+  where
+    front : (good : List Value) → take (length good) (map Ok good ++ more) ≡ map Ok good
+    front [] = refl
+    front (g ∷ gs) = ap (λ (list : List (Result Value Fault)). Ok g ∷ list) (front gs)
+reads_begun {Value} {Fault} failure items good more given e (inr (before, rest, f, h)) = ap (take (length good)) f ∙ within before good (sym h ∙ e)
+  where
+    within : (before good : List Value) → map Ok before ++ Err failure ∷ [] ≡ map Ok good ++ more → take (length good) (map Ok before ++ rest) ≡ map Ok good
+    within before [] e = refl
+    within [] (g ∷ gs) e = cc
+    within (x ∷ xs) (g ∷ gs) e =
+        let head : ◌≡◌ {A = Result Value Fault} (Ok x) (Ok g) = cc in
+        ap (λ (one : Result Value Fault). one ∷ take (length gs) (map Ok xs ++ rest)) head ∙ ap (λ (list : List (Result Value Fault)). Ok g ∷ list) (within xs gs (cc))
+
+-- one with no fault at all is of items with none
 reads_good : {Value Fault : Type 0} (failure : Fault) (items : List (Result Value Fault)) (good : List Value) (given : List (Result Value Fault))
     → given ≡ map Ok good → Reads failure items given → items ≡ map Ok good
 reads_good failure items good given e (inl f) = sym f ∙ e
@@ -62,15 +84,19 @@ ends_of-good (suc cores) place taken left e core within =
     ended (Ok rec ∷ rest) e = cc
     ended (Err fault ∷ rest) e = cc
 
--- what a scan that ends well has placed, from this place on
-record Placed (cores : ℕ) (taken : ℕ → ℕ) (place : ℕ) (records : List Ordered) (left : ℕ → List Item) (items : List CertItem) : Type 0 where
+-- what a scan has placed, from this place on: the first pairs name the first records of each core; behind a scan that ends well
+-- nothing is left
+record Placed (cores : ℕ) (taken : ℕ → ℕ) (place : ℕ) (scanned : Scan) (left : ℕ → List Item) (items : List CertItem) : Type 0 where
   pub pairs : List Pair
+  pub later_pairs : List CertItem
+  pub items_are : items ≡ map Ok pairs ++ later_pairs
   pub recordings : ℕ → List Record
-  pub items_are : items ≡ map Ok pairs
-  pub left_is : (core : ℕ) → core < cores → left core ≡ map Ok (recordings core)
+  pub later_records : ℕ → List Item
+  pub left_is : (core : ℕ) → core < cores → left core ≡ map Ok (recordings core) ++ later_records core
   pub numbers : (core : ℕ) → core < cores → numbers_of core pairs ≡ following (taken core) (length (recordings core))
   pub known : AllKnown cores pairs
-  pub ordered : AreInOrder cores place pairs recordings records
+  pub ordered : AreInOrder cores place pairs recordings scanned.placed
+  pub ended : scanned.end ≡ Ok tt → (later_pairs ≡ []) × ((core : ℕ) → core < cores → later_records core ≡ [])
 
 some_fault : (fault : OrderFault) → ◌≡◌ {A = Option OrderFault} (Some fault) None → ⊥
 some_fault fault e = cc
@@ -88,17 +114,19 @@ fits_tells cores taken pair e =
     by true false false true x y z h = absurd (some_fault Skipped h)
     by true false false false x y z h = (grind (arith, nat_tests), grind (arith, nat_tests))
 
-one_more : (cores : ℕ) (taken : ℕ → ℕ) (place : ℕ) (records : List Ordered) (left : ℕ → List Item) (pair : Pair) (rec : Record) (more : List Item) (rest : List CertItem)
+one_more : (cores : ℕ) (taken : ℕ → ℕ) (place : ℕ) (scanned : Scan) (left : ℕ → List Item) (pair : Pair) (rec : Record) (more : List Item) (rest : List CertItem)
     → (pair.core < cores) × (pair.seq ≡ taken pair.core) → left pair.core ≡ Ok rec ∷ more
-    → Placed cores (put taken pair.core (suc (taken pair.core))) (suc place) records (put left pair.core more) rest
-    → Placed cores taken place (placed_at place pair.core rec ∷ records) left (Ok pair ∷ rest)
-one_more cores taken place records left pair rec more rest fits here r = record {
+    → Placed cores (put taken pair.core (suc (taken pair.core))) (suc place) scanned (put left pair.core more) rest
+    → Placed cores taken place (led_by (placed_at place pair.core rec ∷ []) scanned) left (Ok pair ∷ rest)
+one_more cores taken place scanned left pair rec more rest fits here r = record {
   pairs = pair ∷ r.pairs;
+  later_pairs = r.later_pairs;
   recordings = put r.recordings pair.core (rec ∷ r.recordings pair.core);
+  later_records = r.later_records;
   items_are = ap (λ l. Ok pair ∷ l) r.items_are;
   left_is = λ core h. elim (same_or core pair.core) [
     | inl s ↦ rw (s, put-here r.recordings pair.core (rec ∷ r.recordings pair.core)) (here ∙ ap (λ l. Ok rec ∷ l) (sym (put-here left pair.core more) ∙ r.left_is pair.core fits.0))
-    | inr d ↦ sym (put-other left pair.core core more d) ∙ r.left_is core h ∙ ap (λ l. map Ok l) (sym (put-other r.recordings pair.core core (rec ∷ r.recordings pair.core) d))
+    | inr d ↦ sym (put-other left pair.core core more d) ∙ r.left_is core h ∙ ap (λ l. map Ok l ++ r.later_records core) (sym (put-other r.recordings pair.core core (rec ∷ r.recordings pair.core) d))
   ];
   numbers = λ core h. elim (same_or pair.core core) [
     | inl s ↦ subst (λ j. numbers_of j (pair ∷ r.pairs) ≡ following (taken j) (length (put r.recordings pair.core (rec ∷ r.recordings pair.core) j))) s
@@ -111,11 +139,12 @@ one_more cores taken place records left pair rec more rest fits here r = record 
   ordered = (
     rec,
     r.recordings pair.core,
-    records,
+    scanned.placed,
     put-here r.recordings pair.core (rec ∷ r.recordings pair.core),
     refl,
-    subst (λ f. AreInOrder cores (suc place) r.pairs f records) (sym (put-back r.recordings pair.core (rec ∷ r.recordings pair.core))) r.ordered,
+    subst (λ f. AreInOrder cores (suc place) r.pairs f scanned.placed) (sym (put-back r.recordings pair.core (rec ∷ r.recordings pair.core))) r.ordered,
   );
+  ended = r.ended;
 }
   where
     apart : (core : ℕ) → core < cores → pair.core ≢ core → (b : Bool) → nat_eq pair.core core ≡ b
@@ -125,43 +154,45 @@ one_more cores taken place records left pair rec more rest fits here r = record 
         let o : core ≢ pair.core = λ f. d (sym f) in
         rw (put-other r.recordings pair.core core (rec ∷ r.recordings pair.core) o) (r.numbers core h ∙ ap (λ n. following n (length (r.recordings core))) (put-other taken pair.core core (suc (taken pair.core)) o))
 
-fault_ends : (records : List Ordered) (fault : InputFault) → ◌≡◌ {A = Scan} (ends_so (Err fault)) (record { placed = records; end = Ok tt }) → ⊥
-fault_ends records fault e = let x : ◌≡◌ {A = Result (Unit {0}) InputFault} (Err fault) (Ok tt) = ap (λ s. s.end) e in cc
-
-step_well : (cores : ℕ) (taken : ℕ → ℕ) (place : ℕ) (records : List Ordered) (left : ℕ → List Item) (pair : Pair) (rest : List CertItem)
-    (wrong : Option OrderFault) → misplaced cores taken pair ≡ wrong → (items : List Item) → left pair.core ≡ items
-    → ((later : List Ordered) (more : List Item)
-    → scan cores (put taken pair.core (suc (taken pair.core))) (suc place) (put left pair.core more) rest ≡ record { placed = later; end = Ok tt }
-    → Placed cores (put taken pair.core (suc (taken pair.core))) (suc place) later (put left pair.core more) rest)
-    → keeping wrong place pair (taking place pair items (λ rec more.
-    scan cores (put taken pair.core (suc (taken pair.core))) (suc place) (put left pair.core more) rest)) ≡ record { placed = records; end = Ok tt }
-    → Placed cores taken place records left (Ok pair ∷ rest)
-step_well cores taken place records left pair rest (Some fault) a items b onward e = absurd (fault_ends records _ e)
-step_well cores taken place records left pair rest None a [] b onward e = absurd (fault_ends records _ e)
-step_well cores taken place records left pair rest None a (Err fault ∷ more) b onward e = absurd (fault_ends records _ e)
-step_well cores taken place records left pair rest None a (Ok rec ∷ more) b onward e =
-    let behind : Scan = scan cores (put taken pair.core (suc (taken pair.core))) (suc place) (put left pair.core more) rest in
-    let ended : behind.end ≡ Ok tt = ap (λ s. s.end) e in
-    let whole : behind ≡ record { placed = behind.placed; end = Ok tt } = ap (λ end. record { placed = behind.placed; end = end }) ended in
-    subst (λ list. Placed cores taken place list left (Ok pair ∷ rest)) (ap (λ s. s.placed) e)
-    (one_more cores taken place behind.placed left pair rec more rest (fits_tells cores taken pair a) b (onward behind.placed more whole))
-
-scanned_well : (cores : ℕ) (taken : ℕ → ℕ) (place : ℕ) (records : List Ordered) (left : ℕ → List Item) (items : List CertItem)
-    → scan cores taken place left items ≡ record { placed = records; end = Ok tt } → Placed cores taken place records left items
-unfolding scan
-scanned_well cores taken place records left [] e = record {
+-- where nothing more is placed, all is left
+stopped : (cores : ℕ) (taken : ℕ → ℕ) (place : ℕ) (end : Result (Unit {0}) InputFault) (left : ℕ → List Item) (items : List CertItem)
+    → (end ≡ Ok tt → (items ≡ []) × ((core : ℕ) → core < cores → left core ≡ [])) → Placed cores taken place (ends_so end) left items
+stopped cores taken place end left items ended = record {
   pairs = [];
-  recordings = λ core. [];
+  later_pairs = items;
   items_are = refl;
-  left_is = ends_of-good cores place taken left (ap (λ s. s.end) e);
+  recordings = λ core. [];
+  later_records = left;
+  left_is = λ core h. refl;
   numbers = λ core h. refl;
   known = tt;
-  ordered = (sym (ap (λ s. s.placed) e), λ core h. refl);
+  ordered = (refl, λ core h. refl);
+  ended = ended;
 }
-scanned_well cores taken place records left (Err fault ∷ rest) e = absurd (fault_ends records _ e)
-scanned_well cores taken place records left (Ok pair ∷ rest) e =
-    step_well cores taken place records left pair rest (misplaced cores taken pair) refl (left pair.core) refl
-    (λ later more h. scanned_well cores (put taken pair.core (suc (taken pair.core))) (suc place) later (put left pair.core more) rest h) e
+
+-- a fault is no good end
+no_good_end : {Fact : Type 0} (fault : InputFault) → ◌≡◌ {A = Result (Unit {0}) InputFault} (Err fault) (Ok tt) → Fact
+no_good_end fault e = cc
+
+step_placed : (cores : ℕ) (taken : ℕ → ℕ) (place : ℕ) (left : ℕ → List Item) (pair : Pair) (rest : List CertItem)
+    (wrong : Option OrderFault) → misplaced cores taken pair ≡ wrong → (items : List Item) → left pair.core ≡ items
+    → ((more : List Item) → Placed cores (put taken pair.core (suc (taken pair.core))) (suc place)
+    (scan cores (put taken pair.core (suc (taken pair.core))) (suc place) (put left pair.core more) rest) (put left pair.core more) rest)
+    → Placed cores taken place (keeping wrong place pair (taking place pair items (λ rec more.
+    scan cores (put taken pair.core (suc (taken pair.core))) (suc place) (put left pair.core more) rest))) left (Ok pair ∷ rest)
+step_placed cores taken place left pair rest (Some fault) a items b later = stopped cores taken place (Err (input.Order place pair.core fault)) left (Ok pair ∷ rest) (λ e. no_good_end _ e)
+step_placed cores taken place left pair rest None a [] b later = stopped cores taken place (Err (input.Order place pair.core order.Absent)) left (Ok pair ∷ rest) (λ e. no_good_end _ e)
+step_placed cores taken place left pair rest None a (Err fault ∷ more) b later = stopped cores taken place (Err (input.Row pair.core pair.seq fault)) left (Ok pair ∷ rest) (λ e. no_good_end _ e)
+step_placed cores taken place left pair rest None a (Ok rec ∷ more) b later =
+    one_more cores taken place (scan cores (put taken pair.core (suc (taken pair.core))) (suc place) (put left pair.core more) rest) left pair rec more rest (fits_tells cores taken pair a) b (later more)
+
+scan_places_first : (cores : ℕ) (taken : ℕ → ℕ) (place : ℕ) (left : ℕ → List Item) (items : List CertItem) → Placed cores taken place (scan cores taken place left items) left items
+unfolding scan
+scan_places_first cores taken place left [] = stopped cores taken place (ends_of cores place taken left) left [] (λ e. (refl, ends_of-good cores place taken left e))
+scan_places_first cores taken place left (Err fault ∷ rest) = stopped cores taken place (Err (input.Cert place fault)) left (Err fault ∷ rest) (λ e. no_good_end _ e)
+scan_places_first cores taken place left (Ok pair ∷ rest) =
+    step_placed cores taken place left pair rest (misplaced cores taken pair) refl (left pair.core) refl
+    (λ more. scan_places_first cores (put taken pair.core (suc (taken pair.core))) (suc place) (put left pair.core more) rest)
 
 -- the records of a scan stand at this place and those after it
 scan_places : (cores : ℕ) (taken : ℕ → ℕ) (place : ℕ) (left : ℕ → List Item) (items : List CertItem) → ArePlaced place (scan cores taken place left items).placed
@@ -183,6 +214,15 @@ scan_places cores taken place left (Ok pair ∷ rest) = step (misplaced cores ta
 pub scan_placed : (cores : ℕ) (items : ℕ → List Item) (certificate : List CertItem) (scanned : Scan) → IsScanOf cores none_taken 0 items certificate scanned → ArePlaced 0 scanned.placed
 scan_placed cores items certificate scanned (left, pairs, reads, certs, is) = subst (λ one. ArePlaced 0 one.placed) is (scan_places cores none_taken 0 left pairs)
 
+-- what was placed of the texts
+
+-- what a scan of the texts has placed, from the first place on
+placed_of : (configuration : Configuration) (scanned : Scan) (left : ℕ → List Item) (items : List CertItem) (cores : ℕ) → cores ≡ configuration.cores → scan cores none_taken 0 left items ≡ scanned
+    → Placed configuration.cores none_taken 0 scanned left items
+placed_of configuration scanned left items cores count is =
+    subst (λ one. Placed configuration.cores none_taken 0 one left items) (subst (λ n. scan n none_taken 0 left items ≡ scanned) count is)
+    (scan_places_first configuration.cores none_taken 0 left items)
+
 yes_of : (verdict : Verdict) (end : Result (Unit {0}) InputFault) (count : ℕ) → ◌≡◌ {A = Result Verdict CheckFault} (Ok (Yes count)) (answer_with verdict end)
     → (verdict ≡ Yes count) × (end ≡ Ok tt)
 yes_of (No pos piece cause) end count e = cc
@@ -199,18 +239,18 @@ yes_means config texts certificate relations configuration scanned verdict (Ok (
 yes_means config texts certificate relations configuration scanned verdict (Ok (Broken pos rule)) read count scan run e = tt
 yes_means config texts certificate relations configuration scanned verdict (Ok (Yes records)) read count (left, items, reads, certs, is) run e =
     let yes = yes_of verdict scanned.end records e in
-    let whole : scan configuration.cores none_taken 0 left items ≡ record { placed = scanned.placed; end = Ok tt } =
-    subst (λ n. scan n none_taken 0 left items ≡ record { placed = scanned.placed; end = Ok tt }) count (is ∙ ap (λ x. record { placed = scanned.placed; end = x }) yes.1) in
-    let p = scanned_well configuration.cores none_taken 0 scanned.placed left items whole in
+    let p = placed_of configuration scanned left items (length texts) count is in
+    let none = p.ended yes.1 in
     let final = subst (IsRunWhereYes configuration relations scanned.placed) yes.0 run in
     record {
       configuration = configuration;
       configured = read;
       readers = count;
       pairs = p.pairs;
-      proposed = reads_good cert.Read (pairs_of certificate) p.pairs items p.items_are certs;
+      proposed = reads_good cert.Read (pairs_of certificate) p.pairs items (p.items_are ∙ ap (λ list. map Ok p.pairs ++ list) none.0 ∙ append-nil (map Ok p.pairs)) certs;
       recordings = p.recordings;
-      recorded = λ core h. reads_good row.Read (items_at texts core) (p.recordings core) (left core) (p.left_is core h) (reads core);
+      recorded = λ core h. reads_good row.Read (items_at texts core) (p.recordings core) (left core)
+          (p.left_is core h ∙ ap (λ list. map Ok (p.recordings core) ++ list) (none.1 core h) ∙ append-nil (map Ok (p.recordings core))) (reads core);
       lawful = record { numbers = p.numbers; known = p.known };
       records = scanned.placed;
       ordered = p.ordered;
@@ -220,7 +260,48 @@ yes_means config texts certificate relations configuration scanned verdict (Ok (
       counted = final.3;
     }
 
--- want of memory is no Yes
+-- a fact about the records that were placed is one about the first records of the recordings, in the order of the certificate
+lawful_up_to : (config : List ℕ) (texts : List (List ℕ)) (certificate : List ℕ) (Fact : Configuration → List Ordered → Type 0) (configuration : Configuration) (scanned : Scan)
+    → configuration_of config ≡ Ok configuration → length texts ≡ configuration.cores
+    → IsScanOf (length texts) none_taken 0 (items_at texts) (pairs_of certificate) scanned → Fact configuration scanned.placed → IsLawfulUpTo config texts certificate Fact
+lawful_up_to config texts certificate Fact configuration scanned read count (left, items, reads, certs, is) holds =
+    let p = placed_of configuration scanned left items (length texts) count is in
+    record {
+      configuration = configuration;
+      configured = read;
+      readers = count;
+      pairs = p.pairs;
+      proposed = reads_begun cert.Read (pairs_of certificate) p.pairs p.later_pairs items p.items_are certs;
+      recordings = p.recordings;
+      recorded = λ core h. reads_begun row.Read (items_at texts core) (p.recordings core) (p.later_records core) (left core) (p.left_is core h) (reads core);
+      lawful = record { numbers = p.numbers; known = p.known };
+      records = scanned.placed;
+      ordered = p.ordered;
+      holds = holds;
+    }
+
+-- a No and a broken rule are answered as they were found
+found_of : (verdict found : Verdict) (end : Result (Unit {0}) InputFault) → ((count : ℕ) → ¬ (found ≡ Yes count)) → ◌≡◌ {A = Result Verdict CheckFault} (Ok found) (answer_with verdict end) → verdict ≡ found
+found_of (No pos piece cause) found end other e = cc
+found_of (Broken pos rule) found end other e = cc
+found_of (Yes records) found (Ok u) other e = absurd (other records (cc))
+found_of (Yes records) found (Err fault) other e = cc
+
+pub no_means : (config : List ℕ) (texts : List (List ℕ)) (certificate : List ℕ) (relations : List Relation) (configuration : Configuration) (scanned : Scan) (verdict : Verdict) (result : Result Verdict CheckFault)
+    → configuration_of config ≡ Ok configuration → length texts ≡ configuration.cores
+    → IsScanOf (length texts) none_taken 0 (items_at texts) (pairs_of certificate) scanned → IsRunUpToNo configuration relations scanned.placed verdict → result ≡ answer_with verdict scanned.end
+    → NoMeansRefusal config texts certificate relations result
+no_means config texts certificate relations configuration scanned verdict (Err fault) read count scan run e = tt
+no_means config texts certificate relations configuration scanned verdict (Ok (Yes records)) read count scan run e = tt
+no_means config texts certificate relations configuration scanned verdict (Ok (No place piece cause)) read count scan run e =
+    let is = found_of verdict (No place piece cause) scanned.end (λ count yes. cc) e in
+    lawful_up_to config texts certificate (λ one records. IsRefusedAt one relations records place) configuration scanned read count scan (subst (IsRunUpToNo configuration relations scanned.placed) is run)
+no_means config texts certificate relations configuration scanned verdict (Ok (Broken place rule)) read count scan run e =
+    let is = found_of verdict (Broken place rule) scanned.end (λ count yes. cc) e in
+    lawful_up_to config texts certificate (λ one records. IsBrokenAt one relations records place rule) configuration scanned read count scan (subst (IsRunUpToNo configuration relations scanned.placed) is run)
+
+-- want of memory is no Yes and no No
 pub memory_means : (config : List ℕ) (texts : List (List ℕ)) (certificate : List ℕ) (relations : List Relation) (result : Result Verdict CheckFault) → result ≡ Err refusal.Memory
-    → YesMeansRun config texts certificate relations result
-memory_means config texts certificate relations result e = subst (YesMeansRun config texts certificate relations) (sym e) tt
+    → YesMeansRun config texts certificate relations result × NoMeansRefusal config texts certificate relations result
+memory_means config texts certificate relations result e =
+    (subst (YesMeansRun config texts certificate relations) (sym e) tt, subst (NoMeansRefusal config texts certificate relations) (sym e) tt)

@@ -1,4 +1,5 @@
 pub mod Outcome
 pub mod Yes
+pub mod No
 pub mod Text
 pub mod Rounds

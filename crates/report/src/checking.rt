@@ -2,6 +2,7 @@
 
 ghost use Rattle.std.specs.Prelude.{◌≡◌, ◌≤◌, ℕ, List, Some, map};
 ghost use Rattle.user_rules.specs.Rules.{relations_of};
+ghost use Rattle.report.specs.No.{NoMeansRefusal};
 ghost use Rattle.report.specs.Outcome.{IsOutcome, config_refusal_of};
 ghost use Rattle.report.specs.Yes.{YesMeansRun};
 
@@ -46,6 +47,10 @@ fn config_refusal(fault: ConfigFault) -> CheckFault
 /// for every gate, and however the threads take turns. Memory comes where a growth or a thread was refused, at whatever
 /// point. A reader that answers an error ends its text there, with the fault Read.
 ///
+/// A No and a broken rule speak of the machine too, over the first records of the order, which lists each core's records from the
+/// first one on. Before a No they are a run of the machine in which each rule holds, and it has no step that takes the next one.
+/// Up to a broken rule they are a run, and the view of the last one is the first that breaks a rule.
+///
 /// All threads have ended when it answers. A reader that waits in a read of its own holds it until that read returns.
 pub fn check<T, R, C, G>(
     rt: T,
@@ -64,6 +69,7 @@ where
     G: Gate + Sync,
     ensures outcome { (texts : List (List ℕ)) (certificate : List ℕ) → map (λ reader. R.remaining reader) readers.items ≡ map Some texts → C.remaining cert ≡ Some certificate → IsOutcome settings config.now texts certificate (relations_of rules.now) result }
     ensures yes { (texts : List (List ℕ)) (certificate : List ℕ) → map (λ reader. R.remaining reader) readers.items ≡ map Some texts → C.remaining cert ≡ Some certificate → YesMeansRun config.now texts certificate (relations_of rules.now) result }
+    ensures no { (texts : List (List ℕ)) (certificate : List ℕ) → map (λ reader. R.remaining reader) readers.items ≡ map Some texts → C.remaining cert ≡ Some certificate → NoMeansRefusal config.now texts certificate (relations_of rules.now) result }
 {
     check_in_rounds(
         rt,
@@ -100,6 +106,7 @@ where
     requires most { size ≤ 4096 }
     ensures outcome { (texts : List (List ℕ)) (certificate : List ℕ) → map (λ reader. R.remaining reader) readers.items ≡ map Some texts → C.remaining cert ≡ Some certificate → IsOutcome settings config.now texts certificate (relations_of rules.now) result }
     ensures yes { (texts : List (List ℕ)) (certificate : List ℕ) → map (λ reader. R.remaining reader) readers.items ≡ map Some texts → C.remaining cert ≡ Some certificate → YesMeansRun config.now texts certificate (relations_of rules.now) result }
+    ensures no { (texts : List (List ℕ)) (certificate : List ℕ) → map (λ reader. R.remaining reader) readers.items ≡ map Some texts → C.remaining cert ≡ Some certificate → NoMeansRefusal config.now texts certificate (relations_of rules.now) result }
 {
     if let Some(fault) = settings.fault() {
         return Err(CheckFault::Arguments(fault));

@@ -2,8 +2,10 @@
 //!
 //! Promises: the outcome is that of the inputs' bytes and the rules; where it is Yes, the proposed order lists every record of
 //! every core once and in that core's own order, and in that order the records are a run of the configured machine from the cold
-//! state in which every rule holds; and for every number of workers the answer is that of one. A report that is answered as
-//! written went out whole.
+//! state in which every rule holds; where it is No, they are such a run up to the place that is told, and the machine has no step
+//! that takes the record there; where a rule is broken, they are a run up to and with the record there, whose view is the first
+//! that breaks a rule; and for every number of workers the answer is that of one. A report that is answered as written went out
+//! whole.
 //!
 //! No more is held at a time than a round of records and, of each core, what was read ahead: the depth and two batches.
 //!

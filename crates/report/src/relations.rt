@@ -1,6 +1,7 @@
 // The check under relations that have no tests of their own.
 
 ghost use Rattle.std.specs.Prelude.{◌≡◌, ◌≤◌, ℕ, List, Some, map};
+ghost use Rattle.report.specs.No.{NoMeansRefusal};
 ghost use Rattle.report.specs.Outcome.{IsOutcome};
 ghost use Rattle.report.specs.Yes.{YesMeansRun};
 
@@ -37,6 +38,7 @@ where
     requires most { size ≤ 4096 }
     ensures outcome { (texts : List (List ℕ)) (certificate : List ℕ) → map (λ reader. R.remaining reader) readers.items ≡ map Some texts → C.remaining cert ≡ Some certificate → IsOutcome settings config.now texts certificate relations.items result }
     ensures yes { (texts : List (List ℕ)) (certificate : List ℕ) → map (λ reader. R.remaining reader) readers.items ≡ map Some texts → C.remaining cert ≡ Some certificate → YesMeansRun config.now texts certificate relations.items result }
+    ensures no { (texts : List (List ℕ)) (certificate : List ℕ) → map (λ reader. R.remaining reader) readers.items ≡ map Some texts → C.remaining cert ≡ Some certificate → NoMeansRefusal config.now texts certificate relations.items result }
 {
     let mut rules = Vec::new(alloc);
     for relation in relations {

@@ -1,0 +1,42 @@
+-- What a No and a broken rule mean.
+use Rattle.std.specs.Prelude.{◌≡◌, ◌<◌, ℕ, List, Result, Ok, Err, map, length, take}
+use Rattle.apex_machine.specs.Configuration.{Configuration}
+use Rattle.apex_types.specs.declared.record.Ordered.{Ordered}
+use Rattle.apex_types.specs.declared.record.Pair.{Pair}
+use Rattle.apex_types.specs.declared.record.Record.{Record}
+use Rattle.module_config.specs.Reading.{configuration_of}
+use Rattle.order_cert.specs.Order.{IsLawfulOrder}
+use Rattle.order_cert.specs.Row.{pairs_of}
+use Rattle.user_rules.specs.declared.relation.Relation.{Relation}
+use Rattle.verdict_merge.specs.declared.verdict.Verdict.{Verdict}
+use Rattle.verdict_merge.specs.declared.verdict.Verdict.TheVariants.{Yes, No, Broken}
+use Rattle.verdict_merge.specs.Refusals.{IsBrokenAt, IsRefusedAt}
+use Rattle.report.specs.declared.fault.CheckFault.{CheckFault}
+use Rattle.report.specs.Outcome.{items_at}
+use Rattle.report.specs.Yes.{AreInOrder}
+
+-- the texts are a configuration, with one recording for each core, and a certificate whose first pairs are a lawful order of the
+-- first records of the recordings; and of the records in that order this fact holds under the configuration. Behind them
+-- the texts are whatever they are
+pub record IsLawfulUpTo (config : List ℕ) (texts : List (List ℕ)) (certificate : List ℕ) (Fact : Configuration → List Ordered → Type 0) : Type 0 where
+  pub configuration : Configuration
+  pub configured : configuration_of config ≡ Ok configuration
+  pub readers : length texts ≡ configuration.cores
+  pub pairs : List Pair
+  pub proposed : take (length pairs) (pairs_of certificate) ≡ map Ok pairs
+  pub recordings : ℕ → List Record
+  pub recorded : (core : ℕ) → core < configuration.cores → take (length (recordings core)) (items_at texts core) ≡ map Ok (recordings core)
+  pub lawful : IsLawfulOrder configuration.cores (λ core. length (recordings core)) pairs
+  pub records : List Ordered
+  pub ordered : AreInOrder configuration.cores 0 pairs recordings records
+  pub holds : Fact configuration records
+
+-- where the answer is No, the records before its place are a run of the machine, which has no step that takes the record at the place;
+-- where a rule is broken, the records up to its place are a run, and the view there is the first that breaks a rule
+abbrev pub NoMeansRefusal : List ℕ → List (List ℕ) → List ℕ → List Relation → Result Verdict CheckFault → Type 0
+NoMeansRefusal config texts certificate relations (Ok (No pos piece cause)) =
+    IsLawfulUpTo config texts certificate (λ configuration records. IsRefusedAt configuration relations records pos)
+NoMeansRefusal config texts certificate relations (Ok (Broken pos rule)) =
+    IsLawfulUpTo config texts certificate (λ configuration records. IsBrokenAt configuration relations records pos rule)
+NoMeansRefusal config texts certificate relations (Ok (Yes records)) = Unit {0}
+NoMeansRefusal config texts certificate relations (Err fault) = Unit {0}
