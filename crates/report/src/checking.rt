@@ -47,9 +47,10 @@ fn config_refusal(fault: ConfigFault) -> CheckFault
 /// for every gate, and however the threads take turns. Memory comes where a growth or a thread was refused, at whatever
 /// point. A reader that answers an error ends its text there, with the fault Read.
 ///
-/// A No and a broken rule speak of the machine too, over the first records of the order, which lists each core's records from the
-/// first one on. Before a No they are a run of the machine in which each rule holds, and it has no step that takes the next one.
-/// Up to a broken rule they are a run, and the view of the last one is the first that breaks a rule.
+/// A No and a broken rule speak of the machine too. The certificate's first pairs are then a lawful order of the first records of
+/// the recordings. Those before the place of a No are a run of the machine in which each rule holds, and the machine has no step
+/// that takes the record at the place. Those up to the place of a broken rule, with the one there, are a run, and the view there is
+/// the first that breaks a rule.
 ///
 /// All threads have ended when it answers. A reader that waits in a read of its own holds it until that read returns.
 pub fn check<T, R, C, G>(
