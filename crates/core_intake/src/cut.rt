@@ -12,13 +12,14 @@ pub struct Cut {
     pub slots: usize,
 }
 
-/// The cut of a depth: a batch is a quarter of it, so that batches go out while others wait.
+/// The cut of a depth: batches as long as it allows, since each send is paid for once. The thread makes the next batch while one
+/// waits.
 pub fn cut_of(depth: usize) -> Cut
     requires some { 0 < depth }
     ensures slots { 0 < result.slots }
     ensures bound { result.length * result.slots ≤ depth }
 {
-    let length = (depth / 4).clamp(1, LONGEST);
+    let length = depth.min(LONGEST);
     Cut {
         length,
         slots: depth / length,

@@ -33,7 +33,7 @@ impl<R: Read> Model for Intake<R> {
 
 impl<R: Read + Drop + Send + 'static> Intake<R> {
     /// Starts a thread for each reader, in the order of the cores. At most `depth` records of a core wait in its channel, in
-    /// batches of a quarter of `depth`, at least 1 and at most 256; one batch more stands at either end of it.
+    /// batches of `depth` and at most 256; one batch more stands at either end of it.
     ///
     /// NoDepth where the depth is 0. Memory where a growth or a thread was refused: the threads made so far are then stopped and
     /// joined, and the readers are given up.

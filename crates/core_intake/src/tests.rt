@@ -172,9 +172,9 @@ fn readers_do_not_run_ahead(rt: HostRuntime) -> Result<(), Fail> {
     let alloc = rt.alloc();
     for (depth, batch, waiting) in [
         (1, 1, 1),
-        (2, 1, 2),
-        (9, 2, 8),
-        (64, 16, 64),
+        (2, 2, 2),
+        (64, 64, 64),
+        (300, 256, 256),
         (4096, 256, 4096),
     ] {
         let trace = Trace::new(alloc)?;

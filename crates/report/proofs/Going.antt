@@ -1,18 +1,16 @@
 -- Rounds one behind another, up to the answer.
-use Rattle.std.proofs.Common.{◌≡◌, ◌≢◌, ◌⊎◌, ◌+◌, ◌∙◌, ℕ, List, [], ◌++◌, Option, Some, None, Result, Ok, Err, false, length, refl, sym, ap, subst, inl, inr, arith, append_assoc}
-use Rattle.std.proofs.lemmas.List.{append-nil}
+use Rattle.std.proofs.Common.{◌≡◌, ◌≢◌, ◌⊎◌, ◌+◌, ℕ, List, [], ◌++◌, Option, Some, None, Result, Ok, Err, length, refl, sym, ap, subst, inl, inr, arith, append_assoc}
+use Rattle.std.proofs.lemmas.List.{append-nil, length-append}
 use Rattle.apex_types.specs.declared.record.Ordered.{Ordered}
 use Rattle.apex_machine.specs.Configuration.{Configuration}
-use Rattle.apex_machine.specs.Runs.{ArePlaced}
 use Rattle.module_config.specs.declared.fault.ConfigFault.{ConfigFault}
 use Rattle.module_config.specs.declared.fault.ConfigFault.TheVariants as config
 use Rattle.module_config.specs.Reading.{configuration_of}
-use Rattle.order_cert.specs.Kept.{place_of}
 use Rattle.placement.specs.declared.fault.InputFault.{InputFault}
 use Rattle.placement.specs.declared.fault.InputFault.TheVariants as input
 use Rattle.placement.specs.declared.placer.Filled.{Filled}
 use Rattle.placement.specs.declared.placer.Filled.TheVariants.{Full, Ended}
-use Rattle.placement.specs.Lanes.{AreHonest, IsAhead, IsFilled, IsTheEnd, Lead, Placing}
+use Rattle.placement.specs.Lanes.{IsAhead, IsFilled, IsTheEnd, Lead, Placing}
 use Rattle.placement.specs.Scan.{Scan, led_by}
 use Rattle.placement.proofs.Ahead.{something_ahead}
 use Rattle.user_rules.specs.declared.broken.Broken.{Broken as BrokenView}
@@ -24,13 +22,14 @@ use Rattle.verdict_merge.specs.declared.verdict.Verdict.TheVariants.{Yes, Broken
 use Rattle.verdict_merge.specs.Rounds.{AllRun, IsRound, Judging, cold_parts, parts_of}
 use Rattle.verdict_merge.specs.Verdicts.{IsVerdictFrom, IsWatched, ViewsMeet, against, no_of}
 use Rattle.verdict_merge.specs.Views.{AreWanted}
-use Rattle.verdict_merge.proofs.Ruled.{ends_here, goes_on_here, verdict_on}
+use Rattle.verdict_merge.proofs.Rounds.{all_run_on}
+use Rattle.verdict_merge.proofs.Ruled.{ends_here, goes_on_here, meet_on, verdict_on}
 use Rattle.report.specs.declared.fault.CheckFault.{CheckFault}
 use Rattle.report.specs.declared.fault.ArgumentFault.{ArgumentFault}
 use Rattle.report.specs.declared.fault.CheckFault.TheVariants.{Arguments, Config, Memory}
 use Rattle.report.specs.declared.settings.Settings.{Settings}
 use Rattle.report.specs.Outcome.{IsJudged, IsOutcome, IsOutcomeBy, IsOutcomeWith, answer_with, argument_fault_of, config_refusal_of}
-use Rattle.report.specs.Rounds.{IsAnswer, IsJudgedRound, MayGoOn, answer_of}
+use Rattle.report.specs.Rounds.{IsDecided, IsLastAnswer, MayJudge}
 
 -- a fault of the configuration as the check tells it
 pub config_told : (fault : ConfigFault) → (fault ≡ config.Memory) ⊎ ((fault ≢ config.Memory) × (config_refusal_of fault ≡ Config fault))
@@ -59,44 +58,27 @@ decides_whatever first (Some found) None verdict end is =
     subst (λ one. Ok one ≡ answer_with one end) same refl
 decides_whatever first None None verdict end is = let none : ◌≡◌ {A = Option Verdict} None (Some verdict) = is in cc
 
-pub round_answers : (configuration : Configuration) (relations : List Relation) (old placed : Placing) (judging judged : Judging) (records : List Ordered) (found : Option Refused)
-    (broken : Option BrokenView) (filled : Filled) → MayGoOn configuration relations old judging → filled ≢ Ended (Err input.Memory) → (AreHonest placed.lanes → IsFilled old records filled placed)
-    → (filled ≡ Full → placed.ended ≡ false) → (filled ≡ Full → place_of placed.kept ≡ place_of old.kept + length records) → length placed.lanes ≡ length old.lanes
-    → ArePlaced judging.count records → judged.watched ≡ judging.watched → IsRound configuration judging records found judged
+pub round_decides : (configuration : Configuration) (relations : List Relation) (judging judged : Judging) (records : List Ordered) (found : Option Refused) (broken : Option BrokenView)
+    → MayJudge configuration relations judging records → judged.watched ≡ judging.watched → IsRound configuration judging records found judged
     → AreWanted judging.watched configuration (parts_of judging) records found judged.views → IsFirstBroken relations judged.views broken
-    → (decides : Option Verdict) → decides ≡ against judging.count found broken
-    → IsJudgedRound configuration relations old judging records (answer_of decides filled judged.count) placed judged
-round_answers configuration relations old placed judging judged records found broken Full may other filled going place lanes standing same round wanted first (Some verdict) is =
-    let more = something_ahead placed in λ honest.
-    inr (
-      led_by records more.0,
-      filled honest more.0 more.1,
-      (verdict, ends_here configuration relations judging judged records more.0.placed found judged.views broken verdict standing may.watched round wanted first (sym is), decides_whatever judging.count found broken verdict more.0.end (sym is)),
-    )
-round_answers configuration relations old placed judging judged records found broken (Ended end) may other filled going place lanes standing same round wanted first (Some verdict) is =
-    let ends = ends_here configuration relations judging judged records [] found judged.views broken verdict standing may.watched round wanted first (sym is) in λ honest.
-    inr (
-      record { placed = records; end = end },
-      the_end old records end (λ e. other (ap Ended e)) (filled honest),
-      (verdict, subst (λ list. IsVerdictFrom configuration relations (parts_of judging) judging.count list verdict) (append-nil records) ends, decides_whatever judging.count found broken verdict end (sym is)),
-    )
-round_answers configuration relations old placed judging judged records found broken Full may other filled going place lanes standing same round wanted first None is =
-    let on = goes_on_here configuration relations judging judged records found judged.views broken may.watched round wanted first (sym is) in (
-      filled,
-      on.0.0,
-      on.0.1,
-      on.1,
-      record {
-        ready = on.0.2;
-        watched = subst (IsWatched relations) (sym same) may.watched;
-        same = on.0.1 ∙ omega (arith, may.same, place refl);
-        going = going refl;
-        cores = lanes ∙ may.cores;
-      },
-    )
-round_answers configuration relations old placed judging judged records found broken (Ended end) may other filled going place lanes standing same round wanted first None is =
-    let on = goes_on_here configuration relations judging judged records found judged.views broken may.watched round wanted first (sym is) in λ honest.
-    inr (record { placed = records; end = end }, the_end old records end (λ e. other (ap Ended e)) (filled honest), (Yes judged.count, (omega (arith, on.0.1), (parts_of judged, on.0.0), on.1), refl))
+    → (decides : Option Verdict) → decides ≡ against judging.count found broken → IsDecided configuration relations judging records decides judged
+round_decides configuration relations judging judged records found broken may same round wanted first (Some verdict) is = (
+  (λ later. ends_here configuration relations judging judged records later found judged.views broken verdict may.placed may.watched round wanted first (sym is)),
+  λ end. decides_whatever judging.count found broken verdict end (sym is),
+)
+round_decides configuration relations judging judged records found broken may same round wanted first None is =
+    let on = goes_on_here configuration relations judging judged records found judged.views broken may.watched round wanted first (sym is) in
+    (on.0.0, on.0.1, on.1, on.0.2, subst (IsWatched relations) (sym same) may.watched)
+
+-- the answer over the last records, by what they decide
+pub last_decided : (configuration : Configuration) (relations : List Relation) (judging judged : Judging) (records : List Ordered) (end : Result (Unit {0}) InputFault) (verdict : Verdict)
+    → end ≢ Err input.Memory → IsDecided configuration relations judging records (Some verdict) judged → IsLastAnswer configuration relations judging records end (Ok verdict)
+last_decided configuration relations judging judged records end verdict other (over, final) =
+    inr (other, (verdict, subst (λ list. IsVerdictFrom configuration relations (parts_of judging) judging.count list verdict) (append-nil records) (over []), final end))
+
+pub last_undecided : (configuration : Configuration) (relations : List Relation) (judging judged : Judging) (records : List Ordered) (end : Result (Unit {0}) InputFault)
+    → end ≢ Err input.Memory → IsDecided configuration relations judging records None judged → IsLastAnswer configuration relations judging records end (answer_with (Yes judged.count) end)
+last_undecided configuration relations judging judged records end other (run, counted, meet, ready, watched) = inr (other, (Yes judged.count, (omega (arith, counted), (parts_of judged, run), meet), refl))
 
 -- round behind round
 
@@ -104,19 +86,64 @@ pub lead_join : (start now next : Placing) (before records : List Ordered) → L
 lead_join start now next before records first second scanned ahead =
     subst (λ placed. IsAhead start (record { placed = placed; end = scanned.end })) (sym (append_assoc before records scanned.placed)) (first (led_by records scanned) (second scanned ahead))
 
-pub answer_on : (configuration : Configuration) (relations : List Relation) (start now : Placing) (judging : Judging) (before : List Ordered) (answer : Result Verdict CheckFault) → Lead start before now
-    → AllRun configuration (cold_parts configuration) before (parts_of judging) → ViewsMeet configuration relations (cold_parts configuration) before → judging.count ≡ length before
-    → IsAnswer configuration relations now judging answer
+-- a round behind others is filled as all of them are
+pub filled_on : (start now next : Placing) (before records : List Ordered) (filled : Filled) → Lead start before now → IsFilled now records filled next → IsFilled start (before ++ records) filled next
+filled_on start now next before records Full lead is = lead_join start now next before records lead is
+filled_on start now next before records (Ended (Ok ended)) lead is = lead (record { placed = records; end = Ok ended }) is
+filled_on start now next before records (Ended (Err input.Memory)) lead is = tt
+filled_on start now next before records (Ended (Err (input.Cert place fault))) lead is = lead (record { placed = records; end = Err (input.Cert place fault) }) is
+filled_on start now next before records (Ended (Err (input.Order place core fault))) lead is = lead (record { placed = records; end = Err (input.Order place core fault) }) is
+filled_on start now next before records (Ended (Err (input.Row core seq fault))) lead is = lead (record { placed = records; end = Err (input.Row core seq fault) }) is
+
+-- these records were judged, and each of their views meets every relation
+abbrev pub AreBehind : Configuration → List Relation → List Ordered → Judging → Type 0
+AreBehind configuration relations before judging =
+    AllRun configuration (cold_parts configuration) before (parts_of judging) × ViewsMeet configuration relations (cold_parts configuration) before × (judging.count ≡ length before)
+
+-- the verdict over what is behind and what comes
+over_all : (configuration : Configuration) (relations : List Relation) (judging : Judging) (before records : List Ordered) (verdict : Verdict) → AreBehind configuration relations before judging
+    → IsVerdictFrom configuration relations (parts_of judging) judging.count records verdict → IsVerdictFrom configuration relations (cold_parts configuration) 0 (before ++ records) verdict
+over_all configuration relations judging before records verdict (run, meet, count) is =
+    verdict_on configuration relations (cold_parts configuration) (parts_of judging) 0 before records verdict run meet
+    (subst (λ n. IsVerdictFrom configuration relations (parts_of judging) n records verdict) (let e : judging.count ≡ 0 + length before = omega (arith, count) in e) is)
+
+-- the answer of a check whose last records are answered so
+pub last_on : (configuration : Configuration) (relations : List Relation) (start now : Placing) (judging : Judging) (before records : List Ordered) (end : Result (Unit {0}) InputFault) (answer : Result Verdict CheckFault)
+    → IsFilled start (before ++ records) (Ended end) now → AreBehind configuration relations before judging → IsLastAnswer configuration relations judging records end answer
     → (answer ≡ Err Memory) ⊎ ((scanned : Scan) × IsAhead start scanned × IsJudged configuration relations scanned answer)
-answer_on configuration relations start now judging before answer lead run meet count (inl memory) = inl memory
-answer_on configuration relations start now judging before answer lead run meet count (inr (scanned, ahead, (verdict, is, told))) =
-    let from : IsVerdictFrom configuration relations (parts_of judging) (0 + length before) scanned.placed verdict =
-    subst (λ n. IsVerdictFrom configuration relations (parts_of judging) n scanned.placed verdict) (let e : judging.count ≡ 0 + length before = omega (arith, count) in e) is in
+last_on configuration relations start now judging before records end answer filled behind (inl memory) = inl memory
+last_on configuration relations start now judging before records end answer filled behind (inr (other, (verdict, is, told))) =
     inr (
-      led_by before scanned,
-      lead scanned ahead,
-      (verdict, verdict_on configuration relations (cold_parts configuration) (parts_of judging) 0 before scanned.placed verdict run meet from, told),
+      record { placed = before ++ records; end = end },
+      the_end start (before ++ records) end other filled,
+      (verdict, over_all configuration relations judging before records verdict behind is, told),
     )
+
+-- the answer of a check in which a round decides
+pub decided_on : (configuration : Configuration) (relations : List Relation) (start now : Placing) (judging judged : Judging) (before records : List Ordered) (verdict : Verdict)
+    → Lead start (before ++ records) now → AreBehind configuration relations before judging → IsDecided configuration relations judging records (Some verdict) judged
+    → (Ok verdict ≡ Err Memory) ⊎ ((scanned : Scan) × IsAhead start scanned × IsJudged configuration relations scanned (Ok verdict))
+decided_on configuration relations start now judging judged before records verdict lead behind (over, final) =
+    let more = something_ahead now in
+    inr (
+      led_by (before ++ records) more.0,
+      lead more.0 more.1,
+      (
+        verdict,
+        subst (λ list. IsVerdictFrom configuration relations (cold_parts configuration) 0 list verdict) (sym (append_assoc before records more.0.placed))
+            (over_all configuration relations judging before (records ++ more.0.placed) verdict behind (over more.0.placed)),
+        final more.0.end,
+      ),
+    )
+
+-- what is behind once a round decided nothing
+pub behind_on : (configuration : Configuration) (relations : List Relation) (judging judged : Judging) (before records : List Ordered) → AreBehind configuration relations before judging
+    → IsDecided configuration relations judging records None judged → AreBehind configuration relations (before ++ records) judged
+behind_on configuration relations judging judged before records (run, meet, count) (more, counted, also, ready, watched) = (
+  all_run_on configuration (cold_parts configuration) (parts_of judging) (parts_of judged) before records run more,
+  meet_on configuration relations (cold_parts configuration) (parts_of judging) before records run meet also,
+  omega (arith, counted, count, length-append before records),
+)
 
 -- refusals of the configuration
 

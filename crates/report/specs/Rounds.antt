@@ -1,49 +1,55 @@
--- What one round answers, and what it leaves for the next.
-use Rattle.std.specs.Prelude.{◌≡◌, ◌+◌, ◌⊎◌, ℕ, List, Option, Some, None, Result, Ok, Err, false, length}
+-- What the records of a round decide, and how a round is placed.
+use Rattle.std.specs.Prelude.{◌≡◌, ◌≢◌, ◌+◌, ◌⊎◌, List, ◌++◌, Option, Some, None, Result, Ok, Err, false, length}
 use Rattle.apex_types.specs.declared.record.Ordered.{Ordered}
 use Rattle.apex_machine.specs.Configuration.{Configuration}
+use Rattle.apex_machine.specs.Runs.{ArePlaced, AreOfCores}
 use Rattle.order_cert.specs.Kept.{place_of}
+use Rattle.placement.specs.declared.fault.InputFault.{InputFault}
+use Rattle.placement.specs.declared.fault.InputFault.TheVariants as input
 use Rattle.placement.specs.declared.placer.Filled.{Filled}
-use Rattle.placement.specs.declared.placer.Filled.TheVariants.{Full, Ended}
-use Rattle.placement.specs.Lanes.{AreHonest, IsAhead, Lead, Placing}
-use Rattle.placement.specs.Scan.{Scan}
+use Rattle.placement.specs.declared.placer.Filled.TheVariants.{Full}
+use Rattle.placement.specs.Lanes.{AreHonest, IsFilled, Placing}
 use Rattle.user_rules.specs.declared.relation.Relation.{Relation}
 use Rattle.verdict_merge.specs.declared.verdict.Verdict.{Verdict}
-use Rattle.verdict_merge.specs.declared.verdict.Verdict.TheVariants.{Yes}
 use Rattle.verdict_merge.specs.Verdicts.{IsVerdictFrom, IsWatched, ViewsMeet}
 use Rattle.verdict_merge.specs.Rounds.{AllRun, IsReady, Judging, parts_of}
 use Rattle.report.specs.declared.fault.CheckFault.{CheckFault}
 use Rattle.report.specs.declared.fault.CheckFault.TheVariants.{Memory}
 use Rattle.report.specs.Outcome.{answer_with}
 
--- the answer of a check whose placer and judge have come so far: the verdict over records that are ahead, or the refusal behind
--- them; want of memory outranks it
-abbrev pub IsAnswer : Configuration → List Relation → Placing → Judging → Result Verdict CheckFault → Type 0
-IsAnswer configuration relations placing judging answer =
-    (answer ≡ Err Memory)
-    ⊎ ((scanned : Scan) × IsAhead placing scanned
-    × ((verdict : Verdict) × IsVerdictFrom configuration relations (parts_of judging) judging.count scanned.placed verdict × (answer ≡ answer_with verdict scanned.end)))
-
--- a placer and a judge may go on together: all pieces have judged the records before the next place, views are wanted where there is
--- a rule, and the input has not ended
-pub record MayGoOn (configuration : Configuration) (relations : List Relation) (placing : Placing) (judging : Judging) : Type 0 where
+-- all pieces may judge these records next: they have judged those before them, and views are wanted where there is a rule
+pub record MayJudge (configuration : Configuration) (relations : List Relation) (judging : Judging) (records : List Ordered) : Type 0 where
   pub ready : IsReady configuration judging
   pub watched : IsWatched relations judging.watched
-  pub same : judging.count ≡ place_of placing.kept
-  pub going : placing.ended ≡ false
-  pub cores : length placing.lanes ≡ configuration.cores
+  pub placed : ArePlaced judging.count records
+  pub cores : AreOfCores configuration.cores records
 
--- one round: where it has no answer, its records stood before all that is still ahead, each piece ran over them, and each of their
--- views meets every relation; what was ahead is known where the recordings were told honestly
-abbrev pub IsJudgedRound : Configuration → List Relation → Placing → Judging → List Ordered → Option (Result Verdict CheckFault) → Placing → Judging → Type 0
-IsJudgedRound configuration relations placing judging records None placed judged =
-    (AreHonest placed.lanes → Lead placing records placed) × AllRun configuration (parts_of judging) records (parts_of judged) × (judged.count ≡ judging.count + length records)
-    × ViewsMeet configuration relations (parts_of judging) records × MayGoOn configuration relations placed judged
-IsJudgedRound configuration relations placing judging records (Some answer) placed judged = AreHonest placed.lanes → IsAnswer configuration relations placing judging answer
+-- a verdict that stands however the input ends
+abbrev pub IsFinal : Verdict → Type 0
+IsFinal verdict = (end : Result (Unit {0}) InputFault) → Ok verdict ≡ answer_with verdict end
 
--- the answer behind a round: what decides against it; else, where the input has ended, Yes with this number of records or the
--- refusal behind them
-abbrev pub answer_of : Option Verdict → Filled → ℕ → Option (Result Verdict CheckFault)
-answer_of (Some verdict) filled count = Some (Ok verdict)
-answer_of None Full count = None
-answer_of None (Ended end) count = Some (answer_with (Yes count) end)
+-- what the records of a round decide: nothing, where each piece ran over them and each of their views meets every relation; or the
+-- verdict over them, whatever stands behind them
+abbrev pub IsDecided : Configuration → List Relation → Judging → List Ordered → Option Verdict → Judging → Type 0
+IsDecided configuration relations old records None new =
+    AllRun configuration (parts_of old) records (parts_of new) × (new.count ≡ old.count + length records)
+    × ViewsMeet configuration relations (parts_of old) records × IsReady configuration new × IsWatched relations new.watched
+IsDecided configuration relations old records (Some verdict) new =
+    ((later : List Ordered) → IsVerdictFrom configuration relations (parts_of old) old.count (records ++ later) verdict) × IsFinal verdict
+
+-- the answer over the last records, behind which the input ends so; want of memory outranks it
+abbrev pub IsLastAnswer : Configuration → List Relation → Judging → List Ordered → Result (Unit {0}) InputFault → Result Verdict CheckFault → Type 0
+IsLastAnswer configuration relations judging records end answer =
+    (answer ≡ Err Memory)
+    ⊎ ((end ≢ Err input.Memory)
+    × ((verdict : Verdict) × IsVerdictFrom configuration relations (parts_of judging) judging.count records verdict × (answer ≡ answer_with verdict end)))
+
+-- a round was filled so: its records stand at the next places, and what was ahead is known where the recordings were told honestly
+pub record IsPlaced (old : Placing) (records : List Ordered) (filled : Filled) (new : Placing) : Type 0 where
+  pub known : AreHonest new.lanes → IsFilled old records filled new
+  pub honest : AreHonest new.lanes → AreHonest old.lanes
+  pub placed : ArePlaced (place_of old.kept) records
+  pub cores : AreOfCores (length old.lanes) records
+  pub going : filled ≡ Full → new.ended ≡ false
+  pub place : filled ≡ Full → place_of new.kept ≡ place_of old.kept + length records
+  pub lanes : length new.lanes ≡ length old.lanes

@@ -1,12 +1,14 @@
 // The recording, judged in rounds.
 
-ghost use Rattle.std.specs.Prelude.{◌≡◌, ◌⊎◌, ◌≤◌, ◌↔◌, [], Err, IsTrue, length, false};
+ghost use Rattle.std.specs.Prelude.{◌≡◌, ◌⊎◌, ◌≤◌, ◌↔◌, [], Err, IfOk, IsTrue, length, false};
+ghost use Rattle.std.specs.Thread.{IsSync};
 ghost use Rattle.order_cert.specs.Kept.{place_of};
 ghost use Rattle.placement.specs.Lanes.{AreHonest, IsAhead};
 ghost use Rattle.placement.specs.Scan.{Scan};
 ghost use Rattle.user_rules.specs.Rules.{relations_of};
-ghost use Rattle.report.specs.Outcome.{IsJudged};
-ghost use Rattle.report.specs.Rounds.{IsJudgedRound, MayGoOn, answer_of};
+ghost use Rattle.verdict_merge.specs.declared.verdict.Verdict.TheVariants.{Yes};
+ghost use Rattle.report.specs.Outcome.{IsJudged, answer_with};
+ghost use Rattle.report.specs.Rounds.{IsDecided, IsLastAnswer, IsPlaced, MayJudge};
 
 use crate::fault::{CheckFault, refusal};
 use apex_types::Ordered;
@@ -15,13 +17,14 @@ use partition_workers::{Gate, Judge};
 use placement::{Filled, InputFault, Placer};
 use std::alloc::Global;
 use std::io::Read;
+use std::mem;
 use std::sync::Wait;
-use std::thread::Threads;
+use std::thread::{Threads, join_mut};
 use user_rules::{Rule, first_broken};
-use verdict_merge::Verdict;
+use verdict_merge::{Memory, Verdict};
 
-/// Judges all records that are ahead of the placer, in rounds of at most this many, each by so many workers. Behind a round with
-/// a finding nothing further is taken.
+/// Judges all records that are ahead of the placer, in rounds of at most this many, each by so many workers. While a round is
+/// judged the next one is filled; behind a round with a finding nothing further is taken than that one.
 ///
 /// What is promised holds once the placer's threads are joined, since it is known then what they read.
 pub fn judge_all<T: Threads + Wait + Sync, R: Read, C: Read, G: Gate + Sync>(
@@ -46,75 +49,145 @@ pub fn judge_all<T: Threads + Wait + Sync, R: Read, C: Read, G: Gate + Sync>(
     let Ok(mut round) = Vec::with_capacity(alloc, size) else {
         return Err(CheckFault::Memory);
     };
+    let Ok(mut next) = Vec::with_capacity(alloc, size) else {
+        return Err(CheckFault::Memory);
+    };
+    let mut filled = placer.fill(rt, &mut round, size);
     // There are fewer places than this many rounds.
     'rounds: for _ in 0..u64::MAX {
-        round.clear();
-        let answered = judge_round(
-            rt, config, placer, &mut judge, &mut round, rules, workers, gate, size,
-        );
-        if let Some(answer) = answered {
-            return answer;
+        match filled {
+            Filled::Full => {}
+            Filled::Ended(end) => {
+                return judge_last(rt, config, &mut judge, &round, rules, workers, gate, end);
+            }
         }
+        next.clear();
+        let (decided, coming) = judge_and_fill(
+            rt, config, &mut judge, &round, rules, workers, gate, placer, &mut next, size,
+        );
+        match decided {
+            Ok(None) => {}
+            Ok(Some(verdict)) => return Ok(verdict),
+            Err(_) => return Err(CheckFault::Memory),
+        }
+        mem::swap(&mut round, &mut next);
+        filled = coming;
     }
     Err(CheckFault::Memory)
 }
 
-// Fills a round and judges it: the answer of the check, or None where it goes on.
-fn judge_round<T: Threads + Wait + Sync, R: Read, C: Read, G: Gate + Sync>(
+// Judges a round and fills the next one: in a thread beside it where there are several workers, and behind it where there is one.
+fn judge_and_fill<T: Threads + Wait + Sync, R: Read, C: Read, G: Gate + Sync>(
     rt: &T,
     config: &Config,
-    placer: &mut Placer<R, C>,
     judge: &mut Judge,
-    round: &mut Vec<Ordered>,
+    round: &[Ordered],
     rules: &[Rule],
     workers: usize,
     gate: &G,
+    placer: &mut Placer<R, C>,
+    next: &mut Vec<Ordered>,
     size: usize,
-) -> Option<Result<Verdict, CheckFault>>
-    requires on { MayGoOn config.now (relations_of rules.now) placer.old judge.old }
-    requires empty { round.old.items ≡ [] }
-    ensures judged { IsJudgedRound config.now (relations_of rules.now) placer.old judge.old round.new.items result placer.new judge.new }
-    ensures honest { AreHonest placer.new.lanes → AreHonest placer.old.lanes }
+) -> (Result<Option<Verdict>, Memory>, Filled)
+    requires may { MayJudge config.now (relations_of rules.now) judge.old round.now }
+    requires going { placer.old.ended ≡ false }
+    requires empty { next.old.items ≡ [] }
+    ensures decided { IfOk result.0 (λ decided. IsDecided config.now (relations_of rules.now) judge.old round.now decided judge.new) }
+    ensures placed { IsPlaced placer.old next.new.items result.1 placer.new }
 {
-    let filled = placer.fill(rt, round, size);
-    if is_memory(filled) {
-        return Some(Err(CheckFault::Memory));
+    if workers == 1 {
+        let decided = judge_round(rt, config, judge, round, rules, workers, gate);
+        return (decided, fill(rt, placer, next, size));
     }
-    let found = match judge.round(rt, config, round, workers, gate) {
-        Ok(found) => found,
-        Err(_) => return Some(Err(CheckFault::Memory)),
-    };
-    let broken = first_broken(rt, rules, judge.views());
-    answer(
-        Verdict::against(round, found, broken),
-        filled,
-        judge.count(),
+    join_mut(
+        rt,
+        &mut ||
+            requires { IsSync T.row × IsSync G.row × MayJudge config.now (relations_of rules.now) judge.now round.now }
+            ensures { IfOk result (λ decided. IsDecided config.entry.now (relations_of rules.entry.now) judge.entry.now round.entry.now decided judge.exit.now) }
+        { judge_round(rt, config, judge, round, rules, workers, gate) },
+        &mut ||
+            requires { (placer.now.ended ≡ false) × (next.now.items ≡ []) }
+            ensures { IsPlaced placer.entry.now next.exit.now.items result placer.exit.now }
+        { fill(rt, placer, next, size) },
     )
 }
 
-// Whether memory was refused while a round was filled.
-fn is_memory(filled: Filled) -> bool
-    ensures { IsTrue result ↔ (filled ≡ Filled.Ended (Err InputFault.Memory)) }
+// Fills a round with the next records, up to this many of them.
+fn fill<T: Wait, R: Read, C: Read>(
+    rt: &T,
+    placer: &mut Placer<R, C>,
+    round: &mut Vec<Ordered>,
+    size: usize,
+) -> Filled
+    requires going { placer.old.ended ≡ false }
+    requires empty { round.old.items ≡ [] }
+    ensures { IsPlaced placer.old round.new.items result placer.new }
 {
-    match filled {
-        Filled::Ended(Err(InputFault::Memory)) => true,
+    placer.fill(rt, round, size)
+}
+
+// Judges the last round, behind which the input ends so.
+fn judge_last<T: Threads + Wait + Sync, G: Gate + Sync>(
+    rt: &T,
+    config: &Config,
+    judge: &mut Judge,
+    round: &[Ordered],
+    rules: &[Rule],
+    workers: usize,
+    gate: &G,
+    end: Result<(), InputFault>,
+) -> Result<Verdict, CheckFault>
+    requires may { MayJudge config.now (relations_of rules.now) judge.old round.now }
+    ensures { IsLastAnswer config.now (relations_of rules.now) judge.old round.now end result }
+{
+    if is_memory(end) {
+        return Err(CheckFault::Memory);
+    }
+    match judge_round(rt, config, judge, round, rules, workers, gate) {
+        Ok(Some(verdict)) => Ok(verdict),
+        Ok(None) => answer_at(end, judge.count()),
+        Err(_) => Err(CheckFault::Memory),
+    }
+}
+
+// Whether the input ended for want of memory.
+fn is_memory(end: Result<(), InputFault>) -> bool
+    ensures { IsTrue result ↔ (end ≡ Err InputFault.Memory) }
+{
+    match end {
+        Err(InputFault::Memory) => true,
         _ => false,
     }
 }
 
-// The answer behind a round: what decides against it; else, where the input has ended, Yes with the number of records judged
-// or the refusal behind them.
-fn answer(
-    against: Option<Verdict>,
-    filled: Filled,
-    count: u64,
-) -> Option<Result<Verdict, CheckFault>>
-    ensures { result ≡ answer_of against filled count }
+// The answer where nothing decides against the records: Yes with the number of those judged, or the refusal behind them.
+fn answer_at(end: Result<(), InputFault>, count: u64) -> Result<Verdict, CheckFault>
+    ensures { result ≡ answer_with (Yes count) end }
 {
-    match (against, filled) {
-        (Some(verdict), _) => Some(Ok(verdict)),
-        (None, Filled::Full) => None,
-        (None, Filled::Ended(Ok(()))) => Some(Ok(Verdict::Yes { records: count })),
-        (None, Filled::Ended(Err(fault))) => Some(Err(refusal(fault))),
+    match end {
+        Ok(()) => Ok(Verdict::Yes { records: count }),
+        Err(fault) => Err(refusal(fault)),
     }
+}
+
+// Judges the records of a round: what decides against them, if anything does.
+//
+// Memory where a growth or a thread was refused.
+fn judge_round<T: Threads + Wait + Sync, G: Gate + Sync>(
+    rt: &T,
+    config: &Config,
+    judge: &mut Judge,
+    round: &[Ordered],
+    rules: &[Rule],
+    workers: usize,
+    gate: &G,
+) -> Result<Option<Verdict>, Memory>
+    requires may { MayJudge config.now (relations_of rules.now) judge.old round.now }
+    ensures { IfOk result (λ decided. IsDecided config.now (relations_of rules.now) judge.old round.now decided judge.new) }
+{
+    let Ok(found) = judge.round(rt, config, round, workers, gate) else {
+        return Err(Memory);
+    };
+    let broken = first_broken(rt, rules, judge.views());
+    Ok(Verdict::against(round, found, broken))
 }

@@ -1,52 +1,57 @@
-use Rattle.std.proofs.Common.{◌∙◌, ◌+◌, ◌++◌, ◌∷◌, [], List, length, not, refl, sym, ap, subst, arith}
-use Rattle.std.proofs.lemmas.List.{length-append}
+use Rattle.std.proofs.Common.{◌++◌, ◌∙◌, List, Some, None, subst, sym, arith}
 use Rattle.apex_types.specs.declared.record.Ordered.{Ordered}
-use Rattle.verdict_merge.specs.Rounds.{cold_parts, parts_of}
-use Rattle.verdict_merge.proofs.Rounds.{all_run_on}
-use Rattle.apex_machine.specs.Configuration.{Configuration}
-use Rattle.user_rules.specs.declared.relation.Relation.{Relation}
+use Rattle.apex_machine.specs.Runs.{ArePlaced, AreOfCores}
+use Rattle.placement.specs.Lanes.{AreHonest, IsFilled, Lead}
 use Rattle.user_rules.specs.Rules.{relations_of}
-use Rattle.verdict_merge.specs.Verdicts.{IsWatched, ViewsMeet}
-use Rattle.verdict_merge.proofs.Ruled.{is_watched, meet_on}
-use Rattle.report.proofs.Going.{answer_on, lead_join}
+use Rattle.report.specs.Rounds.{IsDecided}
+use Rattle.report.proofs.Going.{behind_on, decided_on, filled_on, last_on}
 use Rattle.report.proofs.rounds.judge_all.Goals as goal
 
--- no record has a view yet
-none_yet : (configuration : Configuration) (relations : List Relation) → ViewsMeet configuration relations (cold_parts configuration) []
-none_yet configuration [] = tt
-none_yet configuration (relation ∷ relations) = ([], refl, λ index view within. absurd (omega (arith, within)))
-
-pub rounds-init : goal.rounds-init
-rounds-init g c = record {
-  may = record {
-    ready = c.in-Ok.ensures.ready;
-    watched = subst (IsWatched (relations_of c.args.rules.now)) (sym (c.in-Ok.ensures.watched ∙ ap not c.is_empty.ensures)) (is_watched (λ rule. rule.relation) c.args.rules.now);
-    same = c.in-Ok.ensures.count ∙ sym c.requires.first;
-    going = c.requires.going;
-    cores = c.requires.cores;
-  };
-  gone = ([], (λ honest scanned ahead. ahead), (λ number within. c.in-Ok.ensures.cold number within), none_yet c.args.config.now (relations_of c.args.rules.now), c.in-Ok.ensures.count);
-}
-
-pub returns-in-Some : goal.returns-in-Some
-returns-in-Some g c =
+pub returns-in-Ended : goal.returns-in-Ended
+returns-in-Ended g c =
     let gone = c.rounds.invariant.gone in λ honest.
-    answer_on c.args.config.now (relations_of c.args.rules.now) c.args.placer.now c.rounds.placer c.rounds.judge gone.0 c.in-Some.answer (gone.1 (c.judge_round-answered.ensures.honest honest)) gone.2 gone.3 gone.4 (c.in-Some.ensures.judged honest)
+    last_on c.args.config.now (relations_of c.args.rules.now) c.args.placer.now c.rounds.placer c.rounds.judge gone.0 c.rounds.round.items c.in-Ended.end c.judge_last.result
+    (subst (λ filled. IsFilled c.args.placer.now (gone.0 ++ c.rounds.round.items) filled c.rounds.placer) c.in-Ended.is (gone.1 honest)) gone.2
+    (rw c.deref.ensures.value at c.judge_last.ensures)
+
+pub returns-in-Ok-Some : goal.returns-in-Ok-Some
+returns-in-Ok-Some g c =
+    let gone = c.rounds.invariant.gone in
+    let round : List Ordered = c.rounds.round.items in
+    let lead : AreHonest c.rounds.placer.lanes → Lead c.args.placer.now (gone.0 ++ round) c.rounds.placer =
+    λ honest. subst (λ filled. IsFilled c.args.placer.now (gone.0 ++ round) filled c.rounds.placer) c.in-Full.is (gone.1 honest) in
+    let decided : IsDecided c.args.config.now (relations_of c.args.rules.now) c.rounds.judge round (Some c.in-Ok-Some.verdict) c.judge_and_fill-decided.new.judge =
+    rw c.in-Ok-Some.field-0-is at (rw c.in-Ok-Some.is at (rw c.deref-in-rounds.ensures.value at c.judge_and_fill-decided.ensures.decided)) in λ honest.
+    decided_on c.args.config.now (relations_of c.args.rules.now) c.args.placer.now c.rounds.placer c.rounds.judge c.judge_and_fill-decided.new.judge gone.0 round c.in-Ok-Some.verdict
+    (lead (c.judge_and_fill-decided.ensures.placed.honest honest)) gone.2 decided
 
 pub rounds-preserved : goal.rounds-preserved
 rounds-preserved g c =
     let config = c.args.config.now in
-    let gone = c.rounds.invariant.gone in
-    let before : List Ordered = gone.0 in
-    let records = c.judge_round-answered.new.round.items in
-    let round = rw c.in_default-answered.is at c.judge_round-answered.ensures.judged in
-    record {
-      may = round.4;
+    let relations = relations_of c.args.rules.now in
+    let is = c.rounds.invariant in
+    let gone = is.gone in
+    let round : List Ordered = c.rounds.round.items in
+    let next : List Ordered = c.judge_and_fill-decided.new.next.items in
+    let placed = c.judge_and_fill-decided.ensures.placed in
+    let lead : AreHonest c.rounds.placer.lanes → Lead c.args.placer.now (gone.0 ++ round) c.rounds.placer =
+    λ honest. subst (λ filled. IsFilled c.args.placer.now (gone.0 ++ round) filled c.rounds.placer) c.in-Full.is (gone.1 honest) in
+    let decided : IsDecided config relations c.rounds.judge round None c.judge_and_fill-decided.new.judge =
+    rw c.in-Ok-None.field-0-is at (rw c.in-Ok-None.is at (rw c.deref-in-rounds.ensures.value at c.judge_and_fill-decided.ensures.decided)) in
+    let count = decided.1 ∙ sym (is.place c.in-Full.is) in
+    rw c.swap.ensures.x_after record {
+      may = record {
+        ready = decided.3;
+        watched = decided.4;
+        placed = subst (λ place. ArePlaced place next) (sym count) placed.placed;
+        cores = subst (λ cores. AreOfCores cores next) is.lanes placed.cores;
+      };
       gone = (
-        before ++ records,
-        (λ honest. lead_join c.args.placer.now c.rounds.placer c.judge_round-answered.new.placer before records (gone.1 (c.judge_round-answered.ensures.honest honest)) (round.0 honest)),
-        all_run_on config (cold_parts config) (parts_of c.rounds.judge) (parts_of c.judge_round-answered.new.judge) before records gone.2 round.1,
-        meet_on config (relations_of c.args.rules.now) (cold_parts config) (parts_of c.rounds.judge) before records gone.2 gone.3 round.3,
-        round.2 ∙ ap (λ n. n + length records) gone.4 ∙ sym (length-append before records),
+        gone.0 ++ round,
+        (λ honest. filled_on c.args.placer.now c.rounds.placer c.judge_and_fill-decided.new.placer (gone.0 ++ round) next c.judge_and_fill-decided.result.1 (lead (placed.honest honest)) (placed.known honest)),
+        behind_on config relations c.rounds.judge c.judge_and_fill-decided.new.judge gone.0 round gone.2 decided,
       );
+      going = placed.going;
+      place = λ full. omega (arith, count, placed.place full);
+      lanes = omega (arith, placed.lanes, is.lanes);
     }

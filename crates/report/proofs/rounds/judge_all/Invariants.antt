@@ -1,14 +1,18 @@
-use Rattle.std.proofs.Common.{◌≡◌, List, length}
+use Rattle.std.proofs.Common.{◌≡◌, ◌+◌, ◌++◌, List, false, length}
 use Rattle.apex_types.specs.declared.record.Ordered.{Ordered}
-use Rattle.placement.specs.Lanes.{AreHonest, Lead}
-use Rattle.verdict_merge.specs.Rounds.{AllRun, cold_parts, parts_of}
+use Rattle.order_cert.specs.Kept.{place_of}
+use Rattle.placement.specs.declared.placer.Filled.TheVariants.{Full}
+use Rattle.placement.specs.Lanes.{AreHonest, IsFilled}
 use Rattle.user_rules.specs.Rules.{relations_of}
-use Rattle.verdict_merge.specs.Verdicts.{ViewsMeet}
-use Rattle.report.specs.Rounds.{MayGoOn}
+use Rattle.report.specs.Rounds.{MayJudge}
+use Rattle.report.proofs.Going.{AreBehind}
 use Rattle.report.proofs.rounds.judge_all.Given as goal
 
 abbrev pub invariant-rounds : goal.invariant-rounds
 invariant-rounds g l = record {
-  may : MayGoOn l.config (relations_of l.rules) l.placer l.judge;
-  gone : (before : List Ordered) × (AreHonest l.placer.lanes → Lead l.fn.placer before l.placer) × AllRun l.config (cold_parts l.config) before (parts_of l.judge) × ViewsMeet l.config (relations_of l.rules) (cold_parts l.config) before × (l.judge.count ≡ length before);
+  may : MayJudge l.config (relations_of l.rules) l.judge l.round.items;
+  gone : (before : List Ordered) × (AreHonest l.placer.lanes → IsFilled l.fn.placer (before ++ l.round.items) l.filled l.placer) × AreBehind l.config (relations_of l.rules) before l.judge;
+  going : l.filled ≡ Full → l.placer.ended ≡ false;
+  place : l.filled ≡ Full → place_of l.placer.kept ≡ l.judge.count + length l.round.items;
+  lanes : length l.placer.lanes ≡ l.config.cores;
 }

@@ -1,0 +1,21 @@
+use Rattle.std.proofs.Common.{◌≢◌, ◌∙◌, ap, subst, sym, true≢false, Err}
+use Rattle.placement.specs.declared.fault.InputFault.TheVariants as input
+use Rattle.user_rules.specs.Rules.{relations_of}
+use Rattle.verdict_merge.specs.declared.verdict.Verdict.TheVariants.{Yes}
+use Rattle.report.specs.Outcome.{answer_with}
+use Rattle.report.specs.Rounds.{IsLastAnswer}
+use Rattle.report.proofs.Going.{last_decided, last_undecided}
+use Rattle.report.proofs.rounds.judge_last.Goals as goal
+
+pub returns-in-Ok-Some : goal.returns-in-Ok-Some
+returns-in-Ok-Some g c =
+    let other : c.args.end ≢ Err input.Memory = λ e. true≢false (sym (c.is_memory.ensures.1 e) ∙ c.if-is_memory.false) in
+    last_decided c.args.config.now (relations_of c.args.rules.now) c.args.judge.now c.judge_round.new.judge c.args.round.now c.args.end c.in-Ok-Some.verdict other
+    (rw c.in-Ok-Some.field-0-is at c.in-Ok-Some.ensures)
+
+pub returns-in-Ok-None : goal.returns-in-Ok-None
+returns-in-Ok-None g c =
+    let other : c.args.end ≢ Err input.Memory = λ e. true≢false (sym (c.is_memory.ensures.1 e) ∙ c.if-is_memory.false) in
+    subst (IsLastAnswer c.args.config.now (relations_of c.args.rules.now) c.args.judge.now c.args.round.now c.args.end)
+    (sym (c.answer_at.ensures ∙ ap (λ count. answer_with (Yes count) c.args.end) c.count.ensures))
+    (last_undecided c.args.config.now (relations_of c.args.rules.now) c.args.judge.now c.judge_round.new.judge c.args.round.now c.args.end other (rw c.in-Ok-None.field-0-is at c.in-Ok-None.ensures))
