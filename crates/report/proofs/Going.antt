@@ -1,8 +1,9 @@
 -- Rounds one behind another, up to the answer.
-use Rattle.std.proofs.Common.{◌≡◌, ◌≢◌, ◌⊎◌, ◌+◌, ℕ, List, [], ◌++◌, Option, Some, None, Result, Ok, Err, length, refl, sym, ap, subst, inl, inr, arith, append_assoc}
+use Rattle.std.proofs.Common.{◌≡◌, ◌≢◌, ◌⊎◌, ◌+◌, ◌∙◌, ℕ, List, [], ◌++◌, Option, Some, None, Result, Ok, Err, length, map, refl, sym, ap, subst, inl, inr, arith, append_assoc}
 use Rattle.std.proofs.lemmas.List.{append-nil, length-append}
 use Rattle.apex_types.specs.declared.record.Ordered.{Ordered}
 use Rattle.apex_machine.specs.Configuration.{Configuration}
+use Rattle.apex_machine.specs.Runs.{ArePlaced}
 use Rattle.module_config.specs.declared.fault.ConfigFault.{ConfigFault}
 use Rattle.module_config.specs.declared.fault.ConfigFault.TheVariants as config
 use Rattle.module_config.specs.Reading.{configuration_of}
@@ -16,6 +17,7 @@ use Rattle.placement.proofs.Ahead.{something_ahead}
 use Rattle.user_rules.specs.declared.broken.Broken.{Broken as BrokenView}
 use Rattle.user_rules.specs.declared.relation.Relation.{Relation}
 use Rattle.user_rules.specs.FirstBroken.{IsFirstBroken}
+use Rattle.circular_buffer.specs.Buffer.{keep_last}
 use Rattle.verdict_merge.specs.declared.finding.Refused.{Refused}
 use Rattle.verdict_merge.specs.declared.verdict.Verdict.{Verdict}
 use Rattle.verdict_merge.specs.declared.verdict.Verdict.TheVariants.{Yes, Broken}
@@ -28,8 +30,11 @@ use Rattle.report.specs.declared.fault.CheckFault.{CheckFault}
 use Rattle.report.specs.declared.fault.ArgumentFault.{ArgumentFault}
 use Rattle.report.specs.declared.fault.CheckFault.TheVariants.{Arguments, Config, Memory}
 use Rattle.report.specs.declared.settings.Settings.{Settings}
+use Rattle.report.specs.declared.last.LastItem.{LastItem}
+use Rattle.report.specs.Last.{item_of, kept_behind, last_of, most_last}
 use Rattle.report.specs.Outcome.{IsJudged, IsOutcome, IsOutcomeBy, IsOutcomeWith, answer_with, argument_fault_of, config_refusal_of}
 use Rattle.report.specs.Rounds.{IsDecided, IsLastAnswer, MayJudge}
+use Rattle.report.proofs.LastOnes.{answer_within, kept_is_last, verdict_within}
 
 -- a fault of the configuration as the check tells it
 pub config_told : (fault : ConfigFault) → (fault ≡ config.Memory) ⊎ ((fault ≢ config.Memory) × (config_refusal_of fault ≡ Config fault))
@@ -107,24 +112,33 @@ over_all configuration relations judging before records verdict (run, meet, coun
     verdict_on configuration relations (cold_parts configuration) (parts_of judging) 0 before records verdict run meet
     (subst (λ n. IsVerdictFrom configuration relations (parts_of judging) n records verdict) (let e : judging.count ≡ 0 + length before = omega (arith, count) in e) is)
 
+-- the answer over what is ahead, and the last records before its place
+abbrev pub IsToldOf : Configuration → List Relation → Placing → Result Verdict CheckFault → List LastItem → Type 0
+IsToldOf configuration relations start answer last =
+    (scanned : Scan) × IsAhead start scanned × IsJudged configuration relations scanned answer × (last ≡ last_of answer scanned.placed)
+
 -- the answer of a check whose last records are answered so
 pub last_on : (configuration : Configuration) (relations : List Relation) (start now : Placing) (judging : Judging) (before records : List Ordered) (end : Result (Unit {0}) InputFault) (answer : Result Verdict CheckFault)
-    → IsFilled start (before ++ records) (Ended end) now → AreBehind configuration relations before judging → IsLastAnswer configuration relations judging records end answer
-    → (answer ≡ Err Memory) ⊎ ((scanned : Scan) × IsAhead start scanned × IsJudged configuration relations scanned answer)
-last_on configuration relations start now judging before records end answer filled behind (inl memory) = inl memory
-last_on configuration relations start now judging before records end answer filled behind (inr (other, (verdict, is, told))) =
+    → IsFilled start (before ++ records) (Ended end) now → AreBehind configuration relations before judging → ArePlaced judging.count records
+    → IsLastAnswer configuration relations judging records end answer
+    → (answer ≡ Err Memory) ⊎ IsToldOf configuration relations start answer (kept_behind answer judging.count (keep_last most_last (map item_of before)) records)
+last_on configuration relations start now judging before records end answer filled behind placed (inl memory) = inl memory
+last_on configuration relations start now judging before records end answer filled behind placed (inr (other, (verdict, is, told))) =
     inr (
       record { placed = before ++ records; end = end },
       the_end start (before ++ records) end other filled,
       (verdict, over_all configuration relations judging before records verdict behind is, told),
+      kept_is_last answer judging.count before records [] behind.2 (answer_within verdict end judging.count records answer told (verdict_within configuration relations (parts_of judging) judging.count records verdict placed is))
+          ∙ ap (last_of answer) (append-nil (before ++ records)),
     )
 
 -- the answer of a check in which a round decides
 pub decided_on : (configuration : Configuration) (relations : List Relation) (start now : Placing) (judging judged : Judging) (before records : List Ordered) (verdict : Verdict)
-    → Lead start (before ++ records) now → AreBehind configuration relations before judging → IsDecided configuration relations judging records (Some verdict) judged
-    → (Ok verdict ≡ Err Memory) ⊎ ((scanned : Scan) × IsAhead start scanned × IsJudged configuration relations scanned (Ok verdict))
-decided_on configuration relations start now judging judged before records verdict lead behind (over, final) =
+    → Lead start (before ++ records) now → AreBehind configuration relations before judging → ArePlaced judging.count records → IsDecided configuration relations judging records (Some verdict) judged
+    → (Ok verdict ≡ Err Memory) ⊎ IsToldOf configuration relations start (Ok verdict) (kept_behind (Ok verdict) judging.count (keep_last most_last (map item_of before)) records)
+decided_on configuration relations start now judging judged before records verdict lead behind placed (over, final) =
     let more = something_ahead now in
+    let here = subst (λ list. IsVerdictFrom configuration relations (parts_of judging) judging.count list verdict) (append-nil records) (over []) in
     inr (
       led_by (before ++ records) more.0,
       lead more.0 more.1,
@@ -134,6 +148,7 @@ decided_on configuration relations start now judging judged before records verdi
             (over_all configuration relations judging before (records ++ more.0.placed) verdict behind (over more.0.placed)),
         final more.0.end,
       ),
+      kept_is_last (Ok verdict) judging.count before records more.0.placed behind.2 (verdict_within configuration relations (parts_of judging) judging.count records verdict placed here),
     )
 
 -- what is behind once a round decided nothing

@@ -32,6 +32,8 @@ use Rattle.verdict_merge.specs.Refusals.{IsBrokenAt, IsRefusedAt, IsRunUpToNo}
 use Rattle.verdict_merge.specs.Verdicts.{IsRunWhereYes}
 use Rattle.report.specs.declared.fault.CheckFault.{CheckFault}
 use Rattle.report.specs.declared.fault.CheckFault.TheVariants as refusal
+use Rattle.report.specs.declared.last.LastItem.{LastItem}
+use Rattle.report.specs.Last.{IsLastOf, last_before, last_of, settled}
 use Rattle.report.specs.No.{IsLawfulUpTo, NoMeansRefusal}
 use Rattle.report.specs.Outcome.{answer_with, items_at}
 use Rattle.report.specs.Yes.{AreInOrder, YesMeansRun}
@@ -299,6 +301,27 @@ no_means config texts certificate relations configuration scanned verdict (Ok (N
 no_means config texts certificate relations configuration scanned verdict (Ok (Broken place rule)) read count scan run e =
     let is = found_of verdict (Broken place rule) scanned.end (λ count yes. cc) e in
     lawful_up_to config texts certificate (λ one records. IsBrokenAt one relations records place rule) configuration scanned read count scan (subst (IsRunUpToNo configuration relations scanned.placed) is run)
+
+-- what is told behind an answer over what was scanned is of the records that its meaning is about
+pub last_means : (config : List ℕ) (texts : List (List ℕ)) (certificate : List ℕ) (relations : List Relation) (configuration : Configuration) (scanned : Scan) (verdict : Verdict) (result : Result Verdict CheckFault)
+    (last : List LastItem) → configuration_of config ≡ Ok configuration → length texts ≡ configuration.cores
+    → IsScanOf (length texts) none_taken 0 (items_at texts) (pairs_of certificate) scanned → IsRunUpToNo configuration relations scanned.placed verdict → result ≡ answer_with verdict scanned.end
+    → last ≡ last_of result scanned.placed → IsLastOf config texts certificate relations result (settled result last)
+last_means config texts certificate relations configuration scanned verdict (Err fault) last read count scan run e told = refl
+last_means config texts certificate relations configuration scanned verdict (Ok (Yes records)) last read count scan run e told = told
+last_means config texts certificate relations configuration scanned verdict (Ok (No place piece cause)) last read count scan run e told =
+    let is = found_of verdict (No place piece cause) scanned.end (λ count yes. cc) e in
+    lawful_up_to config texts certificate (λ one records. IsRefusedAt one relations records place × (last ≡ last_before place records)) configuration scanned read count scan
+    (subst (IsRunUpToNo configuration relations scanned.placed) is run, told)
+last_means config texts certificate relations configuration scanned verdict (Ok (Broken place rule)) last read count scan run e told =
+    let is = found_of verdict (Broken place rule) scanned.end (λ count yes. cc) e in
+    lawful_up_to config texts certificate (λ one records. IsBrokenAt one relations records place rule × (last ≡ last_before place records)) configuration scanned read count scan
+    (subst (IsRunUpToNo configuration relations scanned.placed) is run, told)
+
+-- nothing is told behind want of memory
+pub none_behind_memory : (config : List ℕ) (texts : List (List ℕ)) (certificate : List ℕ) (relations : List Relation) (result : Result Verdict CheckFault) (last : List LastItem) → result ≡ Err refusal.Memory
+    → IsLastOf config texts certificate relations result (settled result last)
+none_behind_memory config texts certificate relations result last e = subst (λ one. IsLastOf config texts certificate relations one (settled one last)) (sym e) refl
 
 -- want of memory is no Yes and no No
 pub memory_means : (config : List ℕ) (texts : List (List ℕ)) (certificate : List ℕ) (relations : List Relation) (result : Result Verdict CheckFault) → result ≡ Err refusal.Memory

@@ -1,3 +1,4 @@
 pub mod Lawful
 pub mod Whole
 pub mod Going
+pub mod LastOnes

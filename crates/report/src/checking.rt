@@ -2,11 +2,13 @@
 
 ghost use Rattle.std.specs.Prelude.{◌≡◌, ◌≤◌, ℕ, List, Some, map};
 ghost use Rattle.user_rules.specs.Rules.{relations_of};
+ghost use Rattle.report.specs.Last.{IsLastOf};
 ghost use Rattle.report.specs.No.{NoMeansRefusal};
 ghost use Rattle.report.specs.Outcome.{IsOutcome, config_refusal_of};
 ghost use Rattle.report.specs.Yes.{YesMeansRun};
 
 use crate::fault::{ArgumentFault, CheckFault};
+use crate::last::Last;
 use crate::rounds::judge_all;
 use crate::settings::Settings;
 use core_intake::Intake;
@@ -85,8 +87,46 @@ where
     )
 }
 
-/// The same check with rounds of at most this many records, from 1 to 4,096. No more is held at a time than a round, and of each
-/// core what was read ahead. Behind a round in which a record is refused nothing further is taken, and the threads are stopped.
+/// The same check, which leaves the last records before the place of a No or of a broken rule, at most eight; none behind any other
+/// answer.
+pub fn check_with_last<T, R, C, G>(
+    rt: T,
+    alloc: Global,
+    config: &[u8],
+    readers: Vec<R>,
+    cert: C,
+    rules: &[Rule],
+    settings: Settings,
+    gate: &G,
+    last: &mut Last,
+) -> Result<Verdict, CheckFault>
+where
+    T: Threads + Wait + Sync + Copy + Send + 'static,
+    R: Read + Drop + Send + 'static,
+    C: Read + Drop,
+    G: Gate + Sync,
+    ensures outcome { (texts : List (List ℕ)) (certificate : List ℕ) → map (λ reader. R.remaining reader) readers.items ≡ map Some texts → C.remaining cert ≡ Some certificate → IsOutcome settings config.now texts certificate (relations_of rules.now) result }
+    ensures yes { (texts : List (List ℕ)) (certificate : List ℕ) → map (λ reader. R.remaining reader) readers.items ≡ map Some texts → C.remaining cert ≡ Some certificate → YesMeansRun config.now texts certificate (relations_of rules.now) result }
+    ensures no { (texts : List (List ℕ)) (certificate : List ℕ) → map (λ reader. R.remaining reader) readers.items ≡ map Some texts → C.remaining cert ≡ Some certificate → NoMeansRefusal config.now texts certificate (relations_of rules.now) result }
+    ensures last { (texts : List (List ℕ)) (certificate : List ℕ) → map (λ reader. R.remaining reader) readers.items ≡ map Some texts → C.remaining cert ≡ Some certificate → IsLastOf config.now texts certificate (relations_of rules.now) result last.new }
+{
+    check_keeping(
+        rt,
+        alloc,
+        config,
+        readers,
+        cert,
+        rules,
+        settings,
+        gate,
+        MOST_RECORDS,
+        last,
+    )
+}
+
+/// The same check with rounds of at most this many records, from 1 to 4,096. No more is held at a time than two rounds, of which one
+/// is judged while the other is filled, and of each core what was read ahead. Behind a round in which a record is refused no more
+/// is taken than the round that was filled meanwhile, and the threads are stopped.
 pub fn check_in_rounds<T, R, C, G>(
     rt: T,
     alloc: Global,
@@ -109,6 +149,40 @@ where
     ensures yes { (texts : List (List ℕ)) (certificate : List ℕ) → map (λ reader. R.remaining reader) readers.items ≡ map Some texts → C.remaining cert ≡ Some certificate → YesMeansRun config.now texts certificate (relations_of rules.now) result }
     ensures no { (texts : List (List ℕ)) (certificate : List ℕ) → map (λ reader. R.remaining reader) readers.items ≡ map Some texts → C.remaining cert ≡ Some certificate → NoMeansRefusal config.now texts certificate (relations_of rules.now) result }
 {
+    let Ok(mut last) = Last::new(alloc) else {
+        return Err(CheckFault::Memory);
+    };
+    check_keeping(
+        rt, alloc, config, readers, cert, rules, settings, gate, size, &mut last,
+    )
+}
+
+/// The check in rounds, which keeps the last records.
+pub(crate) fn check_keeping<T, R, C, G>(
+    rt: T,
+    alloc: Global,
+    config: &[u8],
+    readers: Vec<R>,
+    cert: C,
+    rules: &[Rule],
+    settings: Settings,
+    gate: &G,
+    size: usize,
+    last: &mut Last,
+) -> Result<Verdict, CheckFault>
+where
+    T: Threads + Wait + Sync + Copy + Send + 'static,
+    R: Read + Drop + Send + 'static,
+    C: Read + Drop,
+    G: Gate + Sync,
+    requires least { 1 ≤ size }
+    requires most { size ≤ 4096 }
+    ensures outcome { (texts : List (List ℕ)) (certificate : List ℕ) → map (λ reader. R.remaining reader) readers.items ≡ map Some texts → C.remaining cert ≡ Some certificate → IsOutcome settings config.now texts certificate (relations_of rules.now) result }
+    ensures yes { (texts : List (List ℕ)) (certificate : List ℕ) → map (λ reader. R.remaining reader) readers.items ≡ map Some texts → C.remaining cert ≡ Some certificate → YesMeansRun config.now texts certificate (relations_of rules.now) result }
+    ensures no { (texts : List (List ℕ)) (certificate : List ℕ) → map (λ reader. R.remaining reader) readers.items ≡ map Some texts → C.remaining cert ≡ Some certificate → NoMeansRefusal config.now texts certificate (relations_of rules.now) result }
+    ensures last { (texts : List (List ℕ)) (certificate : List ℕ) → map (λ reader. R.remaining reader) readers.items ≡ map Some texts → C.remaining cert ≡ Some certificate → IsLastOf config.now texts certificate (relations_of rules.now) result last.new }
+{
+    last.clear();
     if let Some(fault) = settings.fault() {
         return Err(CheckFault::Arguments(fault));
     }
@@ -125,7 +199,18 @@ where
     config.keeps_limits();
     let mut placer = Placer::new(intake, CertSource::new(alloc, cert));
     let workers = settings.workers;
-    let answer = judge_all(&rt, alloc, &config, &mut placer, rules, workers, gate, size);
+    let answer = judge_all(
+        &rt,
+        alloc,
+        &config,
+        &mut placer,
+        rules,
+        workers,
+        gate,
+        size,
+        last,
+    );
     placer.close(&rt);
+    last.settle(&answer);
     answer
 }

@@ -14,6 +14,7 @@
 
 mod checking;
 mod fault;
+mod last;
 mod laws;
 mod names;
 mod relations;
@@ -21,8 +22,9 @@ mod rounds;
 mod settings;
 mod text;
 
-pub use checking::{MOST_RECORDS, check, check_in_rounds};
+pub use checking::{MOST_RECORDS, check, check_in_rounds, check_with_last};
 pub use fault::{ArgumentFault, CheckFault};
+pub use last::{Last, LastItem};
 pub use laws::settings_change_no_outcome;
 pub use partition_workers::{Gate, Open};
 pub use relations::check_relations;

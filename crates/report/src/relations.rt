@@ -1,12 +1,14 @@
 // The check under relations that have no tests of their own.
 
 ghost use Rattle.std.specs.Prelude.{◌≡◌, ◌≤◌, ℕ, List, Some, map};
+ghost use Rattle.report.specs.Last.{IsLastOf};
 ghost use Rattle.report.specs.No.{NoMeansRefusal};
 ghost use Rattle.report.specs.Outcome.{IsOutcome};
 ghost use Rattle.report.specs.Yes.{YesMeansRun};
 
-use crate::checking::check_in_rounds;
+use crate::checking::check_keeping;
 use crate::fault::CheckFault;
+use crate::last::Last;
 use crate::settings::Settings;
 use apex_types::View;
 use partition_workers::Gate;
@@ -17,7 +19,8 @@ use std::thread::Threads;
 use user_rules::{Relation, Rule, Test};
 use verdict_merge::Verdict;
 
-/// What `check_in_rounds` answers where the rules are these relations, each of which is its own test.
+/// What `check_in_rounds` answers where the rules are these relations, each of which is its own test; it leaves what
+/// `check_with_last` does.
 pub fn check_relations<T, R, C, G>(
     rt: T,
     alloc: Global,
@@ -28,6 +31,7 @@ pub fn check_relations<T, R, C, G>(
     settings: Settings,
     gate: &G,
     size: usize,
+    last: &mut Last,
 ) -> Result<Verdict, CheckFault>
 where
     T: Threads + Wait + Sync + Copy + Send + 'static,
@@ -39,7 +43,9 @@ where
     ensures outcome { (texts : List (List ℕ)) (certificate : List ℕ) → map (λ reader. R.remaining reader) readers.items ≡ map Some texts → C.remaining cert ≡ Some certificate → IsOutcome settings config.now texts certificate relations.items result }
     ensures yes { (texts : List (List ℕ)) (certificate : List ℕ) → map (λ reader. R.remaining reader) readers.items ≡ map Some texts → C.remaining cert ≡ Some certificate → YesMeansRun config.now texts certificate relations.items result }
     ensures no { (texts : List (List ℕ)) (certificate : List ℕ) → map (λ reader. R.remaining reader) readers.items ≡ map Some texts → C.remaining cert ≡ Some certificate → NoMeansRefusal config.now texts certificate relations.items result }
+    ensures last { (texts : List (List ℕ)) (certificate : List ℕ) → map (λ reader. R.remaining reader) readers.items ≡ map Some texts → C.remaining cert ≡ Some certificate → IsLastOf config.now texts certificate relations.items result last.new }
 {
+    last.clear();
     let mut rules = Vec::new(alloc);
     for relation in relations {
         let Ok(tested) = relation.clone() else {
@@ -53,7 +59,7 @@ where
             return Err(CheckFault::Memory);
         }
     }
-    check_in_rounds(
-        rt, alloc, config, readers, cert, &rules, settings, gate, size,
+    check_keeping(
+        rt, alloc, config, readers, cert, &rules, settings, gate, size, last,
     )
 }

@@ -7,10 +7,12 @@ ghost use Rattle.placement.specs.Lanes.{AreHonest, IsAhead};
 ghost use Rattle.placement.specs.Scan.{Scan};
 ghost use Rattle.user_rules.specs.Rules.{relations_of};
 ghost use Rattle.verdict_merge.specs.declared.verdict.Verdict.TheVariants.{Yes};
+ghost use Rattle.report.specs.Last.{last_of};
 ghost use Rattle.report.specs.Outcome.{IsJudged, answer_with};
 ghost use Rattle.report.specs.Rounds.{IsDecided, IsLastAnswer, IsPlaced, MayJudge};
 
 use crate::fault::{CheckFault, refusal};
+use crate::last::Last;
 use apex_types::Ordered;
 use module_config::Config;
 use partition_workers::{Gate, Judge};
@@ -26,7 +28,8 @@ use verdict_merge::{Memory, Verdict};
 /// Judges all records that are ahead of the placer, in rounds of at most this many, each by so many workers. While a round is
 /// judged the next one is filled; behind a round with a finding nothing further is taken than that one.
 ///
-/// What is promised holds once the placer's threads are joined, since it is known then what they read.
+/// What is promised holds once the placer's threads are joined, since it is known then what they read. Behind a No the last
+/// records before it are kept.
 pub fn judge_all<T: Threads + Wait + Sync, R: Read, C: Read, G: Gate + Sync>(
     rt: &T,
     alloc: Global,
@@ -36,13 +39,15 @@ pub fn judge_all<T: Threads + Wait + Sync, R: Read, C: Read, G: Gate + Sync>(
     workers: usize,
     gate: &G,
     size: usize,
+    last: &mut Last,
 ) -> Result<Verdict, CheckFault>
     requires least { 1 ≤ size }
     requires going { placer.old.ended ≡ false }
     requires first { place_of placer.old.kept ≡ 0 }
     requires cores { length placer.old.lanes ≡ config.now.cores }
-    ensures { AreHonest placer.new.lanes → (result ≡ Err CheckFault.Memory) ⊎ ((scanned : Scan) × IsAhead placer.old scanned × IsJudged config.now (relations_of rules.now) scanned result) }
+    ensures { AreHonest placer.new.lanes → (result ≡ Err CheckFault.Memory) ⊎ ((scanned : Scan) × IsAhead placer.old scanned × IsJudged config.now (relations_of rules.now) scanned result × (last.new ≡ last_of result scanned.placed)) }
 {
+    last.clear();
     let Ok(mut judge) = Judge::start(alloc, config, !rules.is_empty()) else {
         return Err(CheckFault::Memory);
     };
@@ -55,10 +60,13 @@ pub fn judge_all<T: Threads + Wait + Sync, R: Read, C: Read, G: Gate + Sync>(
     let mut filled = placer.fill(rt, &mut round, size);
     // There are fewer places than this many rounds.
     'rounds: for _ in 0..u64::MAX {
+        let first = judge.count();
         match filled {
             Filled::Full => {}
             Filled::Ended(end) => {
-                return judge_last(rt, config, &mut judge, &round, rules, workers, gate, end);
+                let answer = judge_last(rt, config, &mut judge, &round, rules, workers, gate, end);
+                last.keep_behind(&answer, first, &round);
+                return answer;
             }
         }
         next.clear();
@@ -66,8 +74,12 @@ pub fn judge_all<T: Threads + Wait + Sync, R: Read, C: Read, G: Gate + Sync>(
             rt, config, &mut judge, &round, rules, workers, gate, placer, &mut next, size,
         );
         match decided {
-            Ok(None) => {}
-            Ok(Some(verdict)) => return Ok(verdict),
+            Ok(None) => last.keep(&round),
+            Ok(Some(verdict)) => {
+                let answer = Ok(verdict);
+                last.keep_behind(&answer, first, &round);
+                return answer;
+            }
             Err(_) => return Err(CheckFault::Memory),
         }
         mem::swap(&mut round, &mut next);

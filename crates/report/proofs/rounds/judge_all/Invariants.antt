@@ -1,9 +1,11 @@
-use Rattle.std.proofs.Common.{◌≡◌, ◌+◌, ◌++◌, List, false, length}
+use Rattle.std.proofs.Common.{◌≡◌, ◌+◌, ◌++◌, List, false, length, map}
 use Rattle.apex_types.specs.declared.record.Ordered.{Ordered}
 use Rattle.order_cert.specs.Kept.{place_of}
 use Rattle.placement.specs.declared.placer.Filled.TheVariants.{Full}
 use Rattle.placement.specs.Lanes.{AreHonest, IsFilled}
+use Rattle.circular_buffer.specs.Buffer.{keep_last}
 use Rattle.user_rules.specs.Rules.{relations_of}
+use Rattle.report.specs.Last.{item_of, most_last}
 use Rattle.report.specs.Rounds.{MayJudge}
 use Rattle.report.proofs.Going.{AreBehind}
 use Rattle.report.proofs.rounds.judge_all.Given as goal
@@ -11,7 +13,7 @@ use Rattle.report.proofs.rounds.judge_all.Given as goal
 abbrev pub invariant-rounds : goal.invariant-rounds
 invariant-rounds g l = record {
   may : MayJudge l.config (relations_of l.rules) l.judge l.round.items;
-  gone : (before : List Ordered) × (AreHonest l.placer.lanes → IsFilled l.fn.placer (before ++ l.round.items) l.filled l.placer) × AreBehind l.config (relations_of l.rules) before l.judge;
+  gone : (before : List Ordered) × (AreHonest l.placer.lanes → IsFilled l.fn.placer (before ++ l.round.items) l.filled l.placer) × AreBehind l.config (relations_of l.rules) before l.judge × (l.last ≡ keep_last most_last (map item_of before));
   going : l.filled ≡ Full → l.placer.ended ≡ false;
   place : l.filled ≡ Full → place_of l.placer.kept ≡ l.judge.count + length l.round.items;
   lanes : length l.placer.lanes ≡ l.config.cores;

@@ -1,4 +1,4 @@
-use Rattle.std.proofs.Common.{◌≢◌, ◌∙◌, ap, subst, sym, true≢false, Err}
+use Rattle.std.proofs.Common.{◌≢◌, ◌∙◌, subst, sym, true≢false, Err}
 use Rattle.placement.specs.declared.fault.InputFault.TheVariants as input
 use Rattle.user_rules.specs.Rules.{relations_of}
 use Rattle.verdict_merge.specs.declared.verdict.Verdict.TheVariants.{Yes}
@@ -16,6 +16,6 @@ returns-in-Ok-Some g c =
 pub returns-in-Ok-None : goal.returns-in-Ok-None
 returns-in-Ok-None g c =
     let other : c.args.end ≢ Err input.Memory = λ e. true≢false (sym (c.is_memory.ensures.1 e) ∙ c.if-is_memory.false) in
-    subst (IsLastAnswer c.args.config.now (relations_of c.args.rules.now) c.args.judge.now c.args.round.now c.args.end)
-    (sym (c.answer_at.ensures ∙ ap (λ count. answer_with (Yes count) c.args.end) c.count.ensures))
-    (last_undecided c.args.config.now (relations_of c.args.rules.now) c.args.judge.now c.judge_round.new.judge c.args.round.now c.args.end other (rw c.in-Ok-None.field-0-is at c.in-Ok-None.ensures))
+    subst (λ answer. IsLastAnswer c.args.config.now (relations_of c.args.rules.now) c.args.judge.now c.args.round.now c.args.end answer) (sym c.answer_at.ensures)
+    (subst (λ count. IsLastAnswer c.args.config.now (relations_of c.args.rules.now) c.args.judge.now c.args.round.now c.args.end (answer_with (Yes count) c.args.end)) (sym c.count.ensures)
+    (last_undecided c.args.config.now (relations_of c.args.rules.now) c.args.judge.now c.judge_round.new.judge c.args.round.now c.args.end other (rw c.in-Ok-None.field-0-is at c.in-Ok-None.ensures)))

@@ -4,14 +4,15 @@ use Rattle.order_cert.specs.Row.{pairs_of}
 use Rattle.placement.specs.Lanes.{IsScanOf}
 use Rattle.report.specs.declared.fault.ArgumentFault.TheVariants.{ReaderCount}
 use Rattle.report.specs.declared.fault.CheckFault.TheVariants.{Arguments}
+use Rattle.report.specs.Last.{IsLastOf}
 use Rattle.report.specs.Outcome.{IsOutcomeBy, argument_fault_of, items_at}
 use Rattle.report.proofs.Going.{IsOutcomeOf, refused_outcome, refused_settings, with_settings}
-use Rattle.report.proofs.Lawful.{memory_means, no_means, scan_placed, yes_means}
+use Rattle.report.proofs.Lawful.{last_means, memory_means, no_means, none_behind_memory, scan_placed, yes_means}
 use Rattle.report.proofs.Whole.{known_lanes, other_count, outcome_under, scanned_texts}
 use Rattle.user_rules.specs.Rules.{relations_of}
 use Rattle.verdict_merge.proofs.Refusing.{run_up_to_no}
 use Rattle.verdict_merge.proofs.Ruled.{run_where_yes}
-use Rattle.report.proofs.checking.check_in_rounds.Goals as goal
+use Rattle.report.proofs.checking.check_keeping.Goals as goal
 
 pub returns-in-Some-clause-outcome : goal.returns-in-Some-clause-outcome
 returns-in-Some-clause-outcome g c = λ texts certificate e is.
@@ -43,7 +44,7 @@ returns-clause-outcome g c = λ texts certificate e is.
     with_settings c.args.settings c.args.config.now texts certificate (relations_of c.args.rules.now) c.judge_all-answer.result none
     (elim (c.judge_all-answer.ensures c.close.ensures.honest) [
       | inl memory ↦ inl memory
-      | inr (scanned, ahead, judged) ↦
+      | inr (scanned, ahead, judged, told) ↦
           let scan : IsScanOf (length texts) none_taken 0 (items_at texts) (pairs_of certificate) scanned =
           scanned_texts (λ reader. g.R.Read.remaining reader) c.args.readers.items texts certificate (g.C.Read.remaining c.args.cert) c.new-placer.result scanned
           e is (c.new-placer.ensures.lanes ∙ c.in-Ok-open.ensures.open) (c.new-placer.ensures.pairs ∙ c.new.ensures.left) c.new-placer.ensures.taken c.new-placer.ensures.place ahead in
@@ -59,7 +60,7 @@ returns-clause-yes g c = λ texts certificate e is.
     let count : length texts ≡ config.cores = sym lanes.0 ∙ readers in
     elim (c.judge_all-answer.ensures c.close.ensures.honest) [
       | inl memory ↦ (memory_means c.args.config.now texts certificate (relations_of c.args.rules.now) c.judge_all-answer.result memory).0
-      | inr (scanned, ahead, (verdict, found, answer)) ↦
+      | inr (scanned, ahead, (verdict, found, answer), told) ↦
           let scan : IsScanOf (length texts) none_taken 0 (items_at texts) (pairs_of certificate) scanned =
           scanned_texts (λ reader. g.R.Read.remaining reader) c.args.readers.items texts certificate (g.C.Read.remaining c.args.cert) c.new-placer.result scanned
           e is (c.new-placer.ensures.lanes ∙ c.in-Ok-open.ensures.open) (c.new-placer.ensures.pairs ∙ c.new.ensures.left) c.new-placer.ensures.taken c.new-placer.ensures.place ahead in
@@ -75,10 +76,28 @@ returns-clause-no g c = λ texts certificate e is.
     let count : length texts ≡ config.cores = sym lanes.0 ∙ readers in
     elim (c.judge_all-answer.ensures c.close.ensures.honest) [
       | inl memory ↦ (memory_means c.args.config.now texts certificate (relations_of c.args.rules.now) c.judge_all-answer.result memory).1
-      | inr (scanned, ahead, (verdict, found, answer)) ↦
+      | inr (scanned, ahead, (verdict, found, answer), told) ↦
           let scan : IsScanOf (length texts) none_taken 0 (items_at texts) (pairs_of certificate) scanned =
           scanned_texts (λ reader. g.R.Read.remaining reader) c.args.readers.items texts certificate (g.C.Read.remaining c.args.cert) c.new-placer.result scanned
           e is (c.new-placer.ensures.lanes ∙ c.in-Ok-open.ensures.open) (c.new-placer.ensures.pairs ∙ c.new.ensures.left) c.new-placer.ensures.taken c.new-placer.ensures.place ahead in
           no_means c.args.config.now texts certificate (relations_of c.args.rules.now) config scanned verdict c.judge_all-answer.result c.in-Ok.ensures.value count scan
           (run_up_to_no config (relations_of c.args.rules.now) scanned.placed verdict c.keeps_limits.ensures.windows c.keeps_limits.ensures.ends (scan_placed (length texts) (items_at texts) (pairs_of certificate) scanned scan) found) answer
     ]
+
+pub returns-clause-last : goal.returns-clause-last
+returns-clause-last g c = λ texts certificate e is.
+    let config = c.in-Ok.config in
+    let relations = relations_of c.args.rules.now in
+    let lanes = known_lanes (λ reader. g.R.Read.remaining reader) c.args.readers.items texts e in
+    let readers : length c.args.readers.items ≡ config.cores = omega arith in
+    let count : length texts ≡ config.cores = sym lanes.0 ∙ readers in
+    subst (IsLastOf c.args.config.now texts certificate relations c.judge_all-answer.result) (sym c.settle.ensures)
+    (elim (c.judge_all-answer.ensures c.close.ensures.honest) [
+      | inl memory ↦ none_behind_memory c.args.config.now texts certificate relations c.judge_all-answer.result c.judge_all-answer.new.last memory
+      | inr (scanned, ahead, (verdict, found, answer), told) ↦
+          let scan : IsScanOf (length texts) none_taken 0 (items_at texts) (pairs_of certificate) scanned =
+          scanned_texts (λ reader. g.R.Read.remaining reader) c.args.readers.items texts certificate (g.C.Read.remaining c.args.cert) c.new-placer.result scanned
+          e is (c.new-placer.ensures.lanes ∙ c.in-Ok-open.ensures.open) (c.new-placer.ensures.pairs ∙ c.new.ensures.left) c.new-placer.ensures.taken c.new-placer.ensures.place ahead in
+          last_means c.args.config.now texts certificate relations config scanned verdict c.judge_all-answer.result c.judge_all-answer.new.last c.in-Ok.ensures.value count scan
+          (run_up_to_no config relations scanned.placed verdict c.keeps_limits.ensures.windows c.keeps_limits.ensures.ends (scan_placed (length texts) (items_at texts) (pairs_of certificate) scanned scan) found) answer told
+    ])

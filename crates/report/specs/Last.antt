@@ -1,0 +1,81 @@
+-- The last records before the place where a check says No.
+use Rattle.std.specs.Prelude.{◌≡◌, ◌-◌, ◌++◌, ℕ, List, [], ◌∷◌, Result, Ok, Err, codes, decimal, map, take}
+use Rattle.apex_types.specs.declared.record.Body.{Body}
+use Rattle.apex_types.specs.declared.record.Body.TheVariants as body
+use Rattle.apex_types.specs.declared.record.Ordered.{Ordered}
+use Rattle.circular_buffer.specs.Buffer.{keep_last}
+use Rattle.record_read.specs.declared.kind.Kind.{Kind}
+use Rattle.record_read.specs.declared.kind.Kind.TheVariants as kind
+use Rattle.user_rules.specs.declared.relation.Relation.{Relation}
+use Rattle.verdict_merge.specs.declared.verdict.Verdict.{Verdict}
+use Rattle.verdict_merge.specs.declared.verdict.Verdict.TheVariants.{Yes, No, Broken}
+use Rattle.verdict_merge.specs.Refusals.{IsBrokenAt, IsRefusedAt}
+use Rattle.report.specs.declared.fault.CheckFault.{CheckFault}
+use Rattle.report.specs.declared.last.LastItem.{LastItem}
+use Rattle.report.specs.No.{IsLawfulUpTo}
+
+-- the most records that are told
+abbrev pub most_last : ℕ
+most_last = 8
+
+-- the kind of what was recorded
+abbrev pub kind_in : Body → Kind
+kind_in (body.Call call) = kind.Call
+kind_in (body.Ret ret) = kind.Ret
+kind_in (body.Disp who) = kind.Disp
+kind_in (body.Tick woken) = kind.Tick
+
+-- a record as it is told: its place in the proposed order, its core, its number there and its kind
+abbrev pub item_of : Ordered → LastItem
+item_of ordered = record { place = ordered.pos; core = ordered.core; seq = ordered.rec.seq; kind = kind_in ordered.rec.body }
+
+-- the last of the records before a place, the earliest first, where the records stand at the places 0, 1, 2, ..
+abbrev pub last_before : ℕ → List Ordered → List LastItem
+last_before place records = keep_last most_last (map item_of (take place records))
+
+-- what is told behind an answer over these records: the last before the place of a No or of a broken rule, and none behind any other
+abbrev pub last_of : Result Verdict CheckFault → List Ordered → List LastItem
+last_of (Ok (No pos piece cause)) records = last_before pos records
+last_of (Ok (Broken pos rule)) records = last_before pos records
+last_of (Ok (Yes count)) records = []
+last_of (Err fault) records = []
+
+-- what is kept behind an answer, where these were kept before, and the records that come next begin at this place
+abbrev pub kept_behind : Result Verdict CheckFault → ℕ → List LastItem → List Ordered → List LastItem
+kept_behind (Ok (No pos piece cause)) first kept records = keep_last most_last (kept ++ map item_of (take (pos - first) records))
+kept_behind (Ok (Broken pos rule)) first kept records = keep_last most_last (kept ++ map item_of (take (pos - first) records))
+kept_behind (Ok (Yes count)) first kept records = []
+kept_behind (Err fault) first kept records = []
+
+-- what stays of these behind an answer: nothing behind a refusal and want of memory
+abbrev pub settled : Result Verdict CheckFault → List LastItem → List LastItem
+settled (Ok verdict) kept = kept
+settled (Err fault) kept = []
+
+-- what is told behind the answer of a check of these texts: of the records that the answer's meaning is about, the last before its place
+abbrev pub IsLastOf : List ℕ → List (List ℕ) → List ℕ → List Relation → Result Verdict CheckFault → List LastItem → Type 0
+IsLastOf config texts certificate relations (Ok (No pos piece cause)) last =
+    IsLawfulUpTo config texts certificate (λ configuration records. IsRefusedAt configuration relations records pos × (last ≡ last_before pos records))
+IsLastOf config texts certificate relations (Ok (Broken pos rule)) last =
+    IsLawfulUpTo config texts certificate (λ configuration records. IsBrokenAt configuration relations records pos rule × (last ≡ last_before pos records))
+IsLastOf config texts certificate relations (Ok (Yes count)) last = last ≡ []
+IsLastOf config texts certificate relations (Err fault) last = last ≡ []
+
+-- the text of the last records, a line for each
+
+-- the name of a kind
+abbrev pub kind_name : Kind → List ℕ
+kind_name kind.Call = codes "call"
+kind_name kind.Ret = codes "ret"
+kind_name kind.Disp = codes "disp"
+kind_name kind.Tick = codes "tick"
+
+-- the line of one record
+abbrev pub last_line : LastItem → List ℕ
+last_line item =
+    codes "LAST place=" ++ (decimal item.place ++ (codes " core=" ++ (decimal item.core ++ (codes " seq=" ++ (decimal item.seq ++ (codes " kind=" ++ (kind_name item.kind ++ codes "\n")))))))
+
+-- the lines of these records, in their order
+abbrev pub last_lines : List LastItem → List ℕ
+last_lines [] = []
+last_lines (item ∷ items) = last_line item ++ last_lines items
