@@ -15,6 +15,7 @@
 mod checking;
 mod fault;
 mod last;
+mod last_text;
 mod laws;
 mod names;
 mod relations;
@@ -25,6 +26,7 @@ mod text;
 pub use checking::{MOST_RECORDS, check, check_in_rounds, check_with_last};
 pub use fault::{ArgumentFault, CheckFault};
 pub use last::{Last, LastItem};
+pub use last_text::write_last;
 pub use laws::settings_change_no_outcome;
 pub use partition_workers::{Gate, Open};
 pub use relations::check_relations;
