@@ -80,7 +80,8 @@ impl Judge {
     /// no piece refuses one; else the least refusal, after which no further round is judged. The gate is told of each claim and
     /// each post.
     ///
-    /// NoWorkers where there is no worker. Memory where a growth or a thread was refused, after which no further round is judged.
+    /// NoWorkers where there is no worker; nothing is changed then. Memory where a growth or a thread was refused, after which no
+    /// further round is judged.
     pub fn round<G: Gate + Sync, R: Threads + Wait + Sync>(
         &mut self,
         rt: &R,
@@ -96,6 +97,7 @@ impl Judge {
         ensures viewed { IfOk result (λ found. AreWanted self.old.watched config.now (parts_of self.old) records.now found self.new.views) }
         ensures watched { self.new.watched ≡ self.old.watched }
         ensures no_workers { result ≡ Err RoundFault.NoWorkers ↔ workers ≡ 0 }
+        ensures unchanged { result ≡ Err RoundFault.NoWorkers → self.new ≡ self.old }
     {
         if workers == 0 {
             return Err(RoundFault::NoWorkers);

@@ -7,7 +7,8 @@
 //! that breaks a rule; and for every number of workers the answer is that of one. A report that is answered as written went out
 //! whole.
 //!
-//! No more is held at a time than a round of records and, of each core, what was read ahead: the depth and two batches.
+//! No more is held at a time than two rounds of records, of which one is judged while the other is filled, and of each core what was
+//! read ahead: the depth and two batches.
 //!
 //! Whoever has relations, and no tests of their own, calls `check_relations`.
 #![tactic(auto)]
