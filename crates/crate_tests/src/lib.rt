@@ -1,5 +1,6 @@
 //! What no clause says: what comes of readers and writers that fail in mid-stream, that workers and readers work beside
-//! one another, what comes of waiting sets in ample memory and under a refusal, and of a semaphore by itself.
+//! one another, what a check leaves of the last records, the verdict at once, what comes of waiting sets in ample memory and under a
+//! refusal, and of a semaphore by itself.
 //!
 //! Promises: nothing; the crate is tests alone. They stand here, and not in the crates that they test, so that those
 //! are proved once. Whole recordings are the data of `case_runner`.
@@ -13,6 +14,8 @@ mod readers;
 mod texts;
 #[cfg(test)]
 mod threads;
+#[cfg(test)]
+mod verdicts;
 #[cfg(test)]
 mod waiting;
 #[cfg(test)]

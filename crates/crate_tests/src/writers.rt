@@ -9,9 +9,9 @@ use std::test::Fail;
 
 // Takes two bytes at a time, while it has room.
 #[derive(Drop)]
-struct Narrow<'a> {
-    taken: &'a mut Vec<u8>,
-    room: usize,
+pub struct Narrow<'a> {
+    pub taken: &'a mut Vec<u8>,
+    pub room: usize,
 }
 
 impl<'a> Write for Narrow<'a> {

@@ -1,0 +1,160 @@
+// The verdict at once, without rounds, and the last records before a No.
+
+ghost use Rattle.std.specs.Prelude.{◌≡◌, IfOk, length, false};
+ghost use Rattle.order_cert.specs.Kept.{place_of};
+
+use crate::texts::{CONFIG, ORDER, RECORDING};
+use crate::writers::Narrow;
+use apex_types::{Cause, CoreId, Ordered, Place};
+use core_intake::{Intake, IntakeFault};
+use module_config::Config;
+use order_cert::CertSource;
+use placement::{Filled, Placer};
+use record_read::Kind;
+use report::{Last, LastItem, Open, Settings, Verdict, check_with_last, write_last};
+use sink::WriterSink;
+use std::alloc::Global;
+use std::sync::Wait;
+use std::test::Fail;
+use std::thread::Threads;
+use verdict_merge::check_plain;
+
+// The recording of the wait, whose second tick wakes nobody.
+const MISSED: &str = "\
+0,disp,0,0,,,,,,,,,,,,
+1,call,0,0,CREATE_PROCESS,10,-1,,P1,,0,NO_ERROR,1,,,
+2,ret,0,0,CREATE_PROCESS,,,,,,,NO_ERROR,1,,,
+3,call,0,0,START,1,,,,,0,NO_ERROR,,,,
+4,ret,0,0,START,,,,,,,NO_ERROR,,,,
+5,call,0,0,SET_PARTITION_MODE,3,,,,,0,none,,,,
+6,disp,0,1,,,,,,,,,,,,
+7,call,0,1,TIMED_WAIT,2,,,,,10,wait,,,,
+8,disp,,,,,,,,,,,,,,
+9,tick,,,,,,,,,,,,,,
+10,tick,,,,,,,,,,,,,,
+11,disp,0,1,,,,,,,,,,,,
+12,ret,0,1,TIMED_WAIT,,,,,,,NO_ERROR,,,,
+";
+
+const LINES: &str = "\
+LAST place=2 core=0 seq=2 kind=ret
+LAST place=3 core=0 seq=3 kind=call
+LAST place=4 core=0 seq=4 kind=ret
+LAST place=5 core=0 seq=5 kind=call
+LAST place=6 core=0 seq=6 kind=disp
+LAST place=7 core=0 seq=7 kind=call
+LAST place=8 core=0 seq=8 kind=disp
+LAST place=9 core=0 seq=9 kind=tick
+";
+
+// What has to come of the second recording: the piece of the partition refuses the tick of record 10.
+fn missed() -> Verdict {
+    Verdict::No {
+        pos: Place::new(10),
+        piece: 1,
+        cause: Cause::Woken,
+    }
+}
+
+#[test]
+fn last_records_are_left(rt: HostRuntime) -> Result<(), Fail> {
+    let alloc = rt.alloc();
+    let settings = Settings {
+        workers: 2,
+        depth: 4,
+    };
+    let mut last = Last::new(alloc)?;
+    for (text, outcome, count) in [
+        (MISSED, missed(), 8),
+        (RECORDING, Verdict::Yes { records: 13 }, 0),
+    ] {
+        let answer = check_with_last(
+            rt,
+            alloc,
+            CONFIG.as_bytes(),
+            vec![in alloc; text.as_bytes()]?,
+            ORDER.as_bytes(),
+            &[],
+            settings,
+            &Open,
+            &mut last,
+        );
+        assert_eq!(rt; answer, Ok(outcome));
+        assert_eq!(rt; last.len(), count);
+        assert!(rt; last.get(count).is_none());
+        let mut taken = Vec::new(alloc);
+        let mut sink = WriterSink::new(Narrow {
+            taken: &mut taken,
+            room: 1000,
+        });
+        assert_eq!(rt; write_last(&mut sink, &last), Ok(()));
+        drop(sink);
+        let lines = if count == 0 { "" } else { LINES };
+        assert_eq!(rt; taken.as_slice(), lines.as_bytes());
+    }
+    Ok(())
+}
+
+#[test]
+fn the_earliest_comes_first(rt: HostRuntime) -> Result<(), Fail> {
+    let alloc = rt.alloc();
+    let mut last = Last::new(alloc)?;
+    let answer = check_with_last(
+        rt,
+        alloc,
+        CONFIG.as_bytes(),
+        vec![in alloc; MISSED.as_bytes()]?,
+        ORDER.as_bytes(),
+        &[],
+        Settings {
+            workers: 1,
+            depth: 64,
+        },
+        &Open,
+        &mut last,
+    );
+    assert_eq!(rt; answer, Ok(missed()));
+    let earliest = LastItem {
+        place: Place::new(2),
+        core: CoreId::new(0),
+        seq: 2,
+        kind: Kind::Ret,
+    };
+    assert!(rt; last.get(0).is_some_and(|item| *item == earliest));
+    Ok(())
+}
+
+// A placer of one recording, which stands before its first record.
+fn placer_of<T: Threads + Wait + Copy + Send + 'static>(
+    rt: T,
+    alloc: Global,
+    text: &'static str,
+) -> Result<Placer<&'static [u8], &'static [u8]>, IntakeFault>
+    ensures going { IfOk result (λ placer. placer.ended ≡ false) }
+    ensures first { IfOk result (λ placer. place_of placer.kept ≡ 0) }
+    ensures lanes { IfOk result (λ placer. length placer.lanes ≡ 1) }
+{
+    let Ok(readers) = vec![in alloc; text.as_bytes()] else {
+        return Err(IntakeFault::Memory);
+    };
+    let intake = match Intake::open(rt, alloc, readers, 2) {
+        Ok(intake) => intake,
+        Err(fault) => return Err(fault),
+    };
+    Ok(Placer::new(intake, CertSource::new(alloc, ORDER.as_bytes())))
+}
+
+#[test]
+fn a_recording_is_judged_at_once(rt: HostRuntime) -> Result<(), Fail> {
+    let alloc = rt.alloc();
+    let config = Config::read(alloc, CONFIG.as_bytes())?;
+    assert_eq!(rt; config.cores(), 1);
+    for (text, verdict) in [(RECORDING, Verdict::Yes { records: 13 }), (MISSED, missed())] {
+        let mut placer = placer_of(rt, alloc, text)?;
+        let mut records: Vec<Ordered> = Vec::new(alloc);
+        assert!(rt; matches!(placer.fill(&rt, &mut records, 64), Filled::Ended(Ok(()))));
+        placer.close(&rt);
+        assert_eq!(rt; check_plain(alloc, &config, &records, &[]), Ok(verdict));
+    }
+    Ok(())
+}
