@@ -1,7 +1,11 @@
--- How a run of the program ends: its exit status and its line.
-use Rattle.std.specs.Prelude.{ℕ, List, ◌++◌, Ok, Err, codes, decimal}
+-- How a run of the program ends: its exit status and its text.
+use Rattle.std.specs.Prelude.{ℕ, List, [], ◌++◌, Option, Some, None, Result, Ok, Err, codes, decimal}
+use Rattle.verdict_merge.specs.declared.verdict.Verdict.{Verdict}
 use Rattle.verdict_merge.specs.declared.verdict.Verdict.TheVariants.{Yes, No, Broken}
+use Rattle.report.specs.declared.fault.CheckFault.{CheckFault}
 use Rattle.report.specs.declared.fault.CheckFault.TheVariants as fault
+use Rattle.report.specs.declared.last.LastItem.{LastItem}
+use Rattle.report.specs.Last.{last_lines}
 use Rattle.report.specs.Text.{report_of}
 use Rattle.rules_file.specs.declared.fault.RuleFault.{RuleFault}
 use Rattle.rules_file.specs.declared.fault.RuleFault.TheVariants as rule
@@ -10,17 +14,21 @@ use Rattle.rules_file.specs.declared.fault.RulesFault.TheVariants as rules
 use Rattle.apexcheck.specs.declared.ending.Ending.{Ending}
 use Rattle.apexcheck.specs.declared.ending.Ending.TheVariants.{Checked, BadUsage, Unopened, BadRules, BadRule, Version}
 
--- 0 for a Yes and for the version, 1 for a No, 3 for want of memory, and 2 for every other refusal
+-- 0 for a Yes, 1 for a No, 3 for want of memory, and 2 for every other refusal
+abbrev pub outcome_status_of : Result Verdict CheckFault → ℕ
+outcome_status_of (Ok (Yes records)) = 0
+outcome_status_of (Ok (No pos piece cause)) = 1
+outcome_status_of (Ok (Broken pos rule)) = 1
+outcome_status_of (Err fault.Memory) = 3
+outcome_status_of (Err (fault.Arguments which)) = 2
+outcome_status_of (Err (fault.Config which)) = 2
+outcome_status_of (Err (fault.Cert place which)) = 2
+outcome_status_of (Err (fault.Order place core which)) = 2
+outcome_status_of (Err (fault.Row core seq which)) = 2
+
+-- that of an outcome, 0 for the version, and 2 for what kept the check from being made
 abbrev pub exit_status_of : Ending → ℕ
-exit_status_of (Checked (Ok (Yes records))) = 0
-exit_status_of (Checked (Ok (No pos piece cause))) = 1
-exit_status_of (Checked (Ok (Broken pos rule))) = 1
-exit_status_of (Checked (Err fault.Memory)) = 3
-exit_status_of (Checked (Err (fault.Arguments which))) = 2
-exit_status_of (Checked (Err (fault.Config which))) = 2
-exit_status_of (Checked (Err (fault.Cert place which))) = 2
-exit_status_of (Checked (Err (fault.Order place core which))) = 2
-exit_status_of (Checked (Err (fault.Row core seq which))) = 2
+exit_status_of (Checked outcome last) = outcome_status_of outcome
 exit_status_of BadUsage = 2
 exit_status_of Unopened = 2
 exit_status_of (BadRules which) = 2
@@ -40,18 +48,28 @@ rule_fault_name rule.UnknownName = codes "UnknownName"
 rule_fault_name rule.Empty = codes "Empty"
 rule_fault_name rule.TooDeep = codes "TooDeep"
 
--- the report of an outcome, the refusal of what kept the check from being made, or the version
-abbrev pub line_of : Ending → List ℕ
-line_of (Checked outcome) = report_of outcome
-line_of BadUsage = codes "REFUSED usage\n"
-line_of Unopened = codes "REFUSED open\n"
-line_of (BadRules which) = codes "REFUSED rules fault=" ++ (rule_fault_name which ++ codes "\n")
-line_of (BadRule number which) =
+-- the lines of the last records, where they are asked for
+abbrev pub lines_behind : Option (List LastItem) → List ℕ
+lines_behind None = []
+lines_behind (Some items) = last_lines items
+
+-- the report of an outcome with the last records behind it where they are asked for, the refusal of what kept the check from being
+-- made, or the version
+abbrev pub text_of : Ending → List ℕ
+text_of (Checked outcome last) = report_of outcome ++ lines_behind last
+text_of BadUsage = codes "REFUSED usage\n"
+text_of Unopened = codes "REFUSED open\n"
+text_of (BadRules which) = codes "REFUSED rules fault=" ++ (rule_fault_name which ++ codes "\n")
+text_of (BadRule number which) =
     codes "REFUSED rules rule=" ++ (decimal number ++ (codes " fault=" ++ (rule_fault_name which ++ codes "\n")))
-line_of Version = codes "apexcheck 0.1.0 (proved with rattle-kit-13b)\n"
+text_of Version = codes "apexcheck 0.1.0 (proved with rattle-kit-13b)\n"
+
+-- the end by want of memory before the check, which is the check's own, and behind which nothing is told
+abbrev pub out_of_memory : Ending
+out_of_memory = Checked (Err fault.Memory) None
 
 -- the end that a refusal of a text of rules is: want of memory is the check's own
 abbrev pub refused_by : RulesFault → Ending
 refused_by (rules.File which) = BadRules which
 refused_by (rules.Rule number which) = BadRule number which
-refused_by rules.Memory = Checked (Err fault.Memory)
+refused_by rules.Memory = out_of_memory

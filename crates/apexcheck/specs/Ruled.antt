@@ -1,9 +1,12 @@
 -- What a check under the rules of options and of a text answers, and how its run ends.
-use Rattle.std.specs.Prelude.{◌≡◌, ◌⊎◌, ◌++◌, ℕ, List, [], Option, Some, None, Result, Ok, Err, map}
+use Rattle.std.specs.Prelude.{◌≡◌, ◌⊎◌, ◌++◌, ℕ, Bool, true, false, List, [], Option, Some, None, Result, Ok, Err, map}
 use Rattle.apex_types.specs.declared.view.View.{View}
 use Rattle.report.specs.declared.fault.CheckFault.{CheckFault}
 use Rattle.report.specs.declared.fault.CheckFault.TheVariants.{Memory}
 use Rattle.report.specs.declared.settings.Settings.{Settings}
+use Rattle.report.specs.declared.last.LastItem.{LastItem}
+use Rattle.report.specs.Last.{IsLastOf}
+use Rattle.report.specs.No.{NoMeansRefusal}
 use Rattle.report.specs.Outcome.{IsOutcome}
 use Rattle.report.specs.Yes.{YesMeansRun}
 use Rattle.rule_options.specs.declared.option.RuleOption.{RuleOption}
@@ -15,7 +18,7 @@ use Rattle.user_rules.specs.Meets.{meets}
 use Rattle.verdict_merge.specs.declared.verdict.Verdict.{Verdict}
 use Rattle.apexcheck.specs.declared.ending.Ending.{Ending}
 use Rattle.apexcheck.specs.declared.ending.Ending.TheVariants.{Checked}
-use Rattle.apexcheck.specs.Endings.{refused_by}
+use Rattle.apexcheck.specs.Endings.{out_of_memory, refused_by}
 
 -- the rules that a text says, or its first refusal; there are none where there is no text
 abbrev pub rules_given : Option (List ℕ) → Result (List SaidRule) RulesFault
@@ -31,20 +34,29 @@ abbrev pub SayBoth : List RuleOption → List SaidRule → List Relation → Typ
 SayBoth options rules relations =
     (front : List Relation) × (behind : List Relation) × (relations ≡ front ++ behind) × SayInTurn options front × HoldInTurn rules behind
 
--- the outcome with these settings and the meaning of a Yes are those under relations that say what the options ask for, and behind that
--- what the rules of a text say, in their order; want of memory outranks them
-abbrev pub IsRuledOutcome : Settings → List ℕ → List (List ℕ) → List ℕ → List RuleOption → List SaidRule → Result Verdict CheckFault → Type 0
-IsRuledOutcome settings config texts certificate options rules result =
-    (result ≡ Err Memory)
-    ⊎ ((relations : List Relation) × SayBoth options rules relations × IsOutcome settings config texts certificate relations result × YesMeansRun config texts certificate relations result)
+-- the outcome with these settings, the meaning of a Yes and that of a No, and the last records behind it are those under relations that
+-- say what the options ask for, and behind that what the rules of a text say, in their order; want of memory outranks them, and has
+-- no records behind it
+abbrev pub IsRuledOutcome : Settings → List ℕ → List (List ℕ) → List ℕ → List RuleOption → List SaidRule → Result Verdict CheckFault → List LastItem → Type 0
+IsRuledOutcome settings config texts certificate options rules result last =
+    ((result ≡ Err Memory) × (last ≡ []))
+    ⊎ ((relations : List Relation) × SayBoth options rules relations × IsOutcome settings config texts certificate relations result
+    × YesMeansRun config texts certificate relations result × NoMeansRefusal config texts certificate relations result × IsLastOf config texts certificate relations result last)
 
--- the end by what the rules' text is: its first refusal, else the outcome under its rules
-abbrev pub IsEndingBy : Result (List SaidRule) RulesFault → Settings → List ℕ → List (List ℕ) → List ℕ → List RuleOption → Ending → Type 0
-IsEndingBy (Err fault) settings config texts certificate options ending = ending ≡ refused_by fault
-IsEndingBy (Ok rules) settings config texts certificate options ending =
-    (outcome : Result Verdict CheckFault) × (ending ≡ Checked outcome) × IsRuledOutcome settings config texts certificate options rules outcome
+-- the last records stand in an end where they are asked for, and in no other
+abbrev pub where_asked : Bool → List LastItem → Option (List LastItem)
+where_asked true last = Some last
+where_asked false last = None
 
--- the end of a run over these texts, with the rules' text if there is one; want of memory outranks it
-abbrev pub IsRuledEnding : Settings → List ℕ → List (List ℕ) → List ℕ → List RuleOption → Option (List ℕ) → Ending → Type 0
-IsRuledEnding settings config texts certificate options rules ending =
-    (ending ≡ Checked (Err Memory)) ⊎ IsEndingBy (rules_given rules) settings config texts certificate options ending
+-- the end by what the rules' text is: its first refusal, else the outcome under its rules, with the last records if they are asked for
+abbrev pub IsEndingBy : Result (List SaidRule) RulesFault → Settings → List ℕ → List (List ℕ) → List ℕ → List RuleOption → Bool → Ending → Type 0
+IsEndingBy (Err fault) settings config texts certificate options asked ending = ending ≡ refused_by fault
+IsEndingBy (Ok rules) settings config texts certificate options asked ending =
+    (outcome : Result Verdict CheckFault) × (last : List LastItem) × (ending ≡ Checked outcome (where_asked asked last))
+    × IsRuledOutcome settings config texts certificate options rules outcome last
+
+-- the end of a run over these texts, with the rules' text if there is one, and with the last records if they are asked for; want of memory
+-- outranks it
+abbrev pub IsRuledEnding : Settings → List ℕ → List (List ℕ) → List ℕ → List RuleOption → Option (List ℕ) → Bool → Ending → Type 0
+IsRuledEnding settings config texts certificate options rules asked ending =
+    (ending ≡ out_of_memory) ⊎ IsEndingBy (rules_given rules) settings config texts certificate options asked ending

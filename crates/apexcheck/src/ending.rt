@@ -1,24 +1,29 @@
-// How a run of the program ends: its line on standard output and its exit status.
+// How a run of the program ends: its text on standard output and its exit status.
 
-ghost use Rattle.std.specs.Prelude.{◌≡◌, ◌≢◌, ◌<◌, OnErr, OnOk};
+ghost use Rattle.std.specs.Prelude.{◌≡◌, ◌≢◌, ◌<◌, ◌++◌, OnErr, OnOk};
+ghost use Rattle.report.specs.Text.{report_of};
 ghost use Rattle.apexcheck.specs.declared.ending.Ending.TheVariants.{BadRule, BadRules};
-ghost use Rattle.apexcheck.specs.Endings.{exit_status_of, line_of, refused_by, rule_fault_name};
+ghost use Rattle.apexcheck.specs.Endings.{exit_status_of, lines_behind, out_of_memory, outcome_status_of, text_of, refused_by, rule_fault_name};
 ghost use Rattle.sink.specs.Written.{IsCut, IsWritten};
 
 use itoa::Buffer;
-use report::{CheckFault, Verdict, write_report};
+use report::{CheckFault, Last, Verdict, write_last, write_report};
 use rules_file::{RuleFault, RulesFault};
 use sink::{Sink, WriteFault, WriterSink, put_all, put_parts};
 use std::io::Write;
 
-/// The exit status where the line could not be written.
+/// The exit status where the text could not be written.
 pub const UNWRITTEN: u8 = 4;
 
 /// How a run ends.
-#[derive(Debug, Drop)]
+#[derive(Drop)]
 pub enum Ending {
     /// The check came to an outcome. Want of memory before the check is the check's own `Memory`.
-    Checked(Result<Verdict, CheckFault>),
+    Checked {
+        outcome: Result<Verdict, CheckFault>,
+        /// The last records before the place of a No, where they are asked for.
+        last: Option<Last>,
+    },
     /// The words of the command line are not those of the usage.
     BadUsage,
     /// A file could not be opened, or the configuration or the text of rules could not be read.
@@ -26,7 +31,10 @@ pub enum Ending {
     /// The text of rules has this fault, outside of its rules.
     BadRules(RuleFault),
     /// The rule of this number of the text, counted from 0, has this fault.
-    BadRule { rule: usize, fault: RuleFault },
+    BadRule {
+        rule: usize,
+        fault: RuleFault,
+    },
     /// The version was asked for.
     Version,
 }
@@ -36,14 +44,31 @@ pub fn status_of(ending: &Ending) -> u8
     ensures value { result ≡ exit_status_of ending.now }
 {
     match ending {
-        Ending::Checked(Ok(Verdict::Yes { .. })) | Ending::Version => 0,
-        Ending::Checked(Ok(Verdict::No { .. } | Verdict::Broken { .. })) => 1,
-        Ending::Checked(Err(CheckFault::Memory)) => 3,
-        Ending::Checked(Err(_))
-        | Ending::BadUsage
-        | Ending::Unopened
-        | Ending::BadRules(_)
-        | Ending::BadRule { .. } => 2,
+        Ending::Checked { outcome, .. } => status_of_outcome(outcome),
+        Ending::Version => 0,
+        Ending::BadUsage | Ending::Unopened | Ending::BadRules(_) | Ending::BadRule { .. } => 2,
+    }
+}
+
+// The exit status of an outcome of the check.
+fn status_of_outcome(outcome: &Result<Verdict, CheckFault>) -> u8
+    ensures { result ≡ outcome_status_of outcome.now }
+{
+    match outcome {
+        Ok(Verdict::Yes { .. }) => 0,
+        Ok(Verdict::No { .. } | Verdict::Broken { .. }) => 1,
+        Err(CheckFault::Memory) => 3,
+        Err(_) => 2,
+    }
+}
+
+/// The end by want of memory before the check.
+pub fn out_of_memory() -> Ending
+    ensures { result ≡ out_of_memory }
+{
+    Ending::Checked {
+        outcome: Err(CheckFault::Memory),
+        last: None,
     }
 }
 
@@ -54,7 +79,7 @@ pub fn refused_by(fault: RulesFault) -> Ending
     match fault {
         RulesFault::File(fault) => Ending::BadRules(fault),
         RulesFault::Rule { rule, fault } => Ending::BadRule { rule, fault },
-        RulesFault::Memory => Ending::Checked(Err(CheckFault::Memory)),
+        RulesFault::Memory => out_of_memory(),
     }
 }
 
@@ -76,19 +101,20 @@ fn name_of_rule_fault(fault: RuleFault) -> &'static [u8]
     }
 }
 
-/// Puts out the line of an end. Takes no memory.
+/// Puts out the text of an end: its line, and behind the report of an outcome the last records where they are asked for. Takes no
+/// memory.
 ///
 /// # Errors
 ///
-/// `WriteFault` where the sink failed. Then the first bytes of the line went out, and no others.
+/// `WriteFault` where the sink failed. Then the first bytes of the text went out, and no others.
 pub fn write_ending<W: Sink>(w: &mut W, ending: &Ending) -> Result<(), WriteFault>
-    ensures whole { OnOk result (IsWritten (W.bytes w.old) (line_of ending.now) (W.bytes w.new)) }
+    ensures whole { OnOk result (IsWritten (W.bytes w.old) (text_of ending.now) (W.bytes w.new)) }
     ensures same { OnOk result (W.failures w.new ≡ W.failures w.old) }
-    ensures cut { OnErr result (IsCut (W.bytes w.old) (line_of ending.now) (W.bytes w.new)) }
+    ensures cut { OnErr result (IsCut (W.bytes w.old) (text_of ending.now) (W.bytes w.new)) }
     ensures failed { OnErr result (W.failures w.old < W.failures w.new) }
 {
     match ending {
-        Ending::Checked(outcome) => write_report(w, outcome),
+        Ending::Checked { outcome, last } => write_outcome(w, outcome, last),
         Ending::BadUsage => put_all(w, b"REFUSED usage\n"),
         Ending::Unopened => put_all(w, b"REFUSED open\n"),
         Ending::BadRules(fault) => write_bad_rules(w, *fault),
@@ -97,11 +123,29 @@ pub fn write_ending<W: Sink>(w: &mut W, ending: &Ending) -> Result<(), WriteFaul
     }
 }
 
+// Puts out the report of an outcome, and behind it a line for each of the last records where they are asked for.
+fn write_outcome<W: Sink>(
+    w: &mut W,
+    outcome: &Result<Verdict, CheckFault>,
+    last: &Option<Last>,
+) -> Result<(), WriteFault>
+    ensures whole { OnOk result (IsWritten (W.bytes w.old) (report_of outcome.now ++ lines_behind last.now) (W.bytes w.new)) }
+    ensures same { OnOk result (W.failures w.new ≡ W.failures w.old) }
+    ensures cut { OnErr result (IsCut (W.bytes w.old) (report_of outcome.now ++ lines_behind last.now) (W.bytes w.new)) }
+    ensures failed { OnErr result (W.failures w.old < W.failures w.new) }
+{
+    write_report(w, outcome)?;
+    match last {
+        Some(last) => write_last(w, last),
+        None => Ok(()),
+    }
+}
+
 // Puts out the refusal of a text of rules for this fault.
 fn write_bad_rules<W: Sink>(w: &mut W, fault: RuleFault) -> Result<(), WriteFault>
-    ensures whole { OnOk result (IsWritten (W.bytes w.old) (line_of (BadRules fault)) (W.bytes w.new)) }
+    ensures whole { OnOk result (IsWritten (W.bytes w.old) (text_of (BadRules fault)) (W.bytes w.new)) }
     ensures same { OnOk result (W.failures w.new ≡ W.failures w.old) }
-    ensures cut { OnErr result (IsCut (W.bytes w.old) (line_of (BadRules fault)) (W.bytes w.new)) }
+    ensures cut { OnErr result (IsCut (W.bytes w.old) (text_of (BadRules fault)) (W.bytes w.new)) }
     ensures failed { OnErr result (W.failures w.old < W.failures w.new) }
 {
     put_parts(
@@ -112,9 +156,9 @@ fn write_bad_rules<W: Sink>(w: &mut W, fault: RuleFault) -> Result<(), WriteFaul
 
 // Puts out the refusal of the rule of this number for this fault.
 fn write_bad_rule<W: Sink>(w: &mut W, rule: usize, fault: RuleFault) -> Result<(), WriteFault>
-    ensures whole { OnOk result (IsWritten (W.bytes w.old) (line_of (BadRule rule fault)) (W.bytes w.new)) }
+    ensures whole { OnOk result (IsWritten (W.bytes w.old) (text_of (BadRule rule fault)) (W.bytes w.new)) }
     ensures same { OnOk result (W.failures w.new ≡ W.failures w.old) }
-    ensures cut { OnErr result (IsCut (W.bytes w.old) (line_of (BadRule rule fault)) (W.bytes w.new)) }
+    ensures cut { OnErr result (IsCut (W.bytes w.old) (text_of (BadRule rule fault)) (W.bytes w.new)) }
     ensures failed { OnErr result (W.failures w.old < W.failures w.new) }
 {
     let mut number = Buffer::new();
@@ -130,14 +174,16 @@ fn write_bad_rule<W: Sink>(w: &mut W, rule: usize, fault: RuleFault) -> Result<(
     )
 }
 
-/// Puts out the line of an end through a writer that is flushed then, and gives the exit status of the run. Takes no
+/// Puts out the text of an end through a writer that is flushed then, and gives the exit status of the run. Takes no
 /// memory.
 ///
-/// It is the status of the end where the whole line went out, and `UNWRITTEN` where the writer failed.
+/// It is the status of the end where the whole text went out, and `UNWRITTEN` where the writer failed. Then the first bytes of the
+/// text went out, and no others.
 pub fn conclude<W: Write + Drop>(output: &mut WriterSink<W>, ending: &Ending) -> u8
     ensures status { result ≢ UNWRITTEN → result ≡ exit_status_of ending.now }
-    ensures whole { result ≢ UNWRITTEN → IsWritten output.old.bytes (line_of ending.now) output.new.bytes }
+    ensures whole { result ≢ UNWRITTEN → IsWritten output.old.bytes (text_of ending.now) output.new.bytes }
     ensures same { result ≢ UNWRITTEN → output.new.failures ≡ output.old.failures }
+    ensures cut { result ≡ UNWRITTEN → IsCut output.old.bytes (text_of ending.now) output.new.bytes }
     ensures failed { result ≡ UNWRITTEN → output.old.failures < output.new.failures }
 {
     match write_and_flush(output, ending) {
@@ -150,8 +196,9 @@ fn write_and_flush<W: Write + Drop>(
     output: &mut WriterSink<W>,
     ending: &Ending,
 ) -> Result<(), WriteFault>
-    ensures whole { OnOk result (IsWritten output.old.bytes (line_of ending.now) output.new.bytes) }
+    ensures whole { OnOk result (IsWritten output.old.bytes (text_of ending.now) output.new.bytes) }
     ensures same { OnOk result (output.new.failures ≡ output.old.failures) }
+    ensures cut { OnErr result (IsCut output.old.bytes (text_of ending.now) output.new.bytes) }
     ensures failed { OnErr result (output.old.failures < output.new.failures) }
 {
     write_ending(output, ending)?;

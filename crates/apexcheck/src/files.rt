@@ -5,12 +5,12 @@ ghost use Rattle.std.specs.IoError.{error_kind};
 ghost use Rattle.module_config.specs.Reading.{configuration_of};
 ghost use Rattle.rules_file.specs.Reading.{rules_of};
 ghost use Rattle.apexcheck.specs.Files.{IsOfFiles, ending_of};
-ghost use Rattle.apexcheck.specs.Ruled.{IsRuledEnding};
+ghost use Rattle.apexcheck.specs.Ruled.{IsRuledEnding, where_asked};
 
-use crate::ending::{Ending, refused_by};
+use crate::ending::{Ending, out_of_memory, refused_by};
 use crate::ruled::{check_ruled, read_rules, tell_broken};
 use crate::usage::{FileNames, FilesAsked};
-use report::CheckFault;
+use report::Last;
 use rule_options::RuleOption;
 use rules_file::RulesFault;
 use std::alloc::{AllocFailed, Global};
@@ -49,7 +49,7 @@ fn end_by(fault: OpenFault) -> Ending
 {
     match fault {
         OpenFault::Unopened => Ending::Unopened,
-        OpenFault::Memory => Ending::Checked(Err(CheckFault::Memory)),
+        OpenFault::Memory => out_of_memory(),
     }
 }
 
@@ -86,12 +86,13 @@ impl Opened<File> {
 }
 
 impl<F: Read + Drop + Send + 'static> Opened<F> {
-    // Checks what the files hold, under the rules of these options and of the text, with the settings that are asked for.
+    // Checks what the files hold, under the rules of these options and of the text, with the settings that are asked for. The last
+    // records before the place of a No are in the end where they are asked for.
     fn check<R>(self, rt: &R, alloc: Global, options: &[RuleOption], asked: &FilesAsked) -> Ending
     where
         R: Eprint + Threads + Wait + Sync + Copy + Send + 'static,
         ensures of_files { IsOfFiles (is_some self.rules) result }
-        ensures ending { (texts : List (List ℕ)) (certificate : List ℕ) → map (λ reader. F.remaining reader) self.cores.items ≡ map Some texts → F.remaining self.order ≡ Some certificate → IsRuledEnding asked.now.settings self.config.items texts certificate options.now (option_map (λ text. text.items) self.rules) result }
+        ensures ending { (texts : List (List ℕ)) (certificate : List ℕ) → map (λ reader. F.remaining reader) self.cores.items ≡ map Some texts → F.remaining self.order ≡ Some certificate → IsRuledEnding asked.now.settings self.config.items texts certificate options.now (option_map (λ text. text.items) self.rules) asked.now.last result }
     {
         let Opened {
             config,
@@ -106,6 +107,9 @@ impl<F: Read + Drop + Send + 'static> Opened<F> {
                 return refused_by(fault);
             }
         };
+        let Ok(mut last) = Last::new(alloc) else {
+            return out_of_memory();
+        };
         let outcome = check_ruled(
             *rt,
             alloc,
@@ -115,10 +119,21 @@ impl<F: Read + Drop + Send + 'static> Opened<F> {
             options,
             &rules,
             asked.settings,
+            &mut last,
         );
         tell_broken(rt, options, &rules, &outcome);
-        Ending::Checked(outcome)
+        Ending::Checked {
+            outcome,
+            last: where_asked(asked.last, last),
+        }
     }
+}
+
+// The last records, where they are asked for.
+fn where_asked(asked: bool, last: Last) -> Option<Last>
+    ensures { result ≡ where_asked asked last }
+{
+    if asked { Some(last) } else { None }
 }
 
 // Tells a person why the text of rules is refused. Want of memory is told by the line alone.

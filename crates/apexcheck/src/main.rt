@@ -1,9 +1,10 @@
-//! The program: checks recordings against a configuration and a proposed order, and prints one line.
+//! The program: checks recordings against a configuration and a proposed order, and prints one line. Behind a No the last records
+//! before its place follow, where they are asked for.
 //!
 //! Promises: what is printed is the text of how the run ended, and the exit status is the one of that end; where the
 //! output could not be written, the status is the one that says so. A run under options that ask for rules and a text of rules
 //! ends by the text's first refusal, or by the outcome of relations that say what the options ask for and then what the rules
-//! of the text say.
+//! of the text say; behind it stand the last records before the place of a No, where they are asked for, and else nothing.
 #![tactic(auto)]
 
 mod ending;
@@ -13,8 +14,7 @@ mod settings;
 mod stored;
 mod usage;
 
-use ending::{Ending, conclude};
-use report::CheckFault;
+use ending::{Ending, conclude, out_of_memory};
 use sink::WriterSink;
 use std::alloc::Global;
 use std::fs::{File, Files};
@@ -47,7 +47,10 @@ where
         + 'static,
 {
     match usage::from_words(rt, alloc) {
-        Ok(Asked::StoredRun) => Ending::Checked(stored::check_stored(*rt, alloc)),
+        Ok(Asked::StoredRun) => Ending::Checked {
+            outcome: stored::check_stored(*rt, alloc),
+            last: None,
+        },
         Ok(Asked::Version) => Ending::Version,
         Ok(Asked::Files(asked)) => files::check_files(rt, alloc, &asked),
         Err(UsageFault::Usage) => {
@@ -55,6 +58,6 @@ where
             let _ = rt.eprintln(usage::USAGE);
             Ending::BadUsage
         }
-        Err(UsageFault::Memory) => Ending::Checked(Err(CheckFault::Memory)),
+        Err(UsageFault::Memory) => out_of_memory(),
     }
 }

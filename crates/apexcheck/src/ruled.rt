@@ -1,12 +1,12 @@
 // The check under the rules that options ask for and those of a text.
 
-ghost use Rattle.std.specs.Prelude.{◌≡◌, ℕ, IfOk, List, Some, map, option_map};
+ghost use Rattle.std.specs.Prelude.{[], ◌≡◌, ℕ, IfOk, List, Some, map, option_map};
 ghost use Rattle.rules_file.specs.declared.fault.RulesFault.TheVariants.{Memory};
 ghost use Rattle.rules_file.specs.Keys.{Gives};
 ghost use Rattle.rules_file.specs.Reading.{said};
 ghost use Rattle.apexcheck.specs.Ruled.{HoldInTurn, IsRuledOutcome, SayBoth, rules_given};
 
-use report::{CheckFault, MOST_RECORDS, Open, Settings, Verdict, check_relations};
+use report::{CheckFault, Last, MOST_RECORDS, Open, Settings, Verdict, check_relations};
 use rule_options::{RuleOption, relations_of};
 use rules_file::{NamedRule, RulesFault};
 use std::alloc::{AllocError, Global};
@@ -27,6 +27,9 @@ pub fn read_rules(alloc: Global, text: Option<&[u8]>) -> Result<Vec<NamedRule>, 
 
 /// Checks the recordings, one reader for each core in order, against the configuration, the proposed order and rules: those
 /// that these options ask for, numbered in their order, and the named ones behind them. It is carried out as the settings say.
+///
+/// Leaves the last records before the place of a No or of a broken rule in `last`, where none were before, and none behind any other
+/// answer.
 pub fn check_ruled<T, R, C>(
     rt: T,
     alloc: Global,
@@ -36,12 +39,13 @@ pub fn check_ruled<T, R, C>(
     options: &[RuleOption],
     rules: &[NamedRule],
     settings: Settings,
+    last: &mut Last,
 ) -> Result<Verdict, CheckFault>
 where
     T: Threads + Wait + Sync + Copy + Send + 'static,
     R: Read + Drop + Send + 'static,
     C: Read + Drop,
-    ensures { (texts : List (List ℕ)) (certificate : List ℕ) → map (λ reader. R.remaining reader) readers.items ≡ map Some texts → C.remaining order ≡ Some certificate → IsRuledOutcome settings config.now texts certificate options.now (map said rules.now) result }
+    ensures { (texts : List (List ℕ)) (certificate : List ℕ) → last.old ≡ [] → map (λ reader. R.remaining reader) readers.items ≡ map Some texts → C.remaining order ≡ Some certificate → IsRuledOutcome settings config.now texts certificate options.now (map said rules.now) result last.new }
 {
     let Ok(relations) = all_relations(alloc, options, rules) else {
         return Err(CheckFault::Memory);
@@ -56,6 +60,7 @@ where
         settings,
         &Open,
         MOST_RECORDS,
+        last,
     )
 }
 

@@ -1,6 +1,7 @@
 // The run that stands in the program, which is checked where the command line has no words.
 
 ghost use Rattle.std.specs.Prelude.{[], ◌∷◌};
+ghost use Rattle.report.specs.No.{NoMeansRefusal};
 ghost use Rattle.report.specs.Outcome.{IsOutcome};
 ghost use Rattle.report.specs.Yes.{YesMeansRun};
 
@@ -76,6 +77,7 @@ where
     T: Threads + Wait + Sync + Copy + Send + 'static,
     ensures outcome { IsOutcome SETTINGS CONFIG.now (RECORDING.now ∷ []) ORDER.now [] result }
     ensures yes { YesMeansRun CONFIG.now (RECORDING.now ∷ []) ORDER.now [] result }
+    ensures no { NoMeansRefusal CONFIG.now (RECORDING.now ∷ []) ORDER.now [] result }
 {
     let Ok(readers) = vec![in alloc; RECORDING] else {
         return Err(CheckFault::Memory);

@@ -1,8 +1,8 @@
 // The words of the command line.
 
-ghost use Rattle.std.specs.Prelude.{◌≡◌, ◌<◌, ◌≤◌, IfOk, Ok, codes, false, length, map, option_and_then, option_map, string_bytes, true};
+ghost use Rattle.std.specs.Prelude.{◌≡◌, ◌<◌, ◌≤◌, IfOk, None, Ok, Some, codes, false, length, map, option_and_then, option_map, string_bytes, true};
 ghost use Rattle.std.specs.Option.{ok_or};
-ghost use Rattle.clap.specs.Words.{first_value, found_of};
+ghost use Rattle.clap.specs.Words.{first_value, found_of, one_text};
 ghost use Rattle.rule_options.specs.Options.{values_of};
 ghost use Rattle.apexcheck.specs.Settings.{settings_of};
 ghost use Rattle.apexcheck.specs.Words.{NamesFiles, asks_version};
@@ -18,7 +18,7 @@ use std::{env, io};
 
 /// What a person is told whose command line is refused.
 pub const USAGE: &str = "usage: apexcheck --config FILE --order FILE --workers N [--depth N]
-                 [--max-elapsed N] [--forbid SERVICE] [--rules FILE] CORE...
+                 [--max-elapsed N] [--forbid SERVICE] [--rules FILE] [--last] CORE...
        apexcheck
        apexcheck --version
 
@@ -27,7 +27,8 @@ configuration and the order that are given. --workers says by how many threads t
 records are judged, 1 to 64; --depth how many records ahead each file is read, 1 to
 4096, which is 64 if not given. Neither changes the answer. With --max-elapsed no call may
 return more than N ticks later, with --forbid no call may be of SERVICE, with --rules
-the rules of FILE may not be broken. With no words it checks a run that stands in the
+the rules of FILE may not be broken. With --last the last records before the place of a
+No, at most 8, follow its line. With no words it checks a run that stands in the
 program. With --version alone it prints its version, and the kit that it is proved with.";
 
 /// What the command line asks for.
@@ -50,6 +51,8 @@ pub struct FilesAsked {
     pub options: RuleOptions,
     /// How the check is carried out.
     pub settings: Settings,
+    /// Whether the last records before the place of a No are asked for.
+    pub last: bool,
 }
 
 /// The files of a run, as the command line names them.
@@ -104,6 +107,7 @@ fn files_asked(alloc: Global, words: &[String]) -> Result<FilesAsked, UsageFault
         names: file_names(alloc, &matches)?,
         options: rule_options(&matches)?,
         settings: settings_asked(&matches)?,
+        last: asks_last(&matches),
     })
 }
 
@@ -114,6 +118,15 @@ fn settings_asked(matches: &ArgMatches<'_>) -> Result<Settings, UsageFault>
     let workers = text_of(matches, "workers").ok_or(UsageFault::Usage)?;
     let depth = text_of(matches, "depth");
     read_settings(workers, depth).ok_or(UsageFault::Usage)
+}
+
+// Whether the last records are asked for.
+fn asks_last(matches: &ArgMatches<'_>) -> bool
+    ensures given { one_text (found_of matches.now) (codes "last") ≡ Some (codes "true") → result ≡ true }
+    ensures not_given { one_text (found_of matches.now) (codes "last") ≡ Some (codes "false") → result ≡ false }
+    ensures none { one_text (found_of matches.now) (codes "last") ≡ None → result ≡ false }
+{
+    matches.get_flag("last")
 }
 
 // The values of the options that ask for rules.
@@ -176,6 +189,11 @@ fn command<'a>(alloc: Global) -> Result<Command<'a>, AllocError> {
         .arg(option(alloc, "max-elapsed"))?
         .arg(option(alloc, "forbid"))?
         .arg(option(alloc, "rules"))?
+        .arg(
+            Arg::new(alloc, "last")
+                .long("last")
+                .action(ArgAction::SetTrue),
+        )?
         .arg(
             Arg::new(alloc, "core")
                 .required(true)

@@ -6,7 +6,7 @@ ghost use Rattle.case_runner.specs.Answers.{IsAnswer, exit_status_of};
 
 use crate::fields::LINE_FEED;
 use crate::manner::Manner;
-use report::{CheckFault, Open, Verdict, check_relations, write_report};
+use report::{CheckFault, Last, Open, Verdict, check_relations, write_report};
 use rule_options::{RuleOption, relations_of};
 use sink::{FailureCount, Sink, SinkFault};
 use std::alloc::{AllocError, Global};
@@ -56,6 +56,9 @@ where
 {
     let readers = readers_of(alloc, recordings)?;
     let relations = relations_of(alloc, options)?;
+    let Ok(mut last) = Last::new(alloc) else {
+        return Err(AllocError);
+    };
     let outcome = check_relations(
         rt,
         alloc,
@@ -66,6 +69,7 @@ where
         manner.settings,
         &Open,
         manner.rounds.size(),
+        &mut last,
     );
     let mut kept = Kept::new(alloc);
     match write_report(&mut kept, &outcome) {

@@ -149,7 +149,10 @@ fn a_recording_is_judged_at_once(rt: HostRuntime) -> Result<(), Fail> {
     let alloc = rt.alloc();
     let config = Config::read(alloc, CONFIG.as_bytes())?;
     assert_eq!(rt; config.cores(), 1);
-    for (text, verdict) in [(RECORDING, Verdict::Yes { records: 13 }), (MISSED, missed())] {
+    for (text, verdict) in [
+        (RECORDING, Verdict::Yes { records: 13 }),
+        (MISSED, missed()),
+    ] {
         let mut placer = placer_of(rt, alloc, text)?;
         let mut records: Vec<Ordered> = Vec::new(alloc);
         assert!(rt; matches!(placer.fill(&rt, &mut records, 64), Filled::Ended(Ok(()))));
