@@ -1,6 +1,6 @@
 // A recording and a certificate whose readers fail in mid-stream.
 
-use crate::texts::{CONFIG, ORDER, RECORDING};
+use crate::texts::{BOTH, CONFIG, MODULE, ORDER, RECEIVER, RECORDING, SENDER};
 use order_cert::CertFault;
 use record_read::RowFault;
 use report::{CheckFault, Open, Settings, Verdict, check};
@@ -109,6 +109,62 @@ fn readers_fail(rt: HostRuntime) -> Result<(), Fail> {
                 outcome(rt, alloc, recording, cut, settings)?,
                 Err(CheckFault::Cert { place, fault }),
                 "a certificate of {given} bytes by {step}"
+            );
+        }
+    }
+    Ok(())
+}
+
+// The outcome for two cores of which the first has this sender, and the second this receiver.
+fn outcome_of_two<T>(
+    rt: T,
+    alloc: Global,
+    sender: Failing,
+    receiver: Failing,
+    settings: Settings,
+) -> Result<Result<Verdict, CheckFault>, AllocError>
+where
+    T: Threads + Wait + Sync + Copy + Send + 'static,
+{
+    Ok(check(
+        rt,
+        alloc,
+        MODULE.as_bytes(),
+        vec![in alloc; sender, receiver]?,
+        BOTH.as_bytes(),
+        &[],
+        settings,
+        &Open,
+    ))
+}
+
+// Where one core's reader fails, the rows of the other are there, and those of its own up to the failure.
+#[test]
+fn one_reader_of_two_fails(rt: HostRuntime) -> Result<(), Fail> {
+    let alloc = rt.alloc();
+    let fault = RowFault::Read;
+    for (step, workers, depth) in [(1, 1, 1), (7, 2, 2), (1000, 7, 64)] {
+        let settings = Settings { workers, depth };
+        let (sender, receiver) = (
+            reader_of(SENDER, step, usize::MAX),
+            reader_of(RECEIVER, step, usize::MAX),
+        );
+        for given in 0..SENDER.len().saturating_add(1) {
+            let cut = reader_of(SENDER, step, given);
+            let (core, seq) = (0, whole_rows(SENDER, given));
+            assert_eq!(rt;
+                outcome_of_two(rt, alloc, cut, receiver, settings)?,
+                Err(CheckFault::Row { core, seq, fault }),
+                "{given} bytes of the sender by {step}"
+            );
+        }
+        for given in 0..RECEIVER.len().saturating_add(1) {
+            let cut = reader_of(RECEIVER, step, given);
+            let (core, seq) = (1, whole_rows(RECEIVER, given));
+            assert_eq!(rt;
+                outcome_of_two(rt, alloc, sender, cut, settings)?,
+                Err(CheckFault::Row { core, seq, fault }),
+                "{given} bytes of the receiver by {step}"
             );
         }
     }

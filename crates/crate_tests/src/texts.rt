@@ -1,4 +1,7 @@
-// The runs that the tests read: a wait of two ticks on one core, and a message from one partition to another.
+// The runs that the tests read: a wait of two ticks on one core, one that asks for the time so often, and a message from one
+// partition to another.
+
+use std::alloc::{AllocError, Global};
 
 /// One core, which belongs to partition 0 all the time.
 pub const CONFIG: &str = "\
@@ -127,3 +130,31 @@ pub const RECEIVER: &str = "\
 /// The records of both cores, in an order in which they are lawful.
 pub const BOTH: &str =
     "0,0\n0,1\n0,2\n0,3\n0,4\n0,5\n0,6\n0,7\n1,0\n1,1\n1,2\n1,3\n1,4\n1,5\n1,6\n1,7\n1,8\n1,9\n1,10\n0,8\n0,9\n1,11\n1,12\n";
+
+/// The recording of a partition that begins as `RECORDING` does up to its wait, and then asks for the time so often.
+pub fn asking(alloc: Global, times: u16) -> Result<Vec<u8>, AllocError> {
+    let mut text = Vec::new(alloc);
+    for line in RECORDING.lines().take(7) {
+        text.extend_from_slice(line.as_bytes())?;
+        text.push(b'\n')?;
+    }
+    for turn in 0..times {
+        let call = 7 + 2 * (turn as u32);
+        let back = call + 1;
+        let rows = format!(in alloc;
+            "{call},call,0,1,GET_TIME,,,,,,10,NO_ERROR,0,,,\n{back},ret,0,1,GET_TIME,,,,,,,NO_ERROR,0,,,\n"
+        )?;
+        text.extend_from_slice(rows.as_bytes())?;
+    }
+    Ok(text)
+}
+
+/// The certificate of so many records of core 0.
+pub fn in_turn(alloc: Global, records: u32) -> Result<Vec<u8>, AllocError> {
+    let mut text = Vec::new(alloc);
+    for seq in 0..records {
+        let row = format!(in alloc; "0,{seq}\n")?;
+        text.extend_from_slice(row.as_bytes())?;
+    }
+    Ok(text)
+}

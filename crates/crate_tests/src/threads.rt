@@ -1,8 +1,7 @@
 // Workers that judge beside one another, and recordings that are read beside one another, in a whole check.
 
-use crate::texts::{BOTH, CONFIG, MODULE, RECEIVER, RECORDING, SENDER};
+use crate::texts::{BOTH, CONFIG, MODULE, RECEIVER, SENDER, asking, in_turn};
 use report::{Gate, Open, Settings, Verdict, check, check_in_rounds};
-use std::alloc::{AllocError, Global};
 use std::io::{Cursor, ErrorKind, Read};
 use std::sync::Arc;
 use std::sync::atomic::{AtomicBool, AtomicUsize, Ordering};
@@ -81,34 +80,6 @@ fn two_claims_meet(rt: HostRuntime) -> Result<(), Fail> {
         }
     }
     Ok(())
-}
-
-// The recording of a partition that begins as `RECORDING` does up to its wait, and then asks for the time so often.
-fn asking(alloc: Global, times: u16) -> Result<Vec<u8>, AllocError> {
-    let mut text = Vec::new(alloc);
-    for line in RECORDING.lines().take(7) {
-        text.extend_from_slice(line.as_bytes())?;
-        text.push(b'\n')?;
-    }
-    for turn in 0..times {
-        let call = 7 + 2 * (turn as u32);
-        let back = call + 1;
-        let rows = format!(in alloc;
-            "{call},call,0,1,GET_TIME,,,,,,10,NO_ERROR,0,,,\n{back},ret,0,1,GET_TIME,,,,,,,NO_ERROR,0,,,\n"
-        )?;
-        text.extend_from_slice(rows.as_bytes())?;
-    }
-    Ok(text)
-}
-
-// The certificate of so many records of core 0.
-fn in_turn(alloc: Global, records: u32) -> Result<Vec<u8>, AllocError> {
-    let mut text = Vec::new(alloc);
-    for seq in 0..records {
-        let row = format!(in alloc; "0,{seq}\n")?;
-        text.extend_from_slice(row.as_bytes())?;
-    }
-    Ok(text)
 }
 
 // The pieces are the module and a partition. The last of 4,097 records stands in a second round.

@@ -1,0 +1,36 @@
+// Checks in ample memory, none of which may answer that memory was refused.
+
+use crate::texts::{CONFIG, asking, in_turn};
+use report::{Open, Settings, Verdict, check};
+use std::io::Cursor;
+use std::test::Fail;
+
+// Recordings of each length up to 607 records, so that whatever grows with the records does so at each of its sizes.
+#[test]
+fn ample_memory_is_enough(rt: HostRuntime) -> Result<(), Fail> {
+    let alloc = rt.alloc();
+    for times in 0..301u16 {
+        let records = 7 + 2 * (times as u32);
+        for (workers, depth) in [(1, 1), (1, 64), (7, 1), (7, 64)] {
+            let (recording, order) = (asking(alloc, times)?, in_turn(alloc, records)?);
+            let outcome = check(
+                rt,
+                alloc,
+                CONFIG.as_bytes(),
+                vec![in alloc; Cursor::new(recording)]?,
+                order.as_slice(),
+                &[],
+                Settings { workers, depth },
+                &Open,
+            );
+            assert_eq!(rt;
+                outcome,
+                Ok(Verdict::Yes {
+                    records: records as u64
+                }),
+                "{times} times, {workers} workers, depth {depth}"
+            );
+        }
+    }
+    Ok(())
+}
