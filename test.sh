@@ -1,8 +1,8 @@
 #!/usr/bin/env bash
 # All tests: the program on one example through real files; every proof, every wrong body that the prover must refuse,
 # every test and the program as two compilers build it; the program as its users run it; and each of its allocations
-# refused in turn, without rules, with options that ask for rules, and with a text of rules. At the end stands what each
-# crate cost. The last line is `N passed, 0 failed`.
+# refused in turn, without rules, with options that ask for rules, with a text of rules, with a message between partitions,
+# and with several who wait at a blackboard. At the end stands what each crate cost. The last line is `N passed, 0 failed`.
 set -euo pipefail
 cd "$(dirname "$0")"
 report=$(bash examples/run timed_wait)
@@ -25,5 +25,9 @@ late=examples/return_too_late
 bash .ci/refuse_allocations "$program" --config "$late/config.toml" --order "$late/order.csv" --workers 2 --max-elapsed 1 --forbid STOP "$late/core0.csv"
 slow=examples/partition_waits_too_long
 bash .ci/refuse_allocations "$program" --config "$slow/config.toml" --order "$slow/order.csv" --workers 2 --rules "$slow/rules.toml" "$slow/core0.csv" "$slow/core1.csv"
+message=examples/message_to_another_partition
+bash .ci/refuse_allocations "$program" --config "$message/config.toml" --order "$message/order.csv" --workers 2 "$message/core0.csv" "$message/core1.csv"
+readers=examples/blackboard_wakes_its_readers
+bash .ci/refuse_allocations "$program" --config "$readers/config.toml" --order "$readers/order.csv" --workers 2 "$readers/core0.csv"
 cat "$room/times"
 tail -n 1 "$room/log"
