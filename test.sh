@@ -1,8 +1,9 @@
 #!/usr/bin/env bash
 # All tests: the program on one example through real files; every proof, every wrong body that the prover must refuse,
-# every test and the program as two compilers build it; the program as its users run it; and each of its allocations
-# refused in turn, without rules, with options that ask for rules, with a text of rules, with a message between partitions,
-# and with several who wait at a blackboard. At the end stands what each crate cost. The last line is `N passed, 0 failed`.
+# every test and the program as two compilers build it; the program as its users run it, and on hostile texts and files;
+# and each of its allocations refused in turn, without rules, with options that ask for rules, with a text of rules, with a
+# message between partitions, and with several who wait at a blackboard. At the end stands what each crate cost. The last
+# line is `N passed, 0 failed`.
 set -euo pipefail
 cd "$(dirname "$0")"
 report=$(bash examples/run timed_wait)
@@ -20,6 +21,7 @@ if ! .ci/time_by_crate "$room/times" rt ci | tee "$room/log"; then
 fi
 program=crates/apexcheck/out/apexcheck
 bash .ci/run_examples "$program"
+bash .ci/run_hostile "$program"
 bash .ci/refuse_allocations "$program"
 late=examples/return_too_late
 bash .ci/refuse_allocations "$program" --config "$late/config.toml" --order "$late/order.csv" --workers 2 --max-elapsed 1 --forbid STOP "$late/core0.csv"
