@@ -223,7 +223,13 @@ return_demanded configuration state core ret law =
             if_due due (outcome_returned ret) (λ outcome. outcome.code ≡ ret.code) law.due refl,
             (
               if_due due (outcome_returned ret) (λ outcome. outcome.val ≡ ret.val) law.due refl,
-              (if_due due (outcome_returned ret) (λ outcome. outcome.bytes ≡ ret.bytes) law.due refl, tt),
+              (
+                if_due due (outcome_returned ret) (λ outcome. outcome.val2 ≡ ret.val2) law.due refl,
+                (
+                  if_due due (outcome_returned ret) (λ outcome. outcome.val3 ≡ ret.val3) law.due refl,
+                  (if_due due (outcome_returned ret) (λ outcome. outcome.bytes ≡ ret.bytes) law.due refl, tt),
+                ),
+              ),
             ),
           ),
         ),
@@ -269,7 +275,7 @@ used_demanded configuration state core call tied law number true is =
       neither (stands_in call.who (state.channels number).senders) (stands_in call.who (state.channels number).receivers)
           (caller_stands_not configuration state core call tied law (λ home. IsTrue (is_sender configuration number home)) (set.ChannelSenders number) (state.channels number).senders (tied.senders number))
           (caller_stands_not configuration state core call tied law (λ home. IsTrue (is_receiver configuration number home)) (set.ChannelReceivers number) (state.channels number).receivers (tied.receivers number)),
-      (through.kind, (through.out, (through.val, (through.bytes, (through.woken, tt))))),
+      (through.kind, (through.out, (through.val, (through.val2, (through.val3, (through.bytes, (through.woken, tt))))))),
     )
   where
     goes_to : (chan : Option ℕ) → is_channel number chan ≡ true → chan ≡ Some number

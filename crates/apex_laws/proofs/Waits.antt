@@ -131,5 +131,5 @@ time_out_is_the_sentence place now call wanted old waits in_set =
       λ later.
           let outcome : Wait → Option Outcome = λ one. owed (service_of_wait one) (code_when_due one) [] in
           ap (λ one. outcome (caller_with place now call one old).wait) waits ∙ ap outcome (wait_by now old in_set)
-          ∙ ap (λ one. Some (record { service = one; code = code.TimedOut; val = None; bytes = [] })) (service_by in_set),
+          ∙ ap (λ one. Some (record { service = one; code = code.TimedOut; val = None; val2 = None; val3 = None; bytes = [] })) (service_by in_set),
     )

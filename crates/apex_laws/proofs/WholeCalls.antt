@@ -360,6 +360,8 @@ goes_through configuration state now call answer codes channel number next order
       content = content ∙ ap (λ one. one.next) same;
       out = through.out ∙ ap (λ one. one.answer.out) same;
       val = subst (λ one. HasValue one.answer.val call.claim.val) same through.val;
+      val2 = through.val2 ∙ ap (λ one. one.answer.val2) same;
+      val3 = through.val3 ∙ ap (λ one. one.answer.val3) same;
       bytes = through.bytes ∙ ap (λ one. one.answer.bytes) same;
       woken = subst (λ one. NamesExactly one.answer.woken call.claim.woken) same through.woken;
     }

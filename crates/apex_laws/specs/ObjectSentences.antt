@@ -16,7 +16,7 @@ use Rattle.apex_machine.specs.Waiting.{IsFirst}
 
 -- an outcome with its message and those whose waits end, and the object after it
 abbrev pub gives : {Object : Type 0} → Out → List ℕ → List Who → Object → Effect Object
-gives given message woken next = record { answer = record { out = given; val = Nothing; bytes = message; woken = woken }; next = next }
+gives given message woken next = record { answer = record { out = given; val = Nothing; val2 = None; val3 = None; bytes = message; woken = woken }; next = next }
 
 -- NO_ERROR, at once
 abbrev pub no_error : Out
@@ -107,7 +107,7 @@ IsWriting now message effect = effect ≡ gives no_error [] [] (Some (record { m
 
 -- a reading: an outcome with its validity and its message, and what the channel held
 abbrev pub reads : Out → ℕ → List ℕ → Option Stamped → Effect (Option Stamped)
-reads given validity message last = record { answer = record { out = given; val = Number (pos validity); bytes = message; woken = [] }; next = last }
+reads given validity message last = record { answer = record { out = given; val = Number (pos validity); val2 = None; val3 = None; bytes = message; woken = [] }; next = last }
 
 -- READ_SAMPLING_MESSAGE: of an empty channel nothing, with NO_ACTION and validity 0; else the last message, valid where its age
 -- is at most the refresh period; the message stays

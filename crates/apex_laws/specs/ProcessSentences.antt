@@ -115,7 +115,7 @@ pub record IsDue (core now : ℕ) (process : Process) : Type 0 where
 -- a process whose wait ends, with this outcome due
 abbrev pub ends_with : ℕ → Service → Code → List ℕ → Process → Process
 ends_with place of given message process =
-    record process { wait = wait.Nothing; ready_position = place; due = Some (record { service = of; code = given; val = None; bytes = message }) }
+    record process { wait = wait.Nothing; ready_position = place; due = Some (record { service = of; code = given; val = None; val2 = None; val3 = None; bytes = message }) }
 
 -- a wait that falls due: TIMED_WAIT and PERIODIC_WAIT return NO_ERROR, SUSPEND_SELF and the waits for objects TIMED_OUT; the release
 -- for which the process waited becomes its last one; a first release returns nothing

@@ -135,7 +135,7 @@ HasReturned old new = new ≡ record old { due = None }
 
 -- a refused call: the code is due to the caller, with no value and no message, and its core's time is noted
 abbrev pub HasRefusal : Service → Code → ℕ → Process → Process → Type 0
-HasRefusal of given now old new = new ≡ record old { due = Some (record { service = of; code = given; val = None; bytes = [] }); called_at = now }
+HasRefusal of given now old new = new ≡ record old { due = Some (record { service = of; code = given; val = None; val2 = None; val3 = None; bytes = [] }); called_at = now }
 
 -- a call with an error condition: the code of one of them is due to the caller, and nothing else changes
 pub record IsRefusedCallOf (caller : Who) (of : Service) (codes : List Code) (now : ℕ) (state next : State) : Type 0 where
@@ -166,7 +166,7 @@ pub data IsAdded (configuration : Configuration) (call : CallRecord) (number : �
   not_created : ((name : List ℕ) (priority period : ℤ) → call.request ≡ request.CreateProcess name priority period → IsTrue (is_done call.claim.out) → ¬ (call.claim.val ≡ Some (pos number)))
       → found ≡ None → IsAdded configuration call number found
 
--- a call through a channel: the channel gives the outcome, the value, the message and those whose waits end, by the rule of its use
+-- a call through a channel: the channel gives the outcome, the values, the message and those whose waits end, by the rule of its use
 pub record GoesThrough (configuration : Configuration) (now number : ℕ) (call : CallRecord) (channel next : Channel) : Type 0 where
   pub how : Use
   pub uses : use_of call.request ≡ Some how
@@ -175,6 +175,8 @@ pub record GoesThrough (configuration : Configuration) (now number : ℕ) (call 
   pub content : next.content ≡ effect.next
   pub out : call.claim.out ≡ effect.answer.out
   pub val : HasValue effect.answer.val call.claim.val
+  pub val2 : call.claim.val2 ≡ effect.answer.val2
+  pub val3 : call.claim.val3 ≡ effect.answer.val3
   pub bytes : call.claim.bytes ≡ effect.answer.bytes
   pub woken : NamesExactly effect.answer.woken call.claim.woken
 

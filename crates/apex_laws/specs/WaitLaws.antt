@@ -40,4 +40,4 @@ TimeOutIsTheSentence =
     → ((ticks core time : ℕ) → HasTimeOut call.request (pos ticks)
     → (falls_due core time (Some (caller_after place now call old)) ≡ true) ↔ ((old.affinity ≡ core) × (now + ticks ≤ time)))
     × (HasTimeOut call.request (negsuc 0) → (core time : ℕ) → falls_due core time (Some (caller_after place now call old)) ≡ false)
-    × ((later : ℕ) → (released later (caller_after place now call old)).due ≡ Some (record { service = service_of call.request; code = code.TimedOut; val = None; bytes = [] }))
+    × ((later : ℕ) → (released later (caller_after place now call old)).due ≡ Some (record { service = service_of call.request; code = code.TimedOut; val = None; val2 = None; val3 = None; bytes = [] }))

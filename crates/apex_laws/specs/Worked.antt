@@ -91,7 +91,7 @@ process_of partition number = record { part = partition; proc = number }
 abbrev pub claims : ℕ → Who → ℕ → Request → Out → Option ℤ → List ℕ → Option ℕ → List Who → Happening
 claims core who prio asked given val message chan woken = record {
   core = core;
-  body = Call (record { who = who; request = asked; claim = record { prio = prio; out = given; val = val; bytes = message; chan = chan; woken = woken } });
+  body = Call (record { who = who; request = asked; claim = record { prio = prio; out = given; val = val; val2 = None; val3 = None; bytes = message; chan = chan; woken = woken } });
 }
 
 -- a call that answers NO_ERROR
@@ -112,7 +112,7 @@ creates partition asked number = claims partition (process_of partition 0) 0 ask
 
 -- the return of an outcome without a value
 abbrev pub returns : Who → Service → Code → List ℕ → Happening
-returns who service given message = record { core = who.part; body = Ret (record { who = who; service = service; code = given; val = None; bytes = message }) }
+returns who service given message = record { core = who.part; body = Ret (record { who = who; service = service; code = given; val = None; val2 = None; val3 = None; bytes = message }) }
 
 -- the core is given to a process
 abbrev pub runs : Who → Happening
@@ -166,7 +166,7 @@ owes state who = due_of (at state who)
 
 -- an outcome without a value
 abbrev pub outcome : Service → Code → List ℕ → Option Outcome
-outcome service given message = Some (record { service = service; code = given; val = None; bytes = message })
+outcome service given message = Some (record { service = service; code = given; val = None; val2 = None; val3 = None; bytes = message })
 
 -- what a service gives to a caller of its own partition, on the core of the partition's number
 abbrev pub gets : State → Who → Request → Answer

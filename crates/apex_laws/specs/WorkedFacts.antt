@@ -199,9 +199,9 @@ pub record WorkedFacts : Type 0 where
   pub senders_message : ((play two_partitions sender_waits (claims 1 there 10 (request.ReceiveQueuingMessage (pos 1) (pos 0)) (out.Answer code.NoError) None (202 ∷ 254 ∷ []) (Some 0) (one ∷ []) ∷ [])).channels 0).content
       ≡ Queued ((17 ∷ []) ∷ [])
   -- an empty sampling channel gives NO_ACTION and validity 0; a message is valid at the age of 5 and no longer at 6
-  pub nothing_written : reading connected ≡ record { out = out.Answer code.NoAction; val = Number (pos 0); bytes = []; woken = [] }
-  pub still_valid : reading (play two_partitions sampled_once (idle_ticks 1 5)) ≡ record { out = out.Answer code.NoError; val = Number (pos 1); bytes = 17 ∷ []; woken = [] }
-  pub no_longer_valid : reading (play two_partitions sampled_once (idle_ticks 1 6)) ≡ record { out = out.Answer code.NoError; val = Number (pos 0); bytes = 17 ∷ []; woken = [] }
+  pub nothing_written : reading connected ≡ record { out = out.Answer code.NoAction; val = Number (pos 0); val2 = None; val3 = None; bytes = []; woken = [] }
+  pub still_valid : reading (play two_partitions sampled_once (idle_ticks 1 5)) ≡ record { out = out.Answer code.NoError; val = Number (pos 1); val2 = None; val3 = None; bytes = 17 ∷ []; woken = [] }
+  pub no_longer_valid : reading (play two_partitions sampled_once (idle_ticks 1 6)) ≡ record { out = out.Answer code.NoError; val = Number (pos 0); val2 = None; val3 = None; bytes = 17 ∷ []; woken = [] }
 
 -- lawful calls: records that have steps
 

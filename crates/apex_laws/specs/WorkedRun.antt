@@ -14,7 +14,7 @@ use Rattle.apex_laws.specs.WorkedFacts.{one, sends, there}
 
 -- the return of a creation under number 1
 abbrev pub returns_one : ℕ → Service → Happening
-returns_one partition of = record { core = partition; body = Ret (record { who = process_of partition 0; service = of; code = code.NoError; val = Some (pos 1); bytes = [] }) }
+returns_one partition of = record { core = partition; body = Ret (record { who = process_of partition 0; service = of; code = code.NoError; val = Some (pos 1); val2 = None; val3 = None; bytes = [] }) }
 
 -- a partition is set up with process 1 (10) and queuing port 1, and enters NORMAL
 abbrev pub set_up : ℕ → ℕ → List Happening

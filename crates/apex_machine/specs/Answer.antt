@@ -16,16 +16,19 @@ pub data Value : Type 0 where
   Number : (number : ℤ) → Value
   NewNumber : (is_free : ℕ → Bool) → Value
 
--- what a service gives where no error condition holds: the outcome, its value, its message, and whose waits end
+-- what a service gives where no error condition holds: the outcome, its value, a second and a third one where it gives more, its
+-- message, and whose waits end
 pub record Answer : Type 0 where
   pub out : Out
   pub val : Value
+  pub val2 : Option ℤ
+  pub val3 : Option ℤ
   pub bytes : List ℕ
   pub woken : List Who
 
 -- the service is done at once, with this value
 abbrev pub done_with : Value → Answer
-done_with value = record { out = out.Answer code.NoError; val = value; bytes = []; woken = [] }
+done_with value = record { out = out.Answer code.NoError; val = value; val2 = None; val3 = None; bytes = []; woken = [] }
 
 -- the service is done at once
 abbrev pub done : Answer
@@ -33,23 +36,23 @@ done = done_with Nothing
 
 -- the service is done at once, and the waits of these end
 abbrev pub waking : List Who → Answer
-waking woken = record { out = out.Answer code.NoError; val = Nothing; bytes = []; woken = woken }
+waking woken = record { out = out.Answer code.NoError; val = Nothing; val2 = None; val3 = None; bytes = []; woken = woken }
 
 -- the service gives a message at once, and the waits of these end
 abbrev pub giving : List ℕ → List Who → Answer
-giving message woken = record { out = out.Answer code.NoError; val = Nothing; bytes = message; woken = woken }
+giving message woken = record { out = out.Answer code.NoError; val = Nothing; val2 = None; val3 = None; bytes = message; woken = woken }
 
 -- the call does not return
 abbrev pub never : Answer
-never = record { out = out.Never; val = Nothing; bytes = []; woken = [] }
+never = record { out = out.Never; val = Nothing; val2 = None; val3 = None; bytes = []; woken = [] }
 
 -- the caller waits
 abbrev pub waiting : Answer
-waiting = record { out = out.Waits; val = Nothing; bytes = []; woken = [] }
+waiting = record { out = out.Waits; val = Nothing; val2 = None; val3 = None; bytes = []; woken = [] }
 
 -- the service answers at once with this code, and does nothing
 abbrev pub answering : Code → Answer
-answering code = record { out = out.Answer code; val = Nothing; bytes = []; woken = [] }
+answering code = record { out = out.Answer code; val = Nothing; val2 = None; val3 = None; bytes = []; woken = [] }
 
 -- what cannot be had at once: with a time-out of 0 the code is NOT_AVAILABLE, else the caller waits
 abbrev pub unmet : ℤ → Answer

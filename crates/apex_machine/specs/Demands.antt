@@ -106,11 +106,13 @@ CanHave asked (out.Answer code.NoAction) = Unit {0}
 CanHave asked (out.Answer code.NotAvailable) = Unit {0}
 CanHave asked _ = ⊥
 
--- what a call claims is the answer: its outcome, the value and the message that go with it, and whose waits end
+-- what a call claims is the answer: its outcome, the values and the message that go with it, and whose waits end
 abbrev pub answer_demands : Answer → Claim → List {1} Demand
 answer_demands answer claim =
     record { cause = cause.Out; holds = claim.out ≡ answer.out }
     ∷ record { cause = cause.Val; holds = HasValue answer.val claim.val }
+    ∷ record { cause = cause.Val; holds = claim.val2 ≡ answer.val2 }
+    ∷ record { cause = cause.Val; holds = claim.val3 ≡ answer.val3 }
     ∷ record { cause = cause.Data; holds = claim.bytes ≡ answer.bytes }
     ∷ record { cause = cause.Woken; holds = NamesExactly answer.woken claim.woken } ∷ []
 
@@ -126,6 +128,8 @@ outcome_demands (code ∷ codes) channel number asked answer claim =
     record { cause = cause.Chan; holds = claim.chan ≡ None }
     ∷ record { cause = cause.Out; holds = HasCode (code ∷ codes) claim.out }
     ∷ record { cause = cause.Val; holds = claim.val ≡ None }
+    ∷ record { cause = cause.Val; holds = claim.val2 ≡ None }
+    ∷ record { cause = cause.Val; holds = claim.val3 ≡ None }
     ∷ record { cause = cause.Data; holds = claim.bytes ≡ [] }
     ∷ record { cause = cause.Woken; holds = claim.woken ≡ [] } ∷ []
 
@@ -200,6 +204,8 @@ partition_demands configuration number cores partition core (Ret ret) =
     ∷ record { cause = cause.Return; holds = IfDue due (λ outcome. outcome.service ≡ ret.service) }
     ∷ record { cause = cause.Out; holds = IfDue due (λ outcome. outcome.code ≡ ret.code) }
     ∷ record { cause = cause.Val; holds = IfDue due (λ outcome. outcome.val ≡ ret.val) }
+    ∷ record { cause = cause.Val; holds = IfDue due (λ outcome. outcome.val2 ≡ ret.val2) }
+    ∷ record { cause = cause.Val; holds = IfDue due (λ outcome. outcome.val3 ≡ ret.val3) }
     ∷ record { cause = cause.Data; holds = IfDue due (λ outcome. outcome.bytes ≡ ret.bytes) } ∷ []
 
 -- channels

@@ -55,9 +55,9 @@ written now message = record { answer = done; next = Some (record { message = me
 
 -- what a reader gets: the last message and whether it is valid; of an empty channel nothing, which is invalid
 abbrev pub reading_of : ℕ → ℕ → Option Stamped → Answer
-reading_of now refresh None = record { out = out.Answer code.NoAction; val = Number (pos 0); bytes = []; woken = [] }
+reading_of now refresh None = record { out = out.Answer code.NoAction; val = Number (pos 0); val2 = None; val3 = None; bytes = []; woken = [] }
 reading_of now refresh (Some last) =
-    record { out = out.Answer code.NoError; val = Number (pos (validity now refresh last)); bytes = last.message; woken = [] }
+    record { out = out.Answer code.NoError; val = Number (pos (validity now refresh last)); val2 = None; val3 = None; bytes = last.message; woken = [] }
 
 -- READ_SAMPLING_MESSAGE: the message stays
 abbrev pub sampled : ℕ → ℕ → Option Stamped → Effect (Option Stamped)

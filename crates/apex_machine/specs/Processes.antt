@@ -112,7 +112,7 @@ set_by place period cores partition caller _ number x = x
 -- the outcome of a service, if it owes one
 abbrev pub owed : Option Service → Code → List ℕ → Option Outcome
 owed None code bytes = None
-owed (Some service) code bytes = Some (record { service = service; code = code; val = None; bytes = bytes })
+owed (Some service) code bytes = Some (record { service = service; code = code; val = None; val2 = None; val3 = None; bytes = bytes })
 
 -- the service whose call began a wait, if one did
 abbrev pub service_of_wait : Wait → Option Service
@@ -174,7 +174,14 @@ release_taken _ process = process.last_release
 
 -- the outcome that a call claims, as it is due to the caller
 abbrev pub outcome_of : CallRecord → Code → Outcome
-outcome_of call code = record { service = service_of call.request; code = code; val = call.claim.val; bytes = call.claim.bytes }
+outcome_of call code = record {
+  service = service_of call.request;
+  code = code;
+  val = call.claim.val;
+  val2 = call.claim.val2;
+  val3 = call.claim.val3;
+  bytes = call.claim.bytes;
+}
 
 -- the caller after its call: it waits, it is dormant, or its outcome is due
 abbrev pub caller_with : ℕ → ℕ → CallRecord → Out → Process → Process

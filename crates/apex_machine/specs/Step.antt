@@ -81,14 +81,18 @@ pub record IsRefused (codes : List Code) (claim : Claim) : Type 0 where
   pub chan : claim.chan ≡ None
   pub out : HasCode codes claim.out
   pub val : claim.val ≡ None
+  pub val2 : claim.val2 ≡ None
+  pub val3 : claim.val3 ≡ None
   pub bytes : claim.bytes ≡ []
   pub woken : claim.woken ≡ []
 
--- where none holds and no channel is used: the outcome of the service, with its value, its message and those whose waits end
+-- where none holds and no channel is used: the outcome of the service, with its values, its message and those whose waits end
 pub record IsAnswered (answer : Answer) (claim : Claim) : Type 0 where
   pub chan : claim.chan ≡ None
   pub out : claim.out ≡ answer.out
   pub val : HasValue answer.val claim.val
+  pub val2 : claim.val2 ≡ answer.val2
+  pub val3 : claim.val3 ≡ answer.val3
   pub bytes : claim.bytes ≡ answer.bytes
   pub woken : NamesExactly answer.woken claim.woken
 
@@ -98,6 +102,8 @@ pub record IsThrough (channel : ℕ) (suited : Bool) (answer : Answer) (claim : 
   pub kind : IsTrue suited
   pub out : claim.out ≡ answer.out
   pub val : HasValue answer.val claim.val
+  pub val2 : claim.val2 ≡ answer.val2
+  pub val3 : claim.val3 ≡ answer.val3
   pub bytes : claim.bytes ≡ answer.bytes
   pub woken : NamesExactly answer.woken claim.woken
 
@@ -123,7 +129,7 @@ channel_answer configuration now request channels number = (channel_effect confi
 
 -- what a return gives back
 abbrev pub outcome_returned : Return → Outcome
-outcome_returned ret = record { service = ret.service; code = ret.code; val = ret.val; bytes = ret.bytes }
+outcome_returned ret = record { service = ret.service; code = ret.code; val = ret.val; val2 = ret.val2; val3 = ret.val3; bytes = ret.bytes }
 
 -- lawful records
 

@@ -66,6 +66,8 @@ pub struct Outcome {
     pub service: Service,
     pub code: Code,
     pub val: Option<i64>,
+    pub val2: Option<i64>,
+    pub val3: Option<i64>,
     pub bytes: Message,
 }
 

@@ -88,13 +88,15 @@ impl Out {
     }
 }
 
-/// What a call claims of the machine: the caller's current priority, the outcome with its value and its message, the
+/// What a call claims of the machine: the caller's current priority, the outcome with its values and its message, the
 /// channel of the port, and the processes whose wait ends.
 #[derive(Debug, Drop)]
 pub struct Claim {
     pub prio: u8,
     pub out: Out,
     pub val: Option<i64>,
+    pub val2: Option<i64>,
+    pub val3: Option<i64>,
     pub bytes: Message,
     pub chan: Option<ChanId>,
     pub woken: Woken,
@@ -115,6 +117,8 @@ pub struct Return {
     pub service: Service,
     pub code: Code,
     pub val: Option<i64>,
+    pub val2: Option<i64>,
+    pub val3: Option<i64>,
     pub bytes: Message,
 }
 
