@@ -15,10 +15,12 @@ use Rattle.apex_types.specs.declared.record.Who.{Who}
 use Rattle.apex_types.specs.declared.request.Request.{Request}
 use Rattle.record_read.specs.declared.fault.RowFault.{RowFault}
 use Rattle.record_read.specs.declared.fault.RowFault.TheVariants.{FieldCount, SeqGap, TooMany}
+use Rattle.record_read.specs.declared.format.Format.{Format}
 use Rattle.record_read.specs.declared.kind.Kind.{Kind}
 use Rattle.record_read.specs.declared.kind.Kind.TheVariants as kind
 use Rattle.record_read.specs.Arguments.{arguments_of, request_of}
 use Rattle.record_read.specs.Field.{all_empty, empty, maybe_number, text_at}
+use Rattle.record_read.specs.Format.{field_count}
 use Rattle.record_read.specs.Grammar.{AreEmpty, Dispatches, HoldsClaim, HoldsNumber, HoldsRequest, IsRow, IsRowOf, IsRowOfCall, IsRowOfDispatch, IsRowOfReturn, IsRowOfTick, NamesProcess, columns_of}
 use Rattle.record_read.specs.GrammarLaws.{OneRecordOfARow, RowsAreTheGrammar}
 use Rattle.record_read.specs.Row.{body_in, call_in, claim_in, dispatch_in, fields_read, proc_of, record_of, request_in, return_in, seq_in, tick_in, who_in}
@@ -128,11 +130,15 @@ claim_is fields claim e =
     let bytes = step_ok _ _ claim val.2 in
     let chan = step_ok _ _ claim bytes.2 in
     let woken = step_ok _ _ claim chan.2 in
+    let val2 = step_ok _ _ claim woken.2 in
+    let val3 = step_ok _ _ claim val2.2 in
     subst (HoldsClaim (columns_of fields))
-    (same_ok (record { prio = prio.0; out = out.0; val = val.0; bytes = bytes.0; chan = chan.0; woken = woken.0 }) claim woken.2) (record {
+    (same_ok (record { prio = prio.0; out = out.0; val = val.0; val2 = val2.0; val3 = val3.0; bytes = bytes.0; chan = chan.0; woken = woken.0 }) claim val3.2) (record {
       prio = number_holds greatest_priority (text_at fields 10) prio.0 (omega arith) prio.1;
       out = outcome_is (text_at fields 11) out.0 out.1;
       val = maybe_signed_holds (text_at fields 12) val.0 val.1;
+      val2 = maybe_signed_holds (text_at fields 16) val2.0 val2.1;
+      val3 = maybe_signed_holds (text_at fields 17) val3.0 val3.1;
       bytes = data_holds (text_at fields 13) bytes.0 bytes.1;
       chan = maybe_number_holds greatest_channel (text_at fields 14) chan.0 (omega arith) chan.1;
       woken = processes_hold (text_at fields 15) woken.0 woken.1;
@@ -149,6 +155,8 @@ is_claim fields claim h =
       holds_data (text_at fields 13) claim.bytes h.bytes,
       holds_maybe_number greatest_channel (text_at fields 14) claim.chan (omega arith) h.chan,
       hold_processes (text_at fields 15) claim.woken h.woken,
+      holds_maybe_signed (text_at fields 16) claim.val2 h.val2,
+      holds_maybe_signed (text_at fields 17) claim.val3 h.val3,
     ) refl
 
 -- a row of this kind that is read as a call is its row
@@ -181,13 +189,17 @@ return_is fields ret named e =
     let val = step_ok _ _ ret code.2 in
     let bytes = step_ok _ _ ret val.2 in
     let unused_too = step_ok _ _ ret bytes.2 in
+    let val2 = step_ok _ _ ret unused_too.2 in
+    let val3 = step_ok _ _ ret val2.2 in
     subst (IsRowOfReturn (columns_of fields))
-    (same_ok (record { who = who.0; service = service.0; code = code.0; val = val.0; bytes = bytes.0 }) ret unused_too.2) (record {
+    (same_ok (record { who = who.0; service = service.0; code = code.0; val = val.0; val2 = val2.0; val3 = val3.0; bytes = bytes.0 }) ret val3.2) (record {
       kind = named;
       who = who_is fields who.0 who.1;
       service = service_is (text_at fields 4) service.0 service.1;
       code = code_is (text_at fields 11) code.0 code.1;
       val = maybe_signed_holds (text_at fields 12) val.0 val.1;
+      val2 = maybe_signed_holds (text_at fields 16) val2.0 val2.1;
+      val3 = maybe_signed_holds (text_at fields 17) val3.0 val3.1;
       bytes = data_holds (text_at fields 13) bytes.0 bytes.1;
       empty = both_empty (texts_from fields 5 6) (texts_from fields 14 2) (all_are_empty fields 5 6 unused.1) (all_are_empty fields 14 2 unused_too.1);
     })
@@ -204,6 +216,8 @@ is_return fields ret h =
       holds_maybe_signed (text_at fields 12) ret.val h.val,
       holds_data (text_at fields 13) ret.bytes h.bytes,
       are_all_empty fields 14 2 (back_empty (texts_from fields 5 6) (texts_from fields 14 2) h.empty),
+      holds_maybe_signed (text_at fields 16) ret.val2 h.val2,
+      holds_maybe_signed (text_at fields 17) ret.val3 h.val3,
     ) refl
 
 -- a process of a dispatch that is read, or none, is what the row names
@@ -229,19 +243,19 @@ dispatch_is fields who named e =
     subst (IsRowOfDispatch (columns_of fields)) (same_ok found.0 who unused.2) (record {
       kind = named;
       process = proc_is fields part.0 found.0 part.1 found.1;
-      empty = all_are_empty fields 4 12 unused.1;
+      empty = all_are_empty fields 4 14 unused.1;
     })
 
 -- the row of a dispatch is read as the dispatch
 is_dispatch : (fields : Fields) (who : Option Who) → IsRowOfDispatch (columns_of fields) who → dispatch_in fields ≡ Ok who
 unfolding dispatch_in proc_of
 is_dispatch fields None h =
-    rw (holds_maybe_number greatest_partition (text_at fields 2) None (omega arith) h.process.0, h.process.1.0, are_all_empty fields 4 12 h.empty) refl
+    rw (holds_maybe_number greatest_partition (text_at fields 2) None (omega arith) h.process.0, h.process.1.0, are_all_empty fields 4 14 h.empty) refl
 is_dispatch fields (Some who) h =
     rw (
       holds_maybe_number greatest_partition (text_at fields 2) (Some who.part) (omega arith) h.process.part,
       holds_number greatest_number (text_at fields 3) who.proc (omega arith) h.process.proc,
-      are_all_empty fields 4 12 h.empty,
+      are_all_empty fields 4 14 h.empty,
     ) refl
 
 -- a row of this kind that is read as a tick is its row
@@ -249,12 +263,23 @@ tick_is : (fields : Fields) (named : List Who) → text_at fields 1 ≡ codes "t
 unfolding tick_in
 tick_is fields named is e =
     let unused = step_ok _ _ named e in
-    record { kind = is; woken = processes_hold (text_at fields 15) named unused.2; empty = all_are_empty fields 2 13 unused.1 }
+    let woken = step_ok _ _ named unused.2 in
+    let unused_too = step_ok _ _ named woken.2 in
+    subst (IsRowOfTick (columns_of fields)) (same_ok woken.0 named unused_too.2) (record {
+      kind = is;
+      woken = processes_hold (text_at fields 15) woken.0 woken.1;
+      empty = both_empty (texts_from fields 2 13) (texts_from fields 16 2) (all_are_empty fields 2 13 unused.1) (all_are_empty fields 16 2 unused_too.1);
+    })
 
 -- the row of a tick is read as the tick
 is_tick : (fields : Fields) (named : List Who) → IsRowOfTick (columns_of fields) named → tick_in fields ≡ Ok named
 unfolding tick_in
-is_tick fields named h = rw (are_all_empty fields 2 13 h.empty) (hold_processes (text_at fields 15) named h.woken)
+is_tick fields named h =
+    rw (
+      are_all_empty fields 2 13 (front_empty (texts_from fields 2 13) (texts_from fields 16 2) h.empty),
+      hold_processes (text_at fields 15) named h.woken,
+      are_all_empty fields 16 2 (back_empty (texts_from fields 2 13) (texts_from fields 16 2) h.empty),
+    ) refl
 
 -- a row of a kind that is read as something recorded is its row
 body_is : (fields : Fields) (k : Kind) (b : Body) → text_at fields 1 ≡ kind_name k → body_in k fields ≡ Ok b → IsRowOf (columns_of fields) b
@@ -281,10 +306,10 @@ test_then : {A : Type 0} (test : Bool) (fault : RowFault) (read : Result A RowFa
 test_then true fault read y e = (refl, e)
 test_then false fault read y e = no_fault fault y e
 
--- sixteen fields that are read as a record are its row
-fields_are : (next : ℕ) (fields : Fields) (rec : Record) → length fields ≡ 16 → fields_read next fields ≡ Ok rec → IsRow next fields rec
+-- the fields of a row of its format that are read as a record are its row
+fields_are : (format : Format) (next : ℕ) (fields : Fields) (rec : Record) → length fields ≡ field_count format → fields_read next fields ≡ Ok rec → IsRow format next fields rec
 unfolding fields_read seq_in
-fields_are next fields rec count e =
+fields_are format next fields rec count e =
     let room : pred most_records < 2 ^ 64 = omega arith in
     let given = step_ok _ _ rec e in
     let seq = step_ok _ _ rec given.2 in
@@ -293,7 +318,7 @@ fields_are next fields rec count e =
     let test = test_ok (nat_eq given.0 next) SeqGap given.0 seq.0 seq.1 in
     let number = number_holds (pred most_records) (text_at fields 0) given.0 room given.1 in
     let bound : given.0 ≤ pred most_records = number.bound in
-    subst (IsRow next fields) (same_ok (record { seq = seq.0; body = found.0 }) rec found.2) (record {
+    subst (IsRow format next fields) (same_ok (record { seq = seq.0; body = found.0 }) rec found.2) (record {
       count = count;
       number = sym test.1 ∙ eqb-true given.0 next test.0;
       bound = subst (λ n. n < most_records) test.1 (omega arith);
@@ -301,10 +326,10 @@ fields_are next fields rec count e =
       body = body_is fields k.0 found.0 (kind_is (text_at fields 1) k.0 k.1) found.1;
     })
 
--- the sixteen fields of the row of a record are read as the record
-are_fields : (next : ℕ) (fields : Fields) (rec : Record) → IsRow next fields rec → fields_read next fields ≡ Ok rec
+-- the fields of the row of a record are read as the record
+are_fields : (format : Format) (next : ℕ) (fields : Fields) (rec : Record) → IsRow format next fields rec → fields_read next fields ≡ Ok rec
 unfolding fields_read seq_in
-are_fields next fields rec h =
+are_fields format next fields rec h =
     let b = is_body fields rec.body h.body in
     let bound : rec.seq < most_records = h.bound in
     let seq : HoldsNumber (pred most_records) (text_at fields 0) rec.seq = record { written = h.seq; bound = omega arith } in
@@ -316,25 +341,25 @@ are_fields next fields rec h =
     ) refl
 
 -- a row that is read as a record is its row
-row_is : (next : ℕ) (fields : Fields) (rec : Record) → record_of next fields ≡ Ok rec → IsRow next fields rec
+row_is : (format : Format) (next : ℕ) (fields : Fields) (rec : Record) → record_of format next fields ≡ Ok rec → IsRow format next fields rec
 unfolding record_of
-row_is next fields rec e =
+row_is format next fields rec e =
     let room = test_then (nat_lt next most_records) TooMany _ rec e in
-    let count = test_then (length fields == 16) FieldCount (fields_read next fields) rec room.1 in
-    fields_are next fields rec (eqb-true (length fields) 16 count.0) count.1
+    let count = test_then (length fields == field_count format) FieldCount (fields_read next fields) rec room.1 in
+    fields_are format next fields rec (eqb-true (length fields) (field_count format) count.0) count.1
 
 -- the row of a record is read as the record
-is_row : (next : ℕ) (fields : Fields) (rec : Record) → IsRow next fields rec → record_of next fields ≡ Ok rec
+is_row : (format : Format) (next : ℕ) (fields : Fields) (rec : Record) → IsRow format next fields rec → record_of format next fields ≡ Ok rec
 unfolding record_of
-is_row next fields rec h =
+is_row format next fields rec h =
     let bound : next < most_records = subst (λ n. n < most_records) h.number h.bound in
     let room : nat_lt next most_records ≡ true = lt-ltb next most_records bound in
-    rw (room, eq-eqb (length fields) 16 h.count) (are_fields next fields rec h)
+    rw (room, eq-eqb (length fields) (field_count format) h.count) (are_fields format next fields rec h)
 
 -- a row is read as a record exactly where it is the record's row
 pub rows_are_the_grammar : RowsAreTheGrammar
-rows_are_the_grammar next fields rec = (row_is next fields rec, is_row next fields rec)
+rows_are_the_grammar format next fields rec = (row_is format next fields rec, is_row format next fields rec)
 
 -- so a row is the row of at most one record
 pub one_record_of_a_row : OneRecordOfARow
-one_record_of_a_row next fields rec other h k = same_ok rec other (sym (is_row next fields rec h) ∙ is_row next fields other k)
+one_record_of_a_row format next fields rec other h k = same_ok rec other (sym (is_row format next fields rec h) ∙ is_row format next fields other k)

@@ -20,8 +20,10 @@ use Rattle.apex_types.specs.declared.record.Return.{Return}
 use Rattle.apex_types.specs.declared.record.Who.{Who}
 use Rattle.apex_types.specs.declared.request.Request.{Request}
 use Rattle.apex_types.specs.declared.service.Service.{Service}
+use Rattle.record_read.specs.declared.format.Format.{Format}
 use Rattle.record_read.specs.Arguments.{arguments_of, request_of}
 use Rattle.record_read.specs.Field.{text_at}
+use Rattle.record_read.specs.Format.{field_count}
 use Rattle.record_read.specs.Payload.{is_printable}
 
 -- what one field holds
@@ -91,7 +93,7 @@ pub record HoldsProcesses (text : List ℕ) (named : List Who) : Type 0 where
 
 -- what a row holds
 
--- the texts of a row's sixteen fields, by the fields' names
+-- the texts of a row's fields, by the fields' names; in format 1 a row has no val2 and no val3, for which the empty text stands
 pub record Columns : Type 0 where
   pub seq : List ℕ
   pub kind : List ℕ
@@ -109,8 +111,10 @@ pub record Columns : Type 0 where
   pub «data» : List ℕ
   pub chan : List ℕ
   pub woken : List ℕ
+  pub val2 : List ℕ
+  pub val3 : List ℕ
 
--- the fields from the first to the sixteenth
+-- the fields from the first to the last
 abbrev pub columns_of : Fields → Columns
 columns_of fields = record {
   seq = text_at fields 0;
@@ -129,6 +133,8 @@ columns_of fields = record {
   «data» = text_at fields 13;
   chan = text_at fields 14;
   woken = text_at fields 15;
+  val2 = text_at fields 16;
+  val3 = text_at fields 17;
 }
 
 -- all these fields are empty
@@ -171,6 +177,8 @@ pub record HoldsClaim (row : Columns) (claim : Claim) : Type 0 where
   pub prio : HoldsNumber greatest_priority row.prio claim.prio
   pub out : HoldsOutcome row.out claim.out
   pub val : MayHold HoldsSigned row.val claim.val
+  pub val2 : MayHold HoldsSigned row.val2 claim.val2
+  pub val3 : MayHold HoldsSigned row.val3 claim.val3
   pub bytes : HoldsData row.«data» claim.bytes
   pub chan : MayHold (HoldsNumber greatest_channel) row.chan claim.chan
   pub woken : HoldsProcesses row.woken claim.woken
@@ -189,6 +197,8 @@ pub record IsRowOfReturn (row : Columns) (ret : Return) : Type 0 where
   pub service : row.service ≡ ServiceName.name_of ret.service
   pub code : row.out ≡ CodeName.name_of ret.code
   pub val : MayHold HoldsSigned row.val ret.val
+  pub val2 : MayHold HoldsSigned row.val2 ret.val2
+  pub val3 : MayHold HoldsSigned row.val3 ret.val3
   pub bytes : HoldsData row.«data» ret.bytes
   pub empty : AreEmpty (row.n1 ∷ row.n2 ∷ row.n3 ∷ row.name ∷ row.msg ∷ row.prio ∷ row.chan ∷ row.woken ∷ [])
 
@@ -201,13 +211,13 @@ Dispatches row (Some who) = NamesProcess row who
 pub record IsRowOfDispatch (row : Columns) (who : Option Who) : Type 0 where
   pub kind : row.kind ≡ codes "disp"
   pub process : Dispatches row who
-  pub empty : AreEmpty (row.service ∷ row.n1 ∷ row.n2 ∷ row.n3 ∷ row.name ∷ row.msg ∷ row.prio ∷ row.out ∷ row.val ∷ row.«data» ∷ row.chan ∷ row.woken ∷ [])
+  pub empty : AreEmpty (row.service ∷ row.n1 ∷ row.n2 ∷ row.n3 ∷ row.name ∷ row.msg ∷ row.prio ∷ row.out ∷ row.val ∷ row.«data» ∷ row.chan ∷ row.woken ∷ row.val2 ∷ row.val3 ∷ [])
 
 -- the row of a tick
 pub record IsRowOfTick (row : Columns) (named : List Who) : Type 0 where
   pub kind : row.kind ≡ codes "tick"
   pub woken : HoldsProcesses row.woken named
-  pub empty : AreEmpty (row.part ∷ row.proc ∷ row.service ∷ row.n1 ∷ row.n2 ∷ row.n3 ∷ row.name ∷ row.msg ∷ row.prio ∷ row.out ∷ row.val ∷ row.«data» ∷ row.chan ∷ [])
+  pub empty : AreEmpty (row.part ∷ row.proc ∷ row.service ∷ row.n1 ∷ row.n2 ∷ row.n3 ∷ row.name ∷ row.msg ∷ row.prio ∷ row.out ∷ row.val ∷ row.«data» ∷ row.chan ∷ row.val2 ∷ row.val3 ∷ [])
 
 -- one case for each kind of row
 abbrev pub IsRowOf : Columns → Body → Type 0
@@ -216,9 +226,10 @@ IsRowOf row (body.Ret ret) = IsRowOfReturn row ret
 IsRowOf row (body.Disp who) = IsRowOfDispatch row who
 IsRowOf row (body.Tick woken) = IsRowOfTick row woken
 
--- sixteen fields are the row of a record: the first holds its number, which is the row's, and the others are the row of what it records
-pub record IsRow (next : ℕ) (fields : Fields) (rec : Record) : Type 0 where
-  pub count : length fields ≡ 16
+-- fields are the row of a record, in a recording of this format: they are as many as the format has, the first holds the record's
+-- number, which is the row's, and the others are the row of what it records
+pub record IsRow (format : Format) (next : ℕ) (fields : Fields) (rec : Record) : Type 0 where
+  pub count : length fields ≡ field_count format
   pub number : rec.seq ≡ next
   pub bound : rec.seq < most_records
   pub seq : (columns_of fields).seq ≡ decimal rec.seq

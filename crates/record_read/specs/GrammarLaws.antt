@@ -2,13 +2,14 @@
 use Rattle.std.specs.Prelude.{◌≡◌, ◌↔◌, ℕ, Ok}
 use Rattle.csv_rows.specs.Stream.{Fields}
 use Rattle.apex_types.specs.declared.record.Record.{Record}
+use Rattle.record_read.specs.declared.format.Format.{Format}
 use Rattle.record_read.specs.Grammar.{IsRow}
 use Rattle.record_read.specs.Row.{record_of}
 
 -- a row is read as a record exactly where it is the record's row
 abbrev pub RowsAreTheGrammar : Type 0
-RowsAreTheGrammar = (next : ℕ) (fields : Fields) (rec : Record) → (record_of next fields ≡ Ok rec) ↔ IsRow next fields rec
+RowsAreTheGrammar = (format : Format) (next : ℕ) (fields : Fields) (rec : Record) → (record_of format next fields ≡ Ok rec) ↔ IsRow format next fields rec
 
 -- a row is the row of at most one record
 abbrev pub OneRecordOfARow : Type 0
-OneRecordOfARow = (next : ℕ) (fields : Fields) (rec other : Record) → IsRow next fields rec → IsRow next fields other → rec ≡ other
+OneRecordOfARow = (format : Format) (next : ℕ) (fields : Fields) (rec other : Record) → IsRow format next fields rec → IsRow format next fields other → rec ≡ other

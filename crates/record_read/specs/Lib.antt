@@ -1,5 +1,6 @@
 pub mod Steps
 pub mod Field
+pub mod Format
 pub mod Named
 pub mod Payload
 pub mod Woken

@@ -25,6 +25,8 @@ struct PlainClaim {
     prio: u8,
     out: Out,
     val: Option<i64>,
+    val2: Option<i64>,
+    val3: Option<i64>,
     chan: Option<ChanId>,
 }
 
@@ -67,7 +69,7 @@ pub fn read_who(fields: &ByteRecord) -> Result<Who, RowFault>
 // Judges what a call claims.
 #[tactic(auto, unfolding(crate::specs::Row::claim_in))]
 fn judge_claim(fields: &ByteRecord) -> Result<PlainClaim, RowFault>
-    ensures value { IfOk result (λ plain. claim_in (fields_of fields.now) ≡ Ok (record { prio = plain.prio; out = plain.out; val = plain.val; bytes = hex_bytes (text_at (fields_of fields.now) 13); chan = plain.chan; woken = processes_in (text_at (fields_of fields.now) 15) })) }
+    ensures value { IfOk result (λ plain. claim_in (fields_of fields.now) ≡ Ok (record { prio = plain.prio; out = plain.out; val = plain.val; val2 = plain.val2; val3 = plain.val3; bytes = hex_bytes (text_at (fields_of fields.now) 13); chan = plain.chan; woken = processes_in (text_at (fields_of fields.now) 15) })) }
     ensures hex { OnOk result (IsHex (text_at (fields_of fields.now) 13)) }
     ensures list { OnOk result (IsList (text_at (fields_of fields.now) 15)) }
     ensures refused { IfErr result (λ fault. claim_in (fields_of fields.now) ≡ Err fault) }
@@ -79,10 +81,14 @@ fn judge_claim(fields: &ByteRecord) -> Result<PlainClaim, RowFault>
     judge_data(text(fields, 13))?;
     let chan = read_channel(text(fields, 14))?;
     judge_woken(text(fields, 15))?;
+    let val2 = optional_signed(text(fields, 16))?;
+    let val3 = optional_signed(text(fields, 17))?;
     Ok(PlainClaim {
         prio: prio as u8,
         out,
         val,
+        val2,
+        val3,
         chan,
     })
 }
@@ -91,7 +97,7 @@ fn judge_claim(fields: &ByteRecord) -> Result<PlainClaim, RowFault>
 fn make_claim(alloc: Global, plain: PlainClaim, fields: &ByteRecord) -> Result<Claim, AllocError>
     requires digits { IsHex (text_at (fields_of fields.now) 13) }
     requires list { IsList (text_at (fields_of fields.now) 15) }
-    ensures value { IfOk result (λ claim. claim ≡ record { prio = plain.prio; out = plain.out; val = plain.val; bytes = hex_bytes (text_at (fields_of fields.now) 13); chan = plain.chan; woken = processes_in (text_at (fields_of fields.now) 15) }) }
+    ensures value { IfOk result (λ claim. claim ≡ record { prio = plain.prio; out = plain.out; val = plain.val; val2 = plain.val2; val3 = plain.val3; bytes = hex_bytes (text_at (fields_of fields.now) 13); chan = plain.chan; woken = processes_in (text_at (fields_of fields.now) 15) }) }
     ensures memory { OnErr result ((hex_bytes (text_at (fields_of fields.now) 13) ≢ []) ⊎ (processes_in (text_at (fields_of fields.now) 15) ≢ [])) }
 {
     let bytes = copy_message(alloc, text(fields, 13))?;
@@ -100,6 +106,8 @@ fn make_claim(alloc: Global, plain: PlainClaim, fields: &ByteRecord) -> Result<C
         prio: plain.prio,
         out: plain.out,
         val: plain.val,
+        val2: plain.val2,
+        val3: plain.val3,
         bytes,
         chan: plain.chan,
         woken,

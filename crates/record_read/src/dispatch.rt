@@ -24,7 +24,7 @@ pub fn read_dispatch(fields: &ByteRecord) -> Result<Option<Who>, RowFault>
         None => None,
     };
     let who = read_proc(part, text(fields, 3))?;
-    expect_all_empty(fields, 4, 12)?;
+    expect_all_empty(fields, 4, 14)?;
     Ok(who)
 }
 
@@ -54,6 +54,7 @@ pub fn read_tick(alloc: Global, fields: &ByteRecord) -> Result<Woken, RowFault>
     expect_all_empty(fields, 2, 13)?;
     let list = text(fields, 15);
     judge_woken(list)?;
+    expect_all_empty(fields, 16, 2)?;
     match copy_woken(alloc, list) {
         Ok(woken) => Ok(woken),
         Err(_) => Err(RowFault::Memory),

@@ -14,8 +14,8 @@ pub enum RowFault {
     /// The row stands past the 4,294,967,295 that a recording can have.
     #[error("the recording has too many rows")]
     TooMany,
-    /// The row has not sixteen fields.
-    #[error("a row has not sixteen fields")]
+    /// The row has not as many fields as the recording's format.
+    #[error("a row has more or fewer fields than the recording's format")]
     FieldCount,
     /// A number is not in canonical decimal, or out of its range.
     #[error("a field is no number of its range")]

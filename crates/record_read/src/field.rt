@@ -33,7 +33,7 @@ pub fn expect_empty(text: &[u8]) -> Result<(), RowFault>
 /// Sees that so many fields from this place on are empty.
 #[tactic(auto, unfolding(crate::specs::Field::all_empty))]
 pub fn expect_all_empty(fields: &ByteRecord, place: usize, count: usize) -> Result<(), RowFault>
-    requires { place + count ≤ 16 }
+    requires { place + count ≤ 18 }
     ensures value { result ≡ all_empty (fields_of fields.now) place count }
     ensures own { IfErr result (λ fault. IsOfRow fault) }
 {

@@ -2,7 +2,8 @@
 //!
 //! Promises: the n-th answer of a source is the record that the n-th row of the text is by the row grammar, or the
 //! first fault of that row from left to right; the end is told only behind the last row. The grammar is a relation between
-//! rows and records (`IsRow`), and a row is read as a record exactly where the relation holds.
+//! rows and records (`IsRow`), by the recording's format, which its first row tells, and a row is read as a record exactly where
+//! the relation holds.
 #![tactic(auto)]
 
 mod arguments;
@@ -10,6 +11,7 @@ mod call;
 mod dispatch;
 mod fault;
 mod field;
+mod format;
 mod kind;
 mod laws;
 mod named;
@@ -21,6 +23,7 @@ mod source;
 mod woken;
 
 pub use fault::RowFault;
+pub use format::Format;
 pub use kind::{Kind, find_kind};
 pub use laws::{one_record_of_a_row, rows_are_the_grammar};
 pub use named::{find_out, find_service};

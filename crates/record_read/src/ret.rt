@@ -29,12 +29,16 @@ pub fn read_return(alloc: Global, fields: &ByteRecord) -> Result<Return, RowFaul
     let data = text(fields, 13);
     judge_data(data)?;
     expect_all_empty(fields, 14, 2)?;
+    let val2 = optional_signed(text(fields, 16))?;
+    let val3 = optional_signed(text(fields, 17))?;
     match copy_message(alloc, data) {
         Ok(bytes) => Ok(Return {
             who,
             service,
             code,
             val,
+            val2,
+            val3,
             bytes,
         }),
         Err(_) => Err(RowFault::Memory),

@@ -11,32 +11,36 @@ use crate::call::read_call;
 use crate::dispatch::{read_dispatch, read_tick};
 use crate::fault::RowFault;
 use crate::field::{required_number, text};
+use crate::format::Format;
 use crate::kind::{Kind, read_kind};
 use crate::ret::read_return;
 use apex_types::{Body, Record};
 use csv::ByteRecord;
 use std::alloc::Global;
 
-// How many fields a row has.
-const FIELDS: usize = 16;
-
-/// The record that the row of this number is, numbers from 0, or its first fault from left to right.
+/// The record that the row of this number is in a recording of this format, numbers from 0, or its first fault from left to
+/// right.
 #[tactic(auto, unfolding(crate::specs::Row::record_of))]
-pub fn read_record(alloc: Global, next: u32, fields: &ByteRecord) -> Result<Record, RowFault>
-    ensures value { IfOk result (λ made. record_of next (fields_of fields.now) ≡ Ok made) }
-    ensures refused { IfErr result (λ fault. Refuses NeedsMemory fault (record_of next (fields_of fields.now))) }
+pub fn read_record(
+    alloc: Global,
+    format: Format,
+    next: u32,
+    fields: &ByteRecord,
+) -> Result<Record, RowFault>
+    ensures value { IfOk result (λ made. record_of format next (fields_of fields.now) ≡ Ok made) }
+    ensures refused { IfErr result (λ fault. Refuses NeedsMemory fault (record_of format next (fields_of fields.now))) }
     ensures bound { OnOk result (next < 4294967295) }
 {
     if next == u32::MAX {
         return Err(RowFault::TooMany);
     }
-    if fields.len() != FIELDS {
+    if fields.len() != format.field_count() {
         return Err(RowFault::FieldCount);
     }
     read_fields(alloc, next, fields)
 }
 
-// The record that sixteen fields are.
+// The record that the fields are of a row that has those of its format.
 #[tactic(auto, unfolding(crate::specs::Row::fields_read))]
 fn read_fields(alloc: Global, next: u32, fields: &ByteRecord) -> Result<Record, RowFault>
     ensures value { IfOk result (λ made. fields_read next (fields_of fields.now) ≡ Ok made) }

@@ -7,6 +7,7 @@ ghost use Rattle.record_read.specs.Row.{records_of};
 ghost use Rattle.record_read.specs.Steps.{IsOutside};
 
 use crate::fault::RowFault;
+use crate::format::{Format, format_by};
 use crate::row::read_record;
 use apex_types::Record;
 use csv::ByteRecord;
@@ -15,11 +16,13 @@ use std::alloc::Global;
 use std::io::Read;
 use std::marker::Model;
 
-/// The records that the rows of a recording are, one for each call of `next`.
+/// The records that the rows of a recording are, one for each call of `next`. The first row tells the recording's format.
 #[derive(Drop)]
 pub struct RowSource<R: Read> {
     rows: CsvRows<R>,
     fields: ByteRecord,
+    // The format of the recording, once its first row was read.
+    format: Option<Format>,
     count: u32,
     stopped: bool,
     alloc: Global,
@@ -27,8 +30,8 @@ pub struct RowSource<R: Read> {
 
 impl<R: Read> Model for RowSource<R> {
     ghost use Rattle.std.specs.Prelude.{◌≡◌, ◌&&◌, not, option_map, false};
-    ghost use Rattle.csv_rows.specs.Source.{Source, items_from};
-    ghost use Rattle.record_read.specs.Row.{Item, record_of};
+    ghost use Rattle.csv_rows.specs.Source.{Source};
+    ghost use Rattle.record_read.specs.Row.{Item, records_left};
 
     ghost Value = { Source Item };
 
@@ -37,7 +40,7 @@ impl<R: Read> Model for RowSource<R> {
       ended = source.rows.ended;
       failed = source.rows.failed;
       starved = source.rows.stopped && not source.rows.failed;
-      left = option_map (items_from record_of source.count) source.rows.left;
+      left = option_map (records_left source.format source.count) source.rows.left;
     } };
 
     ghost invariant = { λ source. source.stopped ≡ false → source.rows.stopped ≡ false };
@@ -55,6 +58,7 @@ impl<R: Read> RowSource<R> {
         RowSource {
             rows: CsvRows::new(alloc, reader),
             fields: ByteRecord::new(alloc),
+            format: None,
             count: 0,
             stopped: false,
             alloc,
@@ -90,7 +94,9 @@ impl<R: Read> RowSource<R> {
             Err(StreamFault::Read) => return Err(RowFault::Read),
             Err(StreamFault::Memory) => return Err(RowFault::Memory),
         }
-        let made = read_record(self.alloc, self.count, &self.fields)?;
+        let format = format_by(self.format, &self.fields);
+        self.format = Some(format);
+        let made = read_record(self.alloc, format, self.count, &self.fields)?;
         self.count += 1;
         self.stopped = false;
         Ok(Some(made))

@@ -45,9 +45,11 @@ abbrev pub value_of : Option ℤ → Value
 value_of None = Nothing
 value_of (Some number) = Number number
 
--- what a call claims is this outcome, with this value and this message
+-- what a call claims is this outcome, with this value, no further one, and this message
 abbrev pub outcome_demands : Out → Value → List ℕ → Claim → List {1} Demand
 outcome_demands out value bytes claim =
     record { cause = cause.Out; holds = claim.out ≡ out }
     ∷ record { cause = cause.Val; holds = HasValue value claim.val }
+    ∷ record { cause = cause.Val; holds = claim.val2 ≡ None }
+    ∷ record { cause = cause.Val; holds = claim.val3 ≡ None }
     ∷ record { cause = cause.Data; holds = claim.bytes ≡ bytes } ∷ []

@@ -15,7 +15,7 @@ listed (Some who) = who ∷ []
 
 -- what an operation gives its caller, with this value
 abbrev pub giving_value : Value → Given → Answer
-giving_value value given = record { out = given.out; val = value; bytes = given.bytes.now; woken = listed given.woken }
+giving_value value given = record { out = given.out; val = value; val2 = None; val3 = None; bytes = given.bytes.now; woken = listed given.woken }
 
 -- what an operation gives its caller, without a value
 abbrev pub answer_given : Given → Answer

@@ -148,6 +148,7 @@ fn is_same_value(claimed: Option<i64>, val: Option<i64>) -> bool
 }
 
 // Judges the outcome that a claim gives, the value and the message: `has_value` says whether the value is the one that is claimed.
+// A second and a third value go with no outcome.
 fn judge_with_value(out: Out, has_value: bool, bytes: &[u8], claim: &Claim) -> Result<(), Cause>
     ensures { (value : Value) → (IsTrue has_value ↔ HasValue value claim.now.val) → Judges (outcome_demands out value bytes.now claim.now) result }
 {
@@ -155,6 +156,12 @@ fn judge_with_value(out: Out, has_value: bool, bytes: &[u8], claim: &Claim) -> R
         return Err(Cause::Out);
     }
     if !has_value {
+        return Err(Cause::Val);
+    }
+    if claim.val2.is_some() {
+        return Err(Cause::Val);
+    }
+    if claim.val3.is_some() {
         return Err(Cause::Val);
     }
     if claim.bytes.as_bytes() != bytes {
