@@ -42,6 +42,8 @@ fn claim(alloc: Global, out: Out, woken: Woken) -> Claim
         prio: 10,
         out,
         val: None,
+        val2: None,
+        val3: None,
         bytes: Message::empty(alloc),
         chan: None,
         woken,

@@ -28,6 +28,12 @@ pub(crate) fn judge_refused(conditions: &Conditions, claim: &Claim) -> Result<()
     if claim.val.is_some() {
         return Err(Cause::Val);
     }
+    if claim.val2.is_some() {
+        return Err(Cause::Val);
+    }
+    if claim.val3.is_some() {
+        return Err(Cause::Val);
+    }
     if !claim.bytes.as_bytes().is_empty() {
         return Err(Cause::Data);
     }

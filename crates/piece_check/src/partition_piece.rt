@@ -420,6 +420,12 @@ impl PartitionPiece {
         if due.val != ret.val {
             return Err(Cause::Val);
         }
+        if due.val2 != ret.val2 {
+            return Err(Cause::Val);
+        }
+        if due.val3 != ret.val3 {
+            return Err(Cause::Val);
+        }
         if due.bytes.as_bytes() != ret.bytes.as_bytes() {
             return Err(Cause::Data);
         }

@@ -49,6 +49,8 @@ fn outcome_of(alloc: Global, call: &Call, code: Code) -> Result<Outcome, AllocEr
         service: call.request.service(),
         code,
         val: call.claim.val,
+        val2: call.claim.val2,
+        val3: call.claim.val3,
         bytes: Message::new(bytes),
     })
 }

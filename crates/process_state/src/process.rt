@@ -141,6 +141,8 @@ fn owed(service: Option<Service>, code: Code, bytes: Message) -> Option<Outcome>
             service,
             code,
             val: None,
+            val2: None,
+            val3: None,
             bytes,
         }),
         None => None,
