@@ -265,12 +265,12 @@ own_ends : (number place now period : ℕ) (cores : List CoreState) (partition :
     → (codes : List Code) (channel : Option ℕ) → AllHold (outcome_demands codes channel number asked (answer_of now caller partition asked) claim)
     → (who : Who) → who.part ≡ number → is_named who claim.woken ≡ true → (x : Process) → item_at partition.table who.proc ≡ Some x
     → EndsNoRelease x.wait × ((set_by place period cores partition caller.proc asked who.proc x).wait ≡ x.wait)
-own_ends number place now period cores partition caller asked claim sound (code ∷ codes) channel hold who here named x at = nobody who claim.woken hold.1.1.1.1.1.1.0 named
+own_ends number place now period cores partition caller asked claim sound (code ∷ codes) channel hold who here named x at = nobody who claim.woken hold.1.1.1.1.0 named
 own_ends number place now period cores partition caller asked claim sound [] (Some channel) hold who here named x at =
     absurd (true≢false (sym named ∙ not_named who claim.woken (subst (λ part. names_one_of part claim.woken ≡ false) (sym here) hold.1.1.0)))
 own_ends number place now period cores partition caller asked claim sound [] None hold who here named x at =
     let Ends : Who → Type 0 = λ one. (y : Process) → item_at partition.table one.proc ≡ Some y → EndsNoRelease y.wait in
-    let answered = sym (hold.1.1.1.1.1.1.0 who) ∙ named in
+    let answered = sym (hold.1.1.1.1.0 who) ∙ named in
     let ends : EndsNoRelease x.wait = answer_wakes Ends now caller partition asked
     (λ wanted used. all_weaker (Stands number wanted partition) (λ entry. Ends entry.who)
     (λ entry stands y at. waiter_ends partition.table wanted entry.who.proc y stands.1 at) (entries_at partition wanted) (sound.stands wanted))

@@ -17,7 +17,7 @@ use Rattle.apex_machine.specs.declared.state.WaitingSet.TheVariants as set
 use Rattle.apex_machine.specs.After.{is_channel}
 use Rattle.apex_machine.specs.Channels.{EndsAreApart, is_receiver, is_sender}
 use Rattle.apex_machine.specs.Configuration.{Configuration, has_partition}
-use Rattle.apex_machine.specs.Demands.{AllHold, AllWaitAt, InWindowOf, IsRunning, WakesHere, call_demands, channel_demands, demands, module_demands, outcome_demands, own_call_demands, partition_demands, stands_in, used_demands, window_now}
+use Rattle.apex_machine.specs.Demands.{AllHold, AllWaitAt, InWindowOf, IsRunning, ReturnsValues, WakesHere, call_demands, channel_demands, demands, module_demands, outcome_demands, own_call_demands, partition_demands, stands_in, used_demands, window_now}
 use Rattle.apex_machine.specs.Pieces.{Module, OfChannel, OfPartition, Piece, is_configured, part, touched_by, touches}
 use Rattle.apex_machine.specs.Ports.{channel_of, suits_use, use_of}
 use Rattle.apex_machine.specs.ServiceConditions.{condition_codes}
@@ -222,14 +222,8 @@ return_demanded configuration state core ret law =
           (
             if_due due (outcome_returned ret) (λ outcome. outcome.code ≡ ret.code) law.due refl,
             (
-              if_due due (outcome_returned ret) (λ outcome. outcome.val ≡ ret.val) law.due refl,
-              (
-                if_due due (outcome_returned ret) (λ outcome. outcome.val2 ≡ ret.val2) law.due refl,
-                (
-                  if_due due (outcome_returned ret) (λ outcome. outcome.val3 ≡ ret.val3) law.due refl,
-                  (if_due due (outcome_returned ret) (λ outcome. outcome.bytes ≡ ret.bytes) law.due refl, tt),
-                ),
-              ),
+              if_due due (outcome_returned ret) (λ outcome. ReturnsValues outcome ret) law.due (record { val = refl; val2 = refl; val3 = refl }),
+              (if_due due (outcome_returned ret) (λ outcome. outcome.bytes ≡ ret.bytes) law.due refl, tt),
             ),
           ),
         ),
@@ -275,7 +269,7 @@ used_demanded configuration state core call tied law number true is =
       neither (stands_in call.who (state.channels number).senders) (stands_in call.who (state.channels number).receivers)
           (caller_stands_not configuration state core call tied law (λ home. IsTrue (is_sender configuration number home)) (set.ChannelSenders number) (state.channels number).senders (tied.senders number))
           (caller_stands_not configuration state core call tied law (λ home. IsTrue (is_receiver configuration number home)) (set.ChannelReceivers number) (state.channels number).receivers (tied.receivers number)),
-      (through.kind, (through.out, (through.val, (through.val2, (through.val3, (through.bytes, (through.woken, tt))))))),
+      (through.kind, (through.out, (through.values, (through.bytes, (through.woken, tt))))),
     )
   where
     goes_to : (chan : Option ℕ) → is_channel number chan ≡ true → chan ≡ Some number

@@ -124,7 +124,7 @@ lawful_value configuration state core call law done off =
     let suited : ℕ → Bool = λ number. suits_use (use_of call.request) (state.channels number) in
     let through = channel_answer configuration (time_of state.cores core) call.request state.channels in
     let none = done_is_lawful codes (channel_of partition call.request) answer suited through call.claim (are_errors configuration call.who partition call.request) law.outcome done in
-    (answered codes (channel_of partition call.request) answer suited through call.claim none off law.outcome).val
+    (answered codes (channel_of partition call.request) answer suited through call.claim none off law.outcome).values.val
 
 pub lawful_values : (configuration : Configuration) (state : State) (core : ℕ) (body : Body) → IsLawfulBody configuration state core body
     → (number : ℕ) → CallsClaimValues number (time_of state.cores core) body (state.partitions number)

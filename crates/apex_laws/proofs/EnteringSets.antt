@@ -117,16 +117,16 @@ quiet_answer now who partition _ = λ off. refl
 names_nobody : (number now : ℕ) (partition : Partition) (caller : Who) (asked : Request) (claim : Claim) (codes : List Code) (channel : Option ℕ)
     → AllHold (outcome_demands codes channel number asked (answer_of now caller partition asked) claim) → is_no_error claim.out ≡ false
     → (who : Who) → who.part ≡ number → is_named who claim.woken ≡ false
-names_nobody number now partition caller asked claim (code ∷ codes) channel hold not_done who here = ap (is_named who) hold.1.1.1.1.1.1.0
+names_nobody number now partition caller asked claim (code ∷ codes) channel hold not_done who here = ap (is_named who) hold.1.1.1.1.0
 names_nobody number now partition caller asked claim [] (Some channel) hold not_done who here =
     not_named who claim.woken (subst (λ part. names_one_of part claim.woken ≡ false) (sym here) hold.1.1.0)
 names_nobody number now partition caller asked claim [] None hold not_done who here =
-    hold.1.1.1.1.1.1.0 who ∙ ap (is_named who) (quiet_answer now caller partition asked (ap is_no_error (sym hold.1.0) ∙ not_done))
+    hold.1.1.1.1.0 who ∙ ap (is_named who) (quiet_answer now caller partition asked (ap is_no_error (sym hold.1.0) ∙ not_done))
 
 -- one that goes through no channel names whom the service's answer names
 names_as_answered : (number : ℕ) (asked : Request) (answer : Answer) (claim : Claim) (codes : List Code) (channel : Option ℕ) → codes ≡ [] → channel ≡ None
     → AllHold (outcome_demands codes channel number asked answer claim) → (who : Who) → is_named who claim.woken ≡ is_named who answer.woken
-names_as_answered number asked answer claim [] None none off hold who = hold.1.1.1.1.1.1.0 who
+names_as_answered number asked answer claim [] None none off hold who = hold.1.1.1.1.0 who
 names_as_answered number asked answer claim [] (Some channel) none off hold who = let no : ◌≡◌ {A = Option ℕ} (Some channel) None = off in cc
 names_as_answered number asked answer claim (code ∷ codes) channel none off hold who = cc
 

@@ -63,7 +63,7 @@ lawful_facts = record {
       due = refl;
       profile = refl;
       prio = refl;
-      outcome = record { chan = refl; out = refl; val = refl; val2 = refl; val3 = refl; bytes = refl; woken = λ who. refl };
+      outcome = record { chan = refl; out = refl; values = record { val = refl; val2 = refl; val3 = refl }; bytes = refl; woken = λ who. refl };
     };
   };
   sends = record {
@@ -75,7 +75,7 @@ lawful_facts = record {
       due = refl;
       profile = refl;
       prio = refl;
-      outcome = record { chan = refl; kind = refl; out = refl; val = refl; val2 = refl; val3 = refl; bytes = refl; woken = λ who. refl };
+      outcome = record { chan = refl; kind = refl; out = refl; values = record { val = refl; val2 = refl; val3 = refl }; bytes = refl; woken = λ who. refl };
     };
   };
   waits = record {
@@ -87,7 +87,7 @@ lawful_facts = record {
       due = refl;
       profile = refl;
       prio = refl;
-      outcome = record { chan = refl; kind = refl; out = refl; val = refl; val2 = refl; val3 = refl; bytes = refl; woken = λ who. refl };
+      outcome = record { chan = refl; kind = refl; out = refl; values = record { val = refl; val2 = refl; val3 = refl }; bytes = refl; woken = λ who. refl };
     };
   };
   reads = record {
@@ -99,7 +99,7 @@ lawful_facts = record {
       due = refl;
       profile = refl;
       prio = refl;
-      outcome = record { chan = refl; kind = refl; out = refl; val = refl; val2 = refl; val3 = refl; bytes = refl; woken = λ who. refl };
+      outcome = record { chan = refl; kind = refl; out = refl; values = record { val = refl; val2 = refl; val3 = refl }; bytes = refl; woken = λ who. refl };
     };
   };
 }

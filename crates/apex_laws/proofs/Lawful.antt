@@ -50,15 +50,7 @@ says : (configuration : Configuration) (state : State) (core : ℕ) (call : Call
 says configuration state core call channel is hold =
     let goes : is_channel channel call.claim.chan ≡ true = rw is (is_itself channel) in
     let of_channel = subst (λ one. AllHold (used_demands one configuration (time_of state.cores core) channel (state.channels channel) call)) goes hold in
-    record {
-      kind = of_channel.1.0;
-      out = of_channel.1.1.0;
-      val = of_channel.1.1.1.0;
-      val2 = of_channel.1.1.1.1.0;
-      val3 = of_channel.1.1.1.1.1.0;
-      bytes = of_channel.1.1.1.1.1.1.0;
-      woken = of_channel.1.1.1.1.1.1.1.0;
-    }
+    record { kind = of_channel.1.0; out = of_channel.1.1.0; values = of_channel.1.1.1.0; bytes = of_channel.1.1.1.1.0; woken = of_channel.1.1.1.1.1.0 }
 
 -- a channel that a call claims is configured and touched
 claimed_configured : (configuration : Configuration) (chan : Option ℕ) (channel : ℕ) → chan ≡ Some channel → ChannelConfigured configuration chan → IsTrue (has_channel configuration channel)
@@ -97,8 +89,7 @@ lawful_return configuration state core ret of_module own = record {
   names = of_module.0;
   occupant = own.1.0.0;
   choice = choice_from (window_now configuration state.cores core) state.partitions core ret.who own.0 own.1.0.1;
-  due = returned_is_due (due_of (item_at (state.partitions ret.who.part).table ret.who.proc)) ret own.1.1.0 own.1.1.1.0
-      own.1.1.1.1.0 own.1.1.1.1.1.0 own.1.1.1.1.1.1.0 own.1.1.1.1.1.1.1.0;
+  due = returned_is_due (due_of (item_at (state.partitions ret.who.part).table ret.who.proc)) ret own.1.1.0 own.1.1.1.0 own.1.1.1.1.0 own.1.1.1.1.1.0;
 }
 
 -- any record

@@ -116,8 +116,8 @@ one_set_alone change through partition (set.ChannelReceivers channel) has become
 
 -- it names nobody
 stop_names : (codes : List Code) (number : ℕ) (asked : Request) (claim : Claim) → AllHold (outcome_demands codes None number asked done claim) → (who : Who) → is_named who claim.woken ≡ false
-stop_names [] number asked claim hold who = hold.1.1.1.1.1.1.0 who
-stop_names (code ∷ codes) number asked claim hold who = ap (is_named who) hold.1.1.1.1.1.1.0
+stop_names [] number asked claim hold who = hold.1.1.1.1.0 who
+stop_names (code ∷ codes) number asked claim hold who = ap (is_named who) hold.1.1.1.1.0
 
 -- it ends the wait of its target alone
 stop_ends : (call : CallRecord) (process : ℤ) (number : ℕ) (who : Who) → process ≡ pos number → call.request ≡ request.Stop process → is_no_error call.claim.out ≡ true

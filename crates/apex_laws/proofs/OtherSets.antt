@@ -77,7 +77,7 @@ suspended_elsewhere partition who process target wanted is suspends waits =
 named_uses : (number place now : ℕ) (partition : Partition) (caller : Who) (asked : Request) (claim : Claim) → IsSoundPart number place partition
     → (codes : List Code) (channel : Option ℕ) → AllHold (outcome_demands codes channel number asked (answer_of now caller partition asked) claim)
     → (wanted : WaitingSet) → is_set_used asked wanted ≡ false → (who : Who) → who.part ≡ number → waits_at wanted (item_at partition.table who.proc) ≡ true → is_named who claim.woken ≡ true → ⊥
-named_uses number place now partition caller asked claim sound (code ∷ codes) channel hold wanted unused who here waits named = nobody who claim.woken hold.1.1.1.1.1.1.0 named
+named_uses number place now partition caller asked claim sound (code ∷ codes) channel hold wanted unused who here waits named = nobody who claim.woken hold.1.1.1.1.0 named
 named_uses number place now partition caller asked claim sound [] (Some channel) hold wanted unused who here waits named =
     true≢false (sym named ∙ not_named who claim.woken (subst (λ part. names_one_of part claim.woken ≡ false) (sym here) hold.1.1.0))
 named_uses number place now partition caller asked claim sound [] None hold wanted unused who here waits named =
@@ -86,7 +86,7 @@ named_uses number place now partition caller asked claim sound [] None hold want
     (λ entry is also. true≢false (sym used ∙ ap (is_set_used asked) (one_set other wanted (item_at partition.table entry.who.proc) is.1 also) ∙ unused))
     (entries_at partition other) (sound.stands other))
     (λ process target is suspends waits. suspended_elsewhere partition caller process target wanted is suspends waits)
-    who (sym (hold.1.1.1.1.1.1.0 who) ∙ named) waits
+    who (sym (hold.1.1.1.1.0 who) ∙ named) waits
 
 pub other_sets_stay : OtherSetsStay
 other_sets_stay configuration number place core cores partition call is not_stop wanted unused =

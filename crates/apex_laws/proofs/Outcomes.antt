@@ -9,11 +9,11 @@ use Rattle.apex_types.specs.declared.request.Request.{Request}
 use Rattle.apex_types.specs.declared.request.Request.TheVariants as request
 use Rattle.apex_machine.specs.declared.state.Entry.{Entry}
 use Rattle.apex_machine.specs.declared.state.Outcome.{Outcome}
-use Rattle.apex_machine.specs.Answer.{Answer, HasValue, NamesExactly, answering, unmet, waiting}
+use Rattle.apex_machine.specs.Answer.{Answer, HasValues, NamesExactly, answering, unmet, waiting}
 use Rattle.apex_machine.specs.Arguments.{is_over}
 use Rattle.apex_machine.specs.Channels.{capacity_of, receiving_discipline, refresh_of, sending_discipline}
 use Rattle.apex_machine.specs.Configuration.{Configuration}
-use Rattle.apex_machine.specs.Demands.{AllHold, CanHave, IfDue, outcome_demands}
+use Rattle.apex_machine.specs.Demands.{AllHold, CanHave, IfDue, ReturnsValues, outcome_demands}
 use Rattle.apex_machine.specs.Ports.{Receive, Read, Send, Write, channel_effect, reading_of, suits_use, use_of, used}
 use Rattle.apex_machine.specs.Queue.{Messages, appended, not_yet, received, sent}
 use Rattle.apex_machine.specs.State.{Channel, Content, Queued, Sampled, Stamped, names_one_of}
@@ -26,9 +26,7 @@ use Rattle.apex_machine.specs.Waiting.{first_waiter}
 pub record ChannelSays (suited : Bool) (answer : Answer) (claim : Claim) : Type 0 where
   pub kind : IsTrue suited
   pub out : claim.out ≡ answer.out
-  pub val : HasValue answer.val claim.val
-  pub val2 : claim.val2 ≡ answer.val2
-  pub val3 : claim.val3 ≡ answer.val3
+  pub values : HasValues answer.val answer.val2 answer.val3 claim
   pub bytes : claim.bytes ≡ answer.bytes
   pub woken : NamesExactly answer.woken claim.woken
 
@@ -38,21 +36,12 @@ pub has_outcome : (codes : List Code) (channel : Option ℕ) (number : ℕ) (ask
     → ((channel : ℕ) → claim.chan ≡ Some channel → ChannelSays (suited channel) (through channel) claim)
     → HasOutcome codes channel answer suited through claim
 has_outcome [] None number asked answer suited through claim hold says =
-    record { chan = hold.0; out = hold.1.0; val = hold.1.1.0; val2 = hold.1.1.1.0; val3 = hold.1.1.1.1.0; bytes = hold.1.1.1.1.1.0; woken = hold.1.1.1.1.1.1.0 }
+    record { chan = hold.0; out = hold.1.0; values = hold.1.1.0; bytes = hold.1.1.1.0; woken = hold.1.1.1.1.0 }
 has_outcome [] (Some channel) number asked answer suited through claim hold says =
     let of_channel = says channel hold.0 in
-    record {
-      chan = hold.0;
-      kind = of_channel.kind;
-      out = of_channel.out;
-      val = of_channel.val;
-      val2 = of_channel.val2;
-      val3 = of_channel.val3;
-      bytes = of_channel.bytes;
-      woken = of_channel.woken;
-    }
+    record { chan = hold.0; kind = of_channel.kind; out = of_channel.out; values = of_channel.values; bytes = of_channel.bytes; woken = of_channel.woken }
 has_outcome (code ∷ codes) channel number asked answer suited through claim hold says =
-    record { chan = hold.0; out = hold.1.0; val = hold.1.1.0; val2 = hold.1.1.1.0; val3 = hold.1.1.1.1.0; bytes = hold.1.1.1.1.1.0; woken = hold.1.1.1.1.1.1.0 }
+    record { chan = hold.0; out = hold.1.0; values = hold.1.1.0; bytes = hold.1.1.1.0; woken = hold.1.1.1.1.0 }
 
 -- the outcome that a lawful call has meets the demands of the caller's partition
 pub outcome_holds : (codes : List Code) (channel : Option ℕ) (number : ℕ) (asked : Request) (answer : Answer) (suited : ℕ → Bool) (through : ℕ → Answer) (claim : Claim)
@@ -60,11 +49,11 @@ pub outcome_holds : (codes : List Code) (channel : Option ℕ) (number : ℕ) (a
     → ((other : ℕ) → channel ≡ Some other → IsThrough other (suited other) (through other) claim → names_one_of number claim.woken ≡ false)
     → HasOutcome codes channel answer suited through claim
     → AllHold (outcome_demands codes channel number asked answer claim)
-outcome_holds [] None number asked answer suited through claim can apart has = (has.chan, (has.out, (has.val, (has.val2, (has.val3, (has.bytes, (has.woken, tt)))))))
+outcome_holds [] None number asked answer suited through claim can apart has = (has.chan, (has.out, (has.values, (has.bytes, (has.woken, tt)))))
 outcome_holds [] (Some channel) number asked answer suited through claim can apart has =
     (has.chan, (subst (CanHave asked) (sym has.out) (can channel has.kind), (apart channel refl has, tt)))
 outcome_holds (code ∷ codes) channel number asked answer suited through claim can apart has =
-    (has.chan, (has.out, (has.val, (has.val2, (has.val3, (has.bytes, (has.woken, tt)))))))
+    (has.chan, (has.out, (has.values, (has.bytes, (has.woken, tt)))))
 
 -- a lawful call that claims a channel is answered by that channel
 pub through_claimed : (codes : List Code) (channel : Option ℕ) (answer : Answer) (suited : ℕ → Bool) (through : ℕ → Answer) (claim : Claim) (claimed : ℕ)
@@ -139,12 +128,11 @@ channel_can configuration now number _ channel suited = absurd (true≢false (sy
 
 -- an outcome is due that has all that the return gives back: it is the outcome that the return gives back
 pub returned_is_due : (due : Option Outcome) (ret : Return) → IfDue due (λ outcome. outcome.service ≡ ret.service)
-    → IfDue due (λ outcome. outcome.code ≡ ret.code) → IfDue due (λ outcome. outcome.val ≡ ret.val)
-    → IfDue due (λ outcome. outcome.val2 ≡ ret.val2) → IfDue due (λ outcome. outcome.val3 ≡ ret.val3)
+    → IfDue due (λ outcome. outcome.code ≡ ret.code) → IfDue due (λ outcome. ReturnsValues outcome ret)
     → IfDue due (λ outcome. outcome.bytes ≡ ret.bytes) → due ≡ Some (outcome_returned ret)
-returned_is_due None ret service code val val2 val3 bytes = absurd service
-returned_is_due (Some outcome) ret service code val val2 val3 bytes =
-    λ i. Some (record { service = service i; code = code i; val = val i; val2 = val2 i; val3 = val3 i; bytes = bytes i })
+returned_is_due None ret service code values bytes = absurd service
+returned_is_due (Some outcome) ret service code values bytes =
+    λ i. Some (record { service = service i; code = code i; val = values.val i; val2 = values.val2 i; val3 = values.val3 i; bytes = bytes i })
 
 -- a fact about the outcome that is due
 pub if_due : (due : Option Outcome) (outcome : Outcome) (fact : Outcome → Type 0) → due ≡ Some outcome → fact outcome → IfDue due fact

@@ -22,7 +22,7 @@ use Rattle.apex_machine.specs.Configuration.{Configuration, first_core, period_o
 use Rattle.apex_machine.specs.Ports.{channel_effect, use_of}
 use Rattle.apex_machine.specs.Processes.{caller_after, caller_with, outcome_of, release_taken, renews}
 use Rattle.apex_machine.specs.ServiceConditions.{condition_codes}
-use Rattle.apex_machine.specs.Services.{Answer}
+use Rattle.apex_machine.specs.Services.{Answer, HasNoValues}
 use Rattle.apex_machine.specs.State.{Partition, State, Table, each_item, is_named, item_at, time_of}
 use Rattle.apex_machine.specs.Step.{HasCode, HasOutcome, IsAmong, IsRefused}
 use Rattle.apex_machine.specs.Waiting.{ends_wait, is_no_error, is_waiting, set_after, stops, without}
@@ -87,10 +87,9 @@ none_created core call (request.CreateProcess name priority period) not_so = rw 
 none_created core call _ not_so = refl
 
 -- the caller of a refused call
-refused_caller : (place now : ℕ) (call : CallRecord) (code : Code) (process : Process) → call.claim.out ≡ out.Answer code → is_done (out.Answer code) ≡ false → call.claim.val ≡ None
-    → call.claim.val2 ≡ None → call.claim.val3 ≡ None → call.claim.bytes ≡ []
+refused_caller : (place now : ℕ) (call : CallRecord) (code : Code) (process : Process) → call.claim.out ≡ out.Answer code → is_done (out.Answer code) ≡ false → HasNoValues call.claim → call.claim.bytes ≡ []
     → caller_after place now call process ≡ record process { due = Some (record { service = service_of call.request; code = code; val = None; val2 = None; val3 = None; bytes = [] }); called_at = now }
-refused_caller place now call code process is not_so val val2 val3 bytes =
+refused_caller place now call code process is not_so values bytes =
     let error : is_no_error (out.Answer code) ≡ false = not_no_error (out.Answer code) not_so in
     ap (λ given. record (caller_with place now call given process) { called_at = now }) is
     ∙ ap (λ test. record process {
@@ -100,7 +99,7 @@ refused_caller place now call code process is not_so val val2 val3 bytes =
       called_at = now;
     }) error
     ∙ ap (λ test. record process { ready_position = cond test place process.ready_position; due = Some (outcome_of call code); called_at = now }) (never (renews call.request))
-    ∙ (λ i. record process { due = Some (record { service = service_of call.request; code = code; val = val i; val2 = val2 i; val3 = val3 i; bytes = bytes i }); called_at = now })
+    ∙ (λ i. record process { due = Some (record { service = service_of call.request; code = code; val = values.val i; val2 = values.val2 i; val3 = values.val3 i; bytes = bytes i }); called_at = now })
   where
     never : (test : Bool) → (test && false) ≡ false
     never true = refl
@@ -186,7 +185,7 @@ refusal_is_the_sentence configuration state ordered call next step is some =
           new = record old.0 { due = Some (record { service = service_of call.request; code = one.code; val = None; val2 = None; val3 = None; bytes = [] }); called_at = now };
           before = old.1;
           after = ap (λ (found : Partition). item_at found.table call.who.proc) own ∙ ap (λ found. item_at found call.who.proc) all ∙ turns_each change table call.who.proc old.0 old.1
-              ∙ ap Some (caller_is place now period state.cores (state.partitions call.who.part) call old.0 not_so ∙ refused_caller place now call one.code old.0 one.is code_not_done refusal.val refusal.val2 refusal.val3 refusal.bytes);
+              ∙ ap Some (caller_is place now period state.cores (state.partitions call.who.part) call old.0 not_so ∙ refused_caller place now call one.code old.0 one.is code_not_done refusal.values refusal.bytes);
           change = refl;
         };
         others = λ other differs. elim (cases_Bool (nat_eq call.who.part other.part)) [

@@ -53,7 +53,7 @@ demands_none (code ∷ codes) channel number asked answer claim errors hold done
 -- where it goes through no channel, it claims the value of its service
 demands_value : (codes : List Code) (channel : Option ℕ) (number : ℕ) (asked : Request) (answer : Answer) (claim : Claim) → codes ≡ [] → channel ≡ None
     → AllHold (outcome_demands codes channel number asked answer claim) → HasValue answer.val claim.val
-demands_value [] None number asked answer claim none off hold = hold.1.1.0
+demands_value [] None number asked answer claim none off hold = hold.1.1.0.val
 demands_value [] (Some channel) number asked answer claim none off hold = let no : ◌≡◌ {A = Option ℕ} (Some channel) None = off in cc
 demands_value (code ∷ codes) channel number asked answer claim none off hold = cc
 

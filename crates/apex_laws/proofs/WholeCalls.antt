@@ -19,7 +19,7 @@ use Rattle.apex_machine.specs.declared.state.Wait.TheVariants as wait
 use Rattle.apex_machine.specs.declared.state.WaitingSet.{WaitingSet}
 use Rattle.apex_machine.specs.declared.state.WaitingSet.TheVariants as set
 use Rattle.apex_machine.specs.After.{adjusted, called, created_by, each_set, is_channel, is_done, numbered, objects_by, objects_called, partition_called, roused}
-use Rattle.apex_machine.specs.Answer.{Answer, Effect, HasValue, NamesExactly, done, waking}
+use Rattle.apex_machine.specs.Answer.{Answer, Effect, HasValues, NamesExactly, done, waking}
 use Rattle.apex_machine.specs.Arguments.{natural_of}
 use Rattle.apex_machine.specs.Channels.{is_receiver, is_sender}
 use Rattle.apex_machine.specs.DueTimes.{is_suspension, wait_of, waits_for_normal}
@@ -359,9 +359,7 @@ goes_through configuration state now call answer codes channel number next order
       rule = (channel_is_the_sentence configuration now number (state.channels number) how.0 effect senders receivers how.2).0 refl;
       content = content ∙ ap (λ one. one.next) same;
       out = through.out ∙ ap (λ one. one.answer.out) same;
-      val = subst (λ one. HasValue one.answer.val call.claim.val) same through.val;
-      val2 = through.val2 ∙ ap (λ one. one.answer.val2) same;
-      val3 = through.val3 ∙ ap (λ one. one.answer.val3) same;
+      values = subst (λ one. HasValues one.answer.val one.answer.val2 one.answer.val3 call.claim) same through.values;
       bytes = through.bytes ∙ ap (λ one. one.answer.bytes) same;
       woken = subst (λ one. NamesExactly one.answer.woken call.claim.woken) same through.woken;
     }

@@ -62,26 +62,26 @@ no_other final = no_run (cold_state two_partitions) (in_places 0 before_return) 
 goes : Goes (cold_state two_partitions) (recording (202 ∷ 254 ∷ []))
 goes =
     step _ _ _ (record { placed = refl; claims = record { names = refl; choice = refl } }) (
-    step _ _ _ (record { placed = refl; claims = record { names = (refl, tt, tt); occupant = refl; choice = refl; due = refl; profile = refl; prio = refl; outcome = record { chan = refl; out = refl; val = refl; val2 = refl; val3 = refl; bytes = refl; woken = λ who. refl } } }) (
+    step _ _ _ (record { placed = refl; claims = record { names = (refl, tt, tt); occupant = refl; choice = refl; due = refl; profile = refl; prio = refl; outcome = record { chan = refl; out = refl; values = record { val = refl; val2 = refl; val3 = refl }; bytes = refl; woken = λ who. refl } } }) (
     step _ _ _ (record { placed = refl; claims = record { names = refl; occupant = refl; choice = refl; due = refl } }) (
-    step _ _ _ (record { placed = refl; claims = record { names = (refl, tt, tt); occupant = refl; choice = refl; due = refl; profile = refl; prio = refl; outcome = record { chan = refl; out = refl; val = refl; val2 = refl; val3 = refl; bytes = refl; woken = λ who. refl } } }) (
+    step _ _ _ (record { placed = refl; claims = record { names = (refl, tt, tt); occupant = refl; choice = refl; due = refl; profile = refl; prio = refl; outcome = record { chan = refl; out = refl; values = record { val = refl; val2 = refl; val3 = refl }; bytes = refl; woken = λ who. refl } } }) (
     step _ _ _ (record { placed = refl; claims = record { names = refl; occupant = refl; choice = refl; due = refl } }) (
-    step _ _ _ (record { placed = refl; claims = record { names = (refl, tt, tt); occupant = refl; choice = refl; due = refl; profile = refl; prio = refl; outcome = record { chan = refl; out = refl; val = refl; val2 = refl; val3 = refl; bytes = refl; woken = λ who. refl } } }) (
+    step _ _ _ (record { placed = refl; claims = record { names = (refl, tt, tt); occupant = refl; choice = refl; due = refl; profile = refl; prio = refl; outcome = record { chan = refl; out = refl; values = record { val = refl; val2 = refl; val3 = refl }; bytes = refl; woken = λ who. refl } } }) (
     step _ _ _ (record { placed = refl; claims = record { names = refl; occupant = refl; choice = refl; due = refl } }) (
-    step _ _ _ (record { placed = refl; claims = record { names = (refl, tt, tt); occupant = refl; choice = refl; due = refl; profile = refl; prio = refl; outcome = record { chan = refl; out = refl; val = refl; val2 = refl; val3 = refl; bytes = refl; woken = λ who. refl } } }) (
+    step _ _ _ (record { placed = refl; claims = record { names = (refl, tt, tt); occupant = refl; choice = refl; due = refl; profile = refl; prio = refl; outcome = record { chan = refl; out = refl; values = record { val = refl; val2 = refl; val3 = refl }; bytes = refl; woken = λ who. refl } } }) (
     step _ _ _ (record { placed = refl; claims = record { names = refl; choice = refl } }) (
-    step _ _ _ (record { placed = refl; claims = record { names = (refl, tt, tt); occupant = refl; choice = refl; due = refl; profile = refl; prio = refl; outcome = record { chan = refl; out = refl; val = refl; val2 = refl; val3 = refl; bytes = refl; woken = λ who. refl } } }) (
+    step _ _ _ (record { placed = refl; claims = record { names = (refl, tt, tt); occupant = refl; choice = refl; due = refl; profile = refl; prio = refl; outcome = record { chan = refl; out = refl; values = record { val = refl; val2 = refl; val3 = refl }; bytes = refl; woken = λ who. refl } } }) (
     step _ _ _ (record { placed = refl; claims = record { names = refl; occupant = refl; choice = refl; due = refl } }) (
-    step _ _ _ (record { placed = refl; claims = record { names = (refl, tt, tt); occupant = refl; choice = refl; due = refl; profile = refl; prio = refl; outcome = record { chan = refl; out = refl; val = refl; val2 = refl; val3 = refl; bytes = refl; woken = λ who. refl } } }) (
+    step _ _ _ (record { placed = refl; claims = record { names = (refl, tt, tt); occupant = refl; choice = refl; due = refl; profile = refl; prio = refl; outcome = record { chan = refl; out = refl; values = record { val = refl; val2 = refl; val3 = refl }; bytes = refl; woken = λ who. refl } } }) (
     step _ _ _ (record { placed = refl; claims = record { names = refl; occupant = refl; choice = refl; due = refl } }) (
-    step _ _ _ (record { placed = refl; claims = record { names = (refl, tt, tt); occupant = refl; choice = refl; due = refl; profile = refl; prio = refl; outcome = record { chan = refl; out = refl; val = refl; val2 = refl; val3 = refl; bytes = refl; woken = λ who. refl } } }) (
+    step _ _ _ (record { placed = refl; claims = record { names = (refl, tt, tt); occupant = refl; choice = refl; due = refl; profile = refl; prio = refl; outcome = record { chan = refl; out = refl; values = record { val = refl; val2 = refl; val3 = refl }; bytes = refl; woken = λ who. refl } } }) (
     step _ _ _ (record { placed = refl; claims = record { names = refl; occupant = refl; choice = refl; due = refl } }) (
-    step _ _ _ (record { placed = refl; claims = record { names = (refl, tt, tt); occupant = refl; choice = refl; due = refl; profile = refl; prio = refl; outcome = record { chan = refl; out = refl; val = refl; val2 = refl; val3 = refl; bytes = refl; woken = λ who. refl } } }) (
+    step _ _ _ (record { placed = refl; claims = record { names = (refl, tt, tt); occupant = refl; choice = refl; due = refl; profile = refl; prio = refl; outcome = record { chan = refl; out = refl; values = record { val = refl; val2 = refl; val3 = refl }; bytes = refl; woken = λ who. refl } } }) (
     step _ _ _ (record { placed = refl; claims = record { names = refl; choice = refl } }) (
-    step _ _ _ (record { placed = refl; claims = record { names = (refl, tt, refl); occupant = refl; choice = refl; due = refl; profile = refl; prio = refl; outcome = record { chan = refl; kind = refl; out = refl; val = refl; val2 = refl; val3 = refl; bytes = refl; woken = λ who. refl } } }) (
+    step _ _ _ (record { placed = refl; claims = record { names = (refl, tt, refl); occupant = refl; choice = refl; due = refl; profile = refl; prio = refl; outcome = record { chan = refl; kind = refl; out = refl; values = record { val = refl; val2 = refl; val3 = refl }; bytes = refl; woken = λ who. refl } } }) (
     step _ _ _ (record { placed = refl; claims = record { names = tt; choice = refl } }) (
     step _ _ _ (record { placed = refl; claims = record { names = refl; choice = refl } }) (
-    step _ _ _ (record { placed = refl; claims = record { names = (refl, (refl, tt), refl); occupant = refl; choice = refl; due = refl; profile = refl; prio = refl; outcome = record { chan = refl; kind = refl; out = refl; val = refl; val2 = refl; val3 = refl; bytes = refl; woken = λ who. refl } } }) (
+    step _ _ _ (record { placed = refl; claims = record { names = (refl, (refl, tt), refl); occupant = refl; choice = refl; due = refl; profile = refl; prio = refl; outcome = record { chan = refl; kind = refl; out = refl; values = record { val = refl; val2 = refl; val3 = refl }; bytes = refl; woken = λ who. refl } } }) (
     step _ _ _ (record { placed = refl; claims = record { names = refl; choice = refl } }) (
     step _ _ _ (record { placed = refl; claims = record { names = refl; occupant = refl; choice = refl; due = refl } }) (done _)))))))))))))))))))))))
 

@@ -11,7 +11,7 @@ use Rattle.apex_machine.specs.declared.state.Process.{Process}
 use Rattle.apex_machine.specs.declared.state.WaitingSet.{WaitingSet}
 use Rattle.apex_machine.specs.declared.state.WaitingSet.TheVariants as set
 use Rattle.apex_machine.specs.After.{each_set, is_done, mode_by, objects_by}
-use Rattle.apex_machine.specs.Answer.{Effect, HasValue, NamesExactly}
+use Rattle.apex_machine.specs.Answer.{Effect, HasValues, NamesExactly}
 use Rattle.apex_machine.specs.Arguments.{natural_of, period_given}
 use Rattle.apex_machine.specs.Configuration.{Configuration, first_core, has_partition, period_of}
 use Rattle.apex_machine.specs.Ports.{Use, use_of}
@@ -174,9 +174,7 @@ pub record GoesThrough (configuration : Configuration) (now number : ℕ) (call 
   pub rule : IsUse configuration now number channel how effect
   pub content : next.content ≡ effect.next
   pub out : call.claim.out ≡ effect.answer.out
-  pub val : HasValue effect.answer.val call.claim.val
-  pub val2 : call.claim.val2 ≡ effect.answer.val2
-  pub val3 : call.claim.val3 ≡ effect.answer.val3
+  pub values : HasValues effect.answer.val effect.answer.val2 effect.answer.val3 call.claim
   pub bytes : call.claim.bytes ≡ effect.answer.bytes
   pub woken : NamesExactly effect.answer.woken call.claim.woken
 

@@ -2,6 +2,7 @@
 use Rattle.std.specs.Prelude.{◌≡◌, ℕ, List, [], ◌∷◌, Option, Some, None, Bool, true, false, ℤ, pos, negsuc, nat_lt, nat_le, ◌&&◌, if◌then◌else◌}
 use Rattle.apex_types.specs.declared.code.Code.{Code}
 use Rattle.apex_types.specs.declared.code.Code.TheVariants as code
+use Rattle.apex_types.specs.declared.record.Claim.{Claim}
 use Rattle.apex_types.specs.declared.record.Out.{Out}
 use Rattle.apex_types.specs.declared.record.Out.TheVariants as out
 use Rattle.apex_types.specs.declared.record.Who.{Who}
@@ -81,6 +82,16 @@ abbrev pub HasValue : Value → Option ℤ → Type 0
 HasValue Nothing claimed = claimed ≡ None
 HasValue (Number number) claimed = claimed ≡ Some number
 HasValue (NewNumber is_free) claimed = is_new is_free claimed ≡ true
+
+-- what a claim has as its values: the one that goes with the outcome, and just this second and this third one
+pub record HasValues (value : Value) (second third : Option ℤ) (claim : Claim) : Type 0 where
+  pub val : HasValue value claim.val
+  pub val2 : claim.val2 ≡ second
+  pub val3 : claim.val3 ≡ third
+
+-- a claim has no value
+abbrev pub HasNoValues : Claim → Type 0
+HasNoValues claim = HasValues Nothing None None claim
 
 -- a record names exactly these processes
 abbrev pub NamesExactly : List Who → List Who → Type 0

@@ -11,6 +11,7 @@ use Rattle.apex_types.specs.declared.record.Claim.{Claim}
 use Rattle.apex_types.specs.declared.record.Ordered.{Ordered}
 use Rattle.apex_types.specs.declared.record.Out.{Out}
 use Rattle.apex_types.specs.declared.record.Out.TheVariants as out
+use Rattle.apex_types.specs.declared.record.Return.{Return}
 use Rattle.apex_types.specs.declared.record.Who.{Who}
 use Rattle.apex_types.specs.declared.request.Request.{Request}
 use Rattle.apex_types.specs.declared.request.Request.TheVariants as request
@@ -27,7 +28,7 @@ use Rattle.apex_machine.specs.Pieces.{ChannelPart, ModulePart, Part, PartitionPa
 use Rattle.apex_machine.specs.Ports.{channel_effect, channel_of, suits_use, use_of}
 use Rattle.apex_machine.specs.DueTimes.{NamesThoseDue, time_out_of}
 use Rattle.apex_machine.specs.ServiceConditions.{condition_codes}
-use Rattle.apex_machine.specs.Services.{Answer, HasValue, NamesExactly, answer_of}
+use Rattle.apex_machine.specs.Services.{Answer, HasNoValues, HasValues, NamesExactly, answer_of}
 use Rattle.apex_machine.specs.State.{Channel, Partition, Table, is_same, names_one_of, occupant_of, item_at, time_of}
 use Rattle.apex_machine.specs.Step.{AllConfigured, OneConfigured, ChannelConfigured, KeepsSkew, HasNoneDue, HasPriority, HasCode, IsWithinProfile, due_of}
 use Rattle.apex_machine.specs.Waiting.{waits_at}
@@ -110,9 +111,7 @@ CanHave asked _ = ⊥
 abbrev pub answer_demands : Answer → Claim → List {1} Demand
 answer_demands answer claim =
     record { cause = cause.Out; holds = claim.out ≡ answer.out }
-    ∷ record { cause = cause.Val; holds = HasValue answer.val claim.val }
-    ∷ record { cause = cause.Val; holds = claim.val2 ≡ answer.val2 }
-    ∷ record { cause = cause.Val; holds = claim.val3 ≡ answer.val3 }
+    ∷ record { cause = cause.Val; holds = HasValues answer.val answer.val2 answer.val3 claim }
     ∷ record { cause = cause.Data; holds = claim.bytes ≡ answer.bytes }
     ∷ record { cause = cause.Woken; holds = NamesExactly answer.woken claim.woken } ∷ []
 
@@ -127,9 +126,7 @@ outcome_demands [] (Some channel) number asked answer claim =
 outcome_demands (code ∷ codes) channel number asked answer claim =
     record { cause = cause.Chan; holds = claim.chan ≡ None }
     ∷ record { cause = cause.Out; holds = HasCode (code ∷ codes) claim.out }
-    ∷ record { cause = cause.Val; holds = claim.val ≡ None }
-    ∷ record { cause = cause.Val; holds = claim.val2 ≡ None }
-    ∷ record { cause = cause.Val; holds = claim.val3 ≡ None }
+    ∷ record { cause = cause.Val; holds = HasNoValues claim }
     ∷ record { cause = cause.Data; holds = claim.bytes ≡ [] }
     ∷ record { cause = cause.Woken; holds = claim.woken ≡ [] } ∷ []
 
@@ -185,6 +182,12 @@ abbrev pub IfDue : Option Outcome → (Outcome → Type 0) → Type 0
 IfDue None fact = ⊥
 IfDue (Some outcome) fact = fact outcome
 
+-- a return gives back the values of the outcome that is due
+pub record ReturnsValues (outcome : Outcome) (ret : Return) : Type 0 where
+  pub val : outcome.val ≡ ret.val
+  pub val2 : outcome.val2 ≡ ret.val2
+  pub val3 : outcome.val3 ≡ ret.val3
+
 -- a partition: its windows, its choices, and the claims of its own calls and returns
 abbrev pub partition_demands : Configuration → ℕ → List CoreState → Partition → ℕ → Body → List {1} Demand
 partition_demands configuration number cores partition core (Disp who) =
@@ -203,9 +206,7 @@ partition_demands configuration number cores partition core (Ret ret) =
     ∷ record { cause = cause.Choice; holds = IsRunning number cores partition.table core ret.who }
     ∷ record { cause = cause.Return; holds = IfDue due (λ outcome. outcome.service ≡ ret.service) }
     ∷ record { cause = cause.Out; holds = IfDue due (λ outcome. outcome.code ≡ ret.code) }
-    ∷ record { cause = cause.Val; holds = IfDue due (λ outcome. outcome.val ≡ ret.val) }
-    ∷ record { cause = cause.Val; holds = IfDue due (λ outcome. outcome.val2 ≡ ret.val2) }
-    ∷ record { cause = cause.Val; holds = IfDue due (λ outcome. outcome.val3 ≡ ret.val3) }
+    ∷ record { cause = cause.Val; holds = IfDue due (λ outcome. ReturnsValues outcome ret) }
     ∷ record { cause = cause.Data; holds = IfDue due (λ outcome. outcome.bytes ≡ ret.bytes) } ∷ []
 
 -- channels

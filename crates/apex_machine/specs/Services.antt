@@ -4,7 +4,7 @@ use Rattle.apex_types.specs.declared.record.Who.{Who}
 use Rattle.apex_types.specs.declared.request.Request.{Request}
 use Rattle.apex_types.specs.declared.request.Request.TheVariants as request
 use Rattle.apex_machine.specs.declared.state.Process.{Process}
-pub use Rattle.apex_machine.specs.Answer.{Answer, HasValue, Value, Nothing, Number, NewNumber, NamesExactly, done, done_with, never, waiting}
+pub use Rattle.apex_machine.specs.Answer.{Answer, HasNoValues, HasValue, HasValues, Value, Nothing, Number, NewNumber, NamesExactly, done, done_with, never, waiting}
 pub use Rattle.apex_machine.specs.Arguments.{is_number, is_over, natural_of}
 use Rattle.apex_machine.specs.Answer.{waking}
 use Rattle.apex_machine.specs.Arguments.{is_normal_mode}

@@ -21,7 +21,7 @@ use Rattle.apex_machine.specs.Configuration.{Configuration, has_partition}
 use Rattle.apex_machine.specs.DueTimes.{NamesThoseDue}
 use Rattle.apex_machine.specs.Ports.{channel_effect, channel_of, suits_use, use_of}
 use Rattle.apex_machine.specs.ServiceConditions.{condition_codes}
-use Rattle.apex_machine.specs.Services.{Answer, HasValue, NamesExactly, answer_of, in_profile}
+use Rattle.apex_machine.specs.Services.{Answer, HasNoValues, HasValues, NamesExactly, answer_of, in_profile}
 use Rattle.apex_machine.specs.State.{Channel, Partition, State, item_at, time_of, occupant_of}
 
 -- names
@@ -80,9 +80,7 @@ HasCode codes (out.Answer code) = IsAmong codes code
 pub record IsRefused (codes : List Code) (claim : Claim) : Type 0 where
   pub chan : claim.chan ≡ None
   pub out : HasCode codes claim.out
-  pub val : claim.val ≡ None
-  pub val2 : claim.val2 ≡ None
-  pub val3 : claim.val3 ≡ None
+  pub values : HasNoValues claim
   pub bytes : claim.bytes ≡ []
   pub woken : claim.woken ≡ []
 
@@ -90,9 +88,7 @@ pub record IsRefused (codes : List Code) (claim : Claim) : Type 0 where
 pub record IsAnswered (answer : Answer) (claim : Claim) : Type 0 where
   pub chan : claim.chan ≡ None
   pub out : claim.out ≡ answer.out
-  pub val : HasValue answer.val claim.val
-  pub val2 : claim.val2 ≡ answer.val2
-  pub val3 : claim.val3 ≡ answer.val3
+  pub values : HasValues answer.val answer.val2 answer.val3 claim
   pub bytes : claim.bytes ≡ answer.bytes
   pub woken : NamesExactly answer.woken claim.woken
 
@@ -101,9 +97,7 @@ pub record IsThrough (channel : ℕ) (suited : Bool) (answer : Answer) (claim : 
   pub chan : claim.chan ≡ Some channel
   pub kind : IsTrue suited
   pub out : claim.out ≡ answer.out
-  pub val : HasValue answer.val claim.val
-  pub val2 : claim.val2 ≡ answer.val2
-  pub val3 : claim.val3 ≡ answer.val3
+  pub values : HasValues answer.val answer.val2 answer.val3 claim
   pub bytes : claim.bytes ≡ answer.bytes
   pub woken : NamesExactly answer.woken claim.woken
 

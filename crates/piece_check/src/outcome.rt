@@ -12,7 +12,7 @@ ghost use Rattle.piece_check.specs.Judged.{Judges};
 use crate::arguments::is_over;
 use crate::names::names_one_of;
 use apex_types::{Call, Cause, ChanId, Claim, Code, Out, PartId, Request};
-use wait_set::Conditions;
+use wait_set::{Conditions, has_no_values};
 
 /// Judges the outcome of a call on which some error condition holds: it is one of the codes, and nothing else is claimed.
 pub(crate) fn judge_refused(conditions: &Conditions, claim: &Claim) -> Result<(), Cause>
@@ -25,13 +25,7 @@ pub(crate) fn judge_refused(conditions: &Conditions, claim: &Claim) -> Result<()
     if !conditions.has_code(claim.out) {
         return Err(Cause::Out);
     }
-    if claim.val.is_some() {
-        return Err(Cause::Val);
-    }
-    if claim.val2.is_some() {
-        return Err(Cause::Val);
-    }
-    if claim.val3.is_some() {
+    if !has_no_values(claim) {
         return Err(Cause::Val);
     }
     if !claim.bytes.as_bytes().is_empty() {

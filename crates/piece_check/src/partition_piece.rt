@@ -6,7 +6,7 @@ ghost use Rattle.apex_types.specs.Bounds.{place_count};
 ghost use Rattle.apex_types.specs.declared.record.Body.TheVariants as body;
 ghost use Rattle.apex_machine.specs.State.{cold_state, item_at, time_of};
 ghost use Rattle.apex_machine.specs.Step.{HasNoneDue, HasPriority, due_of};
-ghost use Rattle.apex_machine.specs.Demands.{AllHold, FirstFails, IsRunning, LocalStep, WakesHere, demands, foreign_call_demands, window_now};
+ghost use Rattle.apex_machine.specs.Demands.{AllHold, FirstFails, IsRunning, LocalStep, ReturnsValues, WakesHere, demands, foreign_call_demands, window_now};
 ghost use Rattle.apex_machine.specs.After.{partition_by};
 ghost use Rattle.apex_machine.specs.Pieces.{OfPartition, PartitionPart, part, part_after};
 ghost use Rattle.apex_machine.specs.Ports.{channel_of};
@@ -417,13 +417,7 @@ impl PartitionPiece {
         if due.code != ret.code {
             return Err(Cause::Out);
         }
-        if due.val != ret.val {
-            return Err(Cause::Val);
-        }
-        if due.val2 != ret.val2 {
-            return Err(Cause::Val);
-        }
-        if due.val3 != ret.val3 {
+        if !returns_values(due, ret) {
             return Err(Cause::Val);
         }
         if due.bytes.as_bytes() != ret.bytes.as_bytes() {
@@ -483,4 +477,11 @@ fn is_same_service(one: Service, other: Service) -> bool
     ensures { IsTrue result ↔ (one ≡ other) }
 {
     one == other
+}
+
+// Whether a return gives back the values of the outcome that is due.
+fn returns_values(due: &Outcome, ret: &Return) -> bool
+    ensures { IsTrue result ↔ ReturnsValues due.now ret.now }
+{
+    due.val == ret.val && due.val2 == ret.val2 && due.val3 == ret.val3
 }

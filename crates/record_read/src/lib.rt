@@ -23,7 +23,6 @@ mod source;
 mod woken;
 
 pub use fault::RowFault;
-pub use format::Format;
 pub use kind::{Kind, find_kind};
 pub use laws::{one_record_of_a_row, rows_are_the_grammar};
 pub use named::{find_out, find_service};

@@ -6,7 +6,7 @@ use Rattle.apex_types.specs.declared.record.Claim.{Claim}
 use Rattle.apex_types.specs.declared.record.Out.{Out}
 use Rattle.apex_types.specs.declared.request.Request.{Request}
 use Rattle.apex_machine.specs.declared.state.Entry.{Entry}
-use Rattle.apex_machine.specs.Answer.{HasValue, NamesExactly, Nothing, Number, Value}
+use Rattle.apex_machine.specs.Answer.{HasValues, NamesExactly, Nothing, Number, Value}
 use Rattle.apex_machine.specs.Demands.{AllHold, Demand, FirstFails}
 use Rattle.apex_machine.specs.Waiting.{is_waiting}
 use Rattle.wait_set.specs.declared.object.Actor.{Actor}
@@ -49,7 +49,5 @@ value_of (Some number) = Number number
 abbrev pub outcome_demands : Out → Value → List ℕ → Claim → List {1} Demand
 outcome_demands out value bytes claim =
     record { cause = cause.Out; holds = claim.out ≡ out }
-    ∷ record { cause = cause.Val; holds = HasValue value claim.val }
-    ∷ record { cause = cause.Val; holds = claim.val2 ≡ None }
-    ∷ record { cause = cause.Val; holds = claim.val3 ≡ None }
+    ∷ record { cause = cause.Val; holds = HasValues value None None claim }
     ∷ record { cause = cause.Data; holds = claim.bytes ≡ bytes } ∷ []

@@ -2,7 +2,7 @@
 
 ghost use Rattle.std.specs.Prelude.{◌≡◌, ◌↔◌, None, IsTrue, OnOk};
 ghost use Rattle.apex_machine.specs.Answer as answer;
-ghost use Rattle.apex_machine.specs.Answer.{HasValue, NamesExactly, Number, Value};
+ghost use Rattle.apex_machine.specs.Answer.{HasNoValues, HasValue, HasValues, NamesExactly, Number, Value};
 ghost use Rattle.apex_machine.specs.Demands.{Judges, answer_demands};
 ghost use Rattle.apex_machine.specs.Waiting.{is_waiting};
 ghost use Rattle.wait_set.specs.Actors.{WaitsAlone, outcome_demands, value_of};
@@ -148,26 +148,34 @@ fn is_same_value(claimed: Option<i64>, val: Option<i64>) -> bool
 }
 
 // Judges the outcome that a claim gives, the value and the message: `has_value` says whether the value is the one that is claimed.
-// A second and a third value go with no outcome.
+// No further value goes with it.
 fn judge_with_value(out: Out, has_value: bool, bytes: &[u8], claim: &Claim) -> Result<(), Cause>
     ensures { (value : Value) → (IsTrue has_value ↔ HasValue value claim.now.val) → Judges (outcome_demands out value bytes.now claim.now) result }
 {
     if claim.out != out {
         return Err(Cause::Out);
     }
-    if !has_value {
-        return Err(Cause::Val);
-    }
-    if claim.val2.is_some() {
-        return Err(Cause::Val);
-    }
-    if claim.val3.is_some() {
+    if !has_values(has_value, claim) {
         return Err(Cause::Val);
     }
     if claim.bytes.as_bytes() != bytes {
         return Err(Cause::Data);
     }
     Ok(())
+}
+
+// Whether a claim has this value and no further one: `has_value` says whether the value is the one that is claimed.
+fn has_values(has_value: bool, claim: &Claim) -> bool
+    ensures { (value : Value) → (IsTrue has_value ↔ HasValue value claim.now.val) → (IsTrue result ↔ HasValues value None None claim.now) }
+{
+    has_value && claim.val2.is_none() && claim.val3.is_none()
+}
+
+/// Whether a claim has no value.
+pub fn has_no_values(claim: &Claim) -> bool
+    ensures { IsTrue result ↔ HasNoValues claim.now }
+{
+    has_values(claim.val.is_none(), claim)
 }
 
 // Whether a claim names exactly those who wait in a set.

@@ -17,7 +17,7 @@ mod rank;
 mod set;
 
 pub use conditions::Conditions;
-pub use given::{Given, judge_value, judge_waking_all};
+pub use given::{Given, has_no_values, judge_value, judge_waking_all};
 pub use laws::{enters_last, rising_is_roll};
 pub use object::{Actor, ApexObject, Effect, Named, ObjFault};
 pub use set::{Refused, WaitSet};
