@@ -1,6 +1,7 @@
 // How a case is checked: in what rounds, by how many workers, and how far ahead its recordings are read.
 
-ghost use Rattle.std.specs.Prelude.{◌≡◌, ◌≤◌, IfSome, None};
+ghost use Rattle.std.specs.Prelude.{◌≡◌, ◌≤◌, IfSome, None, Some};
+ghost use Rattle.std.specs.Option.{unwrap_or};
 ghost use Rattle.report.specs.Outcome.{argument_fault_of};
 
 use report::Settings;
@@ -50,6 +51,17 @@ pub struct Named {
 }
 
 impl Named {
+    /// As these name, but with one worker where they name none.
+    pub fn by_one_worker(self) -> Named
+        ensures workers { result.workers ≡ Some (unwrap_or self.workers 1) }
+        ensures depth { result.depth ≡ self.depth }
+    {
+        Named {
+            workers: Some(self.workers.unwrap_or(1)),
+            depth: self.depth,
+        }
+    }
+
     /// How a check of the case is run in these rounds: with the settings that it names, and else with those of the rounds.
     pub fn in_rounds(self, rounds: Rounds) -> Manner
         ensures rounds { result.rounds ≡ rounds }

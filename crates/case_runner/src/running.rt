@@ -7,6 +7,7 @@ use crate::archive::{Section, sections};
 use crate::case::{Case, CaseFault, Cut};
 use crate::heading::Heading;
 use crate::manner::{Manner, Named, Rounds};
+use crate::rewriting::in_format_2;
 use crate::tally::Tally;
 use itoa::Buffer;
 use rule_options::RuleOption;
@@ -113,6 +114,8 @@ fn is_case(section: &Section<'_>) -> bool {
 struct Difference<'a> {
     // After how many bytes the recording was cut.
     cut: Option<usize>,
+    // Whether the recordings were written in format 2.
+    is_rewritten: bool,
     manner: Manner,
     expected: Expected<'a>,
     found: Answer,
@@ -144,6 +147,7 @@ where
         rules: &rules,
         named: case.named(),
         cut: None,
+        is_rewritten: false,
     };
     if let Some(expected) = case.expected()? {
         if let Some(difference) = texts.difference(rt, alloc, expected)? {
@@ -172,10 +176,7 @@ where
         return Err(CaseFault::NoCuts);
     }
     // There are many of them, and threads cost time.
-    let named = Named {
-        workers: whole.named.workers.or(Some(1)),
-        ..whole.named
-    };
+    let named = whole.named.by_one_worker();
     for bytes in 0..recording.len() + 1 {
         let expected = cuts
             .iter()
@@ -206,10 +207,11 @@ struct Texts<'b> {
     rules: &'b [RuleOption],
     named: Named,
     cut: Option<usize>,
+    is_rewritten: bool,
 }
 
 impl<'b> Texts<'b> {
-    // The first answer that is not the expected one, in rounds of each size.
+    // The first answer that is not the expected one: as the recordings are written, in rounds of each size, and in format 2.
     fn difference<'a, T>(
         &self,
         rt: T,
@@ -220,26 +222,51 @@ impl<'b> Texts<'b> {
         T: Threads + Wait + Sync + Copy + Send + 'static,
     {
         for rounds in [Rounds::OfOne, Rounds::OfSeven, Rounds::OfMost] {
-            let manner = self.named.in_rounds(rounds);
-            let found = answer_to(
-                rt,
-                alloc,
-                self.config,
-                self.recordings,
-                self.order,
-                self.rules,
-                manner,
-            )?;
-            if !found.is(expected) {
-                return Ok(Some(Difference {
-                    cut: self.cut,
-                    manner,
-                    expected,
-                    found,
-                }));
+            if let Some(difference) = self.difference_in(rt, alloc, rounds, expected)? {
+                return Ok(Some(difference));
             }
         }
-        Ok(None)
+        let rewritten = in_format_2(alloc, self.recordings)?;
+        let texts = Texts {
+            recordings: &rewritten,
+            named: self.named.by_one_worker(),
+            is_rewritten: true,
+            ..*self
+        };
+        texts.difference_in(rt, alloc, Rounds::OfMost, expected)
+    }
+
+    // The answer in these rounds, if it is not the expected one.
+    fn difference_in<'a, T>(
+        &self,
+        rt: T,
+        alloc: Global,
+        rounds: Rounds,
+        expected: Expected<'a>,
+    ) -> Result<Option<Difference<'a>>, AllocError>
+    where
+        T: Threads + Wait + Sync + Copy + Send + 'static,
+    {
+        let manner = self.named.in_rounds(rounds);
+        let found = answer_to(
+            rt,
+            alloc,
+            self.config,
+            self.recordings,
+            self.order,
+            self.rules,
+            manner,
+        )?;
+        if found.is(expected) {
+            return Ok(None);
+        }
+        Ok(Some(Difference {
+            cut: self.cut,
+            is_rewritten: self.is_rewritten,
+            manner,
+            expected,
+            found,
+        }))
     }
 }
 
@@ -274,6 +301,9 @@ fn tell_difference<W: Sink>(output: &mut W, difference: &Difference<'_>) -> Resu
                 b" bytes: ",
             ],
         )?;
+    }
+    if difference.is_rewritten {
+        put_all(output, b"in format 2: ")?;
     }
     put_manner(output, difference.manner)?;
     put_all(output, b": expected ")?;

@@ -113,7 +113,7 @@ changed configuration place partition call (request.ClearBlackboard blackboard) 
     rw same
     (ap (λ blackboards. record partition { blackboards = blackboards })
     (left ∙ change_given given _ _ partition.blackboards at_work.sound.objects.blackboards there
-    (λ found e at. let held = rw e at holds in clear_alike call found held.0 held.1.1.1.1.1.0)))
+    (λ found e at. let held = rw e at holds in clear_alike call found held.0 held.1.1.1.0)))
 changed configuration place partition call (request.ReadBlackboard blackboard time_out) given next is used at_work holds there left =
     let same : blackboard ≡ given = cc in
     rw same

@@ -113,7 +113,7 @@ changed configuration place partition call (request.ResetEvent event) given next
     rw same
     (ap (λ events. record partition { events = events })
     (left ∙ change_given given _ _ partition.events at_work.sound.objects.events there
-    (λ found e at. let held = rw e at holds in reset_alike call found held.0 held.1.1.1.1.1.0)))
+    (λ found e at. let held = rw e at holds in reset_alike call found held.0 held.1.1.1.0)))
 changed configuration place partition call (request.WaitEvent event time_out) given next is used at_work holds there left =
     let same : event ≡ given = cc in
     rw same
