@@ -50,7 +50,7 @@ asks_soundly : (configuration : Configuration) (now : ℕ) (partition : Partitio
     → AllHold (served_demands now partition call) → AsksSoundly partition.table call asked
 asks_soundly configuration now partition call (request.CreateProcess name priority period) few of_module none is served =
     λ done. let given = rw is at served in
-    (given.1.0, when_not _ error.InvalidParam (nil_right _ _ (nil_left _ _ (nil_left _ _ none))), nobody call.claim.woken given.1.1.1.0)
+    (given.1.0.val, when_not _ error.InvalidParam (nil_right _ _ (nil_left _ _ (nil_left _ _ none))), nobody call.claim.woken given.1.1.1.0)
 asks_soundly configuration now partition call (request.SetPriority process priority) few of_module none is served =
     λ done. when_not _ error.InvalidParam (nil_right _ _ none)
 asks_soundly configuration now partition call (request.InitializeProcessCoreAffinity process core) few of_module none is served =
