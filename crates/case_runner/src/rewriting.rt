@@ -1,6 +1,6 @@
 // Recordings written in the other format.
 
-ghost use Rattle.std.specs.Prelude.{◌≡◌, IfOk};
+ghost use Rattle.std.specs.Prelude.{◌≡◌, IfOk, false};
 ghost use Rattle.case_runner.specs.Rewriting.{widened};
 
 use crate::fields::{LINE_FEED, split_line};
