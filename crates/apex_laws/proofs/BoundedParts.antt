@@ -13,12 +13,14 @@ use Rattle.apex_types.specs.declared.request.Request.{Request}
 use Rattle.apex_types.specs.declared.request.Request.TheVariants as request
 use Rattle.apex_machine.specs.declared.state.CoreState.{CoreState}
 use Rattle.apex_machine.specs.declared.state.Entry.{Entry}
+use Rattle.apex_machine.specs.declared.state.Mode.{Mode}
+use Rattle.apex_machine.specs.declared.state.Mode.TheVariants as mode
 use Rattle.apex_machine.specs.declared.state.Process.{Process}
 use Rattle.apex_machine.specs.declared.state.Wait.{Wait}
 use Rattle.apex_machine.specs.declared.state.Wait.TheVariants as wait
 use Rattle.apex_machine.specs.declared.state.WaitingSet.{WaitingSet}
 use Rattle.apex_machine.specs.declared.state.WaitingSet.TheVariants as set
-use Rattle.apex_machine.specs.After.{adjusted, called, caller_after, caller_with, created_by, each_set, is_done, numbered, objects_by, partition_by, partition_called, returned, roused, ticked}
+use Rattle.apex_machine.specs.After.{adjusted, called, caller_after, caller_with, created_by, each_set, is_done, numbered, objects_by, own_partition, partition_by, returned, roused, ticked}
 use Rattle.apex_machine.specs.Answer.{done, waiting}
 use Rattle.apex_machine.specs.Arguments.{is_number, natural_of, period_given}
 use Rattle.apex_machine.specs.Configuration.{Configuration, first_core, period_of}
@@ -29,13 +31,14 @@ use Rattle.apex_machine.specs.Ports.{channel_of}
 use Rattle.apex_machine.specs.Processes.{by_mutex, gift_of, new_process, on_ownership, release_reached, release_taken, released, set_by, started, stopped, woken_by}
 use Rattle.apex_machine.specs.ServiceConditions.{condition_codes}
 use Rattle.apex_machine.specs.Services.{answer_of}
-use Rattle.apex_machine.specs.State.{Mutex, Partition, Table, change_at, cold_partition, each_item, given_object, initialising_process, is_named, item_at, names_one_of, time_of}
-use Rattle.apex_machine.specs.Waiting.{first_waiter, is_in, is_no_error, set_after, stops, waits_at}
+use Rattle.apex_machine.specs.State.{Mutex, Partition, Table, change_at, cold_partition, each_item, first_processes, given_object, initialising_process, is_named, item_at, names_one_of, time_of}
+use Rattle.apex_machine.specs.Waiting.{first_waiter, is_in, is_no_error, restart_of, set_after, stops, waits_at}
 use Rattle.apex_laws.specs.Laws.{entries_at}
 use Rattle.apex_laws.specs.PartBounds.{GivesPeriod, IsBoundedPart, PartStaysBounded, PeriodFits, ReleasesFit, period_limit, place_limit, word_limit}
 use Rattle.apex_laws.specs.PartLaws.{IsSoundPart}
 use Rattle.apex_laws.proofs.Codes.{AreErrors, are_errors, no_error_is_done, not_done}
 use Rattle.apex_laws.proofs.Keeps.{set_by_wait}
+use Rattle.apex_laws.proofs.Restarts.{own_case}
 use Rattle.apex_laws.proofs.SoundParts.{Stands, named_wait, own_holds}
 use Rattle.apex_laws.proofs.Tables.{at_each}
 use Rattle.apex_laws.proofs.Waiters.{all_weaker}
@@ -159,12 +162,14 @@ counts_after configuration cores place core number (Ret ret) partition all =
 counts_after configuration cores place core number (Call call) partition all =
     let foreign : ℕ → Process → Process = λ other process. roused place call (record { part = number; proc = other }) process in
     elim (nat_eq call.who.part number) as (λ own. AllFound (CountsTo (place + 1)) (cond own
-    (partition_called configuration cores place core call partition) (record partition { table = each_item foreign partition.table })).mutexes) [
-      | true ↦ sets_count (place + 1) (set_after place (Call call)) (cond (is_done call.claim.out) (objects_by configuration call.who call.claim.val call.request partition) partition)
+    (own_partition (restart_of call) configuration cores place core call partition) (record partition { table = each_item foreign partition.table })).mutexes) [
+      | true ↦ own_case (λ next. AllFound (CountsTo (place + 1)) next.mutexes) configuration cores place core call partition
+          (λ none. sets_count (place + 1) (set_after place (Call call)) (cond (is_done call.claim.out) (objects_by configuration call.who call.claim.val call.request partition) partition)
           (elim (is_done call.claim.out) as (λ done. AllFound (CountsTo (place + 1)) (cond done (objects_by configuration call.who call.claim.val call.request partition) partition).mutexes) [
             | true ↦ used_counts configuration place call.who call.claim.val call.request partition all
             | false ↦ counts_later place partition.mutexes all
-          ])
+          ]))
+          (λ mode is object mutex at. (let no : ◌≡◌ {A = Option Mutex} None (Some mutex) = at in cc))
       | false ↦ counts_later place partition.mutexes all
     ]
 
@@ -417,6 +422,21 @@ ticked_bounded place now core number table woken most due process x at bounded =
       | false ↦ λ not_named. bounded_later place x bounded
     ] refl
 
+-- the processes of a partition as it starts
+start_bounded : (entered : Mode) (core place most : ℕ) → AllFound (IsBounded most) (first_processes entered core place)
+start_bounded entered core place most = by entered
+  where
+    initialising : AllFound (IsBounded most) ((0, initialising_process core place) ∷ [])
+    initialising =
+        numbered_has (IsBounded most) (Some (pos 0)) (initialising_process core place)
+        (omega arith, λ period is. (let no : ◌≡◌ {A = Option ℕ} None (Some period) = is in cc))
+
+    by : (started : Mode) → AllFound (IsBounded most) (first_processes started core place)
+    by mode.Idle = λ process x at. (let no : ◌≡◌ {A = Option Process} None (Some x) = at in cc)
+    by mode.ColdStart = initialising
+    by mode.WarmStart = initialising
+    by mode.Normal = initialising
+
 -- the table of a partition after a record
 bounded_after : (configuration : Configuration) (number : ℕ) (cores : List CoreState) (partition : Partition) (place core : ℕ) (body : Body)
     → IsSoundPart number place partition → time_of cores core ≤ place → PeriodFits body → AllHold (partition_demands configuration number cores partition core body)
@@ -439,13 +459,15 @@ bounded_after configuration number cores partition place core (Call call) sound 
     let period = period_of configuration call.who.part in
     let foreign : ℕ → Process → Process = λ other process. roused place call (record { part = number; proc = other }) process in
     elim (nat_eq call.who.part number) as (λ own. nat_eq call.who.part number ≡ own → AllFound Fact (cond own
-    (partition_called configuration cores place core call partition) (record partition { table = each_item foreign partition.table })).table) [
+    (own_partition (restart_of call) configuration cores place core call partition) (record partition { table = each_item foreign partition.table })).table) [
       | true ↦ λ own.
           let demands = own_holds configuration number core cores partition call own hold in
-          joined_has Fact (each_item (called place now period cores partition call) partition.table) (created_by (first_core configuration call.who.part) call call.request)
+          own_case (λ next. AllFound Fact next.table) configuration cores place core call partition
+          (λ none. joined_has Fact (each_item (called place now period cores partition call) partition.table) (created_by (first_core configuration call.who.part) call call.request)
           (each_has Fact (called place now period cores partition call) partition.table
           (λ process x at. called_bounded configuration number place now cores partition call sound (eqb-true call.who.part number own) most demands.1.1.1.1.1 period process x at (all process x at)))
-          (created_bounded (place + 1) (first_core configuration call.who.part) call call.request fits)
+          (created_bounded (place + 1) (first_core configuration call.who.part) call call.request fits))
+          (λ mode is. start_bounded mode (first_core configuration call.who.part) place (place + 1))
       | false ↦ λ elsewhere.
           let demands = subst (λ one. AllHold (call_demands one configuration number cores partition core call)) elsewhere hold in
           each_has Fact foreign partition.table
@@ -459,9 +481,7 @@ bounded_after configuration number cores partition place core (Call call) sound 
 
 cold_bounded : (configuration : Configuration) (number place : ℕ) → IsBoundedPart place (cold_partition configuration number)
 cold_bounded configuration number place =
-    let all : AllFound (IsBounded place) (cold_partition configuration number).table =
-    numbered_has (IsBounded place) (Some (pos 0)) (initialising_process (first_core configuration number))
-    (omega arith, λ period is. (let no : ◌≡◌ {A = Option ℕ} None (Some period) = is in cc)) in record {
+    let all : AllFound (IsBounded place) (cold_partition configuration number).table = start_bounded mode.ColdStart (first_core configuration number) 0 place in record {
       counts = λ object mutex at. (let no : ◌≡◌ {A = Option Mutex} None (Some mutex) = at in cc);
       releases = λ process x at. (all process x at).0;
       periods = λ process x period at is. (all process x at).1 period is;

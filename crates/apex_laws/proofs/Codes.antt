@@ -65,7 +65,7 @@ are_errors configuration who partition (request.SetPriority process priority) = 
 are_errors configuration who partition request.GetMyId = one_error _ _ refl
 are_errors configuration who partition (request.TimedWait delay) = both _ _ (one_error _ _ refl) (one_error _ _ refl)
 are_errors configuration who partition request.PeriodicWait = both _ _ (one_error _ _ refl) (one_error _ _ refl)
-are_errors configuration who partition (request.SetPartitionMode mode) = both _ _ (one_error _ _ refl) (one_error _ _ refl)
+are_errors configuration who partition (request.SetPartitionMode mode) = both _ _ (both _ _ (one_error _ _ refl) (one_error _ _ refl)) (one_error _ _ refl)
 are_errors configuration who partition (request.CreateBuffer name size capacity discipline) =
     both _ _ (both _ _ (both _ _ (both _ _ (both _ _ (one_error _ _ refl) (one_error _ _ refl)) (one_error _ _ refl)) (one_error _ _ refl)) (one_error _ _ refl)) (one_error _ _ refl)
 are_errors configuration who partition (request.SendBuffer buffer length time_out message) =

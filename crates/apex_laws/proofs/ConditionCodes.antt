@@ -9,9 +9,9 @@ use Rattle.apex_types.specs.declared.request.Request.TheVariants as request
 use Rattle.apex_machine.specs.declared.state.Direction.TheVariants as direction
 use Rattle.apex_machine.specs.declared.state.Mode.TheVariants as mode
 use Rattle.apex_machine.specs.declared.state.Process.{Process}
-use Rattle.apex_machine.specs.Arguments.{is_capacity, is_discipline, is_length, is_longer, is_maximum, is_mode, is_negative, is_normal_mode, is_number, is_over, is_period, is_priority, is_size, is_time_out, suits_maximum, suits_period}
+use Rattle.apex_machine.specs.Arguments.{is_capacity, is_discipline, is_length, is_longer, is_maximum, is_mode, is_negative, is_normal_mode, is_number, is_over, is_period, is_priority, is_size, is_time_out, is_warm_start_mode, suits_maximum, suits_period}
 use Rattle.apex_machine.specs.Channels.{queuing_port, sampling_port}
-use Rattle.apex_machine.specs.Conditions.{codes_for, creation_codes, is_normal, is_taken, may_not_wait, of_caller, time_out_codes, waiting_codes, when}
+use Rattle.apex_machine.specs.Conditions.{codes_for, creation_codes, is_cold_start, is_normal, is_taken, may_not_wait, of_caller, time_out_codes, waiting_codes, when}
 use Rattle.apex_machine.specs.Configuration.{Configuration, is_core, object_limit, period_of, process_limit}
 use Rattle.apex_machine.specs.ObjectConditions.{message_codes, object_codes, owns_another}
 use Rattle.apex_machine.specs.Objects.{is_owner}
@@ -21,7 +21,7 @@ use Rattle.apex_machine.specs.ServiceConditions.{condition_codes}
 use Rattle.apex_machine.specs.State.{Blackboard, Buffer, Event, Mutex, Partition, Port, Semaphore, created, given_object, item_at}
 use Rattle.apex_machine.specs.Step.{IsAmong}
 use Rattle.apex_laws.specs.ConditionSentences.{AllAreCreated, HasCondition, HasTimeOut, IsCalledBy, IsCalledByPeriodic, IsCoreOf, IsDiscipline, IsFrom, IsObject, IsPriority, IsQueuingPort, IsSamplingPort, IsSetUp, IsSize, MayNotWait, NameIsTaken, NamesNoProcess, NamesNone, NamesNothing, WaitsFor}
-use Rattle.apex_laws.proofs.ConditionTests.{Tells, at_most_tells, below_tells, between_tells, caller_tells, core_tells, created_is, destination_tells, equal_tells, longer_tells, may_not_wait_tells, mode_tells, named_tells, negative_tells, no_length_tells, no_multiple_tells, no_object_is, no_period_tells, no_process_is, no_time_out_tells, normal_mode_tells, normal_tells, number_tells, object_is, over_tells, owner_tells, periodic_caller_tells, periodic_tells, priority_tells, queuing_port_tells, sampling_port_tells, second_tells, source_tells, suspended_tells, tells_both, tells_not, value_tells}
+use Rattle.apex_laws.proofs.ConditionTests.{Tells, at_most_tells, below_tells, between_tells, caller_tells, cold_start_tells, core_tells, created_is, destination_tells, equal_tells, longer_tells, may_not_wait_tells, mode_tells, named_tells, negative_tells, no_length_tells, no_multiple_tells, no_object_is, no_period_tells, no_process_is, no_time_out_tells, normal_mode_tells, normal_tells, number_tells, object_is, over_tells, owner_tells, periodic_caller_tells, periodic_tells, priority_tells, queuing_port_tells, sampling_port_tells, second_tells, source_tells, suspended_tells, tells_both, tells_not, value_tells, warm_start_mode_tells}
 
 -- a fact about each of some codes
 pub record Each (codes : List Code) (Goal : Code → Type 0) : Type 0 where
@@ -270,10 +270,14 @@ module _ (configuration : Configuration) (who : Who) (partition : Partition) whe
   says (request.SetPartitionMode next) =
       let asked : Request = request.SetPartitionMode next in
       each_of_both _ _ (Holds asked)
+      (each_of_both _ _ (Holds asked)
       (number_fails asked (is_mode next) (IsFrom (pos 0) (pos 3) next) code.InvalidParam (mode_tells next) HasCondition.set_mode_none)
       (each_when (is_normal_mode next && is_normal partition.mode) code.NoAction (Holds asked)
       (λ holds. let facts = (tells_both (is_normal_mode next) (is_normal partition.mode) (next ≡ pos 3) (partition.mode ≡ mode.Normal) (normal_mode_tells next) (normal_tells partition.mode)).0 holds in
-      HasCondition.set_mode_normal facts.0 facts.1))
+      HasCondition.set_mode_normal facts.0 facts.1)))
+      (each_when (is_warm_start_mode next && is_cold_start partition.mode) code.InvalidMode (Holds asked)
+      (λ holds. let facts = (tells_both (is_warm_start_mode next) (is_cold_start partition.mode) (next ≡ pos 2) (partition.mode ≡ mode.ColdStart)
+      (warm_start_mode_tells next) (cold_start_tells partition.mode)).0 holds in HasCondition.set_mode_warm facts.0 facts.1))
   says (request.CreateBuffer name size capacity discipline) =
       let asked : Request = request.CreateBuffer name size capacity discipline in
       each_of_both _ _ (Holds asked)

@@ -18,9 +18,9 @@ use Rattle.apex_machine.specs.declared.state.Mode.TheVariants as mode
 use Rattle.apex_machine.specs.declared.state.Process.{Process}
 use Rattle.apex_machine.specs.declared.state.Wait.{Wait}
 use Rattle.apex_machine.specs.declared.state.Wait.TheVariants as wait
-use Rattle.apex_machine.specs.Arguments.{direction_number, discipline_number, is_between, is_length, is_longer, is_mode, is_negative, is_normal_mode, is_number, is_over, is_period, is_priority, is_time_out, suits_maximum, suits_period}
+use Rattle.apex_machine.specs.Arguments.{direction_number, discipline_number, is_between, is_length, is_longer, is_mode, is_negative, is_normal_mode, is_number, is_over, is_period, is_priority, is_time_out, is_warm_start_mode, suits_maximum, suits_period}
 use Rattle.apex_machine.specs.Channels.{QueuingPort, SamplingPort, queuing_port, sampling_port}
-use Rattle.apex_machine.specs.Conditions.{is_normal, is_taken, may_not_wait, of_caller, owns_mutex}
+use Rattle.apex_machine.specs.Conditions.{is_cold_start, is_normal, is_taken, may_not_wait, of_caller, owns_mutex}
 use Rattle.apex_machine.specs.Configuration.{Configuration, PartitionLimits, has_core, is_core, limits_of}
 use Rattle.apex_machine.specs.DueTimes.{is_suspension}
 use Rattle.apex_machine.specs.ObjectConditions.{owns_another}
@@ -118,6 +118,10 @@ number_tells (negsuc n) number = (λ holds. absurd (true≢false (sym holds)), �
 pub normal_mode_tells : (given : ℤ) → Tells (is_normal_mode given) (given ≡ pos 3)
 normal_mode_tells (pos n) = (λ holds. ap pos (eqb-true n 3 holds), λ fact. ap is_normal_mode fact)
 normal_mode_tells (negsuc n) = (λ holds. absurd (true≢false (sym holds)), λ fact. ap is_normal_mode fact)
+
+pub warm_start_mode_tells : (given : ℤ) → Tells (is_warm_start_mode given) (given ≡ pos 2)
+warm_start_mode_tells (pos n) = (λ holds. ap pos (eqb-true n 2 holds), λ fact. ap is_warm_start_mode fact)
+warm_start_mode_tells (negsuc n) = (λ holds. absurd (true≢false (sym holds)), λ fact. ap is_warm_start_mode fact)
 
 pub over_tells : (given : ℤ) → Tells (is_over given) (given ≡ pos 0)
 over_tells (pos n) = (λ holds. ap pos (eqb-true n 0 holds), λ fact. ap is_over fact)
@@ -333,6 +337,12 @@ pub suspended_tells : (process : Process) → Tells (is_suspended process) (IsSu
 suspended_tells process =
     tells_either process.suspended (is_suspension process.wait) (IsTrue process.suspended) ((due : Option ℕ) × (process.wait ≡ wait.Suspended due))
     (tells_itself process.suspended) (suspension_tells process.wait)
+
+pub cold_start_tells : (current : Mode) → Tells (is_cold_start current) (current ≡ mode.ColdStart)
+cold_start_tells mode.ColdStart = (λ holds. refl, λ fact. refl)
+cold_start_tells mode.Idle = (λ holds. absurd (true≢false (sym holds)), λ fact. ap is_cold_start fact)
+cold_start_tells mode.WarmStart = (λ holds. absurd (true≢false (sym holds)), λ fact. ap is_cold_start fact)
+cold_start_tells mode.Normal = (λ holds. absurd (true≢false (sym holds)), λ fact. ap is_cold_start fact)
 
 pub normal_tells : (current : Mode) → Tells (is_normal current) (current ≡ mode.Normal)
 normal_tells mode.Normal = (λ holds. refl, λ fact. refl)

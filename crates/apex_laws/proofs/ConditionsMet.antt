@@ -10,9 +10,9 @@ use Rattle.apex_types.specs.declared.request.Request.TheVariants as request
 use Rattle.apex_machine.specs.declared.state.Direction.TheVariants as direction
 use Rattle.apex_machine.specs.declared.state.Mode.TheVariants as mode
 use Rattle.apex_machine.specs.declared.state.Process.{Process}
-use Rattle.apex_machine.specs.Arguments.{is_capacity, is_discipline, is_length, is_longer, is_maximum, is_mode, is_negative, is_normal_mode, is_number, is_over, is_period, is_priority, is_size, is_time_out, suits_maximum, suits_period}
+use Rattle.apex_machine.specs.Arguments.{is_capacity, is_discipline, is_length, is_longer, is_maximum, is_mode, is_negative, is_normal_mode, is_number, is_over, is_period, is_priority, is_size, is_time_out, is_warm_start_mode, suits_maximum, suits_period}
 use Rattle.apex_machine.specs.Channels.{queuing_port, sampling_port}
-use Rattle.apex_machine.specs.Conditions.{codes_for, creation_codes, is_normal, is_taken, may_not_wait, of_caller, time_out_codes, waiting_codes, when}
+use Rattle.apex_machine.specs.Conditions.{codes_for, creation_codes, is_cold_start, is_normal, is_taken, may_not_wait, of_caller, time_out_codes, waiting_codes, when}
 use Rattle.apex_machine.specs.Configuration.{Configuration, is_core, period_of}
 use Rattle.apex_machine.specs.ObjectConditions.{message_codes, owns_another}
 use Rattle.apex_machine.specs.Objects.{is_owner}
@@ -315,10 +315,13 @@ module _ (configuration : Configuration) (who : Who) (partition : Partition) whe
       in_first _ _ code.InvalidMode (fails_met (of_caller is_periodic (item_at partition.table who.proc)) (IsCalledByPeriodic who partition) code.InvalidMode (tests.periodic_caller_tells who partition) other)
   met (HasCondition.periodic_wait_waits may_not) = in_later _ _ code.InvalidMode (may_not_met may_not)
   met (HasCondition.set_mode_none {next = next} other) =
-      in_first _ _ code.InvalidParam (fails_met (is_mode next) (IsFrom (pos 0) (pos 3) next) code.InvalidParam (tests.mode_tells next) other)
+      in_first _ _ code.InvalidParam (in_first _ _ code.InvalidParam (fails_met (is_mode next) (IsFrom (pos 0) (pos 3) next) code.InvalidParam (tests.mode_tells next) other))
   met (HasCondition.set_mode_normal {next = next} three normal) =
-      in_later _ _ code.NoAction (in_when (is_normal_mode next && is_normal partition.mode) code.NoAction
-      (and_from _ _ ((tests.normal_mode_tells next).1 three) ((tests.normal_tells partition.mode).1 normal)))
+      in_first _ _ code.NoAction (in_later _ _ code.NoAction (in_when (is_normal_mode next && is_normal partition.mode) code.NoAction
+      (and_from _ _ ((tests.normal_mode_tells next).1 three) ((tests.normal_tells partition.mode).1 normal))))
+  met (HasCondition.set_mode_warm {next = next} two cold) =
+      in_later _ _ code.InvalidMode (in_when (is_warm_start_mode next && is_cold_start partition.mode) code.InvalidMode
+      (and_from _ _ ((tests.warm_start_mode_tells next).1 two) ((tests.cold_start_tells partition.mode).1 cold)))
   met (HasCondition.create_buffer_size {size = size} other) =
       in_first _ _ code.InvalidParam (in_first _ _ code.InvalidParam (in_later _ _ code.InvalidParam (fails_met (is_size size) (IsSize size) code.InvalidParam (tests.between_tells 1 8192 size) other)))
   met (HasCondition.create_buffer_capacity {capacity = capacity} other) =

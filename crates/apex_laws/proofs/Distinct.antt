@@ -12,7 +12,7 @@ use Rattle.apex_types.specs.declared.request.Request.{Request}
 use Rattle.apex_types.specs.declared.request.Request.TheVariants as request
 use Rattle.apex_machine.specs.declared.state.CoreState.{CoreState}
 use Rattle.apex_machine.specs.declared.state.Process.{Process}
-use Rattle.apex_machine.specs.After.{called, created_by, is_done, numbered, partition_by, partition_called, returned, roused, ticked}
+use Rattle.apex_machine.specs.After.{called, created_by, is_done, numbered, own_partition, partition_by, returned, roused, ticked}
 use Rattle.apex_machine.specs.Answer.{HasValue, is_new}
 use Rattle.apex_machine.specs.Configuration.{Configuration, first_core, period_of}
 use Rattle.apex_machine.specs.Ports.{channel_of, suits_use, use_of}
@@ -21,8 +21,10 @@ use Rattle.apex_machine.specs.ServiceConditions.{condition_codes}
 use Rattle.apex_machine.specs.Services.{Answer, answer_of}
 use Rattle.apex_machine.specs.State.{Partition, State, Table, each_item, is_free, item_at, time_of}
 use Rattle.apex_machine.specs.Step.{HasOutcome, IsAnswered, IsLawfulBody, IsLawfulCall, channel_answer}
+use Rattle.apex_machine.specs.Waiting.{restart_of}
 use Rattle.apex_laws.specs.Laws.{are_distinct}
 use Rattle.apex_laws.proofs.Codes.{are_errors, done_is_lawful}
+use Rattle.apex_laws.proofs.Restarts.{own_case, start_distinct}
 use Rattle.apex_laws.proofs.Tables.{distinct_each, distinct_push, some_at_each}
 
 -- a new number
@@ -101,9 +103,11 @@ distinct_by configuration cores place core number (Ret ret) partition claims dis
 distinct_by configuration cores place core number (Call call) partition claims distinct =
     let foreign : ℕ → Process → Process = λ other process. roused place call (record { part = number; proc = other }) process in
     elim (nat_eq call.who.part number) as (λ own. nat_eq call.who.part number ≡ own → are_distinct (cond own
-    (partition_called configuration cores place core call partition) (record partition { table = each_item foreign partition.table })).table ≡ true) [
-      | true ↦ λ own. distinct_called partition (time_of cores core) (first_core configuration call.who.part) call call.request
-          (called place (time_of cores core) (period_of configuration call.who.part) cores partition call) (claims own) distinct
+    (own_partition (restart_of call) configuration cores place core call partition) (record partition { table = each_item foreign partition.table })).table ≡ true) [
+      | true ↦ λ own. own_case (λ next. are_distinct next.table ≡ true) configuration cores place core call partition
+          (λ none. distinct_called partition (time_of cores core) (first_core configuration call.who.part) call call.request
+          (called place (time_of cores core) (period_of configuration call.who.part) cores partition call) (claims own) distinct)
+          (λ mode is. start_distinct mode (first_core configuration call.who.part) place)
       | false ↦ λ elsewhere. distinct_each foreign partition.table ∙ distinct
     ] refl
 

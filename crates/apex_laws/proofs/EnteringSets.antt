@@ -26,7 +26,8 @@ use Rattle.apex_machine.specs.Waiting.{ends_wait, enters, entry_of, first_waiter
 use Rattle.apex_laws.specs.Laws.{entries_at}
 use Rattle.apex_laws.specs.PartLaws.{LetsGoAsAnswered, OnlyDoneLetsGo}
 use Rattle.apex_laws.specs.PartObjects.{RefusedLeavesObjects}
-use Rattle.apex_laws.proofs.Booleans.{cannot_hold, neither, not_first, or_false}
+use Rattle.apex_laws.proofs.Booleans.{cannot_hold, not_first, or_false}
+use Rattle.apex_laws.proofs.Restarts.{done_goes_on, goes_on, not_done_goes_on, restarts_none}
 use Rattle.apex_laws.proofs.Codes.{are_errors, no_error_is_done}
 use Rattle.apex_laws.proofs.EachSet.{Leaves, sets_stay}
 use Rattle.apex_laws.proofs.OtherSets.{stops_nobody}
@@ -133,10 +134,10 @@ names_as_answered number asked answer claim (code ∷ codes) channel none off ho
 -- sets
 
 pub only_done_lets_go : OnlyDoneLetsGo
-only_done_lets_go configuration number place core cores partition call is not_done wanted =
+only_done_lets_go configuration number place core cores partition call is not_done no_restart wanted =
     let stays : without (ends_wait call) (entries_at partition wanted) ≡ entries_at partition wanted =
     none_leaves (Stands number wanted partition) (ends_wait call)
-    (λ entry stands. neither (is_named entry.who call.claim.woken) (stops call entry.who)
+    (λ entry stands. goes_on call entry.who (restarts_none call entry.who.part no_restart)
     (names_nobody number (time_of cores core) partition call.who call.request call.claim (condition_codes configuration call.who partition call.request) (channel_of partition call.request)
     is.demands.1.1.1.1.1 not_done entry.who stands.0)
     (not_first (is_no_error call.claim.out) (nat_eq entry.who.part call.who.part && is_target (stop_of call.request) entry.who.proc) not_done))
@@ -158,7 +159,7 @@ lets_go_as_answered configuration number place core cores partition call is no_e
     let off : enters call wanted ≡ false = not_first (is_waiting call.claim.out) (is_the_set wanted (set_of call.request call.claim.chan)) (not_waiting call.claim.out no_error) in
     let stopped : (who : Who) → stops call who ≡ false = λ who. stops_nobody call who (ap (λ (one : Option ℤ). is_some one && is_no_error call.claim.out) no_stop) in
     let leave : (who : Who) → ends_wait call who ≡ is_named who answer.woken =
-    λ who. (λ i. is_named who call.claim.woken || stopped who i) ∙ or_false (is_named who call.claim.woken)
+    λ who. (λ i. restarts_none call who.part (done_goes_on call no_error) i || (is_named who call.claim.woken || stopped who i)) ∙ or_false (is_named who call.claim.woken)
     ∙ names_as_answered number call.request answer call.claim codes (channel_of partition call.request) none no_channel is.demands.1.1.1.1.1 who in
     rw off (without_same (ends_wait call) (λ who. is_named who answer.woken) leave (entries_at partition wanted))
 
@@ -174,7 +175,7 @@ pub refused_leaves_objects : RefusedLeavesObjects
 refused_leaves_objects configuration number place core cores partition call is not_done =
     let not_ok : is_no_error call.claim.out ≡ false = cannot_hold (is_no_error call.claim.out) (λ ok. true≢false (sym (no_error_is_done call.claim.out ok) ∙ not_done)) in
     let leaves : (wanted : WaitingSet) → Leaves (set_after place (Call call)) partition wanted =
-    λ wanted. only_done_lets_go configuration number place core cores partition call is not_ok wanted
+    λ wanted. only_done_lets_go configuration number place core cores partition call is not_ok (not_done_goes_on call not_done) wanted
     ∙ (λ i. cond (not_first (is_waiting call.claim.out) (is_the_set wanted (set_of call.request call.claim.chan)) (not_done_waits_not call.claim.out not_done) i)
     (entries_at partition wanted ++ entry_of place call ∷ []) (entries_at partition wanted)) in
     (λ i. each_set (set_after place (Call call)) (cond (not_done i) (objects_by configuration call.who call.claim.val call.request partition) partition))

@@ -1,6 +1,6 @@
 -- Every process that waits in a set stands in it.
 use Rattle.std.proofs.Common.{◌≡◌, ℕ, List, [], ◌∷◌, ◌++◌, Bool, true, false, cond, nat_eq, ℤ, pos, negsuc, Option, Some, None, is_some, option_map, refl, sym, ap, subst, ◌∙◌, inl, inr, true≢false}
-use Rattle.std.proofs.lemmas.Bool.{and_parts, cases_Bool, eq-eqb}
+use Rattle.std.proofs.lemmas.Bool.{and_parts, cases_Bool, eq-eqb, eqb-true}
 use Rattle.apex_types.specs.declared.record.Body.{Body}
 use Rattle.apex_types.specs.declared.record.Body.TheVariants.{Call, Ret, Disp, Tick}
 use Rattle.apex_types.specs.declared.record.Call.{Call as CallRecord}
@@ -12,18 +12,19 @@ use Rattle.apex_types.specs.declared.request.Request.{Request}
 use Rattle.apex_types.specs.declared.request.Request.TheVariants as request
 use Rattle.apex_machine.specs.declared.state.CoreState.{CoreState}
 use Rattle.apex_machine.specs.declared.state.Entry.{Entry}
+use Rattle.apex_machine.specs.declared.state.Mode.TheVariants as mode
 use Rattle.apex_machine.specs.declared.state.Process.{Process}
 use Rattle.apex_machine.specs.declared.state.WaitingSet.{WaitingSet}
 use Rattle.apex_machine.specs.declared.state.WaitingSet.TheVariants as set
-use Rattle.apex_machine.specs.After.{after, each_set, is_done, objects_by, partition_by, partition_called, returned, roused, ticked}
+use Rattle.apex_machine.specs.After.{after, each_set, is_done, objects_by, own_partition, partition_by, returned, roused, ticked}
 use Rattle.apex_machine.specs.Arguments.{natural_of}
 use Rattle.apex_machine.specs.Configuration.{Configuration, first_core}
 use Rattle.apex_machine.specs.Demands.{stands_in}
 use Rattle.apex_machine.specs.Objects.{acquired, buffer_received, buffer_sent, semaphore_waited}
 use Rattle.apex_machine.specs.ServiceConditions.{condition_codes}
-use Rattle.apex_machine.specs.State.{Buffer, Partition, State, change_at, cold_state, each_item, given_object, initialising_process, is_named, is_same, item_at}
+use Rattle.apex_machine.specs.State.{Buffer, Partition, State, change_at, cold_state, each_item, given_object, is_named, is_same, item_at}
 use Rattle.apex_machine.specs.Step.{IsLawfulBody, Run, Step}
-use Rattle.apex_machine.specs.Waiting.{ends_wait, enters, entry_of, is_the_set, is_waiting, set_after, set_of, waits_at, without}
+use Rattle.apex_machine.specs.Waiting.{ends_wait, enters, entry_of, is_the_set, is_waiting, restart_of, set_after, set_of, waits_at, without}
 use Rattle.apex_laws.specs.PartLaws.{is_of_channel}
 use Rattle.apex_laws.specs.Laws.{AreTied, WaitersStand, WhoWaitsStands, entries_at, entries_in, entries_of}
 use Rattle.apex_laws.proofs.Booleans.{first_holds, is_itself, later_holds, other_holds}
@@ -32,6 +33,7 @@ use Rattle.apex_laws.proofs.ObjectCalls.{message_there, mutex_there, object_ther
 use Rattle.apex_laws.proofs.Objects.{each_set_holds, objects_have, stands_at}
 use Rattle.apex_laws.proofs.Tables.{at_each}
 use Rattle.apex_laws.proofs.Ends.{first_empty}
+use Rattle.apex_laws.proofs.Restarts.{not_restarted, start_waits_not, waiting_goes_on}
 use Rattle.apex_laws.proofs.Standing.{Entering, who_waits}
 use Rattle.apex_laws.proofs.SetsAfter.{called_sets, same_sets}
 use Rattle.apex_laws.proofs.Stays.{step_tied}
@@ -195,7 +197,7 @@ own_takes configuration cores place core call partition ready wanted not_sending
     let there : stands_at objects wanted ≡ true = rw done
     (waits_there configuration call.who call.claim.val call.request call.claim.chan partition wanted not_sending not_receiving
     (found_set wanted (set_of call.request call.claim.chan) parts.1) (ready.none done)) in
-    rw (is_itself call.who.part) (subst (λ entries. stands_in call.who entries ≡ true) (sym (called_sets configuration cores place core call partition wanted))
+    rw (is_itself call.who.part, waiting_goes_on call parts.0) (subst (λ entries. stands_in call.who entries ≡ true) (sym (called_sets configuration cores place core call partition wanted))
     (each_stands call.who (set_after place (Call call)) objects wanted there (set_takes place call wanted (entries_at objects wanted) here)))
 
 -- who waits in a set of a partition after a record stands there, if the record's own calls are of ready callers
@@ -233,12 +235,12 @@ partition_stands configuration cores place core (Call call) partition who wanted
           let objects : Partition = cond (is_done call.claim.out) (objects_by configuration call.who call.claim.val call.request partition) partition in
           let used = used_stands who configuration call partition wanted (before goes.1) in
           let foreign : ℕ → Process → Process = λ other process. roused place call (record { part = who.part; proc = other }) process in
-          elim (nat_eq call.who.part who.part) as (λ own. stands_in who (entries_at (cond own (partition_called configuration cores place core call partition)
-          (record partition { table = each_item foreign partition.table })) wanted) ≡ true) [
-            | true ↦ subst (λ entries. stands_in who entries ≡ true) (sym (called_sets configuration cores place core call partition wanted))
-                (each_stands who (set_after place (Call call)) objects wanted (standing_there who objects wanted used) (set_keeps place (Call call) who wanted (entries_at objects wanted) goes.0 used))
-            | false ↦ subst (λ entries. stands_in who entries ≡ true) (sym (same_sets partition (each_item foreign partition.table) wanted)) (before goes.1)
-          ]
+          elim (nat_eq call.who.part who.part) as (λ own. nat_eq call.who.part who.part ≡ own → stands_in who (entries_at (cond own
+          (own_partition (restart_of call) configuration cores place core call partition) (record partition { table = each_item foreign partition.table })) wanted) ≡ true) [
+            | true ↦ λ own. rw (not_restarted call who (sym (eqb-true call.who.part who.part own)) goes.0) (subst (λ entries. stands_in who entries ≡ true) (sym (called_sets configuration cores place core call partition wanted))
+                (each_stands who (set_after place (Call call)) objects wanted (standing_there who objects wanted used) (set_keeps place (Call call) who wanted (entries_at objects wanted) goes.0 used)))
+            | false ↦ λ elsewhere. subst (λ entries. stands_in who entries ≡ true) (sym (same_sets partition (each_item foreign partition.table) wanted)) (before goes.1)
+          ] refl
       | inr entering ↦
           let own : nat_eq call.who.part who.part ≡ true = eq-eqb call.who.part who.part (ap (λ one. one.part) (sym entering.0)) in
           subst (λ one. stands_in one (entries_at (partition_by configuration cores place core one.part (Call call) partition) wanted) ≡ true) (sym entering.0)
@@ -308,10 +310,7 @@ run_stands configuration (ordered ∷ others) state final tied stand run =
 -- nobody waits in the cold state
 cold_stands : (configuration : Configuration) → WaitersStand (cold_state configuration)
 cold_stands configuration who wanted waits =
-    absurd (elim (nat_eq who.proc 0) as (λ first. waits_at wanted (cond first (Some (initialising_process (first_core configuration who.part))) None) ≡ true → ⊥) [
-      | true ↦ λ waits. true≢false (sym waits)
-      | false ↦ λ waits. true≢false (sym waits)
-    ] waits)
+    absurd (start_waits_not mode.ColdStart (first_core configuration who.part) 0 who.proc wanted waits)
 
 pub who_waits_stands : WhoWaitsStands
 who_waits_stands = (cold_stands, step_stands, run_stands)

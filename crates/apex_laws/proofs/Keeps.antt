@@ -30,10 +30,11 @@ use Rattle.apex_machine.specs.Step.{IsLawfulBody, IsLawfulCall, channel_answer}
 use Rattle.apex_machine.specs.Waiting.{ends_wait, enters, is_in, is_the_set, is_waiting, set_of, stops, waits_at}
 use Rattle.apex_machine.specs.Demands.{window_now}
 use Rattle.apex_laws.specs.Laws.{AreTied}
-use Rattle.apex_laws.proofs.Booleans.{cannot_hold, is_itself, neither_first, neither_later}
+use Rattle.apex_laws.proofs.Booleans.{cannot_hold, is_itself}
 use Rattle.apex_laws.proofs.Callers.{StandsReady, chosen_stands, ready_waits_not}
 use Rattle.apex_laws.proofs.Codes.{are_errors, done_is_lawful}
 use Rattle.apex_laws.proofs.Ends.{no_condition}
+use Rattle.apex_laws.proofs.Restarts.{not_named, not_restarted, not_stopped, waiting_goes_on}
 use Rattle.apex_laws.proofs.Tables.{at_each}
 use Rattle.apex_laws.proofs.Whos.{same_who}
 use Rattle.apex_laws.proofs.Woken.{found}
@@ -230,8 +231,8 @@ called_waits : (configuration : Configuration) (cores : List CoreState) (partiti
     → let new = called place now (period_of configuration call.who.part) cores partition call number x in
     (new.alive ≡ true) × (is_in wanted new.wait ≡ true)
 called_waits configuration cores partition place now core call ready number x wanted at alive waits other stays =
-    let named = neither_first (is_named (record { part = call.who.part; proc = number }) call.claim.woken) (stops call (record { part = call.who.part; proc = number })) stays in
-    let stopped = neither_later (is_named (record { part = call.who.part; proc = number }) call.claim.woken) (stops call (record { part = call.who.part; proc = number })) stays in
+    let named = not_named call (record { part = call.who.part; proc = number }) stays in
+    let stopped = not_stopped call (record { part = call.who.part; proc = number }) stays in
     rw (other, stopped, named) (adjusted_waits configuration cores partition place (period_of configuration call.who.part) core call ready number x wanted at alive waits)
 
 -- a tick and a return
@@ -278,11 +279,11 @@ keeps_waiting configuration cores place core (Call call) partition who wanted re
           (subst (λ one. ends_wait call one ≡ false) same stays) in
           let change = called place (time_of cores core) (period_of configuration call.who.part) cores partition call in
           let is = found_changed change table (created_by (first_core configuration call.who.part) call call.request) who.proc old.process old.stands in
-          rw own (goes_on wanted (item_at (each_item change table ++ created_by (first_core configuration call.who.part) call call.request) who.proc)
+          rw (own, not_restarted call who (sym here) stays) (goes_on wanted (item_at (each_item change table ++ created_by (first_core configuration call.who.part) call call.request) who.proc)
           (change who.proc old.process) is new.0 new.1)
       | inr foreign ↦
           let change : ℕ → Process → Process = λ number process. roused place call (record { part = who.part; proc = number }) process in
-          let named : is_named who call.claim.woken ≡ false = neither_first (is_named who call.claim.woken) (stops call who) stays in
+          let named : is_named who call.claim.woken ≡ false = not_named call who stays in
           let is : item_at (each_item change table) who.proc ≡ Some (change who.proc old.process) = at_each change table who.proc ∙ ap (option_map (change who.proc)) old.stands in
           let same : change who.proc old.process ≡ old.process = rw named refl in
           rw foreign (goes_on wanted (item_at (each_item change table) who.proc) old.process (is ∙ ap Some same) old.alive old.waits)
@@ -323,5 +324,5 @@ entered_waits configuration cores place core call partition caller wanted enters
     let change = called place (time_of cores core) period cores partition call in
     let is = found_changed change partition.table (created_by (first_core configuration call.who.part) call call.request) call.who.proc ready.process ready.stands in
     let caller : change call.who.proc ready.process ≡ caller_after place (time_of cores core) call changed = rw (is_itself call.who.proc) refl in
-    rw (is_itself call.who.part) (goes_on wanted (item_at (each_item change partition.table ++ created_by (first_core configuration call.who.part) call call.request) call.who.proc)
+    rw (is_itself call.who.part, waiting_goes_on call parts.0) (goes_on wanted (item_at (each_item change partition.table ++ created_by (first_core configuration call.who.part) call call.request) call.who.proc)
     (caller_after place (time_of cores core) call changed) (is ∙ ap Some caller) new.0 new.1)

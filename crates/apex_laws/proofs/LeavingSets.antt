@@ -23,11 +23,12 @@ use Rattle.apex_machine.specs.Ports.{channel_of}
 use Rattle.apex_machine.specs.ServiceConditions.{condition_codes}
 use Rattle.apex_machine.specs.Services.{answer_of, fellow}
 use Rattle.apex_machine.specs.State.{Blackboard, Buffer, Event, Mutex, Partition, Semaphore, each_item, is_named, is_same, item_at, time_of}
-use Rattle.apex_machine.specs.Waiting.{ends_wait, is_in, is_no_error, is_same_set, is_target, set_after, stop_of, waits_at}
+use Rattle.apex_machine.specs.Waiting.{ends_wait, is_in, is_no_error, is_same_set, is_target, restart_by, restart_of, set_after, stop_of, waits_at}
 use Rattle.apex_laws.specs.Laws.{AllEntries, entries_at}
 use Rattle.apex_laws.specs.PartLaws.{DueLeave, ForeignCallsLeaveSets, HasDistinctObjects, OnlyProcessesChange, is_of_channel, is_set_used}
 use Rattle.apex_laws.specs.PartObjects.{StoppedLeaves, left_by, with_set, without_one}
 use Rattle.apex_laws.proofs.Booleans.{cannot_hold, neither_first, neither_later}
+use Rattle.apex_laws.proofs.Restarts.{restarts_none}
 use Rattle.apex_laws.proofs.OtherSets.{enters_no_other}
 use Rattle.apex_laws.proofs.EachSet.{Leaves, becomes_found, leaves_found, sets_stay}
 use Rattle.apex_laws.proofs.PartObjects.{blackboard_changes, buffer_changes, event_changes, mutex_changes, same_if, semaphore_changes}
@@ -125,7 +126,8 @@ stop_ends : (call : CallRecord) (process : ℤ) (number : ℕ) (who : Who) → p
 stop_ends call process number who at asked no_error not_named =
     let stopped : (nat_eq who.part call.who.part && is_target (Some process) who.proc) ≡ is_same who (fellow call.who process) =
     subst (λ one. (nat_eq who.part call.who.part && is_target (Some one) who.proc) ≡ is_same who (fellow call.who one)) (sym at) refl in
-    (λ i. not_named i || (no_error i && (nat_eq who.part call.who.part && is_target (stop_of (asked i)) who.proc))) ∙ stopped
+    let no_restart : restart_of call ≡ None = ap (λ one. restart_by one call.claim.out) asked in
+    (λ i. restarts_none call who.part no_restart i || (not_named i || (no_error i && (nat_eq who.part call.who.part && is_target (stop_of (asked i)) who.proc)))) ∙ stopped
 
 -- who leaves by its wait alone
 pub stays_without : (number : ℕ) (partition : Partition) (wanted : WaitingSet) (who : Who) (process : Process) → item_at partition.table who.proc ≡ Some process → is_in wanted process.wait ≡ false

@@ -12,6 +12,7 @@ pub mod WaitSets
 pub mod Wakes
 pub mod Parts
 pub mod Callers
+pub mod Restarts
 pub mod Woken
 pub mod Untouched
 pub mod Outcomes
@@ -40,6 +41,7 @@ pub mod Kept
 pub mod Records
 pub mod RefusedCalls
 pub mod WholeCalls
+pub mod RestartedCalls
 pub mod Standing
 pub mod ObjectCalls
 pub mod Exact

@@ -17,10 +17,12 @@ use Rattle.apex_machine.specs.Ports.{channel_of}
 use Rattle.apex_machine.specs.ServiceConditions.{condition_codes}
 use Rattle.apex_machine.specs.Services.{answer_of}
 use Rattle.apex_machine.specs.State.{Partition, created, is_named, item_at, names_one_of, time_of}
-use Rattle.apex_machine.specs.Waiting.{enters, is_no_error, is_target, is_the_set, is_waiting, set_of, stop_of, stops, waits_at}
+use Rattle.apex_machine.specs.Pieces.{stops_some}
+use Rattle.apex_machine.specs.Waiting.{enters, is_no_error, is_target, is_the_set, is_waiting, restart_of, restarts, set_of, stop_of, stops, waits_at}
 use Rattle.apex_laws.specs.Laws.{entries_at}
 use Rattle.apex_laws.specs.PartLaws.{IsSoundPart, OtherSetsStay, is_of_channel, is_set_used}
-use Rattle.apex_laws.proofs.Booleans.{cannot_hold, first_holds, later_holds, neither, not_second}
+use Rattle.apex_laws.proofs.Booleans.{cannot_hold, first_holds, later_holds, neither_first, neither_later, not_first, not_second}
+use Rattle.apex_laws.proofs.Restarts.{goes_on}
 use Rattle.apex_laws.proofs.SoundParts.{Stands}
 use Rattle.apex_laws.proofs.Untouched.{set_stays}
 use Rattle.apex_laws.proofs.Waiters.{all_weaker}
@@ -63,6 +65,10 @@ not_stopping (Some target) false here number none = refl
 pub stops_nobody : (call : CallRecord) (who : Who) → (is_some (stop_of call.request) && is_no_error call.claim.out) ≡ false → stops call who ≡ false
 stops_nobody call who none = not_stopping (stop_of call.request) (is_no_error call.claim.out) (nat_eq who.part call.who.part) who.proc none
 
+-- a call that stops nobody restarts no partition
+pub restarts_nobody : (call : CallRecord) (number : ℕ) → stops_some call ≡ false → restarts call number ≡ false
+restarts_nobody call number none = not_first (is_some (restart_of call)) (nat_eq number call.who.part) (neither_first _ _ none)
+
 -- who suspended itself waits in no set
 suspended_elsewhere : (partition : Partition) (who : Who) (process : ℤ) (target : Process) (wanted : WaitingSet) → created partition.table process ≡ Some target → is_suspension target.wait ≡ true
     → waits_at wanted (item_at partition.table (natural_of process)) ≡ true → ⊥
@@ -91,7 +97,7 @@ named_uses number place now partition caller asked claim sound [] None hold want
 pub other_sets_stay : OtherSetsStay
 other_sets_stay configuration number place core cores partition call is not_stop wanted unused =
     set_stays (Stands number wanted partition) place call wanted (entries_at partition wanted) (is.sound.stands wanted) (enters_no_other call wanted unused)
-    (λ entry stands. neither (is_named entry.who call.claim.woken) (stops call entry.who)
+    (λ entry stands. goes_on call entry.who (restarts_nobody call entry.who.part not_stop)
     (cannot_hold (is_named entry.who call.claim.woken) (λ named. named_uses number place (time_of cores core) partition call.who call.request call.claim is.sound
     (condition_codes configuration call.who partition call.request) (channel_of partition call.request) is.demands.1.1.1.1.1 wanted unused entry.who stands.0 stands.1 named))
-    (stops_nobody call entry.who not_stop))
+    (stops_nobody call entry.who (neither_later _ _ not_stop)))

@@ -13,6 +13,7 @@ use Rattle.apex_laws.specs.PartLaws.{HasDistinctObjects}
 use Rattle.apex_laws.specs.PartObjects.{left_by, without_one}
 use Rattle.apex_laws.specs.PartSets.{EachNamedLeaves, LeavesEverySet, NamedLeave, left_if_there, named_left}
 use Rattle.apex_laws.proofs.Booleans.{cannot_hold, or_false}
+use Rattle.apex_laws.proofs.Restarts.{restarts_none}
 use Rattle.apex_laws.proofs.EachSet.{each_set_each, sets_stay}
 use Rattle.apex_laws.proofs.LeavingSets.{one_leaves, stays_without}
 use Rattle.apex_laws.proofs.Objects.{each_set_has}
@@ -26,12 +27,12 @@ use Rattle.apex_laws.proofs.Whos.{same_is}
 -- calls
 
 pub named_leave : NamedLeave
-named_leave place call wanted entries no_stop = (λ here. rw here (ap (λ others. others ++ entry_of place call ∷ []) leave), λ elsewhere. rw elsewhere leave)
+named_leave place call wanted entries no_stop no_restart = (λ here. rw here (ap (λ others. others ++ entry_of place call ∷ []) leave), λ elsewhere. rw elsewhere leave)
   where
     ends : (who : Who) → ends_wait call who ≡ is_named who call.claim.woken
     ends who =
         let stopped : stops call who ≡ false = stops_nobody call who (ap (λ (one : Option ℤ). is_some one && is_no_error call.claim.out) no_stop) in
-        (λ i. is_named who call.claim.woken || stopped i) ∙ or_false (is_named who call.claim.woken)
+        (λ i. restarts_none call who.part no_restart i || (is_named who call.claim.woken || stopped i)) ∙ or_false (is_named who call.claim.woken)
 
     leave : without (ends_wait call) entries ≡ without (λ who. is_named who call.claim.woken) entries
     leave = without_same (ends_wait call) (λ who. is_named who call.claim.woken) ends entries

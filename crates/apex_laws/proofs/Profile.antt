@@ -1,19 +1,18 @@
 -- A call is not in the profile exactly where a sentence puts it outside.
-use Rattle.std.proofs.Common.{◌≡◌, ◌⊎◌, ℕ, Option, Bool, true, false, not, ◌&&◌, nat_eq, refl, sym, ap, ◌∙◌, inl, inr, true≢false}
+use Rattle.std.proofs.Common.{◌≡◌, ◌⊎◌, ℕ, Option, Bool, true, false, not, ◌&&◌, nat_eq, refl, sym, ap, inl, inr, true≢false}
 use Rattle.apex_types.specs.declared.record.Who.{Who}
 use Rattle.apex_types.specs.declared.request.Request.{Request}
 use Rattle.apex_types.specs.declared.request.Request.TheVariants as request
 use Rattle.apex_machine.specs.declared.state.Wait.{Wait}
 use Rattle.apex_machine.specs.declared.state.Wait.TheVariants as wait
 use Rattle.apex_machine.specs.declared.state.WaitingSet.TheVariants as set
-use Rattle.apex_machine.specs.Arguments.{is_normal_mode, natural_of}
+use Rattle.apex_machine.specs.Arguments.{natural_of}
 use Rattle.apex_machine.specs.Conditions.{owns_mutex}
 use Rattle.apex_machine.specs.DueTimes.{is_for_mutex}
 use Rattle.apex_machine.specs.Services.{in_profile, waits_for_mutex}
 use Rattle.apex_machine.specs.State.{Partition, item_at}
 use Rattle.apex_laws.specs.ProfileLaws.{AwaitsMutex, IsOutsideProfile, ProfileIsTheSentence}
-use Rattle.apex_laws.proofs.Booleans.{cannot_hold}
-use Rattle.apex_laws.proofs.ConditionTests.{Tells, caller_tells, equal_tells, normal_mode_tells, owns_tells}
+use Rattle.apex_laws.proofs.ConditionTests.{Tells, caller_tells, equal_tells, owns_tells}
 
 -- one of two tests that don't both hold
 one_fails : (one other : Bool) → (not one && not other) ≡ false → (one ≡ true) ⊎ (other ≡ true)
@@ -66,7 +65,6 @@ module _ (who : Who) (partition : Partition) where
         | inl owns ↦ IsOutsideProfile.owner_is_changed ((owns_tells partition (natural_of process)).0 owns)
         | inr awaits ↦ IsOutsideProfile.waiter_is_changed ((awaits_tells partition (natural_of process)).0 awaits)
       ]
-  outside (request.SetPartitionMode next) is = IsOutsideProfile.other_mode (λ three. true≢false (sym ((normal_mode_tells next).1 three) ∙ is))
   outside _ is = absurd (true≢false is)
 
   stands_out : {asked : Request} → IsOutsideProfile who partition asked → in_profile who partition asked ≡ false
@@ -81,7 +79,6 @@ module _ (who : Who) (partition : Partition) where
       first_fails (owns_mutex partition.mutexes (natural_of process)) (waits_for_mutex partition.table (natural_of process)) ((owns_tells partition (natural_of process)).1 owns)
   stands_out (IsOutsideProfile.waiter_is_changed {process = process} awaits) =
       second_fails (owns_mutex partition.mutexes (natural_of process)) (waits_for_mutex partition.table (natural_of process)) ((awaits_tells partition (natural_of process)).1 awaits)
-  stands_out (IsOutsideProfile.other_mode {next = next} other) = cannot_hold (is_normal_mode next) (λ holds. other ((normal_mode_tells next).0 holds))
 
 pub profile_is_the_sentence : ProfileIsTheSentence
 profile_is_the_sentence who partition asked = (outside who partition asked, stands_out who partition)

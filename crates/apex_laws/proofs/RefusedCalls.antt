@@ -17,7 +17,7 @@ use Rattle.apex_machine.specs.declared.state.Entry.{Entry}
 use Rattle.apex_machine.specs.declared.state.Process.{Process}
 use Rattle.apex_machine.specs.declared.state.WaitingSet.{WaitingSet}
 use Rattle.apex_machine.specs.declared.state.WaitingSet.TheVariants as set
-use Rattle.apex_machine.specs.After.{called, created_by, each_set, is_channel, is_done, mode_by, objects_by, objects_called, partition_called, roused}
+use Rattle.apex_machine.specs.After.{called, created_by, each_set, is_channel, is_done, mode_by, objects_by, objects_called, own_partition, partition_called, roused}
 use Rattle.apex_machine.specs.Configuration.{Configuration, first_core, period_of}
 use Rattle.apex_machine.specs.Ports.{channel_effect, use_of}
 use Rattle.apex_machine.specs.Processes.{caller_after, caller_with, outcome_of, release_taken, renews}
@@ -25,10 +25,11 @@ use Rattle.apex_machine.specs.ServiceConditions.{condition_codes}
 use Rattle.apex_machine.specs.Services.{Answer, HasNoValues}
 use Rattle.apex_machine.specs.State.{Partition, State, Table, each_item, is_named, item_at, time_of}
 use Rattle.apex_machine.specs.Step.{HasCode, HasOutcome, IsAmong, IsRefused}
-use Rattle.apex_machine.specs.Waiting.{ends_wait, is_no_error, is_waiting, set_after, stops, without}
+use Rattle.apex_machine.specs.Waiting.{ends_wait, is_no_error, is_waiting, restart_of, set_after, stops, without}
 use Rattle.apex_laws.specs.RecordLaws.{RefusalIsTheSentence}
 use Rattle.apex_laws.specs.RecordSentences.{process_in}
-use Rattle.apex_laws.proofs.Booleans.{cannot_hold, is_itself}
+use Rattle.apex_laws.proofs.Booleans.{cannot_hold, is_itself, not_first}
+use Rattle.apex_laws.proofs.Restarts.{goes_on, not_done_goes_on, restarts_none}
 use Rattle.apex_laws.proofs.Codes.{are_errors, no_error_is_done, not_done}
 use Rattle.apex_laws.proofs.Emptied.{sets_same}
 use Rattle.apex_laws.proofs.Records.{stays_each, turns_each}
@@ -77,7 +78,7 @@ set_left place call not_so nobody wanted entries =
     let stays : (who : Who) → ends_wait call who ≡ false = λ who.
     let named : is_named who call.claim.woken ≡ false = ap (is_named who) nobody in
     let stopping : is_no_error call.claim.out ≡ false = not_no_error call.claim.out not_so in
-    rw (named, stopping) refl in
+    goes_on call who (restarts_none call who.part (not_done_goes_on call not_so)) named (not_first (is_no_error call.claim.out) _ stopping) in
     let waits : is_waiting call.claim.out ≡ false = not_waiting call.claim.out not_so in
     rw waits (nobody_leaves (ends_wait call) stays entries)
 
@@ -136,22 +137,22 @@ abbrev pub roused_table : ℕ → CallRecord → ℕ → Table → Table
 roused_table place call number table = each_item (λ other process. roused place call (record { part = number; proc = other }) process) table
 
 foreign_stays : (configuration : Configuration) (place core : ℕ) (call : CallRecord) → call.claim.woken ≡ [] → (state next : State) (other : Who)
-    → next.partitions other.part ≡ cond (nat_eq call.who.part other.part) (partition_called configuration state.cores place core call (state.partitions other.part))
+    → next.partitions other.part ≡ cond (nat_eq call.who.part other.part) (own_partition (restart_of call) configuration state.cores place core call (state.partitions other.part))
     (record (state.partitions other.part) { table = roused_table place call other.part (state.partitions other.part).table })
     → nat_eq call.who.part other.part ≡ false → process_in next other ≡ process_in state other
 foreign_stays configuration place core call nobody state next other is elsewhere =
-    let there = is ∙ ap (λ test. cond test (partition_called configuration state.cores place core call (state.partitions other.part))
+    let there = is ∙ ap (λ test. cond test (own_partition (restart_of call) configuration state.cores place core call (state.partitions other.part))
     (record (state.partitions other.part) { table = roused_table place call other.part (state.partitions other.part).table })) elsewhere in
     ap (λ (found : Partition). item_at found.table other.proc) there
     ∙ stays_each (λ number process. roused place call (record { part = other.part; proc = number }) process) (state.partitions other.part).table other.proc
     (λ process at. (let named : is_named other call.claim.woken ≡ false = ap (is_named other) nobody in rw named refl))
 
 pub foreign_rest : (configuration : Configuration) (place core : ℕ) (call : CallRecord) (state next : State) (number : ℕ)
-    → next.partitions number ≡ cond (nat_eq call.who.part number) (partition_called configuration state.cores place core call (state.partitions number))
+    → next.partitions number ≡ cond (nat_eq call.who.part number) (own_partition (restart_of call) configuration state.cores place core call (state.partitions number))
     (record (state.partitions number) { table = roused_table place call number (state.partitions number).table })
     → nat_eq call.who.part number ≡ false → next.partitions number ≡ record (state.partitions number) { table = (next.partitions number).table }
 foreign_rest configuration place core call state next number is elsewhere =
-    let there = is ∙ ap (λ test. cond test (partition_called configuration state.cores place core call (state.partitions number))
+    let there = is ∙ ap (λ test. cond test (own_partition (restart_of call) configuration state.cores place core call (state.partitions number))
     (record (state.partitions number) { table = roused_table place call number (state.partitions number).table })) elsewhere in
     there ∙ ap (λ (found : Partition). let back : Partition = record (state.partitions number) { table = found.table } in back) (sym there)
 
@@ -173,8 +174,9 @@ refusal_is_the_sentence configuration state ordered call next step is some =
     let change : ℕ → Process → Process = called place now period state.cores (state.partitions call.who.part) call in
     let more = created_by (first_core configuration call.who.part) call call.request in
     let own : next.partitions call.who.part ≡ partition_called configuration state.cores place core call (state.partitions call.who.part) =
-    partitions call.who.part ∙ ap (λ test. cond test (partition_called configuration state.cores place core call (state.partitions call.who.part))
-    (record (state.partitions call.who.part) { table = each_item (λ other process. roused place call (record { part = call.who.part; proc = other }) process) table })) (is_itself call.who.part) in
+    partitions call.who.part ∙ ap (λ test. cond test (own_partition (restart_of call) configuration state.cores place core call (state.partitions call.who.part))
+    (record (state.partitions call.who.part) { table = each_item (λ other process. roused place call (record { part = call.who.part; proc = other }) process) table })) (is_itself call.who.part)
+    ∙ ap (λ one. own_partition one configuration state.cores place core call (state.partitions call.who.part)) (not_done_goes_on call not_so) in
     let all : each_item change table ++ more ≡ each_item change table = ap (λ rest. each_item change table ++ rest) (none_created (first_core configuration call.who.part) call call.request not_so) ∙ append-nil (each_item change table) in
     record {
       code = one.code;

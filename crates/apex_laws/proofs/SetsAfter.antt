@@ -8,13 +8,14 @@ use Rattle.apex_machine.specs.declared.state.Entry.{Entry}
 use Rattle.apex_machine.specs.declared.state.Process.{Process}
 use Rattle.apex_machine.specs.declared.state.WaitingSet.{WaitingSet}
 use Rattle.apex_machine.specs.declared.state.WaitingSet.TheVariants as set
-use Rattle.apex_machine.specs.After.{each_set, is_done, objects_by, objects_called, partition_by, partition_called, returned, roused, ticked}
+use Rattle.apex_machine.specs.After.{each_set, is_done, objects_by, objects_called, own_partition, partition_by, partition_called, returned, roused, ticked}
 use Rattle.apex_machine.specs.Configuration.{Configuration}
 use Rattle.apex_machine.specs.State.{Partition, Table, each_item, is_named}
-use Rattle.apex_machine.specs.Waiting.{ends_wait, enters, entry_of, set_after, without}
+use Rattle.apex_machine.specs.Waiting.{ends_wait, enters, entry_of, restart_of, set_after, without}
 use Rattle.apex_laws.specs.Laws.{AllEntries, entries_at}
 use Rattle.apex_laws.proofs.Keeps.{leaves}
 use Rattle.apex_laws.proofs.Objects.{each_set_has, objects_have}
+use Rattle.apex_laws.proofs.Restarts.{own_case, start_set}
 use Rattle.apex_laws.proofs.Waiters.{all_push, all_weaker, all_without}
 
 -- one set
@@ -94,12 +95,14 @@ one_set_after Before After configuration cores place core number (Call call) par
     let roused_here : ℕ → Process → Process = λ other process. roused place call (record { part = number; proc = other }) process in
     let table = each_item roused_here partition.table in
     elim (nat_eq call.who.part number) as (λ own. nat_eq call.who.part number ≡ own → After (entries_at (cond own
-    (partition_called configuration cores place core call partition) (record partition { table = table })) wanted)) [
+    (own_partition (restart_of call) configuration cores place core call partition) (record partition { table = table })) wanted)) [
       | true ↦ λ own.
           let objects : Partition = cond (is_done call.claim.out) (objects_by configuration call.who call.claim.val call.request partition) partition in
-          subst After (sym (called_sets configuration cores place core call partition wanted))
+          own_case (λ next. After (entries_at next wanted)) configuration cores place core call partition
+          (λ none. subst After (sym (called_sets configuration cores place core call partition wanted))
           (each_set_has After nobody (set_after place (Call call)) objects wanted
-          (change (λ elsewhere. true≢false (sym own ∙ elsewhere)) (entries_at objects wanted) (used_sets Before configuration call partition wanted before)))
+          (change (λ elsewhere. true≢false (sym own ∙ elsewhere)) (entries_at objects wanted) (used_sets Before configuration call partition wanted before))))
+          (λ mode is. subst After (sym (start_set mode configuration call.who.part place wanted)) nobody)
       | false ↦ λ elsewhere. subst After (sym (same_sets partition table wanted)) (foreign elsewhere before)
     ] refl
 

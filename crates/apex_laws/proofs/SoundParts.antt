@@ -13,10 +13,11 @@ use Rattle.apex_types.specs.declared.request.Request.TheVariants as request
 use Rattle.apex_machine.specs.declared.state.CoreState.{CoreState}
 use Rattle.apex_machine.specs.declared.state.Entry.{Entry}
 use Rattle.apex_machine.specs.declared.state.Mode.{Mode}
+use Rattle.apex_machine.specs.declared.state.Mode.TheVariants as mode
 use Rattle.apex_machine.specs.declared.state.Process.{Process}
 use Rattle.apex_machine.specs.declared.state.WaitingSet.{WaitingSet}
 use Rattle.apex_machine.specs.declared.state.WaitingSet.TheVariants as set
-use Rattle.apex_machine.specs.After.{each_set, is_done, new_blackboard, new_buffer, new_event, new_mutex, new_queuing_port, new_sampling_port, new_semaphore, objects_by, objects_called, partition_by, partition_called, returned, roused, ticked}
+use Rattle.apex_machine.specs.After.{each_set, is_done, new_blackboard, new_buffer, new_event, new_mutex, new_queuing_port, new_sampling_port, new_semaphore, objects_by, objects_called, own_partition, partition_by, returned, roused, ticked}
 use Rattle.apex_machine.specs.Answer.{Answer, HasValue, is_new}
 use Rattle.apex_machine.specs.Channels.{QueuingPort, SamplingPort, queuing_port, sampling_port}
 use Rattle.apex_machine.specs.Configuration.{Configuration, first_core}
@@ -24,19 +25,20 @@ use Rattle.apex_machine.specs.Demands.{AllHold, AllWaitAt, WakesHere, call_deman
 use Rattle.apex_machine.specs.Ports.{channel_of}
 use Rattle.apex_machine.specs.ServiceConditions.{condition_codes}
 use Rattle.apex_machine.specs.Services.{answer_of}
-use Rattle.apex_machine.specs.State.{Blackboard, Buffer, Event, Mutex, Partition, Port, Semaphore, Table, cold_partition, each_item, initialising_process, is_free, is_named, is_same, item_at, time_of}
-use Rattle.apex_machine.specs.Waiting.{ends_wait, set_after, stops, waits_at}
+use Rattle.apex_machine.specs.State.{Blackboard, Buffer, Event, Mutex, Partition, Port, Semaphore, Table, cold_partition, each_item, is_free, is_named, is_same, item_at, started_partition, time_of}
+use Rattle.apex_machine.specs.Waiting.{ends_wait, restart_of, set_after, waits_at}
 use Rattle.apex_laws.specs.Laws.{AllEntries, IsInOrder, are_distinct, entries_at}
 use Rattle.apex_laws.specs.PartLaws.{HasDistinctObjects, IsSoundPart, PartStaysSound, RunningStandsNowhere}
-use Rattle.apex_laws.proofs.Booleans.{cannot_hold, holds_if, neither, other_holds}
+use Rattle.apex_laws.proofs.Booleans.{cannot_hold, holds_if, other_holds}
 use Rattle.apex_laws.proofs.Callers.{StandsReady, choice_stands, ready_waits_not}
 use Rattle.apex_laws.proofs.Codes.{AreErrors, are_errors, not_done}
 use Rattle.apex_laws.proofs.Distinct.{CallsClaimValues, distinct_by, distinct_new}
 use Rattle.apex_laws.proofs.Exact.{object_stands}
 use Rattle.apex_laws.proofs.InOrder.{EntersNew, none_in_order, set_stays_in_order}
 use Rattle.apex_laws.proofs.Keeps.{CallsReady, IsReadyCall, entered_waits, keeps_waiting, leaves}
+use Rattle.apex_laws.proofs.Restarts.{goes_on, own_case, restarts_other, start_set, start_waits_not}
 use Rattle.apex_laws.proofs.SetsAfter.{EntersWith, IsElsewhere, each_entry, of_objects, one_set_after}
-use Rattle.apex_laws.proofs.Standing.{not_stopped}
+use Rattle.apex_laws.proofs.Standing.{not_stopped, other_partition}
 use Rattle.apex_laws.proofs.Tables.{distinct_each}
 use Rattle.apex_laws.proofs.Waiters.{all_weaker, stands_not}
 use Rattle.apex_laws.proofs.WaitSets.{one_set}
@@ -120,10 +122,11 @@ foreign_stays : (configuration : Configuration) (number core : ℕ) (cores : Lis
     → (who : Who) → who.part ≡ number → waits_at wanted (item_at partition.table who.proc) ≡ true → ends_wait call who ≡ false
 foreign_stays configuration number core cores partition call elsewhere hold wanted not_sending not_receiving who here waits =
     let foreign = subst (λ one. AllHold (call_demands one configuration number cores partition core call)) elsewhere hold in
-    neither (is_named who call.claim.woken) (stops call who)
+    let there : nat_eq call.who.part who.part ≡ false = ap (nat_eq call.who.part) here ∙ elsewhere in
+    goes_on call who (restarts_other call who.part (other_partition call.who.part who.part there))
     (cannot_hold (is_named who call.claim.woken) (λ named.
     wakes_at_channel call.request call.claim.chan number partition.table call.claim.woken foreign.1.0 who here named wanted waits not_sending not_receiving))
-    (not_stopped call who (ap (nat_eq call.who.part) here ∙ elsewhere))
+    (not_stopped call who there)
 
 -- numbers
 
@@ -276,6 +279,18 @@ sets_distinct change partition has = record {
   queuing_ports = has.queuing_ports;
 }
 
+-- the objects of a partition as it starts: none
+start_has_distinct : (entered : Mode) (configuration : Configuration) (number place : ℕ) → HasDistinctObjects (started_partition entered configuration number place)
+start_has_distinct entered configuration number place = record {
+  buffers = refl;
+  blackboards = refl;
+  semaphores = refl;
+  events = refl;
+  mutexes = refl;
+  sampling_ports = refl;
+  queuing_ports = refl;
+}
+
 -- the objects of a partition after a record
 objects_distinct : (configuration : Configuration) (cores : List CoreState) (place core number : ℕ) (body : Body) (partition : Partition)
     → CallsClaimValues number (time_of cores core) body partition → HasDistinctObjects partition → HasDistinctObjects (partition_by configuration cores place core number body partition)
@@ -291,13 +306,13 @@ objects_distinct configuration cores place core number (Call call) partition cla
     let foreign : ℕ → Process → Process = λ other process. roused place call (record { part = number; proc = other }) process in
     let now = time_of cores core in
     elim (nat_eq call.who.part number) as (λ own. nat_eq call.who.part number ≡ own → HasDistinctObjects (cond own
-    (partition_called configuration cores place core call partition) (record partition { table = each_item foreign partition.table }))) [
-      | true ↦ λ own. with_table (objects_called configuration place call partition) _ _ (sets_distinct (set_after place (Call call)) _
+    (own_partition (restart_of call) configuration cores place core call partition) (record partition { table = each_item foreign partition.table }))) [
+      | true ↦ λ own. own_case HasDistinctObjects configuration cores place core call partition (λ none. with_table (objects_called configuration place call partition) _ _ (sets_distinct (set_after place (Call call)) _
           (elim (is_done call.claim.out) as (λ done. is_done call.claim.out ≡ done
           → HasDistinctObjects (cond done (objects_by configuration call.who call.claim.val call.request partition) partition)) [
             | true ↦ λ done. used_distinct configuration now call.who call.claim.val call.request partition has (claims own done)
             | false ↦ λ not_done. has
-          ] refl))
+          ] refl))) (λ mode is. start_has_distinct mode configuration call.who.part place)
       | false ↦ λ elsewhere. with_table partition partition.mode (each_item foreign partition.table) has
     ] refl
 
@@ -405,33 +420,15 @@ sound_later number place later partition most sound = record {
   waiters = sound.waiters;
 }
 
--- the sets of a cold partition are empty
-cold_set : (configuration : Configuration) (number : ℕ) (wanted : WaitingSet) → entries_at (cold_partition configuration number) wanted ≡ []
-cold_set configuration number (set.BufferSenders object) = refl
-cold_set configuration number (set.BufferReceivers object) = refl
-cold_set configuration number (set.BlackboardReaders object) = refl
-cold_set configuration number (set.SemaphoreWaiters object) = refl
-cold_set configuration number (set.EventWaiters object) = refl
-cold_set configuration number (set.MutexWaiters object) = refl
-cold_set configuration number (set.ChannelSenders channel) = refl
-cold_set configuration number (set.ChannelReceivers channel) = refl
-
--- nobody waits in a cold partition
-cold_waits_not : (configuration : Configuration) (number : ℕ) (wanted : WaitingSet) (process : ℕ) → waits_at wanted (item_at (cold_partition configuration number).table process) ≡ true → ⊥
-cold_waits_not configuration number wanted process waits =
-    elim (nat_eq process 0) as (λ first. waits_at wanted (cond first (Some (initialising_process (first_core configuration number))) None) ≡ true → ⊥) [
-      | true ↦ λ waits. true≢false (sym waits)
-      | false ↦ λ waits. true≢false (sym waits)
-    ] waits
-
 cold_sound : (configuration : Configuration) (number place : ℕ) → IsSoundPart number place (cold_partition configuration number)
-cold_sound configuration number place = record {
-  distinct = refl;
-  objects = record { buffers = refl; blackboards = refl; semaphores = refl; events = refl; mutexes = refl; sampling_ports = refl; queuing_ports = refl };
-  stands = λ wanted. subst (AllEntries (Stands number wanted (cold_partition configuration number))) (sym (cold_set configuration number wanted)) tt;
-  order = λ wanted. subst (IsInOrder place) (sym (cold_set configuration number wanted)) (none_in_order place);
-  waiters = λ wanted process off waits. absurd (cold_waits_not configuration number wanted process waits);
-}
+cold_sound configuration number place =
+    let empty : (wanted : WaitingSet) → entries_at (cold_partition configuration number) wanted ≡ [] = start_set mode.ColdStart configuration number 0 in record {
+      distinct = refl;
+      objects = start_has_distinct mode.ColdStart configuration number 0;
+      stands = λ wanted. subst (AllEntries (Stands number wanted (cold_partition configuration number))) (sym (empty wanted)) tt;
+      order = λ wanted. subst (IsInOrder place) (sym (empty wanted)) (none_in_order place);
+      waiters = λ wanted process off waits. absurd (start_waits_not mode.ColdStart (first_core configuration number) 0 process wanted waits);
+    }
 
 pub part_stays_sound : PartStaysSound
 part_stays_sound = (

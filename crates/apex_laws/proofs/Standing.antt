@@ -13,17 +13,18 @@ use Rattle.apex_machine.specs.declared.state.CoreState.{CoreState}
 use Rattle.apex_machine.specs.declared.state.Process.{Process}
 use Rattle.apex_machine.specs.declared.state.Wait.TheVariants as wait
 use Rattle.apex_machine.specs.declared.state.WaitingSet.{WaitingSet}
-use Rattle.apex_machine.specs.After.{adjusted, called, caller_after, created_by, is_done, numbered, partition_by, partition_called, returned, roused, ticked}
+use Rattle.apex_machine.specs.After.{adjusted, called, caller_after, created_by, is_done, numbered, own_partition, partition_by, returned, roused, ticked}
 use Rattle.apex_machine.specs.Arguments.{is_number, natural_of}
 use Rattle.apex_machine.specs.Conditions.{is_normal}
 use Rattle.apex_machine.specs.Configuration.{Configuration, first_core, period_of}
 use Rattle.apex_machine.specs.DueTimes.{due_of_call, entry_wait, time_out_of, wait_in, wait_of, waits_for_normal}
 use Rattle.apex_machine.specs.Processes.{by_mutex, caller_with, gift_of, new_process, released, set_by, started, stopped, woken_by}
 use Rattle.apex_machine.specs.State.{Mutex, Partition, Table, each_item, given_object, is_named, item_at, time_of}
-use Rattle.apex_machine.specs.Waiting.{ends_wait, enters, is_in, is_no_error, is_target, is_the_set, is_waiting, set_of, stop_of, stops, waits_at}
-use Rattle.apex_laws.proofs.Booleans.{cannot_hold, neither, not_first, not_second}
+use Rattle.apex_machine.specs.Waiting.{ends_wait, enters, is_in, is_no_error, is_target, is_the_set, is_waiting, restart_of, set_of, stop_of, stops, waits_at}
+use Rattle.apex_laws.proofs.Booleans.{cannot_hold, not_first, not_second}
 use Rattle.apex_laws.proofs.Callers.{ready_waits_not}
 use Rattle.apex_laws.proofs.Keeps.{CallsReady, found_changed, leaves, mutex_alive, mutex_wait}
+use Rattle.apex_laws.proofs.Restarts.{goes_on, own_case, restarts_none, restarts_other, start_waits_not}
 use Rattle.apex_laws.proofs.Tables.{at_each}
 use Rattle.apex_laws.proofs.WholeCalls.{found_behind}
 use Rattle.apex_laws.proofs.Whos.{same_who}
@@ -119,11 +120,11 @@ caller_back place now call x wanted out.Never not waits = absurd (true≢false (
 caller_back place now call x wanted (out.Answer code) not waits = absurd (not waits)
 
 -- a process of the caller's partition
-called_back : (place now period : ℕ) (cores : List CoreState) (partition : Partition) (call : CallRecord) (number : ℕ) (x : Process) (wanted : WaitingSet)
+called_back : (place now period : ℕ) (cores : List CoreState) (partition : Partition) (call : CallRecord) (number : ℕ) (x : Process) (wanted : WaitingSet) → restart_of call ≡ None
     → waits_at wanted (Some (called place now period cores partition call number x)) ≡ true
     → ((nat_eq number call.who.proc ≡ true) × (waits_at wanted (Some (caller_after place now call (adjusted place period cores partition call number x))) ≡ true))
     ⊎ ((ends_wait call (record { part = call.who.part; proc = number }) ≡ false) × (waits_at wanted (Some x) ≡ true))
-called_back place now period cores partition call number x wanted waits =
+called_back place now period cores partition call number x wanted none waits =
     let changed = adjusted place period cores partition call number x in
     let who : Who = record { part = call.who.part; proc = number } in
     let Fact : Type 0 = ((nat_eq number call.who.proc ≡ true) × (waits_at wanted (Some (caller_after place now call changed)) ≡ true))
@@ -135,7 +136,7 @@ called_back place now period cores partition call number x wanted waits =
         | true ↦ λ gone waits. absurd (true≢false (sym waits))
         | false ↦ λ stays waits.
             let back = roused_back place call who changed wanted waits in
-            inr (neither _ _ back.0 stays, adjusted_back place period cores partition call number x wanted back.1)
+            inr (goes_on call who (restarts_none call call.who.part none) back.0 stays, adjusted_back place period cores partition call number x wanted back.1)
       ] refl waits
     ] refl waits
 
@@ -181,12 +182,15 @@ longer_back Fact change table more number wanted fact added waits = by (item_at 
         (found_behind (each_item change table) more number (at_each change table number ∙ ap (option_map (change number)) at)) waits))
     by (Some x) at = fact x at (subst (λ one. waits_at wanted one ≡ true) (found_changed change table more number x at) waits)
 
+-- numbers that differ, the other way round
+pub other_partition : (one other : ℕ) → nat_eq one other ≡ false → nat_eq other one ≡ false
+other_partition one other differ = cannot_hold (nat_eq other one) (λ same. true≢false (sym (eq-eqb one other (sym (eqb-true other one same))) ∙ differ))
+
 -- a call stops nobody of another partition
 pub not_stopped : (call : CallRecord) (who : Who) → nat_eq call.who.part who.part ≡ false → stops call who ≡ false
 not_stopped call who elsewhere =
     not_second (is_no_error call.claim.out) (nat_eq who.part call.who.part && is_target (stop_of call.request) who.proc)
-    (not_first (nat_eq who.part call.who.part) (is_target (stop_of call.request) who.proc)
-    (cannot_hold (nat_eq who.part call.who.part) (λ same. true≢false (sym (eq-eqb call.who.part who.part (sym (eqb-true who.part call.who.part same))) ∙ elsewhere))))
+    (not_first (nat_eq who.part call.who.part) (is_target (stop_of call.request) who.proc) (other_partition call.who.part who.part elsewhere))
 
 -- a caller that enters a set
 abbrev pub Entering : Body → Who → WaitingSet → Type 0
@@ -217,16 +221,16 @@ who_waits configuration cores place core (Call call) partition who wanted ready 
     let period = period_of configuration call.who.part in
     let added = created_by (first_core configuration call.who.part) call call.request in
     let foreign : ℕ → Process → Process = λ number process. roused place call (record { part = who.part; proc = number }) process in
-    let after : Bool → Table = λ own. (cond own (partition_called configuration cores place core call partition) (record partition { table = each_item foreign table })).table in
+    let after : Bool → Table = λ own. (cond own (own_partition (restart_of call) configuration cores place core call partition) (record partition { table = each_item foreign table })).table in
     elim (cases_Bool (nat_eq call.who.part who.part)) [
       | inl own ↦
           let here : call.who.part ≡ who.part = eqb-true call.who.part who.part own in
           let same : record { part = call.who.part; proc = who.proc } ≡ who = same_who (record { part = call.who.part; proc = who.proc }) who here refl in
           let change = called place now period cores partition call in
           let caller_ready = (ready own).ready in
-          let in_table : waits_at wanted (item_at (each_item change table ++ added) who.proc) ≡ true = subst (λ test. waits_at wanted (item_at (after test) who.proc) ≡ true) own waits in
-          longer_back Fact change table added who.proc wanted
-          (λ x at waits. elim (called_back place now period cores partition call who.proc x wanted waits) [
+          own_case (λ next. waits_at wanted (item_at next.table who.proc) ≡ true → Fact) configuration cores place core call partition
+          (λ none in_table. longer_back Fact change table added who.proc wanted
+          (λ x at waits. elim (called_back place now period cores partition call who.proc x wanted none waits) [
             | inl caller ↦
                 let number : who.proc ≡ call.who.proc = eqb-true who.proc call.who.proc caller.0 in
                 let begun = caller_back place now call (adjusted place period cores partition call who.proc x) wanted call.claim.out
@@ -235,11 +239,13 @@ who_waits configuration cores place core (Call call) partition who wanted ready 
                 inr (same_who who call.who (sym here) number, and_from _ _ begun.0 begun.1)
             | inr other ↦ inl (subst (λ one. ends_wait call one ≡ false) same other.0, subst (λ one. waits_at wanted one ≡ true) (sym at) other.1)
           ])
-          (λ new. created_not (first_core configuration call.who.part) call call.request who.proc wanted new) in_table
+          (λ new. created_not (first_core configuration call.who.part) call call.request who.proc wanted new) in_table)
+          (λ mode is in_table. absurd (start_waits_not mode (first_core configuration call.who.part) place who.proc wanted in_table))
+          (subst (λ test. waits_at wanted (item_at (after test) who.proc) ≡ true) own waits)
       | inr elsewhere ↦
           let in_table : waits_at wanted (item_at (each_item foreign table) who.proc) ≡ true = subst (λ test. waits_at wanted (item_at (after test) who.proc) ≡ true) elsewhere waits in
           each_back Fact foreign table who.proc wanted
           (λ x at waits. (let back = roused_back place call who x wanted waits in
           let stays : stops call who ≡ false = not_stopped call who elsewhere in
-          inl (neither _ _ back.0 stays, subst (λ one. waits_at wanted one ≡ true) (sym at) back.1))) in_table
+          inl (goes_on call who (restarts_other call who.part (other_partition call.who.part who.part elsewhere)) back.0 stays, subst (λ one. waits_at wanted one ≡ true) (sym at) back.1))) in_table
     ]

@@ -13,7 +13,7 @@ use Rattle.apex_machine.specs.declared.state.Entry.{Entry}
 use Rattle.apex_machine.specs.declared.state.Process.{Process}
 use Rattle.apex_machine.specs.declared.state.WaitingSet.{WaitingSet}
 use Rattle.apex_machine.specs.declared.state.WaitingSet.TheVariants as set
-use Rattle.apex_machine.specs.After.{is_done, objects_by, partition_by, partition_called, returned, roused}
+use Rattle.apex_machine.specs.After.{is_done, objects_by, own_partition, partition_by, partition_called, returned, roused}
 use Rattle.apex_machine.specs.Arguments.{natural_of}
 use Rattle.apex_machine.specs.Channels.{is_receiver, is_sender}
 use Rattle.apex_machine.specs.Configuration.{Configuration}
@@ -22,14 +22,15 @@ use Rattle.apex_machine.specs.ServiceConditions.{condition_codes}
 use Rattle.apex_machine.specs.Services.{answer_of}
 use Rattle.apex_machine.specs.State.{Partition, State, cold_state, each_item, is_named, time_of}
 use Rattle.apex_machine.specs.Step.{HasOutcome, IsLawfulBody, IsLawfulCall, Run, Step, channel_answer}
-use Rattle.apex_machine.specs.Waiting.{ends_wait, enters, is_no_error, is_target, is_the_set, is_waiting, set_after, set_of, stop_of, stops, waits_at}
+use Rattle.apex_machine.specs.Waiting.{ends_wait, enters, is_no_error, is_target, is_the_set, is_waiting, restart_of, set_after, set_of, stop_of, waits_at}
 use Rattle.apex_laws.specs.Laws.{AllEntries, AllPorts, AreTied, IsAtEnd, IsTied, StaysTied, entries_at}
-use Rattle.apex_laws.proofs.Booleans.{cannot_hold, holds_if, neither, not_first, not_second}
+use Rattle.apex_laws.proofs.Booleans.{cannot_hold, holds_if, not_first, not_second}
 use Rattle.apex_laws.proofs.Demanded.{WaitsAcross, across}
 use Rattle.apex_laws.proofs.Distinct.{distinct_by, lawful_values}
 use Rattle.apex_laws.proofs.Ends.{StandsAtEnd, port_is_at_end}
 use Rattle.apex_laws.proofs.Keeps.{calls_ready, entered_waits, keeps_waiting, leaves, ready_call}
 use Rattle.apex_laws.proofs.PortEnds.{ports_after}
+use Rattle.apex_laws.proofs.Restarts.{goes_on, own_case, restarts_other}
 use Rattle.apex_laws.proofs.SetsAfter.{EntersWith, IsElsewhere, each_entry, of_objects, one_set_after}
 use Rattle.apex_laws.proofs.Waiters.{all_weaker}
 use Rattle.apex_laws.proofs.WaitSets.{found_set, one_set}
@@ -106,15 +107,15 @@ stays_here : (configuration : Configuration) (state : State) (core : ℕ) (call 
     → (wanted : WaitingSet) → ((other : ℕ) → ¬ (wanted ≡ set.ChannelSenders other)) → ((other : ℕ) → ¬ (wanted ≡ set.ChannelReceivers other))
     → (entry : Entry) → IsTied (λ home. home ≡ number) wanted state.partitions entry → ends_wait call entry.who ≡ false
 stays_here configuration state core call tied law number elsewhere wanted not_sending not_receiving entry is =
-    neither (is_named entry.who call.claim.woken) (stops call entry.who)
+    let there : nat_eq entry.who.part call.who.part ≡ false = cannot_hold (nat_eq entry.who.part call.who.part) (λ same.
+    true≢false (sym (eq-eqb call.who.part number (sym (eqb-true entry.who.part call.who.part same) ∙ is.0)) ∙ elsewhere)) in
+    goes_on call entry.who (restarts_other call entry.who.part there)
     (cannot_hold (is_named entry.who call.claim.woken) (λ named.
     not_named_here configuration state (time_of state.cores core) call number tied elsewhere
     (condition_codes configuration call.who (state.partitions call.who.part) call.request) (channel_of (state.partitions call.who.part) call.request) law.outcome
     wanted not_sending not_receiving entry.who is.0 is.1 named))
     (not_second (is_no_error call.claim.out) (nat_eq entry.who.part call.who.part && is_target (stop_of call.request) entry.who.proc)
-    (not_first (nat_eq entry.who.part call.who.part) (is_target (stop_of call.request) entry.who.proc)
-    (cannot_hold (nat_eq entry.who.part call.who.part) (λ same.
-    true≢false (sym (eq-eqb call.who.part number (sym (eqb-true entry.who.part call.who.part same) ∙ is.0)) ∙ elsewhere)))))
+    (not_first (nat_eq entry.who.part call.who.part) (is_target (stop_of call.request) entry.who.proc) there))
 
 foreign_set : (configuration : Configuration) (state : State) (place core : ℕ) (body : Body) → AreTied configuration state
     → IsLawfulBody configuration state core body → (number : ℕ) → IsElsewhere number body → (wanted : WaitingSet)
@@ -243,9 +244,11 @@ ports_by configuration state place core (Ret ret) number all =
 ports_by configuration state place core (Call call) number all =
     let foreign : ℕ → Process → Process = λ other process. roused place call (record { part = number; proc = other }) process in
     elim (nat_eq call.who.part number) as (λ own. nat_eq call.who.part number ≡ own → AllPorts (λ port. IsAtEnd configuration number port.direction port.channel) (cond own
-    (partition_called configuration state.cores place core call (state.partitions number))
+    (own_partition (restart_of call) configuration state.cores place core call (state.partitions number))
     (record (state.partitions number) { table = each_item foreign (state.partitions number).table })).queuing_ports) [
-      | true ↦ λ own. called_ports configuration state place core call number (eqb-true call.who.part number own) all
+      | true ↦ λ own. own_case (λ next. AllPorts (λ port. IsAtEnd configuration number port.direction port.channel) next.queuing_ports)
+          configuration state.cores place core call (state.partitions number)
+          (λ none. called_ports configuration state place core call number (eqb-true call.who.part number own) all) (λ mode is. tt)
       | false ↦ λ elsewhere. all
     ] refl
 

@@ -21,10 +21,11 @@ use Rattle.apex_machine.specs.ServiceConditions.{condition_codes}
 use Rattle.apex_machine.specs.Ports.{channel_of}
 use Rattle.apex_machine.specs.State.{Partition, State, Table, each_item, is_named, time_of}
 use Rattle.apex_machine.specs.Step.{IsLawful, IsLawfulBody, IsLawfulCall}
-use Rattle.apex_machine.specs.Waiting.{ends_wait, enters, is_no_error, is_target, is_the_set, is_waiting, set_after, set_of, stop_of, stops}
+use Rattle.apex_machine.specs.Waiting.{ends_wait, enters, is_no_error, is_target, is_the_set, is_waiting, restart_of, set_after, set_of, stop_of}
 use Rattle.apex_laws.specs.Laws.{AllEntries, AreTied, IsTied}
-use Rattle.apex_laws.proofs.Booleans.{is_itself, neither, neither_first, neither_later, not_second}
+use Rattle.apex_laws.proofs.Booleans.{is_itself, neither_first, neither_later, not_second}
 use Rattle.apex_laws.proofs.Parts.{times_after}
+use Rattle.apex_laws.proofs.Restarts.{goes_on}
 use Rattle.apex_laws.proofs.Waiters.{none_leaves}
 use Rattle.apex_laws.proofs.Whos.{not_named}
 use Rattle.apex_laws.proofs.Woken.{IsWokenBy, woken}
@@ -37,7 +38,7 @@ each_stays change [] stays = refl
 each_stays change (entry ∷ entries) stays = λ i. (entry.0, stays entry.0 entry.1 i) ∷ each_stays change entries stays i
 
 -- a process that a call doesn't name stays
-not_roused : (place : ℕ) (call : CallRecord) (who : Who) (process : Process) → is_named who call.claim.woken ≡ false → roused place call who process ≡ process
+pub not_roused : (place : ℕ) (call : CallRecord) (who : Who) (process : Process) → is_named who call.claim.woken ≡ false → roused place call who process ≡ process
 not_roused place call who process not_named = rw not_named refl
 
 -- a record that doesn't touch a partition leaves it and the cores as they are
@@ -71,21 +72,35 @@ not_receiving number (request.ReceiveQueuingMessage port time_out) (Some channel
 not_receiving number (request.ReceiveQueuingMessage port time_out) None off = refl
 not_receiving number _ chan off = refl
 
+-- a call that doesn't stop anybody at an end of a channel, but comes from there, restarts nobody
+not_restarted_at : (restarted stopping end here : Bool) → (here ≡ true → end ≡ true) → ((restarted || stopping) && end) ≡ false → (restarted && here) ≡ false
+not_restarted_at false stopping end here at off = refl
+not_restarted_at true stopping end true at off = absurd (true≢false (sym (at refl) ∙ off))
+not_restarted_at true stopping end false at off = refl
+
 -- who is at an end of a channel isn't stopped by a call that doesn't touch the channel
-not_stopped_at : (end none here : Bool) (stopping : Option ℤ) (number : ℕ) → (here ≡ true → end ≡ true) → (is_some stopping && (none && end)) ≡ false
+not_stopped_at : (end none here : Bool) (stopping : Option ℤ) (number : ℕ) → (here ≡ true → end ≡ true) → ((is_some stopping && none) && end) ≡ false
     → (none && (here && is_target stopping number)) ≡ false
 not_stopped_at end none here None number at off = not_second none (here && false) (not_second here false refl)
 not_stopped_at end true true (Some target) number at off = absurd (true≢false (sym (at refl) ∙ off))
 not_stopped_at end true false (Some target) number at off = refl
 not_stopped_at end false here (Some target) number at off = refl
 
+-- where one of two tests and a third don't hold together, the second and the third don't
+later_fails : (one other third : Bool) → ((one || other) && third) ≡ false → (other && third) ≡ false
+later_fails false other third off = off
+later_fails true other third off = not_second other third off
+
 -- an entry stays whose process is at an end of the channel and waits in a set of it
 stays_there : (configuration : Configuration) (call : CallRecord) (number : ℕ) (who : Who) → is_at_end configuration number who.part ≡ true
     → stops_at_end configuration number call ≡ false → is_named who call.claim.woken ≡ false → ends_wait call who ≡ false
 stays_there configuration call number who end off not_named =
-    neither (is_named who call.claim.woken) (stops call who) not_named
-    (not_stopped_at (is_at_end configuration number call.who.part) (is_no_error call.claim.out) (nat_eq who.part call.who.part) (stop_of call.request) who.proc
-    (λ here. subst (λ part. is_at_end configuration number part ≡ true) (eqb-true who.part call.who.part here) end) off)
+    let at : nat_eq who.part call.who.part ≡ true → is_at_end configuration number call.who.part ≡ true =
+    λ here. subst (λ part. is_at_end configuration number part ≡ true) (eqb-true who.part call.who.part here) end in
+    let stopping : Bool = is_some (stop_of call.request) && is_no_error call.claim.out in
+    goes_on call who (not_restarted_at (is_some (restart_of call)) stopping (is_at_end configuration number call.who.part) (nat_eq who.part call.who.part) at off) not_named
+    (not_stopped_at (is_at_end configuration number call.who.part) (is_no_error call.claim.out) (nat_eq who.part call.who.part) (stop_of call.request) who.proc at
+    (later_fails (is_some (restart_of call)) stopping (is_at_end configuration number call.who.part) off))
 
 -- a sending or a receiving partition is at an end
 sender_at_end : (configuration : Configuration) (number partition : ℕ) → is_sender configuration number partition ≡ true → is_at_end configuration number partition ≡ true

@@ -18,7 +18,7 @@ use Rattle.apex_machine.specs.declared.state.Wait.{Wait}
 use Rattle.apex_machine.specs.declared.state.Wait.TheVariants as wait
 use Rattle.apex_machine.specs.declared.state.WaitingSet.{WaitingSet}
 use Rattle.apex_machine.specs.declared.state.WaitingSet.TheVariants as set
-use Rattle.apex_machine.specs.After.{adjusted, called, created_by, each_set, is_channel, is_done, numbered, objects_by, objects_called, partition_called, roused}
+use Rattle.apex_machine.specs.After.{adjusted, called, created_by, each_set, is_channel, is_done, numbered, objects_by, objects_called, own_partition, partition_called, roused}
 use Rattle.apex_machine.specs.Answer.{Answer, Effect, HasValues, NamesExactly, done, waking}
 use Rattle.apex_machine.specs.Arguments.{natural_of}
 use Rattle.apex_machine.specs.Channels.{is_receiver, is_sender}
@@ -32,7 +32,7 @@ use Rattle.apex_machine.specs.ServiceConditions.{condition_codes}
 use Rattle.apex_machine.specs.Services.{answer_by, answer_of, fellow, resuming}
 use Rattle.apex_machine.specs.State.{Channel, Content, Mutex, Partition, State, Table, created, each_item, given_object, is_named, item_at, time_of}
 use Rattle.apex_machine.specs.Step.{HasCode, HasOutcome, IsLawfulCall, channel_answer}
-use Rattle.apex_machine.specs.Waiting.{first_waiter, is_in, is_waiting, set_after, stops, waits_at}
+use Rattle.apex_machine.specs.Waiting.{first_waiter, is_in, is_waiting, restart_of, set_after, stops, waits_at}
 use Rattle.apex_laws.specs.Laws.{AllEntries, SetsAreInOrder, AreTied, IsTied, entries_at}
 use Rattle.apex_laws.specs.ProcessSentences.{IsBegun, WaitsForOther}
 use Rattle.apex_laws.specs.RecordLaws.{CallIsTheSentence}
@@ -367,7 +367,7 @@ goes_through configuration state now call answer codes channel number next order
 -- the whole
 
 pub call_is_the_sentence : CallIsTheSentence
-call_is_the_sentence configuration state ordered call next above tied order step is =
+call_is_the_sentence configuration state ordered call next above tied order step is no_restart =
     let core = ordered.core in
     let place = ordered.pos in
     let now = time_of state.cores core in
@@ -382,7 +382,8 @@ call_is_the_sentence configuration state ordered call next above tied order step
     let more = created_by (first_core configuration part) call call.request in
     let sets : ℕ → Process → Process = adjusted place period state.cores partition call in
     let own : next.partitions part ≡ partition_called configuration state.cores place core call partition =
-    partitions part ∙ ap (λ test. cond test (partition_called configuration state.cores place core call partition) (record partition { table = roused_table place call part table })) (is_itself part) in
+    partitions part ∙ ap (λ test. cond test (own_partition (restart_of call) configuration state.cores place core call partition) (record partition { table = roused_table place call part table })) (is_itself part)
+    ∙ ap (λ one. own_partition one configuration state.cores place core call partition) no_restart in
     let arrives : (number : ℕ) (old : Process) → item_at table number ≡ Some old → item_at (next.partitions part).table number ≡ Some (change number old) = λ number old at.
     ap (λ (one : Partition). item_at one.table number) own ∙ found_changed change table more number old at in
     let fellow_at : (who : Who) → who.part ≡ part → who ≡ record { part = part; proc = who.proc } = λ who here. same_who who (record { part = part; proc = who.proc }) here refl in
@@ -454,7 +455,7 @@ call_is_the_sentence configuration state ordered call next above tied order step
             new = woken_by place (gift_of call.request) old;
             before = at;
             after = ap (λ (one : Partition). item_at one.table who.proc) (partitions who.part)
-                ∙ ap (λ test. item_at (cond test (partition_called configuration state.cores place core call (state.partitions who.part)) (record (state.partitions who.part) { table = roused_table place call who.part (state.partitions who.part).table })).table who.proc) foreign
+                ∙ ap (λ test. item_at (cond test (own_partition (restart_of call) configuration state.cores place core call (state.partitions who.part)) (record (state.partitions who.part) { table = roused_table place call who.part (state.partitions who.part).table })).table who.proc) foreign
                 ∙ turns_each rouse (state.partitions who.part).table who.proc old at
                 ∙ ap (λ test. Some (cond test (woken_by place (gift_of call.request) old) old)) named;
             change = (waking_is_the_sentence place (gift_of call.request) old (woken_by place (gift_of call.request) old)
@@ -467,7 +468,7 @@ call_is_the_sentence configuration state ordered call next above tied order step
       elsewhere = λ who there not_named.
           let foreign : nat_eq part who.part ≡ false = cannot_hold (nat_eq part who.part) (λ same. there (sym (eqb-true part who.part same))) in
           ap (λ (one : Partition). item_at one.table who.proc) (partitions who.part)
-          ∙ ap (λ test. item_at (cond test (partition_called configuration state.cores place core call (state.partitions who.part)) (record (state.partitions who.part) { table = roused_table place call who.part (state.partitions who.part).table })).table who.proc) foreign
+          ∙ ap (λ test. item_at (cond test (own_partition (restart_of call) configuration state.cores place core call (state.partitions who.part)) (record (state.partitions who.part) { table = roused_table place call who.part (state.partitions who.part).table })).table who.proc) foreign
           ∙ stays_each (λ number process. roused place call (record { part = who.part; proc = number }) process) (state.partitions who.part).table who.proc
           (λ one at. ap (λ test. cond test (woken_by place (gift_of call.request) one) one) not_named);
       mode = ap (λ (one : Partition). one.mode) own;

@@ -126,6 +126,9 @@ pub record ConditionFacts : Type 0 where
   pub may_be_normal : told furnished initialiser (request.SetPartitionMode (pos 3)) ≡ []
   pub is_normal_already : told at_work one (request.SetPartitionMode (pos 3)) ≡ code.NoAction ∷ []
   pub no_mode : told at_work one (request.SetPartitionMode (pos 4)) ≡ code.InvalidParam ∷ []
+  pub no_warm_start_in_cold_start : told furnished initialiser (request.SetPartitionMode (pos 2)) ≡ code.InvalidMode ∷ []
+  pub may_start_warm : told at_work one (request.SetPartitionMode (pos 2)) ≡ []
+  pub may_start_cold : told furnished initialiser (request.SetPartitionMode (pos 1)) ≡ []
   -- buffers, blackboards
   pub may_create_buffer : told furnished initialiser (request.CreateBuffer (codes "R") (pos 4) (pos 1) (pos 1)) ≡ []
   pub buffer_of_nothing : told furnished initialiser (request.CreateBuffer (codes "R") (pos 0) (pos 1) (pos 0)) ≡ code.InvalidParam ∷ []
@@ -183,7 +186,7 @@ pub record ConditionFacts : Type 0 where
   pub who_wants_it_may_be_stopped : in_profile one (wanting.partitions 0) (request.Stop (pos 2)) ≡ true
   pub initialiser_stays : in_profile initialiser (furnished.partitions 0) request.StopSelf ≡ false
   pub may_stop_itself : in_profile one (at_work.partitions 0) request.StopSelf ≡ true
-  pub no_restart : in_profile one (at_work.partitions 0) (request.SetPartitionMode (pos 2)) ≡ false
+  pub restart_is_inside : in_profile one (at_work.partitions 0) (request.SetPartitionMode (pos 2)) ≡ true
   pub normal_mode : in_profile initialiser (furnished.partitions 0) (request.SetPartitionMode (pos 3)) ≡ true
   pub aperiodic_is_inside : in_profile initialiser (furnished.partitions 0) (request.CreateProcess (codes "D") (pos 10) (negsuc 0)) ≡ true
   pub periodic_is_inside : in_profile initialiser (furnished.partitions 0) (request.CreateProcess (codes "D") (pos 10) (pos 20)) ≡ true

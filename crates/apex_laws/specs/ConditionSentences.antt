@@ -268,9 +268,10 @@ module _ (configuration : Configuration) (who : Who) (partition : Partition) whe
     -- PERIODIC_WAIT: not a periodic process; one that may not wait
     periodic_wait_aperiodic : ¬ IsCalledByPeriodic who partition → HasCondition request.PeriodicWait code.InvalidMode
     periodic_wait_waits : MayNotWait who partition → HasCondition request.PeriodicWait code.InvalidMode
-    -- SET_PARTITION_MODE: a mode that is not 0 to 3; NORMAL, which is 3, in NORMAL
+    -- SET_PARTITION_MODE: a mode that is not 0 to 3; NORMAL, which is 3, in NORMAL; WARM_START, which is 2, in COLD_START
     set_mode_none : {next : ℤ} → ¬ IsFrom (pos 0) (pos 3) next → HasCondition (request.SetPartitionMode next) code.InvalidParam
     set_mode_normal : {next : ℤ} → next ≡ pos 3 → partition.mode ≡ mode.Normal → HasCondition (request.SetPartitionMode next) code.NoAction
+    set_mode_warm : {next : ℤ} → next ≡ pos 2 → partition.mode ≡ mode.ColdStart → HasCondition (request.SetPartitionMode next) code.InvalidMode
     -- CREATE_BUFFER: no message size; a number of messages that is not 1 to 1,024; no discipline
     create_buffer_size : {name : List ℕ} {size capacity given : ℤ} → ¬ IsSize size → HasCondition (request.CreateBuffer name size capacity given) code.InvalidParam
     create_buffer_capacity : {name : List ℕ} {size capacity given : ℤ} → ¬ IsFrom (pos 1) (pos most_messages) capacity

@@ -15,10 +15,11 @@ use Rattle.apex_machine.specs.After.{partition_after, partition_by}
 use Rattle.apex_machine.specs.Arguments.{natural_of}
 use Rattle.apex_machine.specs.Configuration.{Configuration}
 use Rattle.apex_machine.specs.Demands.{AllHold, IsRunning, own_call_demands, partition_demands, stands_in}
+use Rattle.apex_machine.specs.Pieces.{stops_some}
 use Rattle.apex_machine.specs.Ports.{channel_of}
 use Rattle.apex_machine.specs.Services.{answer_of}
 use Rattle.apex_machine.specs.State.{Partition, cold_partition, is_named, item_at, time_of}
-use Rattle.apex_machine.specs.Waiting.{enters, entry_of, is_no_error, is_same_set, set_after, stop_of, waits_at, without}
+use Rattle.apex_machine.specs.Waiting.{enters, entry_of, is_no_error, is_same_set, restart_of, set_after, stop_of, waits_at, without}
 use Rattle.apex_laws.specs.Laws.{AllEntries, IsInOrder, are_distinct, entries_at}
 
 -- a sound partition
@@ -97,23 +98,19 @@ is_set_used (request.SendQueuingMessage port length time_out message) wanted = i
 is_set_used (request.ReceiveQueuingMessage port time_out) wanted = is_of_channel wanted
 is_set_used _ wanted = false
 
--- whether a call is a STOP that is done
-abbrev pub is_stop_done : CallRecord → Bool
-is_stop_done call = is_some (stop_of call.request) && is_no_error call.claim.out
-
--- an own call that is no STOP, or one that is refused, leaves every waiting set that its request doesn't use
+-- an own call that stops no process leaves every waiting set that its request doesn't use
 abbrev pub OtherSetsStay : Type 0
 OtherSetsStay =
     (configuration : Configuration) (number place core : ℕ) (cores : List CoreState) (partition : Partition) (call : CallRecord)
-    → IsOwnCall configuration number place core cores partition call → IsFalse (is_stop_done call)
+    → IsOwnCall configuration number place core cores partition call → IsFalse (stops_some call)
     → (wanted : WaitingSet) → IsFalse (is_set_used call.request wanted) → set_after place (Call call) wanted (entries_at partition wanted) ≡ entries_at partition wanted
 
--- an own call that doesn't answer NO_ERROR ends no wait in the partition: a caller that waits enters its set at the end, and all
--- else stays
+-- an own call that doesn't answer NO_ERROR and is no restart ends no wait in the partition: a caller that waits enters its set at the
+-- end, and all else stays
 abbrev pub OnlyDoneLetsGo : Type 0
 OnlyDoneLetsGo =
     (configuration : Configuration) (number place core : ℕ) (cores : List CoreState) (partition : Partition) (call : CallRecord)
-    → IsOwnCall configuration number place core cores partition call → IsFalse (is_no_error call.claim.out)
+    → IsOwnCall configuration number place core cores partition call → IsFalse (is_no_error call.claim.out) → restart_of call ≡ None
     → (wanted : WaitingSet) → set_after place (Call call) wanted (entries_at partition wanted)
     ≡ (if enters call wanted then entries_at partition wanted ++ entry_of place call ∷ [] else entries_at partition wanted)
 

@@ -18,11 +18,12 @@ use Rattle.apex_machine.specs.Arguments.{natural_of}
 use Rattle.apex_machine.specs.Channels.{queuing_port, sampling_port}
 use Rattle.apex_machine.specs.Configuration.{Configuration}
 use Rattle.apex_machine.specs.Objects.{acquired, buffer_received, buffer_sent, cleared, displayed, event_reset, event_set, mutex_released, semaphore_waited, signalled}
+use Rattle.apex_machine.specs.Pieces.{stops_some}
 use Rattle.apex_machine.specs.Services.{fellow}
 use Rattle.apex_machine.specs.State.{Partition, Table, change_at, created, is_named, is_same}
 use Rattle.apex_machine.specs.Waiting.{first_waiter, is_in, is_no_error, set_after, without}
 use Rattle.apex_laws.specs.Laws.{entries_at}
-use Rattle.apex_laws.specs.PartLaws.{IsOwnCall, IsSoundPart, is_stop_done}
+use Rattle.apex_laws.specs.PartLaws.{IsOwnCall, IsSoundPart}
 
 -- the objects of a kind, and this one under the number that the call claims, where it is done
 abbrev pub created_if_done : {Object : Type 0} → CallRecord → Object → List (ℕ × Object) → List (ℕ × Object)
@@ -122,12 +123,12 @@ objects_changed configuration place call (request.CreateQueuingPort name size ca
 }
 objects_changed configuration place call _ partition = partition
 
--- an own call that is no STOP, or one that is refused, changes the one object that it names or adds the one that it creates, and
--- leaves all other objects and ports
+-- an own call that stops no process changes the one object that it names or adds the one that it creates, and leaves all other
+-- objects and ports
 abbrev pub OneObjectChanges : Type 0
 OneObjectChanges =
     (configuration : Configuration) (number place core : ℕ) (cores : List CoreState) (partition : Partition) (call : CallRecord)
-    → IsOwnCall configuration number place core cores partition call → IsFalse (is_stop_done call)
+    → IsOwnCall configuration number place core cores partition call → IsFalse (stops_some call)
     → (asked : Request) → call.request ≡ asked → objects_called configuration place call partition ≡ objects_changed configuration place call asked partition
 
 -- an own call that isn't done leaves all objects, waiting sets and ports

@@ -9,18 +9,18 @@ use Rattle.apex_machine.specs.declared.state.Process.{Process}
 use Rattle.apex_machine.specs.declared.state.WaitingSet.{WaitingSet}
 use Rattle.apex_machine.specs.After.{each_set}
 use Rattle.apex_machine.specs.State.{Partition, Table, is_named, item_at}
-use Rattle.apex_machine.specs.Waiting.{enters, entry_of, set_after, stop_of, without}
+use Rattle.apex_machine.specs.Waiting.{enters, entry_of, restart_of, set_after, stop_of, without}
 use Rattle.apex_laws.specs.Laws.{entries_at}
 use Rattle.apex_laws.specs.PartLaws.{IsSoundPart}
 use Rattle.apex_laws.specs.PartObjects.{left_by, without_one}
 
 -- calls
 
--- from a waiting set a call that is no STOP lets those go whom it names, and nobody else; its caller enters at the end, where it waits
--- there
+-- from a waiting set a call that is no STOP and no restart lets those go whom it names, and nobody else; its caller enters at the end,
+-- where it waits there
 abbrev pub NamedLeave : Type 0
 NamedLeave =
-    (place : ℕ) (call : CallRecord) (wanted : WaitingSet) (entries : List Entry) → stop_of call.request ≡ None
+    (place : ℕ) (call : CallRecord) (wanted : WaitingSet) (entries : List Entry) → stop_of call.request ≡ None → restart_of call ≡ None
     → (IsTrue (enters call wanted)
     → set_after place (Call call) wanted entries ≡ without (λ who. is_named who call.claim.woken) entries ++ entry_of place call ∷ [])
     × (IsFalse (enters call wanted) → set_after place (Call call) wanted entries ≡ without (λ who. is_named who call.claim.woken) entries)

@@ -1,5 +1,5 @@
 -- Which calls stand outside the profile, in sentences.
-use Rattle.std.specs.Prelude.{◌≡◌, ◌↔◌, ℕ, ℤ, pos, Option, Some, false}
+use Rattle.std.specs.Prelude.{◌≡◌, ◌↔◌, ℕ, ℤ, Option, Some, false}
 use Rattle.apex_types.specs.declared.record.Who.{Who}
 use Rattle.apex_types.specs.declared.request.Request.{Request}
 use Rattle.apex_types.specs.declared.request.Request.TheVariants as request
@@ -37,8 +37,6 @@ module _ (who : Who) (partition : Partition) where
     -- the owner of a mutex, or a process that waits for one, gets another priority
     owner_is_changed : {process priority : ℤ} → IsOwner partition (natural_of process) → IsOutsideProfile (request.SetPriority process priority)
     waiter_is_changed : {process priority : ℤ} → AwaitsMutex partition (natural_of process) → IsOutsideProfile (request.SetPriority process priority)
-    -- a mode other than NORMAL, which is 3
-    other_mode : {next : ℤ} → ¬ (next ≡ pos 3) → IsOutsideProfile (request.SetPartitionMode next)
 
 -- a call is not in the profile exactly where a sentence puts it outside
 abbrev pub ProfileIsTheSentence : Type 0

@@ -1,5 +1,5 @@
 -- What every lawful record does is what the sentences say.
-use Rattle.std.specs.Prelude.{◌≡◌, ◌↔◌, ℕ, ◌<◌, List, [], Option, length}
+use Rattle.std.specs.Prelude.{◌≡◌, ◌↔◌, ℕ, ◌<◌, List, [], Option, Some, None, length}
 use Rattle.apex_types.specs.declared.record.Body.TheVariants.{Call, Disp, Ret, Tick}
 use Rattle.apex_types.specs.declared.record.Call.{Call as CallRecord}
 use Rattle.apex_types.specs.declared.record.Ordered.{Ordered}
@@ -7,14 +7,15 @@ use Rattle.apex_types.specs.declared.record.Return.{Return}
 use Rattle.apex_types.specs.declared.record.Who.{Who}
 use Rattle.apex_types.specs.Requested.{service_of}
 use Rattle.apex_machine.specs.declared.state.Entry.{Entry}
+use Rattle.apex_machine.specs.declared.state.Mode.{Mode}
 use Rattle.apex_machine.specs.declared.state.WaitingSet.{WaitingSet}
 use Rattle.apex_machine.specs.Configuration.{Configuration, period_of}
 use Rattle.apex_machine.specs.ServiceConditions.{condition_codes}
 use Rattle.apex_machine.specs.State.{State, time_of}
 use Rattle.apex_machine.specs.Step.{Step}
-use Rattle.apex_machine.specs.Waiting.{set_after}
+use Rattle.apex_machine.specs.Waiting.{restart_of, set_after}
 use Rattle.apex_laws.specs.Laws.{SetsAreInOrder, AreTied}
-use Rattle.apex_laws.specs.RecordSentences.{HasReturned, IsCallOf, IsDispatchOf, IsRefusedCallOf, IsSetAfterCall, IsTickOf, OnlyChanges}
+use Rattle.apex_laws.specs.RecordSentences.{HasReturned, IsCallOf, IsDispatchOf, IsRefusedCallOf, IsRestartOf, IsSetAfterCall, IsTickOf, OnlyChanges, Restarts}
 
 -- a dispatch of one of the cores
 abbrev pub DispatchIsTheSentence : Type 0
@@ -51,10 +52,20 @@ SetIsTheSentence =
     (place : ℕ) (call : CallRecord) (wanted : WaitingSet) (old new : List Entry)
     → (new ≡ set_after place (Call call) wanted old) ↔ IsSetAfterCall place call wanted old new
 
--- any call, in a tied state whose waiting sets are in order, as every state of a run is; the partitions' periods are above 0
+-- any call that restarts no partition, in a tied state whose waiting sets are in order, as every state of a run is; the partitions'
+-- periods are above 0
 abbrev pub CallIsTheSentence : Type 0
 CallIsTheSentence =
     (configuration : Configuration) (state : State) (ordered : Ordered) (call : CallRecord) (next : State)
     → ((number : ℕ) → 0 < period_of configuration number) → AreTied configuration state → SetsAreInOrder state
-    → Step configuration state ordered next → ordered.rec.body ≡ Call call
+    → Step configuration state ordered next → ordered.rec.body ≡ Call call → restart_of call ≡ None
     → IsCallOf configuration ordered.pos (time_of state.cores ordered.core) call state next
+
+-- a call that restarts its partition: SET_PARTITION_MODE that does not return, to IDLE, COLD_START or WARM_START, which are 0 to 2; and
+-- no other call restarts one
+abbrev pub RestartIsTheSentence : Type 0
+RestartIsTheSentence =
+    ((configuration : Configuration) (state : State) (ordered : Ordered) (call : CallRecord) (mode : Mode) (next : State)
+    → Step configuration state ordered next → ordered.rec.body ≡ Call call → restart_of call ≡ Some mode
+    → IsRestartOf configuration ordered.pos mode call.who.part state next)
+    × ((call : CallRecord) (mode : Mode) → (restart_of call ≡ Some mode) ↔ Restarts call mode)

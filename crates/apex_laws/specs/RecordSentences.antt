@@ -2,21 +2,25 @@
 use Rattle.std.specs.Prelude.{◌≡◌, ◌⊎◌, ℕ, ℤ, pos, ◌+◌, List, [], ◌∷◌, ◌++◌, length, Option, Some, None, IsTrue, IsFalse, if◌then◌else◌}
 use Rattle.apex_types.specs.declared.code.Code.{Code}
 use Rattle.apex_types.specs.declared.record.Call.{Call as CallRecord}
+use Rattle.apex_types.specs.declared.record.Out.TheVariants as out
 use Rattle.apex_types.specs.declared.record.Who.{Who}
 use Rattle.apex_types.specs.declared.request.Request.TheVariants as request
 use Rattle.apex_types.specs.declared.service.Service.{Service}
 use Rattle.apex_machine.specs.declared.state.CoreState.{CoreState}
 use Rattle.apex_machine.specs.declared.state.Entry.{Entry}
+use Rattle.apex_machine.specs.declared.state.Mode.{Mode}
+use Rattle.apex_machine.specs.declared.state.Mode.TheVariants as mode
 use Rattle.apex_machine.specs.declared.state.Process.{Process}
 use Rattle.apex_machine.specs.declared.state.WaitingSet.{WaitingSet}
 use Rattle.apex_machine.specs.declared.state.WaitingSet.TheVariants as set
 use Rattle.apex_machine.specs.After.{each_set, is_done, mode_by, objects_by}
 use Rattle.apex_machine.specs.Answer.{Effect, HasValues, NamesExactly}
 use Rattle.apex_machine.specs.Arguments.{natural_of, period_given}
+use Rattle.apex_machine.specs.Choice.{IsReady}
 use Rattle.apex_machine.specs.Configuration.{Configuration, first_core, has_partition, period_of}
 use Rattle.apex_machine.specs.Ports.{Use, use_of}
 use Rattle.apex_machine.specs.Processes.{gift_of}
-use Rattle.apex_machine.specs.State.{Channel, Content, Partition, State, is_named, occupant_of, item_at, time_of}
+use Rattle.apex_machine.specs.State.{Channel, Content, Partition, State, Table, is_named, occupant_of, item_at, time_of}
 use Rattle.apex_machine.specs.Step.{IsAmong}
 use Rattle.apex_machine.specs.Waiting.{ends_wait, enters, entry_of, stops}
 use Rattle.apex_laws.specs.Laws.{entries_at}
@@ -182,7 +186,7 @@ pub record GoesThrough (configuration : Configuration) (now number : ℕ) (call 
 abbrev pub IsSame : Process → Process → Type 0
 IsSame set new = new ≡ set
 
--- a call. In the caller's partition: the caller is as its call leaves it; a process that the call stops is stopped; another that it
+-- a call that restarts no partition. In the caller's partition: the caller is as its call leaves it; a process that the call stops is stopped; another that it
 -- names is woken; any other has what the call sets in it, if anything. In every other partition: a process that it names is woken,
 -- any other stays; only CREATE_PROCESS adds one. The objects and ports of the caller's partition are as their rules leave them, those of the others stay, and
 -- every waiting set changes by those whose wait ends and by a caller that waits there. The channel that the call goes through gives its
@@ -209,4 +213,45 @@ pub record IsCallOf (configuration : Configuration) (place now : ℕ) (call : Ca
   pub receivers : (number : ℕ) → IsSetAfterCall place call (set.ChannelReceivers number) (state.channels number).receivers (next.channels number).receivers
   pub through : (number : ℕ) → call.claim.chan ≡ Some number → GoesThrough configuration now number call (state.channels number) (next.channels number)
   pub contents : (number : ℕ) → ¬ (call.claim.chan ≡ Some number) → (next.channels number).content ≡ (state.channels number).content
+  pub cores : next.cores ≡ state.cores
+
+-- restarts
+
+-- a call restarts its caller's partition in a mode: it is a SET_PARTITION_MODE to IDLE, COLD_START or WARM_START that does not return
+pub data Restarts (call : CallRecord) : Mode → Type 0 where
+  to_idle : call.request ≡ request.SetPartitionMode (pos 0) → call.claim.out ≡ out.Never → Restarts call mode.Idle
+  to_cold_start : call.request ≡ request.SetPartitionMode (pos 1) → call.claim.out ≡ out.Never → Restarts call mode.ColdStart
+  to_warm_start : call.request ≡ request.SetPartitionMode (pos 2) → call.claim.out ≡ out.Never → Restarts call mode.WarmStart
+
+-- the initialising process of a partition that starts at this place: ready since then on this core, nothing due to it
+pub record IsInitialising (core place : ℕ) (process : Process) : Type 0 where
+  pub ready : IsReady core process
+  pub position : process.ready_position ≡ place
+  pub priority : process.current_priority ≡ 0
+  pub due : process.due ≡ None
+  pub period : process.period ≡ None
+
+-- the processes of a partition that starts at this place: none in IDLE, else the initialising process alone
+abbrev pub IsStart : Mode → ℕ → ℕ → Table → Type 0
+IsStart mode.Idle core place table = (number : ℕ) → item_at table number ≡ None
+IsStart _ core place table =
+    ((process : Process) × (item_at table 0 ≡ Some process) × IsInitialising core place process)
+    × ((number : ℕ) → ¬ (number ≡ 0) → item_at table number ≡ None)
+
+-- a restart of a partition in a mode: it starts anew, without objects and ports; its processes leave the waiting sets of all channels;
+-- what the channels hold, the other partitions and the cores are as before
+pub record IsRestartOf (configuration : Configuration) (place : ℕ) (entered : Mode) (part : ℕ) (state next : State) : Type 0 where
+  pub mode : (next.partitions part).mode ≡ entered
+  pub processes : IsStart entered (first_core configuration part) place (next.partitions part).table
+  pub buffers : (next.partitions part).buffers ≡ []
+  pub blackboards : (next.partitions part).blackboards ≡ []
+  pub semaphores : (next.partitions part).semaphores ≡ []
+  pub events : (next.partitions part).events ≡ []
+  pub mutexes : (next.partitions part).mutexes ≡ []
+  pub sampling_ports : (next.partitions part).sampling_ports ≡ []
+  pub queuing_ports : (next.partitions part).queuing_ports ≡ []
+  pub elsewhere : (number : ℕ) → ¬ (number ≡ part) → next.partitions number ≡ state.partitions number
+  pub contents : (number : ℕ) → (next.channels number).content ≡ (state.channels number).content
+  pub senders : (number : ℕ) → KeepsOnly (λ who. who.part ≡ part) (state.channels number).senders (next.channels number).senders
+  pub receivers : (number : ℕ) → KeepsOnly (λ who. who.part ≡ part) (state.channels number).receivers (next.channels number).receivers
   pub cores : next.cores ≡ state.cores

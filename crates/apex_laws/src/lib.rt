@@ -11,7 +11,7 @@ ghost use Rattle.apex_laws.specs.PartObjects.{EachLeavesItsSet, OneObjectChanges
 ghost use Rattle.apex_laws.specs.PartSets.{EachNamedLeaves, LeavesEverySet, NamedLeave};
 ghost use Rattle.apex_laws.specs.JoinLaws.{FindingsJoin, FoundIsRefused, NothingFoundIsARun, RunsJoin};
 ghost use Rattle.apex_laws.specs.ObjectLaws.{BlackboardIsTheSentence, ChannelIsTheSentence, EventIsTheSentence, FirstIsTheSentence, MutexIsTheSentence, ObjectCallIsTheSentence, OrderIsApart, QueueIsTheSentence, SamplingIsTheSentence, SemaphoreIsTheSentence};
-ghost use Rattle.apex_laws.specs.RecordLaws.{CallIsTheSentence, DispatchIsTheSentence, RefusalIsTheSentence, ReturnIsTheSentence, SetIsTheSentence, TickIsTheSentence};
+ghost use Rattle.apex_laws.specs.RecordLaws.{CallIsTheSentence, DispatchIsTheSentence, RefusalIsTheSentence, RestartIsTheSentence, ReturnIsTheSentence, SetIsTheSentence, TickIsTheSentence};
 ghost use Rattle.apex_laws.specs.ConditionFacts.{ConditionFacts};
 ghost use Rattle.apex_laws.specs.ConditionLaws.{CodesAreTheSentences};
 ghost use Rattle.apex_laws.specs.NumberLaws.{NewNumberIsTheSentence, ObjectsAreFound, ProcessesAreFound};
@@ -80,19 +80,19 @@ pub fn running_stands_nowhere()
     ensures { RunningStandsNowhere }
 {}
 
-/// A call of a sound partition that is no STOP that is done leaves every waiting set of the partition that isn't one of the
+/// A call of a sound partition that stops no process leaves every waiting set of the partition that isn't one of the
 /// object that it names.
 pub fn other_sets_stay()
     ensures { OtherSetsStay }
 {}
 
-/// A call of a sound partition that is no STOP that is done changes the one object that it names, with its waiting sets, or adds
+/// A call of a sound partition that stops no process changes the one object that it names, with its waiting sets, or adds
 /// the one that it creates, and leaves all other objects and ports of the partition.
 pub fn one_object_changes()
     ensures { OneObjectChanges }
 {}
 
-/// A call of a sound partition that doesn't answer NO_ERROR ends no wait in it: a caller that waits enters its set at the end, and
+/// A call of a sound partition that doesn't answer NO_ERROR and is no restart ends no wait in it: a caller that waits enters its set at the end, and
 /// every other set stays.
 pub fn only_done_lets_go()
     ensures { OnlyDoneLetsGo }
@@ -324,10 +324,17 @@ pub fn set_is_the_sentence()
     ensures { SetIsTheSentence }
 {}
 
-/// Any call changes its caller, the processes of its partition, the processes that it names elsewhere, the objects of its
+/// Any call that restarts no partition changes its caller, the processes of its partition, the processes that it names elsewhere, the objects of its
 /// partition, the channel that it goes through and the waiting sets as the sentences say, and nothing else.
 pub fn call_is_the_sentence()
     ensures { CallIsTheSentence }
+{}
+
+/// A call that restarts its partition has the partition start anew in the mode that is given, takes its processes out of the waiting
+/// sets of all channels, and changes nothing else; SET_PARTITION_MODE to IDLE, COLD_START or WARM_START that does not return is such a
+/// call, and no other.
+pub fn restart_is_the_sentence()
+    ensures { RestartIsTheSentence }
 {}
 
 /// What the definitions make of small recordings is what they are known to do.

@@ -24,8 +24,8 @@ use Rattle.apex_machine.specs.Objects.{acquired, buffer_received, buffer_sent, c
 use Rattle.apex_machine.specs.Ports.{channel_effect, use_of}
 pub use Rattle.apex_machine.specs.Processes.{caller_after, caller_with, outcome_of, released}
 use Rattle.apex_machine.specs.Processes.{gift_of, new_process, set_by, stopped, woken_by}
-use Rattle.apex_machine.specs.State.{Blackboard, Buffer, Channel, Content, Event, Mutex, Partition, Port, Semaphore, State, Table, at_core, change_at, each_item, is_named, time_of}
-use Rattle.apex_machine.specs.Waiting.{first_waiter, set_after, stops}
+use Rattle.apex_machine.specs.State.{Blackboard, Buffer, Channel, Content, Event, Mutex, Partition, Port, Semaphore, State, Table, at_core, change_at, each_item, is_named, started_partition, time_of}
+use Rattle.apex_machine.specs.Waiting.{first_waiter, restart_of, set_after, stops}
 
 -- whether a call was carried out: it waits, it does not return, or it answered NO_ERROR
 abbrev pub is_done : Out → Bool
@@ -36,7 +36,7 @@ is_done (out.Answer _) = false
 
 -- processes
 
--- the mode after a call: only NORMAL can be entered
+-- the mode after a call that is no restart: only NORMAL can be entered
 abbrev pub mode_by : Request → Mode → Mode
 mode_by (request.SetPartitionMode next) current = mode.Normal
 mode_by _ current = current
@@ -182,13 +182,18 @@ objects_called configuration place call partition =
     each_set (set_after place (Call call))
     (if is_done call.claim.out then objects_by configuration call.who call.claim.val call.request partition else partition)
 
--- the caller's partition after a call at this place and core
+-- the caller's partition after a call at this place and core that does not restart it
 abbrev pub partition_called : Configuration → List CoreState → ℕ → ℕ → CallRecord → Partition → Partition
 partition_called configuration cores place core call partition = record (objects_called configuration place call partition) {
   mode = if is_done call.claim.out then mode_by call.request partition.mode else partition.mode;
   table = each_item (called place (time_of cores core) (period_of configuration call.who.part) cores partition call) partition.table
       ++ created_by (first_core configuration call.who.part) call call.request;
 }
+
+-- the caller's partition after a call at this place and core, by the mode in which the call restarts it, if it does
+abbrev pub own_partition : Option Mode → Configuration → List CoreState → ℕ → ℕ → CallRecord → Partition → Partition
+own_partition None configuration cores place core call partition = partition_called configuration cores place core call partition
+own_partition (Some mode) configuration cores place core call partition = started_partition mode configuration call.who.part place
 
 -- a process that a tick may have woken
 abbrev pub ticked : ℕ → ℕ → List Who → ℕ → Process → Process
@@ -208,7 +213,7 @@ partition_by configuration cores place core number (Ret ret) partition =
     if nat_eq ret.who.part number then record partition { table = each_item (returned ret.who.proc) partition.table } else partition
 partition_by configuration cores place core number (Call call) partition =
     if nat_eq call.who.part number
-    then partition_called configuration cores place core call partition
+    then own_partition (restart_of call) configuration cores place core call partition
     else record partition { table = each_item (λ other process. roused place call (record { part = number; proc = other }) process) partition.table }
 
 -- a partition after an ordered record

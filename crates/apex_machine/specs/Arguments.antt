@@ -1,10 +1,12 @@
 -- The numbers that a caller gives: which of them a service takes.
-use Rattle.std.specs.Prelude.{ℕ, zero, ◌%◌, Option, Some, None, Bool, true, false, ℤ, pos, negsuc, ◌&&◌, nat_eq, nat_lt, nat_le}
+use Rattle.std.specs.Prelude.{ℕ, zero, suc, ◌%◌, Option, Some, None, Bool, true, false, ℤ, pos, negsuc, ◌&&◌, nat_eq, nat_lt, nat_le}
 use Rattle.apex_types.specs.declared.discipline.Discipline.{Discipline}
 use Rattle.apex_types.specs.declared.discipline.Discipline.TheVariants as discipline
 use Rattle.apex_types.specs.Bounds.{greatest_maximum, greatest_priority, longest_message, most_messages}
 use Rattle.apex_machine.specs.declared.state.Direction.{Direction}
 use Rattle.apex_machine.specs.declared.state.Direction.TheVariants as direction
+use Rattle.apex_machine.specs.declared.state.Mode.{Mode}
+use Rattle.apex_machine.specs.declared.state.Mode.TheVariants as mode
 
 -- whether a caller's number is this one
 abbrev pub is_number : ℤ → ℕ → Bool
@@ -54,6 +56,18 @@ is_mode (negsuc n) = false
 abbrev pub is_normal_mode : ℤ → Bool
 is_normal_mode (pos n) = nat_eq n 3
 is_normal_mode (negsuc n) = false
+
+-- the mode WARM_START is 2
+abbrev pub is_warm_start_mode : ℤ → Bool
+is_warm_start_mode (pos n) = nat_eq n 2
+is_warm_start_mode (negsuc n) = false
+
+-- the mode in which a partition is restarted, by its number: IDLE is 0, COLD_START is 1, WARM_START is 2
+abbrev pub restart_given : ℤ → Option Mode
+restart_given (pos zero) = Some mode.Idle
+restart_given (pos (suc zero)) = Some mode.ColdStart
+restart_given (pos (suc (suc zero))) = Some mode.WarmStart
+restart_given _ = None
 
 -- a time-out is -1, which never falls due, or not below 0
 abbrev pub is_time_out : ℤ → Bool

@@ -28,6 +28,13 @@ is_normal mode.Idle = false
 is_normal mode.ColdStart = false
 is_normal mode.WarmStart = false
 
+-- whether a mode is COLD_START
+abbrev pub is_cold_start : Mode → Bool
+is_cold_start mode.ColdStart = true
+is_cold_start mode.Idle = false
+is_cold_start mode.WarmStart = false
+is_cold_start mode.Normal = false
+
 -- the caller
 
 -- a test of the caller

@@ -10,7 +10,7 @@ use Rattle.apex_machine.specs.After.{channel_after, cores_after, is_channel, par
 use Rattle.apex_machine.specs.Channels.{channel_numbers, has_channel, is_at_end}
 use Rattle.apex_machine.specs.Configuration.{Configuration, has_partition}
 use Rattle.apex_machine.specs.State.{Channel, Partition, State, names_one_of}
-use Rattle.apex_machine.specs.Waiting.{is_no_error, stop_of}
+use Rattle.apex_machine.specs.Waiting.{is_no_error, restart_of, stop_of}
 
 -- a piece: the module, the partition of a number, or the channel of a number
 pub data Piece : Type 0 where
@@ -46,13 +46,16 @@ is_configured configuration Module = true
 is_configured configuration (OfPartition number) = has_partition configuration number
 is_configured configuration (OfChannel number) = has_channel configuration number
 
--- whether a call stops a process of a partition at an end of this channel
+-- whether a call stops processes of its caller's partition: a restart all, a STOP that is done one
+abbrev pub stops_some : CallRecord → Bool
+stops_some call = is_some (restart_of call) || (is_some (stop_of call.request) && is_no_error call.claim.out)
+
+-- whether a call stops processes of a partition at an end of this channel
 abbrev pub stops_at_end : Configuration → ℕ → CallRecord → Bool
-stops_at_end configuration number call =
-    is_some (stop_of call.request) && (is_no_error call.claim.out && is_at_end configuration number call.who.part)
+stops_at_end configuration number call = stops_some call && is_at_end configuration number call.who.part
 
 -- every record touches the module; a partition is touched by ticks and dispatches, by its own calls and returns, and by a
--- call that names one of its processes; a channel by ticks, by calls through it, and by a stop at one of its ends
+-- call that names one of its processes; a channel by ticks, by calls through it, and by a stop or a restart at one of its ends
 abbrev pub touched_by : Configuration → Body → Piece → Bool
 touched_by configuration body Module = true
 touched_by configuration (Disp who) (OfPartition number) = true

@@ -5,8 +5,8 @@ use Rattle.apex_types.specs.declared.code.Code.TheVariants as code
 use Rattle.apex_types.specs.declared.record.Who.{Who}
 use Rattle.apex_machine.specs.declared.state.Mode.{Mode}
 use Rattle.apex_machine.specs.declared.state.Process.{Process}
-use Rattle.apex_machine.specs.Arguments.{is_mode, is_negative, is_normal_mode, is_number, is_period, is_priority, suits_period}
-use Rattle.apex_machine.specs.Conditions.{codes_for, creation_codes, is_normal, is_taken, may_not_wait, of_caller, time_out_codes, when}
+use Rattle.apex_machine.specs.Arguments.{is_mode, is_negative, is_normal_mode, is_number, is_period, is_priority, is_warm_start_mode, suits_period}
+use Rattle.apex_machine.specs.Conditions.{codes_for, creation_codes, is_cold_start, is_normal, is_taken, may_not_wait, of_caller, time_out_codes, when}
 use Rattle.apex_machine.specs.Configuration.{Configuration, is_core, period_of, process_limit}
 use Rattle.apex_machine.specs.DueTimes.{is_suspension}
 use Rattle.apex_machine.specs.State.{Partition, Table, created, item_at}
@@ -94,6 +94,9 @@ periodic_wait_codes who partition =
 
 -- the partition's mode
 
--- SET_PARTITION_MODE: a mode that there is; not NORMAL in NORMAL
+-- SET_PARTITION_MODE: a mode that there is; not NORMAL in NORMAL, and not WARM_START in COLD_START
 abbrev pub set_mode_codes : Mode → ℤ → List Code
-set_mode_codes current mode = when (not (is_mode mode)) code.InvalidParam ++ when (is_normal_mode mode && is_normal current) code.NoAction
+set_mode_codes current mode =
+    when (not (is_mode mode)) code.InvalidParam
+    ++ when (is_normal_mode mode && is_normal current) code.NoAction
+    ++ when (is_warm_start_mode mode && is_cold_start current) code.InvalidMode

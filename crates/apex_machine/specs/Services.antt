@@ -7,7 +7,6 @@ use Rattle.apex_machine.specs.declared.state.Process.{Process}
 pub use Rattle.apex_machine.specs.Answer.{Answer, HasNoValues, HasValue, HasValues, Value, Nothing, Number, NewNumber, NamesExactly, done, done_with, never, waiting}
 pub use Rattle.apex_machine.specs.Arguments.{is_number, is_over, natural_of}
 use Rattle.apex_machine.specs.Answer.{waking}
-use Rattle.apex_machine.specs.Arguments.{is_normal_mode}
 use Rattle.apex_machine.specs.Conditions.{of_caller, owns_mutex}
 use Rattle.apex_machine.specs.DueTimes.{is_for_mutex, is_released, is_suspension}
 use Rattle.apex_machine.specs.Objects.{acquired, board_read, buffer_received, buffer_sent, displayed, event_set, event_waited, mutex_released, semaphore_waited, signalled}
@@ -21,7 +20,7 @@ abbrev pub waits_for_mutex : Table → ℕ → Bool
 waits_for_mutex table number = of_caller (λ process. is_for_mutex process.wait) (item_at table number)
 
 -- where no error condition holds, these stand outside the profile: a stop of a mutex's owner, or of the initialising process by
--- itself; SUSPEND and SET_PRIORITY of a process that owns a mutex or waits for one; and a mode other than NORMAL
+-- itself; SUSPEND and SET_PRIORITY of a process that owns a mutex or waits for one
 abbrev pub in_profile : Who → Partition → Request → Bool
 in_profile who partition (request.Stop process) = not (owns_mutex partition.mutexes (natural_of process))
 in_profile who partition request.StopSelf = not (nat_eq who.proc 0) && not (owns_mutex partition.mutexes who.proc)
@@ -29,7 +28,6 @@ in_profile who partition (request.Suspend process) =
     not (owns_mutex partition.mutexes (natural_of process)) && not (waits_for_mutex partition.table (natural_of process))
 in_profile who partition (request.SetPriority process priority) =
     not (owns_mutex partition.mutexes (natural_of process)) && not (waits_for_mutex partition.table (natural_of process))
-in_profile who partition (request.SetPartitionMode mode) = is_normal_mode mode
 in_profile who partition _ = true
 
 -- what the caller gets
@@ -50,7 +48,7 @@ fellow who process = record { part = who.part; proc = natural_of process }
 
 -- what each service gives, at its caller's core's time   (section 3): a creation a new number, GET_MY_ID the caller's,
 -- GET_TIME the time; a wait with a time-out or a delay of 0 is over at once, PERIODIC_WAIT where the next release is reached;
--- STOP_SELF and SET_PARTITION_MODE to NORMAL do not return
+-- STOP_SELF and SET_PARTITION_MODE do not return
 abbrev pub answer_of : ℕ → Who → Partition → Request → Answer
 answer_of now who partition (request.CreateProcess name priority period) = done_with (NewNumber (is_free partition.table))
 answer_of now who partition request.StopSelf = never

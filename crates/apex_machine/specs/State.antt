@@ -167,9 +167,9 @@ at_core change (suc core) (state ∷ states) = state ∷ at_core change core sta
 
 -- the cold state
 
--- the initialising process: ready from the start, on the partition's first core, with priority 0
-abbrev pub initialising_process : ℕ → Process
-initialising_process core = record {
+-- the initialising process: ready since this place, on the partition's first core, with priority 0
+abbrev pub initialising_process : ℕ → ℕ → Process
+initialising_process core place = record {
   name = [];
   base_priority = 0;
   current_priority = 0;
@@ -180,16 +180,21 @@ initialising_process core = record {
   alive = true;
   suspended = false;
   wait = wait.Nothing;
-  ready_position = 0;
+  ready_position = place;
   due = None;
   called_at = 0;
 }
 
--- a partition starts cold, with its initialising process alone   (partition modes, section 2)
-abbrev pub cold_partition : Configuration → ℕ → Partition
-cold_partition configuration number = record {
-  mode = mode.ColdStart;
-  table = (0, initialising_process (first_core configuration number)) ∷ [];
+-- the processes with which a partition starts in a mode: its initialising process alone, and in IDLE none
+abbrev pub first_processes : Mode → ℕ → ℕ → Table
+first_processes mode.Idle core place = []
+first_processes _ core place = (0, initialising_process core place) ∷ []
+
+-- a partition as it starts in a mode at this place: with its first processes, without objects and ports   (partition modes, section 2)
+abbrev pub started_partition : Mode → Configuration → ℕ → ℕ → Partition
+started_partition mode configuration number place = record {
+  mode = mode;
+  table = first_processes mode (first_core configuration number) place;
   buffers = [];
   blackboards = [];
   semaphores = [];
@@ -198,6 +203,10 @@ cold_partition configuration number = record {
   sampling_ports = [];
   queuing_ports = [];
 }
+
+-- a partition begins in COLD_START
+abbrev pub cold_partition : Configuration → ℕ → Partition
+cold_partition configuration number = started_partition mode.ColdStart configuration number 0
 
 -- what a channel holds before the first record: nothing
 abbrev pub cold_content : Configuration → ℕ → Content

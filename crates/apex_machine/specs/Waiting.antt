@@ -1,5 +1,5 @@
 -- Waiting sets: who goes on first, who enters and who leaves. One rule serves all of them.
-use Rattle.std.specs.Prelude.{◌≡◌, ◌⊎◌, ◌<◌, ℕ, List, [], ◌∷◌, ◌++◌, Option, Some, None, Bool, true, false, ℤ, pos, negsuc, nat_eq, nat_lt, ◌&&◌, ◌||◌, if◌then◌else◌, Contains}
+use Rattle.std.specs.Prelude.{◌≡◌, ◌⊎◌, ◌<◌, ℕ, List, [], ◌∷◌, ◌++◌, Option, Some, None, Bool, true, false, ℤ, pos, negsuc, nat_eq, nat_lt, ◌&&◌, ◌||◌, if◌then◌else◌, is_some, Contains}
 use Rattle.apex_types.specs.declared.code.Code.TheVariants as code
 use Rattle.apex_types.specs.declared.discipline.Discipline.{Discipline}
 use Rattle.apex_types.specs.declared.discipline.Discipline.TheVariants as discipline
@@ -14,12 +14,13 @@ use Rattle.apex_types.specs.declared.request.Request.TheVariants as request
 use Rattle.apex_types.specs.declared.service.Service.{Service}
 use Rattle.apex_types.specs.declared.service.Service.TheVariants as service
 use Rattle.apex_machine.specs.declared.state.Entry.{Entry}
+use Rattle.apex_machine.specs.declared.state.Mode.{Mode}
 use Rattle.apex_machine.specs.declared.state.Process.{Process}
 use Rattle.apex_machine.specs.declared.state.Wait.{Wait}
 use Rattle.apex_machine.specs.declared.state.Wait.TheVariants as wait
 use Rattle.apex_machine.specs.declared.state.WaitingSet.{WaitingSet}
 use Rattle.apex_machine.specs.declared.state.WaitingSet.TheVariants as set
-use Rattle.apex_machine.specs.Arguments.{natural_of}
+use Rattle.apex_machine.specs.Arguments.{natural_of, restart_given}
 use Rattle.apex_machine.specs.State.{is_named}
 
 -- who goes on first
@@ -150,9 +151,23 @@ is_target (Some (negsuc n)) number = false
 abbrev pub stops : CallRecord → Who → Bool
 stops call who = is_no_error call.claim.out && (nat_eq who.part call.who.part && is_target (stop_of call.request) who.proc)
 
--- whether a call ends the wait of a process: it names it, or stops it
+-- the mode in which a call restarts its caller's partition, if it does: SET_PARTITION_MODE to IDLE, COLD_START or WARM_START that is
+-- carried out, which does not return   (partition modes, section 2)
+abbrev pub restart_by : Request → Out → Option Mode
+restart_by (request.SetPartitionMode next) out.Never = restart_given next
+restart_by _ claimed = None
+
+-- the mode in which a call restarts its caller's partition, if it does
+abbrev pub restart_of : CallRecord → Option Mode
+restart_of call = restart_by call.request call.claim.out
+
+-- whether a call restarts this partition
+abbrev pub restarts : CallRecord → ℕ → Bool
+restarts call number = is_some (restart_of call) && nat_eq number call.who.part
+
+-- whether a call ends the wait of a process: it restarts its partition, names it, or stops it
 abbrev pub ends_wait : CallRecord → Who → Bool
-ends_wait call who = is_named who call.claim.woken || stops call who
+ends_wait call who = restarts call who.part || (is_named who call.claim.woken || stops call who)
 
 -- the entries of those who don't leave
 abbrev pub without : (Who → Bool) → List Entry → List Entry

@@ -55,12 +55,12 @@ send_after now number place queue call port length time_out message asked throug
   where
     joined : set_after place (Call call) (set.ChannelSenders number) queue.senders.entries
         ≡ joined_by (record { who = call.who; priority = call.claim.prio; place = place }) call.claim message queue.senders.entries
-    joined = set_joined place call (set.ChannelSenders number) queue.senders.entries (rw asked refl) before
+    joined = set_joined place call (set.ChannelSenders number) queue.senders.entries (rw asked refl) (rw asked refl) before
         (rw (asked, through, same_number number) (and_true (is_waiting call.claim.out)))
         ∙ ap (λ bytes. joined_by (record { who = call.who; priority = call.claim.prio; place = place }) call.claim bytes queue.senders.entries) (rw asked refl)
 
     left : set_after place (Call call) (set.ChannelReceivers number) queue.receivers.entries ≡ left_by call.claim queue.receivers.entries
-    left = set_left place call (set.ChannelReceivers number) queue.receivers.entries (rw asked refl)
+    left = set_left place call (set.ChannelReceivers number) queue.receivers.entries (rw asked refl) (rw asked refl)
         (rw (asked, through) (and_false (is_waiting call.claim.out)))
 
 -- a send that claims something else is refused, with the same cause
@@ -90,12 +90,12 @@ receive_after now number place queue call port time_out asked through before = �
   where
     joined : set_after place (Call call) (set.ChannelReceivers number) queue.receivers.entries
         ≡ joined_by (record { who = call.who; priority = call.claim.prio; place = place }) call.claim [] queue.receivers.entries
-    joined = set_joined place call (set.ChannelReceivers number) queue.receivers.entries (rw asked refl) before
+    joined = set_joined place call (set.ChannelReceivers number) queue.receivers.entries (rw asked refl) (rw asked refl) before
         (rw (asked, through, same_number number) (and_true (is_waiting call.claim.out)))
         ∙ ap (λ bytes. joined_by (record { who = call.who; priority = call.claim.prio; place = place }) call.claim bytes queue.receivers.entries) (rw asked refl)
 
     left : set_after place (Call call) (set.ChannelSenders number) queue.senders.entries ≡ left_by call.claim queue.senders.entries
-    left = set_left place call (set.ChannelSenders number) queue.senders.entries (rw asked refl)
+    left = set_left place call (set.ChannelSenders number) queue.senders.entries (rw asked refl) (rw asked refl)
         (rw (asked, through) (and_false (is_waiting call.claim.out)))
 
 -- a receive that claims something else is refused, with the same cause

@@ -9,7 +9,7 @@ use Rattle.apex_machine.specs.declared.state.WaitingSet.TheVariants as set
 use Rattle.apex_machine.specs.Demands.{AllHold, answer_demands}
 use Rattle.apex_machine.specs.Ports.{sampled, written}
 use Rattle.apex_machine.specs.State.{Stamped}
-use Rattle.apex_machine.specs.Waiting.{is_waiting, set_after, set_of, stop_of}
+use Rattle.apex_machine.specs.Waiting.{is_waiting, restart_of, set_after, set_of, stop_of}
 use Rattle.channel.specs.Held.{Accepts, IsAfterCall, RefusesCall}
 use Rattle.channel.specs.Kinds.{sampling_held}
 use Rattle.channel.proofs.Shared.{and_false, later_refused, of_three, same_number}
@@ -18,9 +18,9 @@ use Rattle.wait_set.specs.Actors.{Refuses}
 use Rattle.wait_set.proofs.Calls.{set_left}
 
 -- nobody enters an empty set where no call waits
-stays_empty : (place : ℕ) (call : CallRecord) (wanted : WaitingSet) → stop_of call.request ≡ None → set_of call.request call.claim.chan ≡ None
-    → set_after place (Call call) wanted [] ≡ []
-stays_empty place call wanted none nowhere = set_left place call wanted [] none (rw nowhere (and_false (is_waiting call.claim.out)))
+stays_empty : (place : ℕ) (call : CallRecord) (wanted : WaitingSet) → stop_of call.request ≡ None → restart_of call ≡ None
+    → set_of call.request call.claim.chan ≡ None → set_after place (Call call) wanted [] ≡ []
+stays_empty place call wanted none stays nowhere = set_left place call wanted [] none stays (rw nowhere (and_false (is_waiting call.claim.out)))
 
 -- writing
 
@@ -36,8 +36,8 @@ pub write_after : (now number place refresh : ℕ) (last : Option Stamped) (call
     → IsAfterCall place now call (sampling_held number refresh last) (sampling_held number refresh (written now message).next)
 write_after now number place refresh last call port length message asked through = λ configuration is.
     of_three (sampling_held number refresh last) _ _ _ _ _ _ (rw (asked, through, same_number number) refl)
-    (sym (stays_empty place call (set.ChannelSenders number) (rw asked refl) (rw asked refl)))
-    (sym (stays_empty place call (set.ChannelReceivers number) (rw asked refl) (rw asked refl)))
+    (sym (stays_empty place call (set.ChannelSenders number) (rw asked refl) (rw asked refl) (rw asked refl)))
+    (sym (stays_empty place call (set.ChannelReceivers number) (rw asked refl) (rw asked refl) (rw asked refl)))
 
 -- a write that claims something else is refused, with the same cause
 pub write_refused : (result : Result (Unit {0}) ObjFault) (now refresh : ℕ) (last : Option Stamped) (call : CallRecord) (port length : ℤ) (message : List ℕ)
@@ -61,8 +61,8 @@ pub read_after : (now number place refresh : ℕ) (last : Option Stamped) (call 
     → IsAfterCall place now call (sampling_held number refresh last) (sampling_held number refresh last)
 read_after now number place refresh last call port asked through = λ configuration is.
     of_three (sampling_held number refresh last) _ _ _ _ _ _ (rw (asked, through, same_number number) refl)
-    (sym (stays_empty place call (set.ChannelSenders number) (rw asked refl) (rw asked refl)))
-    (sym (stays_empty place call (set.ChannelReceivers number) (rw asked refl) (rw asked refl)))
+    (sym (stays_empty place call (set.ChannelSenders number) (rw asked refl) (rw asked refl) (rw asked refl)))
+    (sym (stays_empty place call (set.ChannelReceivers number) (rw asked refl) (rw asked refl) (rw asked refl)))
 
 -- a read that claims something else is refused, with the same cause
 pub read_refused : (result : Result (Unit {0}) ObjFault) (now refresh : ℕ) (last : Option Stamped) (call : CallRecord) (port : ℤ)

@@ -1,6 +1,6 @@
 // Channels of either kind.
 
-ghost use Rattle.std.specs.Prelude.{◌≡◌, ◌||◌, ℕ, None, Some, IfErr, IfOk, IsFalse, OnErr, OnOk};
+ghost use Rattle.std.specs.Prelude.{◌≡◌, ◌||◌, ℕ, None, Some, nat_eq, IfErr, IfOk, IsFalse, OnErr, OnOk};
 ghost use Rattle.apex_machine.specs.Demands.{stands_in};
 ghost use Rattle.apex_machine.specs.State.{is_named, is_same};
 ghost use Rattle.wait_set.specs.Laws.{StandBefore};
@@ -10,7 +10,7 @@ ghost use Rattle.channel.specs.Kinds.{queuing_held, sampling_held};
 ghost use Rattle.message_queue.specs.Queues.{empty_queue};
 
 use crate::sampling::SamplingChannel;
-use apex_types::{Call, Cause, ChanId, Discipline, Place, Request, Who};
+use apex_types::{Call, Cause, ChanId, Discipline, PartId, Place, Request, Who};
 use message_queue::MessageQueue;
 use std::alloc::{AllocError, Global};
 use std::marker::Model;
@@ -133,6 +133,18 @@ impl Channel {
         match &mut self.kind {
             Kind::Sampling(_) => {}
             Kind::Queuing(queue) => queue.release(woken),
+        }
+    }
+
+    /// Takes all processes of a partition out of both waiting sets, as its restart does. The message of one that waits to send goes
+    /// with it; the messages that the channel holds stay. Takes no memory.
+    pub fn leave_all(&mut self, part: PartId)
+        ensures { self.new ≡ rules.without_waiters (λ who. nat_eq who.part part) self.old }
+    {
+        match &mut self.kind {
+            // Nobody waits at a sampling channel.
+            Kind::Sampling(_) => {}
+            Kind::Queuing(queue) => queue.leave_all(part),
         }
     }
 }

@@ -1,6 +1,6 @@
 // Queues of messages.
 
-ghost use Rattle.std.specs.Prelude.{◌≡◌, ◌↔◌, ◌<◌, ◌||◌, [], length, IfErr, IfOk, IsTrue, OnErr, OnOk};
+ghost use Rattle.std.specs.Prelude.{◌≡◌, ◌↔◌, ◌<◌, ◌||◌, [], length, nat_eq, IfErr, IfOk, IsTrue, OnErr, OnOk};
 ghost use Rattle.apex_machine.specs.Demands.{AllHold, answer_demands, stands_in};
 ghost use Rattle.apex_machine.specs.State.{is_named, is_same};
 ghost use Rattle.wait_set.specs.Actors.{Refuses, entry_with};
@@ -8,7 +8,7 @@ ghost use Rattle.wait_set.specs.Givens.{answer_given};
 ghost use Rattle.wait_set.specs.Sets.{IsNew};
 ghost use Rattle.message_queue.specs.Queues as rules;
 
-use apex_types::{Claim, Discipline, Message, Who};
+use apex_types::{Claim, Discipline, Message, PartId, Who};
 use circular_buffer::HeapCircularBuffer;
 use std::alloc::{AllocError, Global};
 use std::marker::Model;
@@ -176,5 +176,15 @@ impl MessageQueue {
     {
         self.senders.release(named);
         self.receivers.release(named);
+    }
+
+    /// Takes all processes of a partition out of both waiting sets; the message of a sender goes with it. Takes no memory.
+    pub fn leave_all(&mut self, part: PartId)
+        ensures { self.new ≡ rules.without_waiters (λ who. nat_eq who.part part) self.old }
+    {
+        // Each set is told with a copy of its own.
+        let copy = part;
+        self.senders.leave_all(part);
+        self.receivers.leave_all(copy);
     }
 }

@@ -74,7 +74,7 @@ display_alike : (place : ℕ) (call : CallRecord) (n : ℕ) (blackboard length :
       readers = set_after place (Call call) (set.BlackboardReaders n) found.readers;
     }
 display_alike place call n blackboard length message found asked is =
-    of_both found _ _ _ _ (rw is refl) (sym (set_left_plainly place call (set.BlackboardReaders n) found.readers (rw asked refl) (rw asked refl)))
+    of_both found _ _ _ _ (rw is refl) (sym (set_left_plainly place call (set.BlackboardReaders n) found.readers (rw asked refl) (rw asked refl) (rw asked refl)))
 
 -- the blackboard after CLEAR_BLACKBOARD
 clear_alike : (call : CallRecord) (found : Blackboard) → call.claim.out ≡ out.Answer code.NoError → NamesExactly [] call.claim.woken
@@ -88,7 +88,7 @@ read_alike : (place : ℕ) (call : CallRecord) (n : ℕ) (blackboard time_out : 
     ≡ record found { readers = set_after place (Call call) (set.BlackboardReaders n) found.readers }
 read_alike place call n blackboard time_out found asked is_n order =
     of_both found _ _ _ _ (stays found.message)
-    (sym (set_joined_plainly place call (set.BlackboardReaders n) found.readers (rw asked refl) (rw asked refl) (rw (asked, is_n) (same_number n)) order))
+    (sym (set_joined_plainly place call (set.BlackboardReaders n) found.readers (rw asked refl) (rw asked refl) (rw asked refl) (rw (asked, is_n) (same_number n)) order))
   where
     stays : (message : Option (List ℕ)) → (board_read time_out message).next ≡ message
     stays (Some message) = refl

@@ -18,7 +18,7 @@ use Rattle.apex_machine.specs.Objects.{buffer_received, buffer_sent}
 use Rattle.apex_machine.specs.Queue.{Messages, received, sent}
 use Rattle.apex_machine.specs.Services.{answer_of}
 use Rattle.apex_machine.specs.State.{Buffer, Partition, change_at, given_object, item_at}
-use Rattle.apex_machine.specs.Waiting.{first_waiter, is_waiting, message_of, set_after, stop_of}
+use Rattle.apex_machine.specs.Waiting.{first_waiter, is_waiting, message_of, restart_of, set_after, stop_of}
 use Rattle.apex_laws.specs.Laws.{IsInOrder}
 use Rattle.apex_laws.specs.PartObjects.{objects_changed}
 use Rattle.buffer.specs.Buffers.{after, after_receive, after_send, answer, sets}
@@ -105,17 +105,20 @@ sent_alike place call n buffer size time_out message found asked is_n order is =
     of_three found _ _ _ _ _ _
     (sym (messages_sent call.claim.out found.capacity message time_out (first_waiter found.discipline found.receivers) found.messages is))
     (sym joined)
-    (sym (set_left place call (set.BufferReceivers n) found.receivers none (rw asked (with_false (is_waiting call.claim.out)))))
+    (sym (set_left place call (set.BufferReceivers n) found.receivers none goes_on (rw asked (with_false (is_waiting call.claim.out)))))
   where
     none : stop_of call.request ≡ None
     none = rw asked refl
+
+    goes_on : restart_of call ≡ None
+    goes_on = rw asked refl
 
     given : message_of call.request ≡ message
     given = rw asked refl
 
     joined : set_after place (Call call) (set.BufferSenders n) found.senders
         ≡ joined_by (record { who = call.who; priority = call.claim.prio; place = place }) call.claim message found.senders
-    joined = set_joined place call (set.BufferSenders n) found.senders none order (rw (asked, is_n, same_number n) (with_true (is_waiting call.claim.out)))
+    joined = set_joined place call (set.BufferSenders n) found.senders none goes_on order (rw (asked, is_n, same_number n) (with_true (is_waiting call.claim.out)))
         ∙ ap (λ bytes. joined_by (record { who = call.who; priority = call.claim.prio; place = place }) call.claim bytes found.senders) given
 
 -- the buffer after RECEIVE_BUFFER
@@ -130,11 +133,14 @@ received_alike : (place : ℕ) (call : CallRecord) (n : ℕ) (buffer time_out : 
 received_alike place call n buffer time_out found asked is_n order is =
     of_three found _ _ _ _ _ _
     (sym (messages_received call.claim.out time_out (first_waiter found.discipline found.senders) found.messages is))
-    (sym (set_left place call (set.BufferSenders n) found.senders none (rw asked (with_false (is_waiting call.claim.out)))))
-    (sym (set_joined_plainly place call (set.BufferReceivers n) found.receivers none (rw asked refl) (rw (asked, is_n) (same_number n)) order))
+    (sym (set_left place call (set.BufferSenders n) found.senders none goes_on (rw asked (with_false (is_waiting call.claim.out)))))
+    (sym (set_joined_plainly place call (set.BufferReceivers n) found.receivers none goes_on (rw asked refl) (rw (asked, is_n) (same_number n)) order))
   where
     none : stop_of call.request ≡ None
     none = rw asked refl
+
+    goes_on : restart_of call ≡ None
+    goes_on = rw asked refl
 
 -- the partition after the call
 pub changed : (configuration : Configuration) (place : ℕ) (partition : Partition) (call : CallRecord) (asked : Request) (given : ℤ) (next : List (ℕ × Buffer))

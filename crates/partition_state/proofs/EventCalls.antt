@@ -74,7 +74,7 @@ set_alike : (place : ℕ) (call : CallRecord) (n : ℕ) (event : ℤ) (found : E
       waiters = set_after place (Call call) (set.EventWaiters n) found.waiters;
     }
 set_alike place call n event found asked is =
-    of_both found _ _ _ _ (rw is refl) (sym (set_left_plainly place call (set.EventWaiters n) found.waiters (rw asked refl) (rw asked refl)))
+    of_both found _ _ _ _ (rw is refl) (sym (set_left_plainly place call (set.EventWaiters n) found.waiters (rw asked refl) (rw asked refl) (rw asked refl)))
 
 -- the event after RESET_EVENT
 reset_alike : (call : CallRecord) (found : Event) → call.claim.out ≡ out.Answer code.NoError → NamesExactly [] call.claim.woken
@@ -88,7 +88,7 @@ waited_alike : (place : ℕ) (call : CallRecord) (n : ℕ) (event time_out : ℤ
     ≡ record found { waiters = set_after place (Call call) (set.EventWaiters n) found.waiters }
 waited_alike place call n event time_out found asked is_n order =
     of_both found _ _ _ _ (stays found.up)
-    (sym (set_joined_plainly place call (set.EventWaiters n) found.waiters (rw asked refl) (rw asked refl) (rw (asked, is_n) (same_number n)) order))
+    (sym (set_joined_plainly place call (set.EventWaiters n) found.waiters (rw asked refl) (rw asked refl) (rw asked refl) (rw (asked, is_n) (same_number n)) order))
   where
     stays : (up : Bool) → (event_waited time_out up).next ≡ up
     stays true = refl

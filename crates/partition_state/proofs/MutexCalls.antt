@@ -115,7 +115,7 @@ acquired_alike : (place : ℕ) (call : CallRecord) (n : ℕ) (mutex time_out : �
     }
 acquired_alike place call n mutex time_out found asked is_n order is =
     of_both _ _ _ _ (sym (done_acquired call.claim.out found.owner call.who.proc time_out found is))
-    (sym (set_joined_plainly place call (set.MutexWaiters n) found.waiters (rw asked refl) (rw asked refl) (rw (asked, is_n) (same_number n)) order))
+    (sym (set_joined_plainly place call (set.MutexWaiters n) found.waiters (rw asked refl) (rw asked refl) (rw asked refl) (rw (asked, is_n) (same_number n)) order))
 
 -- the mutex after RELEASE_MUTEX
 released_alike : (place : ℕ) (call : CallRecord) (n : ℕ) (mutex : ℤ) (found : Mutex) → call.request ≡ request.ReleaseMutex mutex
@@ -126,7 +126,7 @@ released_alike : (place : ℕ) (call : CallRecord) (n : ℕ) (mutex : ℤ) (foun
     }
 released_alike place call n mutex found asked is =
     of_both _ _ _ _ (sym (done_released call.claim.out (first_waiter found.discipline found.waiters) found is))
-    (sym (set_left_plainly place call (set.MutexWaiters n) found.waiters (rw asked refl) (rw asked refl)))
+    (sym (set_left_plainly place call (set.MutexWaiters n) found.waiters (rw asked refl) (rw asked refl) (rw asked refl)))
 
 -- the partition after the call
 pub changed : (configuration : Configuration) (place : ℕ) (partition : Partition) (call : CallRecord) (asked : Request) (given : ℤ) (next : List (ℕ × Mutex))

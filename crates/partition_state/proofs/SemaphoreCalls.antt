@@ -92,7 +92,7 @@ waited_alike place call n semaphore time_out found asked is_n order is =
   where
     joined : set_after place (Call call) (set.SemaphoreWaiters n) found.waiters
         ≡ joined_by (record { who = call.who; priority = call.claim.prio; place = place }) call.claim [] found.waiters
-    joined = set_joined_plainly place call (set.SemaphoreWaiters n) found.waiters (rw asked refl) (rw asked refl) (rw (asked, is_n) (same_number n)) order
+    joined = set_joined_plainly place call (set.SemaphoreWaiters n) found.waiters (rw asked refl) (rw asked refl) (rw asked refl) (rw (asked, is_n) (same_number n)) order
 
 -- the semaphore after SIGNAL_SEMAPHORE
 signalled_alike : (place : ℕ) (call : CallRecord) (n : ℕ) (semaphore : ℤ) (found : Semaphore) → call.request ≡ request.SignalSemaphore semaphore
@@ -104,7 +104,7 @@ signalled_alike : (place : ℕ) (call : CallRecord) (n : ℕ) (semaphore : ℤ) 
     }
 signalled_alike place call n semaphore found asked is =
     of_both found _ _ _ _ (sym (value_signalled call.claim.out found.maximum (first_waiter found.discipline found.waiters) found.value is))
-    (sym (set_left_plainly place call (set.SemaphoreWaiters n) found.waiters (rw asked refl) (rw asked refl)))
+    (sym (set_left_plainly place call (set.SemaphoreWaiters n) found.waiters (rw asked refl) (rw asked refl) (rw asked refl)))
 
 -- the partition after the call
 pub changed : (configuration : Configuration) (place : ℕ) (partition : Partition) (call : CallRecord) (asked : Request) (given : ℤ) (next : List (ℕ × Semaphore))

@@ -14,7 +14,7 @@ use Rattle.apex_machine.specs.Configuration.{Configuration}
 use Rattle.apex_machine.specs.Demands.{AllHold, Demand}
 use Rattle.apex_machine.specs.Services.{fellow}
 use Rattle.apex_machine.specs.State.{Partition, created, time_of}
-use Rattle.apex_machine.specs.Waiting.{is_no_error}
+use Rattle.apex_machine.specs.Waiting.{is_no_error, restart_of}
 use Rattle.apex_laws.specs.PartLaws.{IsOwnCall}
 use Rattle.apex_laws.specs.PartObjects.{left_by, objects_changed}
 use Rattle.apex_laws.specs.PartSets.{left_if_there}
@@ -35,10 +35,10 @@ is_stop _ = false
 -- the objects after a call
 
 pub served_is_called : (configuration : Configuration) (cores : List CoreState) (place core : ℕ) (partition : Partition) (call : CallRecord)
-    → IsClear configuration cores place core partition call → AllHold (served_demands (time_of cores core) partition call)
+    → IsClear configuration cores place core partition call → AllHold (served_demands (time_of cores core) partition call) → restart_of call ≡ None
     → (asked : Request) → call.request ≡ asked
     → objects_called configuration place call partition ≡ objects_served configuration place call asked partition
-served_is_called configuration cores place core partition call clear served (request.Stop process) is =
+served_is_called configuration cores place core partition call clear served goes_on (request.Stop process) is =
     by (created partition.table process) refl
   where
     own : IsOwnCall configuration call.who.part place core cores partition call
@@ -51,9 +51,9 @@ served_is_called configuration cores place core partition call clear served (req
         let served_now = rw is at served in
         let done : is_no_error call.claim.out ≡ true = rw served_now.0 refl in
         (stopped_leaves configuration call.who.part place core cores partition call own process is done target e).2
-served_is_called configuration cores place core partition call clear served asked is =
+served_is_called configuration cores place core partition call clear served goes_on asked is =
     one_object_changes configuration call.who.part place core cores partition call
-    (own_call configuration cores place core partition call clear served) (rw is refl) asked is
+    (own_call configuration cores place core partition call clear served) (rw (goes_on, is) refl) asked is
 
 -- a service other than STOP changes the one object that it names
 pub changed_is_served : (configuration : Configuration) (place : ℕ) (call : CallRecord) (partition new : Partition) → is_stop call.request ≡ false

@@ -13,7 +13,7 @@ use Rattle.apex_machine.specs.Demands.{stands_in}
 use Rattle.apex_machine.specs.Arguments.{natural_of}
 use Rattle.apex_machine.specs.Services.{answer_by}
 use Rattle.apex_machine.specs.State.{Partition, change_at, given_object, item_at}
-use Rattle.apex_machine.specs.Waiting.{enters, is_the_set, is_waiting, message_of, set_after, set_of, stop_of}
+use Rattle.apex_machine.specs.Waiting.{enters, is_the_set, is_waiting, message_of, restart_of, set_after, set_of, stop_of}
 use Rattle.apex_laws.specs.Laws.{AllEntries, IsInOrder, are_distinct, entries_at}
 use Rattle.object_table.proofs.Tables.{change-absent}
 use Rattle.apex_machine.specs.Answer.{Answer, NamesExactly}
@@ -53,11 +53,11 @@ and_false true = refl
 and_false false = refl
 
 -- a set in which its caller may wait: those leave that it names, and a caller that waits enters it
-pub set_joined : (place : ℕ) (call : CallRecord) (wanted : WaitingSet) (entries : List Entry) → stop_of call.request ≡ None → IsInOrder place entries
+pub set_joined : (place : ℕ) (call : CallRecord) (wanted : WaitingSet) (entries : List Entry) → stop_of call.request ≡ None → restart_of call ≡ None → IsInOrder place entries
     → enters call wanted ≡ is_waiting call.claim.out
     → set_after place (Call call) wanted entries
     ≡ joined_by (record { who = call.who; priority = call.claim.prio; place = place }) call.claim (message_of call.request) entries
-set_joined place call wanted entries none order can = calls.set_joined place call wanted entries none (stands_before place entries order.below) can
+set_joined place call wanted entries none goes_on order can = calls.set_joined place call wanted entries none goes_on (stands_before place entries order.below) can
 
 -- where a claim names nobody all stay
 pub all_stay : (claim : Claim) → NamesExactly [] claim.woken → (entries : List Entry) → left_by claim entries ≡ entries
@@ -65,11 +65,11 @@ all_stay claim nobody [] = refl
 all_stay claim nobody (entry ∷ entries) = rw (nobody entry.who, all_stay claim nobody entries) refl
 
 -- a set in which its caller may wait, and brings no message
-pub set_joined_plainly : (place : ℕ) (call : CallRecord) (wanted : WaitingSet) (entries : List Entry) → stop_of call.request ≡ None
+pub set_joined_plainly : (place : ℕ) (call : CallRecord) (wanted : WaitingSet) (entries : List Entry) → stop_of call.request ≡ None → restart_of call ≡ None
     → message_of call.request ≡ [] → is_the_set wanted (set_of call.request call.claim.chan) ≡ true → IsInOrder place entries
     → set_after place (Call call) wanted entries ≡ joined_by (record { who = call.who; priority = call.claim.prio; place = place }) call.claim [] entries
-set_joined_plainly place call wanted entries none plain here order =
-    set_joined place call wanted entries none order (rw here (and_true (is_waiting call.claim.out)))
+set_joined_plainly place call wanted entries none goes_on plain here order =
+    set_joined place call wanted entries none goes_on order (rw here (and_true (is_waiting call.claim.out)))
     ∙ ap (λ message. joined_by (record { who = call.who; priority = call.claim.prio; place = place }) call.claim message entries) plain
   where
     and_true : (b : Bool) → (b && true) ≡ b
@@ -77,9 +77,9 @@ set_joined_plainly place call wanted entries none plain here order =
     and_true false = refl
 
 -- a set in which its caller does not wait, by its request
-pub set_left_plainly : (place : ℕ) (call : CallRecord) (wanted : WaitingSet) (entries : List Entry) → stop_of call.request ≡ None
+pub set_left_plainly : (place : ℕ) (call : CallRecord) (wanted : WaitingSet) (entries : List Entry) → stop_of call.request ≡ None → restart_of call ≡ None
     → set_of call.request call.claim.chan ≡ None → set_after place (Call call) wanted entries ≡ left_by call.claim entries
-set_left_plainly place call wanted entries none nowhere = set_left place call wanted entries none (rw nowhere (and_false (is_waiting call.claim.out)))
+set_left_plainly place call wanted entries none goes_on nowhere = set_left place call wanted entries none goes_on (rw nowhere (and_false (is_waiting call.claim.out)))
 
 -- the one object
 

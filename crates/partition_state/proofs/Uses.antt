@@ -1,5 +1,5 @@
 -- Calls that use a channel, and calls that leave all objects.
-use Rattle.std.proofs.Common.{◌≡◌, ◌<◌, ℕ, ℤ, List, Bool, true, false, IsTrue, is_some, refl, inl, inr}
+use Rattle.std.proofs.Common.{◌≡◌, ◌<◌, ℕ, ℤ, List, Bool, true, false, IsTrue, None, is_some, refl, inl, inr}
 use Rattle.apex_types.specs.Bounds.{place_count}
 use Rattle.apex_types.specs.declared.record.Call.{Call as CallRecord}
 use Rattle.apex_types.specs.declared.request.Request.{Request}
@@ -9,10 +9,12 @@ use Rattle.apex_machine.specs.After.{is_done, objects_called}
 use Rattle.apex_machine.specs.Configuration.{Configuration}
 use Rattle.apex_machine.specs.Ports.{use_of}
 use Rattle.apex_machine.specs.State.{Partition}
+use Rattle.apex_machine.specs.Waiting.{restart_by, restart_of}
 use Rattle.apex_laws.specs.PartBounds.{IsBoundedPart}
 use Rattle.apex_laws.specs.PartLaws.{IsOwnCall}
 use Rattle.apex_laws.proofs.EnteringSets.{refused_leaves_objects}
 use Rattle.apex_laws.proofs.PartObjects.{one_object_changes}
+use Rattle.apex_laws.proofs.Restarts.{not_done_goes_on}
 use Rattle.process_state.specs.declared.transfer.Transfer.{Transfer}
 use Rattle.process_state.specs.Sound.{AsksSoundly, IsSound, WaitsSoundly}
 use Rattle.process_state.specs.Transfers.{IsTransferOf}
@@ -45,6 +47,13 @@ leaves_objects configuration number place core cores partition call own (inr use
     (λ port is. changes (rw is refl) (request.ReadSamplingMessage port) is)
     (λ port length time_out message is. changes (rw is refl) (request.SendQueuingMessage port length time_out message) is)
     (λ port time_out is. changes (rw is refl) (request.ReceiveQueuingMessage port time_out) is) call.request uses refl
+
+-- it restarts no partition
+pub noted_goes_on : (call : CallRecord) → LeavesObjects call → restart_of call ≡ None
+noted_goes_on call (inl not_done) = not_done_goes_on call not_done
+noted_goes_on call (inr uses) =
+    by_use (λ asked. restart_by asked call.claim.out ≡ None) (λ port length message. refl) (λ port. refl) (λ port length time_out message. refl) (λ port time_out. refl)
+    call.request uses
 
 -- it asks nothing that a table could not hold
 pub sound_noted : (place : ℕ) (partition : Partition) (call : CallRecord) → IsBoundedPart place partition → LeavesObjects call

@@ -17,8 +17,10 @@ mod leaving;
 mod mutexes;
 mod owners;
 mod port_calls;
+mod restarting;
 mod semaphores;
 mod serving;
 mod state;
 
+pub use restarting::restart_of;
 pub use state::PartitionState;

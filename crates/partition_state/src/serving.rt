@@ -1,11 +1,12 @@
 // What a call makes of its partition.
 
 ghost use Rattle.std.specs.Prelude.{◌≡◌, ℕ, [], None, true, IfErr, IfOk, IsTrue, OnErr, OnOk};
-ghost use Rattle.apex_machine.specs.After.{partition_called};
+ghost use Rattle.apex_machine.specs.After.{own_partition, partition_called};
 ghost use Rattle.apex_machine.specs.Configuration.{Configuration, period_of};
 ghost use Rattle.apex_machine.specs.Demands.{AllHold, caller_demands, own_call_demands};
 ghost use Rattle.apex_machine.specs.ServiceConditions.{condition_codes};
 ghost use Rattle.apex_machine.specs.State.{time_of};
+ghost use Rattle.apex_machine.specs.Waiting as restarted;
 ghost use Rattle.apex_laws.specs.PartBounds.{IsBoundedPart};
 ghost use Rattle.apex_laws.specs.PartLaws.{IsSoundPart};
 ghost use Rattle.process_state.specs.Timely.{TimesFit};
@@ -13,6 +14,7 @@ ghost use Rattle.process_state.specs.Transfers.{IsTransferOf};
 ghost use Rattle.wait_set.specs.Actors.{Refuses};
 ghost use Rattle.partition_state.specs.Calls.{IsClear, LeavesObjects, RefusesOrWants, is_process_service, mutex_used, objects_served, served_demands};
 
+use crate::restarting::restart_of;
 use crate::state::PartitionState;
 use apex_types::{Call, Place, Request};
 use module_config::Config;
@@ -22,7 +24,7 @@ use wait_set::ObjFault;
 
 impl PartitionState {
     /// A call of one of the partition's processes on which no error condition holds and which goes through no channel: what
-    /// it claims is judged by what its service gives, and where the two agree it is carried out.
+    /// it claims is judged by what its service gives, and where the two agree it is carried out. A restart takes no memory.
     ///
     /// Refused, with nothing changed, where the claim is another, or where memory is refused.
     pub fn serve(
@@ -32,6 +34,33 @@ impl PartitionState {
         moment: &Moment<'_>,
         call: &Call,
     ) -> Result<(), ObjFault>
+        requires clear { IsClear config.now moment.now.cores.now moment.now.place moment.now.core self.old call.now }
+        requires times { TimesFit moment.now.cores.now }
+        requires now { now ≡ time_of moment.now.cores.now moment.now.core }
+        ensures ok { OnOk result (AllHold (served_demands now self.old call.now)) }
+        ensures after { OnOk result (self.new ≡ own_partition (restarted.restart_of call.now) config.now moment.now.cores.now moment.now.place moment.now.core call.now self.old) }
+        ensures refused { IfErr result (RefusesOrWants (served_demands now self.old call.now)) }
+        ensures unchanged { OnErr result (self.new ≡ self.old) }
+    {
+        match restart_of(call) {
+            Some(mode) => {
+                self.judge_processes(now, call)?;
+                self.restart(mode, config.first_core(call.who.part), moment.place);
+                Ok(())
+            }
+            None => self.carry_out(config, now, moment, call),
+        }
+    }
+
+    // The same for a call that does not restart the partition.
+    fn carry_out(
+        &mut self,
+        config: &Config,
+        now: u64,
+        moment: &Moment<'_>,
+        call: &Call,
+    ) -> Result<(), ObjFault>
+        requires goes_on { restarted.restart_of call.now ≡ None }
         requires clear { IsClear config.now moment.now.cores.now moment.now.place moment.now.core self.old call.now }
         requires times { TimesFit moment.now.cores.now }
         requires now { now ≡ time_of moment.now.cores.now moment.now.core }
@@ -73,7 +102,7 @@ impl PartitionState {
         requires lawful { AllHold (own_call_demands config.now call.now.who.part moment.now.cores.now self.old moment.now.core call.now) }
         requires leaves { LeavesObjects call.now }
         requires times { TimesFit moment.now.cores.now }
-        ensures ok { OnOk result (self.new ≡ partition_called config.now moment.now.cores.now moment.now.place moment.now.core call.now self.old) }
+        ensures ok { OnOk result (self.new ≡ own_partition (restarted.restart_of call.now) config.now moment.now.cores.now moment.now.place moment.now.core call.now self.old) }
         ensures unchanged { OnErr result (self.new ≡ self.old) }
     {
         config.keeps_limits();

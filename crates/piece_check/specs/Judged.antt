@@ -5,9 +5,10 @@ use Rattle.apex_machine.specs.Configuration.{Configuration}
 pub use Rattle.apex_machine.specs.Demands.{Judges}
 use Rattle.apex_types.specs.declared.record.Call.{Call as CallRecord}
 use Rattle.apex_types.specs.declared.record.Ordered.{Ordered}
-use Rattle.apex_machine.specs.After.{partition_called}
+use Rattle.apex_machine.specs.After.{own_partition}
 use Rattle.apex_machine.specs.Demands.{Demand, caller_demands, module_demands, own_call_demands, partition_demands}
 use Rattle.apex_machine.specs.Pieces.{Part, PartitionPart}
+use Rattle.apex_machine.specs.Waiting.{restart_of}
 use Rattle.piece_check.specs.declared.module_piece.ModulePiece.{ModulePiece}
 use Rattle.piece_check.specs.declared.partition_piece.PartitionPiece.{PartitionPiece}
 
@@ -30,4 +31,4 @@ own_demands configuration piece core call = own_call_demands configuration piece
 -- its part after such a call
 abbrev pub part_called : Configuration → PartitionPiece → Ordered → CallRecord → Part
 part_called configuration piece ordered call =
-    PartitionPart piece.number piece.clock.cores (partition_called configuration piece.clock.cores ordered.pos ordered.core call piece.state)
+    PartitionPart piece.number piece.clock.cores (own_partition (restart_of call) configuration piece.clock.cores ordered.pos ordered.core call piece.state)

@@ -61,6 +61,13 @@ pub(crate) fn is_normal_mode(mode: i64) -> bool
     mode == 3
 }
 
+/// Whether a mode is WARM_START, which is 2.
+pub(crate) fn is_warm_start_mode(mode: i64) -> bool
+    ensures { result ≡ numbers.is_warm_start_mode mode }
+{
+    mode == 2
+}
+
 /// Whether a delay or a time-out is over at once: it is 0.
 pub(crate) fn is_over(delay: i64) -> bool
     ensures { result ≡ numbers.is_over delay }

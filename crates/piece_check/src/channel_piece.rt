@@ -22,6 +22,7 @@ use apex_types::{Body, Call, ChanId, Code, Ordered, Out, Place, ProcId, Request,
 use channel::Channel;
 use dispatch_rule::Times;
 use module_config::{ChannelKind, Config};
+use partition_state::restart_of;
 use std::alloc::{AllocError, Global};
 use wait_set::ObjFault;
 
@@ -90,7 +91,9 @@ impl ChannelPiece {
         ensures after { (configuration : Configuration) (now : ℕ) (ordered : OrderedRecord) → ordered.pos ≡ place → ordered.rec.body ≡ body.Call call.now → self.new ≡ record self.old { channel = record self.old.channel { channel = channel_after configuration now self.old.channel.number ordered self.old.channel.channel } } }
     {
         self.channel.release(call.claim.woken.as_slice());
-        if let Some(target) = stopped_by(call) {
+        if restart_of(call).is_some() {
+            self.channel.leave_all(call.who.part);
+        } else if let Some(target) = stopped_by(call) {
             self.channel.leave(target);
         }
     }

@@ -11,6 +11,7 @@ ghost use Rattle.piece_check.specs.Touching.{HasList};
 use crate::names::names_one_of;
 use apex_types::{Body, Call, ChanId, Code, Ordered, Out, PartId, Request};
 use module_config::Config;
+use partition_state::restart_of;
 
 /// What a piece is of: the module, or the partition or the channel of a number.
 #[derive(Clone, Copy, Debug, PartialEq, Eq)]
@@ -84,7 +85,8 @@ fn touches_partition(number: PartId, body: &Body) -> bool
     }
 }
 
-// Whether a record touches the channel of this number: each tick does, a call through it, and a stop at one of its ends.
+// Whether a record touches the channel of this number: each tick does, a call through it, and a stop or a restart at one of
+// its ends.
 fn touches_channel(config: &Config, number: ChanId, body: &Body) -> bool
     ensures { result ≡ touched_by config.now body.now (OfChannel number) }
 {
@@ -97,14 +99,20 @@ fn touches_channel(config: &Config, number: ChanId, body: &Body) -> bool
     }
 }
 
-// Whether a call stops a process of a partition at an end of this channel.
+// Whether a call stops processes of a partition at an end of this channel.
 fn stops_at_end(config: &Config, number: ChanId, call: &Call) -> bool
     ensures { result ≡ rules.stops_at_end config.now number call.now }
 {
+    stops_some(call) && config.is_at_end(number, call.who.part)
+}
+
+/// Whether a call stops processes of its partition: a STOP that is done one, a restart all. Such a call may touch channels that
+/// it does not claim.
+pub(crate) fn stops_some(call: &Call) -> bool
+    ensures { result ≡ rules.stops_some call.now }
+{
     match call.request {
-        Request::Stop { .. } => {
-            call.claim.out == Out::Answer(Code::NoError) && config.is_at_end(number, call.who.part)
-        }
-        _ => false,
+        Request::Stop { .. } => call.claim.out == Out::Answer(Code::NoError),
+        _ => restart_of(call).is_some(),
     }
 }

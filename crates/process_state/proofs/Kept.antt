@@ -156,37 +156,37 @@ found_there number old entries found = sym (found ∙ lookup-item_at number entr
 
 -- there is room for the rank and the due time of a process whose own are taken out
 
-pub ready_room_left : (number : ℕ) (old : Process) (entries : Table) (ready : Sequence Rank) (due : Sequence DueTime) → IsKept entries ready due
+pub ready_room_left : (number : ℕ) (old : Process) (entries : Table) (spare : ℕ) (ready : Sequence Rank) (due : Sequence DueTime) → IsKept entries spare ready due
     → Some old ≡ lookup (nat_eq number) entries → length (without_key rank_before (rank_of number old) ready.keys) < ready.room
-ready_room_left number old entries ready due kept found =
+ready_room_left number old entries spare ready due kept found =
     room_left rank_before rank_laws rank_of number old entries ready.keys ready.room (found_there number old entries found) kept.ranks kept.ready_room
 
-pub due_room_left : (number : ℕ) (old : Process) (entries : Table) (ready : Sequence Rank) (due : Sequence DueTime) → IsKept entries ready due
+pub due_room_left : (number : ℕ) (old : Process) (entries : Table) (spare : ℕ) (ready : Sequence Rank) (due : Sequence DueTime) → IsKept entries spare ready due
     → Some old ≡ lookup (nat_eq number) entries → length (without_key due_before (due_time_of number old) due.keys) < due.room
-due_room_left number old entries ready due kept found =
+due_room_left number old entries spare ready due kept found =
     room_left due_before due_laws due_time_of number old entries due.keys due.room (found_there number old entries found) kept.due_times kept.due_room
 
 -- and these stand there
 
-pub rank-stands : (number : ℕ) (old : Process) (entries : Table) (ready : Sequence Rank) (due : Sequence DueTime) → IsKept entries ready due
+pub rank-stands : (number : ℕ) (old : Process) (entries : Table) (spare : ℕ) (ready : Sequence Rank) (due : Sequence DueTime) → IsKept entries spare ready due
     → Some old ≡ lookup (nat_eq number) entries
     → with_key rank_before (rank_of number old) (without_key rank_before (rank_of number old) ready.keys) ≡ ready.keys
-rank-stands number old entries ready due kept found =
+rank-stands number old entries spare ready due kept found =
     stands rank_before rank_laws rank_of number old entries ready.keys (found_there number old entries found) kept.ranks
 
-pub due-stands : (number : ℕ) (old : Process) (entries : Table) (ready : Sequence Rank) (due : Sequence DueTime) → IsKept entries ready due
+pub due-stands : (number : ℕ) (old : Process) (entries : Table) (spare : ℕ) (ready : Sequence Rank) (due : Sequence DueTime) → IsKept entries spare ready due
     → Some old ≡ lookup (nat_eq number) entries
     → with_key due_before (due_time_of number old) (without_key due_before (due_time_of number old) due.keys) ≡ due.keys
-due-stands number old entries ready due kept found =
+due-stands number old entries spare ready due kept found =
     stands due_before due_laws due_time_of number old entries due.keys (found_there number old entries found) kept.due_times
 
 -- what is kept once a process has changed
-pub IsKept-written : (number : ℕ) (old written : Process) (entries next : Table) (ready ready_new : Sequence Rank) (due due_new : Sequence DueTime)
-    → IsKept entries ready due → Some old ≡ lookup (nat_eq number) entries → next ≡ set_value (nat_eq number) entries written
+pub IsKept-written : (number : ℕ) (old written : Process) (entries next : Table) (spare spare_new : ℕ) (ready ready_new : Sequence Rank) (due due_new : Sequence DueTime)
+    → IsKept entries spare ready due → Some old ≡ lookup (nat_eq number) entries → next ≡ set_value (nat_eq number) entries written
     → ready_new.keys ≡ with_key rank_before (rank_of number written) (without_key rank_before (rank_of number old) ready.keys) → ready.room ≤ ready_new.room
     → due_new.keys ≡ with_key due_before (due_time_of number written) (without_key due_before (due_time_of number old) due.keys) → due.room ≤ due_new.room
-    → IsKept next ready_new due_new
-IsKept-written number old written entries next ready ready_new due due_new kept found is r_put r_grows d_put d_grows =
+    → IsKept next spare_new ready_new due_new
+IsKept-written number old written entries next spare spare_new ready ready_new due due_new kept found is r_put r_grows d_put d_grows =
     let there = found_there number old entries found in
     let long : length next ≡ length entries = ap length is ∙ length-set_value (nat_eq number) written entries in
     record {
@@ -195,15 +195,18 @@ IsKept-written number old written entries next ready ready_new due due_new kept 
       due_times = rw is (put_back due_before due_laws due_time_of number old written entries due.keys due_new.keys there kept.due_times d_put);
       ready_room = omega (arith, long, kept.ready_room, r_grows);
       due_room = omega (arith, long, kept.due_room, d_grows);
+      first_process = omega (arith, long, length-table_without number old entries there);
+      first_rank = omega (arith, kept.first_rank, r_grows);
+      first_due = omega (arith, kept.first_due, d_grows);
     }
 
 -- what is kept once a process without a rank and a due time is added, with room made for it
-pub IsKept-push : (number : ℕ) (process : Process) (entries next : Table) (ready ready_new : Sequence Rank) (due due_new : Sequence DueTime)
-    → IsKept entries ready due → number < 4294967296 → next ≡ entries ++ (number, process) ∷ []
+pub IsKept-push : (number : ℕ) (process : Process) (entries next : Table) (spare spare_new : ℕ) (ready ready_new : Sequence Rank) (due due_new : Sequence DueTime)
+    → IsKept entries spare ready due → number < 4294967296 → next ≡ entries ++ (number, process) ∷ []
     → rank_of number process ≡ None → due_time_of number process ≡ None
     → ready_new.keys ≡ ready.keys → length entries + 1 ≤ ready_new.room → due_new.keys ≡ due.keys → length entries + 1 ≤ due_new.room
-    → IsKept next ready_new due_new
-IsKept-push number process entries next ready ready_new due due_new kept fits is no_rank no_due r_same r_room d_same d_room =
+    → IsKept next spare_new ready_new due_new
+IsKept-push number process entries next spare spare_new ready ready_new due due_new kept fits is no_rank no_due r_same r_room d_same d_room =
     let long : length next ≡ length entries + 1 = ap length is ∙ length-append entries ((number, process) ∷ []) in
     record {
       numbers = rw is (NumbersFit-push entries number process kept.numbers fits);
@@ -211,4 +214,7 @@ IsKept-push number process entries next ready ready_new due due_new kept fits is
       due_times = rw is (d_same ∙ kept.due_times ∙ sym (keys_in-push due_before due_laws due_time_of entries number process no_due));
       ready_room = omega (arith, long, r_room);
       due_room = omega (arith, long, d_room);
+      first_process = omega (arith, long);
+      first_rank = omega (arith, r_room);
+      first_due = omega (arith, d_room);
     }

@@ -13,9 +13,9 @@ use apex_machine::{Mode, Outcome, Process, Wait};
 use apex_types::{Code, CoreId, Message, Name, Place, Service};
 use std::alloc::{AllocError, Global};
 
-/// The initialising process, ready on this core with priority 0. Takes no memory.
-pub fn initialising(alloc: Global, core: CoreId) -> Process
-    ensures { result ≡ initialising_process core }
+/// The initialising process, ready since this place on this core with priority 0. Takes no memory.
+pub fn initialising(alloc: Global, core: CoreId, place: Place) -> Process
+    ensures { result ≡ initialising_process core place }
 {
     Process {
         name: Name::empty(alloc),
@@ -28,7 +28,7 @@ pub fn initialising(alloc: Global, core: CoreId) -> Process
         alive: true,
         suspended: false,
         wait: Wait::Nothing,
-        ready_position: 0,
+        ready_position: place.number(),
         due: None,
         called_at: 0,
     }

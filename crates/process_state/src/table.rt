@@ -4,7 +4,7 @@ ghost use Rattle.std.specs.Prelude.{◌≡◌, ◌≢◌, ◌∷◌, ◌↔◌, 
 ghost use Rattle.std.specs.Option.{option_copied};
 ghost use Rattle.apex_types.specs.Rising.{IsRising};
 ghost use Rattle.apex_machine.specs.declared.state.Process.{Process as ProcessValue};
-ghost use Rattle.apex_machine.specs.State.{created, initialising_process, is_free, item_at};
+ghost use Rattle.apex_machine.specs.State.{created, first_processes, is_free, item_at};
 ghost use Rattle.apex_machine.specs.Choice.{choice_in};
 ghost use Rattle.apex_machine.specs.Answer.{is_new};
 ghost use Rattle.apex_machine.specs.Arguments.{natural_of};
@@ -25,7 +25,7 @@ use crate::order::{DueTime, Rank, count_of, due_count, falls_due, first_on};
 use crate::sorted::Sorted;
 use crate::{process, wait};
 use apex_machine::{Mode, Process, WaitingSet};
-use apex_types::{CoreId, Name, PartId, ProcId, Who, Woken};
+use apex_types::{CoreId, Name, PartId, Place, ProcId, Who, Woken};
 use indexmap::IndexMap;
 use std::alloc::{AllocError, Global};
 use std::marker::Model;
@@ -37,7 +37,8 @@ const GREATEST_NUMBER: i64 = 2_147_483_647;
 /// any partition that has this mode and these processes. Process number 0 is the initialising process.
 ///
 /// Beside them stand the ranks of those that are ready and the due times of those that wait, each in its order, with room
-/// for one of each process: so only a process that is created takes memory for them.
+/// for one of each process: so only a process that is created takes memory for them. For the initialising process there is
+/// always room, so that a restart takes none.
 #[derive(Drop)]
 pub struct ProcTable {
     mode: Mode,
@@ -47,6 +48,7 @@ pub struct ProcTable {
 }
 
 impl Model for ProcTable {
+    ghost use Rattle.indexmap.specs.IndexMap.{spare};
     ghost use Rattle.process_state.specs.Kept.{IsKept};
     ghost use Rattle.process_state.specs.Processes.{Processes, processes_in};
 
@@ -54,7 +56,7 @@ impl Model for ProcTable {
 
     ghost view = { λ table. processes_in table.mode table.processes.entries };
 
-    ghost invariant = { λ table. IsKept table.processes.entries table.ready table.due };
+    ghost invariant = { λ table. IsKept table.processes.entries (spare table.processes) table.ready table.due };
 }
 
 impl ProcTable {
@@ -62,22 +64,20 @@ impl ProcTable {
     ///
     /// AllocError where memory is refused.
     pub fn new(alloc: Global, first_core: CoreId) -> Result<ProcTable, AllocError>
-        ensures { IfOk result (λ table. table ≡ processes_in Mode.ColdStart ((0, initialising_process first_core) ∷ [])) }
+        ensures { IfOk result (λ table. table ≡ processes_in Mode.ColdStart (first_processes Mode.ColdStart first_core 0)) }
     {
-        let (number, process) = (ProcId::new(0), process::initialising(alloc, first_core));
         let mut ready = Sorted::new(alloc);
         ready.reserve(1)?;
-        ready.put_in(Rank::of(number, &process));
         let mut due = Sorted::new(alloc);
         due.reserve(1)?;
-        let mut processes = IndexMap::new(alloc);
-        processes.insert(number, process)?;
-        Ok(ProcTable {
-            mode: Mode::ColdStart,
-            processes,
+        let mut table = ProcTable {
+            mode: Mode::Idle,
+            processes: IndexMap::with_capacity(alloc, 1)?,
             ready,
             due,
-        })
+        };
+        table.restart(Mode::ColdStart, first_core, Place::new(0));
+        Ok(table)
     }
 
     /// The partition's mode.

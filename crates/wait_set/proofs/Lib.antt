@@ -5,6 +5,7 @@ pub mod Whos
 pub mod Entries
 pub mod Leaving
 pub mod Maps
+pub mod Members
 pub mod Keeping
 pub mod Firsts
 pub mod Rolls

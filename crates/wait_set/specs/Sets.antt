@@ -68,6 +68,10 @@ without_first discipline entries = without_found (first_waiter discipline entrie
 abbrev pub without_named : List Who → List Entry → List Entry
 without_named named entries = without (λ who. is_named who named) entries
 
+-- the entries of all but the processes of a partition
+abbrev pub without_part : ℕ → List Entry → List Entry
+without_part part entries = without (λ who. nat_eq who.part part) entries
+
 -- who is named
 
 -- no process stands twice in a list

@@ -1,6 +1,6 @@
 // A waiting set.
 
-ghost use Rattle.std.specs.Prelude.{◌≡◌, ◌↔◌, [], Some, length, IfErr, IfOk, IfSome, IsTrue, OnErr, OnOk};
+ghost use Rattle.std.specs.Prelude.{◌≡◌, ◌↔◌, [], None, Some, length, IfErr, IfOk, IfSome, IsTrue, OnErr, OnOk};
 ghost use Rattle.std.specs.List.{list_all};
 ghost use Rattle.std.specs.Option.{option_copied};
 ghost use Rattle.apex_machine.specs.Answer.{NamesExactly, whos};
@@ -8,13 +8,13 @@ ghost use Rattle.apex_machine.specs.Demands.{stands_in};
 ghost use Rattle.apex_machine.specs.Waiting.{first_waiter, is_waiting};
 ghost use Rattle.wait_set.specs.Actors.{WaitsAlone, entry_with, joined_by};
 ghost use Rattle.wait_set.specs.Sets as sets;
-ghost use Rattle.wait_set.specs.Sets.{IsNew, IsRollOf, NobodyTwice, PlacesRise, entered, whos_of, without_first, without_named, without_one};
+ghost use Rattle.wait_set.specs.Sets.{IsNew, IsRollOf, NobodyTwice, PlacesRise, entered, whos_of, without_first, without_named, without_one, without_part};
 
 use crate::named::names_nobody_twice;
 use crate::object::Actor;
 use crate::rank::Rank;
 use apex_machine::Entry;
-use apex_types::{Claim, Discipline, Message, Out, Place, Who};
+use apex_types::{Claim, Discipline, Message, Out, PartId, Place, ProcId, Who};
 use std::alloc::{AllocError, Global};
 use std::collections::{BTreeMap, BTreeSet};
 use std::marker::Model;
@@ -159,6 +159,28 @@ impl WaitSet {
         let first = self.take_first();
         self.release(named);
         first
+    }
+
+    /// Takes out all processes of a partition. It costs the logarithm of the set's size for each that leaves, and takes no memory.
+    pub fn leave_all(&mut self, part: PartId)
+        ensures { self.new ≡ record self.old { entries = without_part part self.old.entries } }
+    {
+        'members: while let Some(who) = self.member(part) {
+            self.leave(who);
+        }
+    }
+
+    // A process of a partition that waits here, or None where none does.
+    fn member(&self, part: PartId) -> Option<Who>
+        ensures stands { IfSome result (λ who. (who.part ≡ part) × IsTrue (stands_in who self.now.entries)) }
+        ensures none { result ≡ None → without_part part self.now.entries ≡ self.now.entries }
+    {
+        let least = Who {
+            part,
+            proc: ProcId::new(0),
+        };
+        let (who, _) = self.places.range(least..).next()?;
+        if who.part == part { Some(*who) } else { None }
     }
 
     /// Whether a list names exactly those who wait here, each once. Takes no memory.

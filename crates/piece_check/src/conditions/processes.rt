@@ -11,7 +11,7 @@ ghost use Rattle.piece_check.specs.Subjects.{is_of_processes};
 use super::{is_normal, is_reached, may_not_wait};
 use crate::arguments::{
     is_mode, is_negative, is_normal_mode, is_period, is_priority, is_process, is_time_out,
-    suits_period,
+    is_warm_start_mode, suits_period,
 };
 use apex_machine::{Mode, Process, Wait};
 use apex_types::{Code, Name, PartId, Request, Who};
@@ -196,13 +196,23 @@ fn periodic_wait(who: Who, state: &PartitionState) -> Conditions
         .with(may_not_wait(state, who), Code::InvalidMode)
 }
 
-// SET_PARTITION_MODE: a mode that there is; not NORMAL in NORMAL.
+// SET_PARTITION_MODE: a mode that there is; not NORMAL in NORMAL, and not WARM_START in COLD_START.
 fn set_mode(current: Mode, mode: i64) -> Conditions
     ensures { result ≡ processes.set_mode_codes current mode }
 {
     Conditions::none()
         .with(!is_mode(mode), Code::InvalidParam)
         .with(is_normal_mode(mode) && is_normal(current), Code::NoAction)
+        .with(
+            is_warm_start_mode(mode) && is_cold_start(current),
+            Code::InvalidMode,
+        )
+}
+
+fn is_cold_start(mode: Mode) -> bool
+    ensures { result ≡ shared.is_cold_start mode }
+{
+    mode == Mode::ColdStart
 }
 
 fn is_periodic(process: &Process) -> bool

@@ -6,9 +6,10 @@ ghost use Rattle.apex_types.specs.Bounds.{place_count};
 ghost use Rattle.apex_machine.specs.declared.state.Process.{Process as ProcessValue};
 ghost use Rattle.apex_machine.specs.Answer.{is_new};
 ghost use Rattle.apex_machine.specs.Processes.{after_normal, granted, new_process, released, restored, started, stopped, woken_by};
-ghost use Rattle.apex_machine.specs.State.{each_item, is_free, time_of};
+ghost use Rattle.apex_machine.specs.State.{each_item, first_processes, initialising_process, is_free, time_of};
 ghost use Rattle.apex_machine.specs.After.{returned};
 ghost use Rattle.process_state.specs.Changes.{answered, moved_to, named, only, reprioritised, resumed, stopped_self, suspended, waiting_for, with_each};
+ghost use Rattle.process_state.specs.Processes.{processes_in};
 ghost use Rattle.process_state.specs.Transfers.{transferred};
 ghost use Rattle.process_state.specs.Timely.{IsTimely, TimesFit};
 
@@ -110,6 +111,33 @@ impl ProcTable {
                     process::enter_normal(process, place, period, now);
                 });
             }
+        }
+    }
+
+    /// SET_PARTITION_MODE to another mode than NORMAL, at this place: all processes vanish, with their names, waits and outcomes,
+    /// and the partition has this mode. But for IDLE the initialising process is ready again, on the first core. Takes no memory.
+    pub fn restart(&mut self, mode: Mode, first_core: CoreId, place: Place)
+        ensures { self.new ≡ processes_in mode (first_processes mode first_core place) }
+    {
+        self.mode = mode;
+        self.processes.clear();
+        self.ready.clear();
+        self.due.clear();
+        if mode != Mode::Idle {
+            self.begin(first_core, place);
+        }
+    }
+
+    // The initialising process, alone and ready since this place on this core. There is room for it.
+    fn begin(&mut self, core: CoreId, place: Place)
+        requires { self.old.table ≡ [] }
+        ensures { self.new ≡ record self.old { table = (0, initialising_process core place) ∷ [] } }
+    {
+        let alloc = *self.processes.allocator();
+        let (number, process) = (ProcId::new(0), process::initialising(alloc, core, place));
+        self.ready.put_in(Rank::of(number, &process));
+        match self.processes.insert(number, process) {
+            Ok(_) | Err(_) => {}
         }
     }
 

@@ -4,7 +4,7 @@ use Rattle.std.proofs.lemmas.Result.{on_ok_weaker}
 use Rattle.apex_types.specs.Bounds.{place_count}
 use Rattle.process_state.specs.Processes.{processes_of}
 use Rattle.partition_state.proofs.Served.{is_called}
-use Rattle.partition_state.proofs.Uses.{leaves_objects, noted_transfer, sound_noted}
+use Rattle.partition_state.proofs.Uses.{leaves_objects, noted_goes_on, noted_transfer, sound_noted}
 use Rattle.partition_state.proofs.state.PartitionState.note.Goals as goal
 
 pub call-requires-clause-sound : goal.call-requires-clause-sound
@@ -25,7 +25,7 @@ returns-clause-ok c =
     let leaves = leaves_objects config call.who.part place core cores a.self.now call
     (record { sound = c.requires.sound; own = refl; demands = c.requires.lawful }) c.requires.leaves in
     on_ok_weaker c.call.result
-    (λ become. is_called config cores place core call a.self.now _ c.call.new.self (c.self.view_is ∙ sym leaves)
+    (λ become. rw (noted_goes_on call c.requires.leaves) (is_called config cores place core call a.self.now _ c.call.new.self (c.self.view_is ∙ sym leaves)
     (become config a.self.now (sym c.first_core-first_core.ensures.value) (sym c.period-period.ensures.value) (sym (ap processes_of c.self.view_is))
-    (λ done. noted_transfer a.self.now call _ c.requires.leaves done)))
+    (λ done. noted_transfer a.self.now call _ c.requires.leaves done))))
     c.call.ensures.ok

@@ -5,20 +5,20 @@ use Rattle.process_state.proofs.Tables.{processes-kept, processes-written}
 use Rattle.process_state.proofs.table.ProcTable.change.Goals as goal
 
 pub replace-requires-clause-stands : goal.replace-requires-clause-stands
-replace-requires-clause-stands g c = rw c.of-old_rank.ensures (rank-stands c.args.number c.in-Some.process.now _ _ _ c.self.invariant c.in-Some.ensures.value)
+replace-requires-clause-stands g c = rw c.of-old_rank.ensures (rank-stands c.args.number c.in-Some.process.now _ _ _ _ c.self.invariant c.in-Some.ensures.value)
 
 pub replace-requires-clause-room : goal.replace-requires-clause-room
-replace-requires-clause-room g c = rw c.of-old_rank.ensures (ready_room_left c.args.number c.in-Some.process.now _ _ _ c.self.invariant c.in-Some.ensures.value)
+replace-requires-clause-room g c = rw c.of-old_rank.ensures (ready_room_left c.args.number c.in-Some.process.now _ _ _ _ c.self.invariant c.in-Some.ensures.value)
 
 pub replace-requires-in-Some-clause-stands : goal.replace-requires-in-Some-clause-stands
-replace-requires-in-Some-clause-stands g c = rw c.of-old_due.ensures (due-stands c.args.number c.in-Some.process.now _ _ _ c.self.invariant c.in-Some.ensures.value)
+replace-requires-in-Some-clause-stands g c = rw c.of-old_due.ensures (due-stands c.args.number c.in-Some.process.now _ _ _ _ c.self.invariant c.in-Some.ensures.value)
 
 pub replace-requires-in-Some-clause-room : goal.replace-requires-in-Some-clause-room
-replace-requires-in-Some-clause-room g c = rw c.of-old_due.ensures (due_room_left c.args.number c.in-Some.process.now _ _ _ c.self.invariant c.in-Some.ensures.value)
+replace-requires-in-Some-clause-room g c = rw c.of-old_due.ensures (due_room_left c.args.number c.in-Some.process.now _ _ _ _ c.self.invariant c.in-Some.ensures.value)
 
 pub invariant_of-self : goal.invariant_of-self
 invariant_of-self g c =
-    IsKept-written c.args.number c.in-Some.process.now c.change.new.arg2 _ _ _ _ _ _ c.self.invariant c.in-Some.ensures.value (c.get_mut.follows.holds c.change.new.arg2).0
+    IsKept-written c.args.number c.in-Some.process.now c.change.new.arg2 _ _ _ _ _ _ _ _ c.self.invariant c.in-Some.ensures.value (c.get_mut.follows.holds c.change.new.arg2).0
     (rw (c.of-rank.ensures, c.of-old_rank.ensures) at c.replace.ensures.keys) c.replace.ensures.grows
     (rw (c.of-due.ensures, c.of-old_due.ensures) at c.replace-in-Some.ensures.keys) c.replace-in-Some.ensures.grows
 

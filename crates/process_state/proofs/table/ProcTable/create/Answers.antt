@@ -18,7 +18,7 @@ invariant_of-self-2 c =
     let no_rank : rank_of c.args.number process ≡ None = rw made refl in
     let no_due : due_time_of c.args.number process ≡ None = rw made refl in
     let count : length c.self.inside.processes.entries + 1 ≤ c.saturating_add-count.result = omega (arith, c.len.ensures.len, c.len.ensures.small, c.saturating_add-count.ensures) in
-    IsKept-push c.args.number process c.self.inside.processes.entries _ _ _ _ _ c.self.invariant (new-fits _ c.args.number new)
+    IsKept-push c.args.number process c.self.inside.processes.entries _ _ _ _ _ _ _ c.self.invariant (new-fits _ c.args.number new)
     (c.in_ok-insert.ensures.entries ∙ insert_entry-new _ c.self.inside.processes c.args.number _ (lookup-item_at c.args.number _ ∙ new-absent _ c.args.number new))
     no_rank no_due
     c.in_ok-reserve.ensures.keys (omega (arith, count, c.in_ok-reserve.ensures.room)) c.in_ok-reserve-2.ensures.keys (omega (arith, count, c.in_ok-reserve-2.ensures.room))

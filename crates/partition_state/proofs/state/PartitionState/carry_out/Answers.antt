@@ -7,8 +7,8 @@ use Rattle.process_state.specs.Processes.{Processes, processes_of}
 use Rattle.partition_state.specs.Calls.{served_demands}
 use Rattle.partition_state.proofs.Served.{is_called, served_is_called, served_keeps}
 use Rattle.partition_state.proofs.Sounds.{sound_served}
-use Rattle.partition_state.proofs.state.PartitionState.serve.Goals as goal
-use Rattle.partition_state.proofs.state.PartitionState.serve.Goals.{in-Ok-call, in-Err}
+use Rattle.partition_state.proofs.state.PartitionState.carry_out.Goals as goal
+use Rattle.partition_state.proofs.state.PartitionState.carry_out.Goals.{in-Ok-call, in-Err}
 
 pub call-requires-clause-sound : goal.call-requires-clause-sound
 call-requires-clause-sound c =
@@ -37,7 +37,7 @@ returns-clause-after c =
     let after = c.self-2.view_is ∙ c.in_ok-transfer.ensures.after in
     let same = ap processes_of after ∙ served_keeps config place call a.self.now call.request in
     let served : AllHold (served_demands (time_of cores core) a.self.now call) = rw c.requires.now at c.in_ok-transfer.ensures.ok in
-    let objects = after ∙ sym (served_is_called config cores place core a.self.now call c.requires.clear served call.request refl) in
+    let objects = after ∙ sym (served_is_called config cores place core a.self.now call c.requires.clear served c.requires.goes_on call.request refl) in
     elim c.match-call.branch [
       | in-Ok-call w ↦ rw w.result-is
           (is_called config cores place core call a.self.now _ c.call.new.self objects

@@ -1,0 +1,136 @@
+-- Calls that restart their caller's partition, and calls that don't.
+use Rattle.std.proofs.Common.{◌≡◌, ℕ, List, [], ◌∷◌, Bool, true, false, cond, nat_eq, Option, Some, None, is_some, refl, sym, ap, ◌∙◌, true≢false, ◌||◌, ◌&&◌}
+use Rattle.std.proofs.lemmas.Bool.{eq-eqb}
+use Rattle.apex_types.specs.declared.record.Call.{Call as CallRecord}
+use Rattle.apex_types.specs.declared.record.Out.{Out}
+use Rattle.apex_types.specs.declared.record.Out.TheVariants as out
+use Rattle.apex_types.specs.declared.record.Who.{Who}
+use Rattle.apex_types.specs.declared.request.Request.{Request}
+use Rattle.apex_types.specs.declared.request.Request.TheVariants as request
+use Rattle.apex_machine.specs.declared.state.CoreState.{CoreState}
+use Rattle.apex_machine.specs.declared.state.Mode.{Mode}
+use Rattle.apex_machine.specs.declared.state.Mode.TheVariants as mode
+use Rattle.apex_machine.specs.declared.state.WaitingSet.{WaitingSet}
+use Rattle.apex_machine.specs.declared.state.WaitingSet.TheVariants as set
+use Rattle.apex_machine.specs.After.{is_done, own_partition, partition_called}
+use Rattle.apex_machine.specs.Configuration.{Configuration, first_core}
+use Rattle.apex_machine.specs.State.{Partition, first_processes, initialising_process, is_named, item_at, started_partition}
+use Rattle.apex_machine.specs.Waiting.{ends_wait, is_no_error, is_waiting, restart_by, restart_of, restarts, stops, waits_at}
+use Rattle.apex_laws.specs.Laws.{are_distinct, entries_at}
+use Rattle.apex_laws.proofs.Booleans.{neither, neither_first, neither_later, not_first, not_second}
+
+-- the caller's partition
+
+-- what holds of the caller's partition after a call: by whether the call restarts it
+pub own_case : (Holds : Partition → Type 0) (configuration : Configuration) (cores : List CoreState) (place core : ℕ) (call : CallRecord) (partition : Partition)
+    → (restart_of call ≡ None → Holds (partition_called configuration cores place core call partition))
+    → ((mode : Mode) → restart_of call ≡ Some mode → Holds (started_partition mode configuration call.who.part place))
+    → Holds (own_partition (restart_of call) configuration cores place core call partition)
+own_case Holds configuration cores place core call partition goes_on restarted = by (restart_of call) refl
+  where
+    by : (one : Option Mode) → restart_of call ≡ one → Holds (own_partition one configuration cores place core call partition)
+    by None none = goes_on none
+    by (Some mode) is = restarted mode is
+
+-- which calls restart no partition
+
+-- a call that waits
+waits_on : (asked : Request) (given : Out) → is_waiting given ≡ true → restart_by asked given ≡ None
+waits_on (request.SetPartitionMode next) out.Waits waits = refl
+waits_on (request.SetPartitionMode next) _ waits = absurd (true≢false (sym waits))
+waits_on _ given waits = refl
+
+pub waiting_goes_on : (call : CallRecord) → is_waiting call.claim.out ≡ true → restart_of call ≡ None
+waiting_goes_on call waits = waits_on call.request call.claim.out waits
+
+-- a call that answers
+pub answering_goes_on : (asked : Request) (given : Out) → ¬ (given ≡ out.Never) → restart_by asked given ≡ None
+answering_goes_on (request.SetPartitionMode next) out.Never answers = absurd (answers refl)
+answering_goes_on (request.SetPartitionMode next) _ answers = refl
+answering_goes_on _ given answers = refl
+
+-- a call that isn't done
+pub not_done_goes_on : (call : CallRecord) → is_done call.claim.out ≡ false → restart_of call ≡ None
+not_done_goes_on call not_done = answering_goes_on call.request call.claim.out (λ never. true≢false (sym (ap is_done never) ∙ not_done))
+
+-- a call that answers NO_ERROR
+pub done_goes_on : (call : CallRecord) → is_no_error call.claim.out ≡ true → restart_of call ≡ None
+done_goes_on call done = answering_goes_on call.request call.claim.out (λ never. true≢false (sym done ∙ ap is_no_error never))
+
+-- whose wait goes on
+
+-- a call that restarts no partition restarts none
+pub restarts_none : (call : CallRecord) (number : ℕ) → restart_of call ≡ None → restarts call number ≡ false
+restarts_none call number none = rw none refl
+
+-- a call of another partition doesn't restart this one
+pub restarts_other : (call : CallRecord) (number : ℕ) → nat_eq number call.who.part ≡ false → restarts call number ≡ false
+restarts_other call number elsewhere = not_second (is_some (restart_of call)) (nat_eq number call.who.part) elsewhere
+
+-- a process that a call doesn't name, stop or restart with its partition
+pub goes_on : (call : CallRecord) (who : Who) → restarts call who.part ≡ false → is_named who call.claim.woken ≡ false → stops call who ≡ false → ends_wait call who ≡ false
+goes_on call who here named stopped = neither (restarts call who.part) (is_named who call.claim.woken || stops call who) here (neither (is_named who call.claim.woken) (stops call who) named stopped)
+
+pub not_named : (call : CallRecord) (who : Who) → ends_wait call who ≡ false → is_named who call.claim.woken ≡ false
+not_named call who stays = neither_first (is_named who call.claim.woken) (stops call who) (neither_later (restarts call who.part) (is_named who call.claim.woken || stops call who) stays)
+
+pub not_stopped : (call : CallRecord) (who : Who) → ends_wait call who ≡ false → stops call who ≡ false
+not_stopped call who stays = neither_later (is_named who call.claim.woken) (stops call who) (neither_later (restarts call who.part) (is_named who call.claim.woken || stops call who) stays)
+
+-- where the wait of a process of the caller's partition goes on, the call doesn't restart it
+pub not_restarted : (call : CallRecord) (who : Who) → who.part ≡ call.who.part → ends_wait call who ≡ false → restart_of call ≡ None
+not_restarted call who here stays = by (restart_of call) refl
+  where
+    by : (one : Option Mode) → restart_of call ≡ one → one ≡ None
+    by None is = refl
+    by (Some mode) is =
+        let restarted : restarts call who.part ≡ true = rw (is, eq-eqb who.part call.who.part here) refl in
+        absurd (true≢false (sym restarted ∙ neither_first (restarts call who.part) (is_named who call.claim.woken || stops call who) stays))
+
+-- a call that restarts a partition does not return
+pub never_returns : (asked : Request) (given : Out) (entered : Mode) → restart_by asked given ≡ Some entered → given ≡ out.Never
+never_returns (request.SetPartitionMode next) out.Never entered is = refl
+never_returns (request.SetPartitionMode next) _ entered is = let no : ◌≡◌ {A = Option Mode} None (Some entered) = is in cc
+never_returns _ given entered is = let no : ◌≡◌ {A = Option Mode} None (Some entered) = is in cc
+
+-- so it is no STOP
+pub restart_stops_none : (call : CallRecord) (entered : Mode) → restart_of call ≡ Some entered → (who : Who) → stops call who ≡ false
+restart_stops_none call entered is who = not_first (is_no_error call.claim.out) _ (ap is_no_error (never_returns call.request call.claim.out entered is))
+
+-- a restart ends the waits of all processes of its partition
+pub restart_ends : (call : CallRecord) (who : Who) (mode : Mode) → restart_of call ≡ Some mode → who.part ≡ call.who.part → ends_wait call who ≡ true
+restart_ends call who mode is here = rw (is, eq-eqb who.part call.who.part here) refl
+
+-- a partition as it starts
+
+-- its processes have distinct numbers
+pub start_distinct : (mode : Mode) (core place : ℕ) → are_distinct (first_processes mode core place) ≡ true
+start_distinct mode.Idle core place = refl
+start_distinct mode.ColdStart core place = refl
+start_distinct mode.WarmStart core place = refl
+start_distinct mode.Normal core place = refl
+
+-- its sets are empty
+pub start_set : (mode : Mode) (configuration : Configuration) (number place : ℕ) (wanted : WaitingSet) → entries_at (started_partition mode configuration number place) wanted ≡ []
+start_set mode configuration number place (set.BufferSenders object) = refl
+start_set mode configuration number place (set.BufferReceivers object) = refl
+start_set mode configuration number place (set.BlackboardReaders object) = refl
+start_set mode configuration number place (set.SemaphoreWaiters object) = refl
+start_set mode configuration number place (set.EventWaiters object) = refl
+start_set mode configuration number place (set.MutexWaiters object) = refl
+start_set mode configuration number place (set.ChannelSenders channel) = refl
+start_set mode configuration number place (set.ChannelReceivers channel) = refl
+
+-- nobody waits in it
+first_waits_not : (core place process : ℕ) (wanted : WaitingSet) → waits_at wanted (item_at ((0, initialising_process core place) ∷ []) process) ≡ true → ⊥
+first_waits_not core place process wanted waits =
+    elim (nat_eq process 0) as (λ first. waits_at wanted (cond first (Some (initialising_process core place)) None) ≡ true → ⊥) [
+      | true ↦ λ waits. true≢false (sym waits)
+      | false ↦ λ waits. true≢false (sym waits)
+    ] waits
+
+pub start_waits_not : (mode : Mode) (core place process : ℕ) (wanted : WaitingSet) → waits_at wanted (item_at (first_processes mode core place) process) ≡ true → ⊥
+start_waits_not mode.Idle core place process wanted waits = true≢false (sym waits)
+start_waits_not mode.ColdStart core place process wanted waits = first_waits_not core place process wanted waits
+start_waits_not mode.WarmStart core place process wanted waits = first_waits_not core place process wanted waits
+start_waits_not mode.Normal core place process wanted waits = first_waits_not core place process wanted waits
