@@ -21,6 +21,7 @@ if ! .ci/time_by_crate "$room/times" rt ci | tee "$room/log"; then
 fi
 program=crates/apexcheck/out/apexcheck
 bash .ci/run_examples "$program"
+bash .ci/run_explanations "$program"
 bash .ci/run_hostile "$program"
 bash .ci/refuse_allocations "$program"
 late=examples/return_too_late

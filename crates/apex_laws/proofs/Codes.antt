@@ -2,6 +2,7 @@
 use Rattle.std.proofs.Common.{◌≡◌, ℕ, List, [], ◌∷◌, ◌++◌, Bool, true, false, Option, Some, None, option_map, refl, sym, ◌∙◌, inl, inr, true≢false}
 use Rattle.apex_types.specs.declared.code.Code.{Code}
 use Rattle.apex_types.specs.declared.code.Code.TheVariants as code
+use Rattle.apex_types.specs.declared.object_kind.ObjectKind.TheVariants as kind
 use Rattle.apex_types.specs.declared.record.Claim.{Claim}
 use Rattle.apex_types.specs.declared.record.Out.{Out}
 use Rattle.apex_types.specs.declared.record.Out.TheVariants as out
@@ -100,6 +101,14 @@ are_errors configuration who partition (request.SendQueuingMessage port length t
     both _ _ (both _ _ (both _ _ (for_created (given_object partition.queuing_ports port) _ (λ found. both _ _ (one_error _ _ refl) (one_error _ _ refl))) (one_error _ _ refl)) (one_error _ _ refl)) (one_error _ _ refl)
 are_errors configuration who partition (request.ReceiveQueuingMessage port time_out) =
     both _ _ (both _ _ (for_created (given_object partition.queuing_ports port) _ (λ found. one_error _ _ refl)) (one_error _ _ refl)) (one_error _ _ refl)
+are_errors configuration who partition (request.GetId kind name) = one_error _ _ refl
+are_errors configuration who partition (request.GetStatus kind.Buffer object) = for_created (given_object partition.buffers object) _ (λ found. none)
+are_errors configuration who partition (request.GetStatus kind.Blackboard object) = for_created (given_object partition.blackboards object) _ (λ found. none)
+are_errors configuration who partition (request.GetStatus kind.Semaphore object) = for_created (given_object partition.semaphores object) _ (λ found. none)
+are_errors configuration who partition (request.GetStatus kind.Event object) = for_created (given_object partition.events object) _ (λ found. none)
+are_errors configuration who partition (request.GetStatus kind.Mutex object) = for_created (given_object partition.mutexes object) _ (λ found. none)
+are_errors configuration who partition (request.GetStatus kind.SamplingPort object) = for_created (given_object partition.sampling_ports object) _ (λ found. none)
+are_errors configuration who partition (request.GetStatus kind.QueuingPort object) = for_created (given_object partition.queuing_ports object) _ (λ found. none)
 are_errors configuration who partition _ = none
 
 -- what answers one of these codes is not done

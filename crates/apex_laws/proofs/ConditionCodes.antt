@@ -3,6 +3,7 @@ use Rattle.std.proofs.Common.{◌≡◌, ◌⊎◌, ℕ, ◌<◌, ℤ, pos, List
 use Rattle.std.specs.Prelude.{◌<ℤ◌, IsTrue}
 use Rattle.apex_types.specs.declared.code.Code.{Code}
 use Rattle.apex_types.specs.declared.code.Code.TheVariants as code
+use Rattle.apex_types.specs.declared.object_kind.ObjectKind.TheVariants as kind
 use Rattle.apex_types.specs.declared.record.Who.{Who}
 use Rattle.apex_types.specs.declared.request.Request.{Request}
 use Rattle.apex_types.specs.declared.request.Request.TheVariants as request
@@ -13,6 +14,7 @@ use Rattle.apex_machine.specs.Arguments.{is_capacity, is_discipline, is_length, 
 use Rattle.apex_machine.specs.Channels.{queuing_port, sampling_port}
 use Rattle.apex_machine.specs.Conditions.{codes_for, creation_codes, is_cold_start, is_normal, is_taken, may_not_wait, of_caller, time_out_codes, waiting_codes, when}
 use Rattle.apex_machine.specs.Configuration.{Configuration, is_core, object_limit, period_of, process_limit}
+use Rattle.apex_machine.specs.Names.{number_of}
 use Rattle.apex_machine.specs.ObjectConditions.{message_codes, object_codes, owns_another}
 use Rattle.apex_machine.specs.Objects.{is_owner}
 use Rattle.apex_machine.specs.PortConditions.{destination_codes, is_queuing_port, is_sampling_port, is_source, source_codes}
@@ -21,7 +23,7 @@ use Rattle.apex_machine.specs.ServiceConditions.{condition_codes}
 use Rattle.apex_machine.specs.State.{Blackboard, Buffer, Event, Mutex, Partition, Port, Semaphore, created, given_object, item_at}
 use Rattle.apex_machine.specs.Step.{IsAmong}
 use Rattle.apex_laws.specs.ConditionSentences.{AllAreCreated, HasCondition, HasTimeOut, IsCalledBy, IsCalledByPeriodic, IsCoreOf, IsDiscipline, IsFrom, IsObject, IsPriority, IsQueuingPort, IsSamplingPort, IsSetUp, IsSize, MayNotWait, NameIsTaken, NamesNoProcess, NamesNone, NamesNothing, WaitsFor}
-use Rattle.apex_laws.proofs.ConditionTests.{Tells, at_most_tells, below_tells, between_tells, caller_tells, cold_start_tells, core_tells, created_is, destination_tells, equal_tells, longer_tells, may_not_wait_tells, mode_tells, named_tells, negative_tells, no_length_tells, no_multiple_tells, no_object_is, no_period_tells, no_process_is, no_time_out_tells, normal_mode_tells, normal_tells, number_tells, object_is, over_tells, owner_tells, periodic_caller_tells, periodic_tells, priority_tells, queuing_port_tells, sampling_port_tells, second_tells, source_tells, suspended_tells, tells_both, tells_not, value_tells, warm_start_mode_tells}
+use Rattle.apex_laws.proofs.ConditionTests.{Tells, at_most_tells, below_tells, between_tells, caller_tells, cold_start_tells, core_tells, created_is, destination_tells, equal_tells, longer_tells, may_not_wait_tells, mode_tells, named_tells, negative_tells, no_length_tells, no_multiple_tells, no_object_is, no_period_tells, no_process_is, no_time_out_tells, normal_mode_tells, normal_tells, number_tells, object_is, over_tells, owner_tells, periodic_caller_tells, periodic_tells, priority_tells, queuing_port_tells, sampling_port_tells, second_tells, source_tells, suspended_tells, tells_both, tells_not, unnamed_tells, value_tells, warm_start_mode_tells}
 
 -- a fact about each of some codes
 pub record Each (codes : List Code) (Goal : Code → Type 0) : Type 0 where
@@ -387,3 +389,12 @@ module _ (configuration : Configuration) (who : Who) (partition : Partition) whe
       (destination_says asked partition.queuing_ports port (λ names. names) HasCondition.receive_no_destination)
       (time_out_says asked time_out refl))
       (waiting_says asked time_out refl)
+  says (request.GetId of name) =
+      each_when (is_none (number_of partition of name)) code.InvalidConfig (Holds (request.GetId of name)) (λ holds. HasCondition.get_id_unnamed ((unnamed_tells partition of name).0 holds))
+  says (request.GetStatus kind.Buffer object) = created_says (request.GetStatus kind.Buffer object) partition.buffers object (λ names. names)
+  says (request.GetStatus kind.Blackboard object) = created_says (request.GetStatus kind.Blackboard object) partition.blackboards object (λ names. names)
+  says (request.GetStatus kind.Semaphore object) = created_says (request.GetStatus kind.Semaphore object) partition.semaphores object (λ names. names)
+  says (request.GetStatus kind.Event object) = created_says (request.GetStatus kind.Event object) partition.events object (λ names. names)
+  says (request.GetStatus kind.Mutex object) = created_says (request.GetStatus kind.Mutex object) partition.mutexes object (λ names. names)
+  says (request.GetStatus kind.SamplingPort object) = created_says (request.GetStatus kind.SamplingPort object) partition.sampling_ports object (λ names. names)
+  says (request.GetStatus kind.QueuingPort object) = created_says (request.GetStatus kind.QueuingPort object) partition.queuing_ports object (λ names. names)

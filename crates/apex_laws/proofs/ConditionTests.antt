@@ -1,5 +1,5 @@
 -- Which facts the tests of the error conditions tell.
-use Rattle.std.proofs.Common.{◌≡◌, ◌⊎◌, ℕ, zero, suc, ◌+◌, ◌*◌, ◌/◌, ◌%◌, ◌<◌, ◌≤◌, ℤ, pos, negsuc, List, [], ◌∷◌, Option, Some, None, Bool, true, false, not, ◌&&◌, ◌||◌, nat_eq, nat_lt, nat_le, is_some, refl, sym, ap, subst, ◌∙◌, inl, inr, arith, true≢false}
+use Rattle.std.proofs.Common.{◌≡◌, ◌⊎◌, ℕ, zero, suc, ◌+◌, ◌*◌, ◌/◌, ◌%◌, ◌<◌, ◌≤◌, ℤ, pos, negsuc, List, [], ◌∷◌, Option, Some, None, Bool, true, false, not, ◌&&◌, ◌||◌, nat_eq, nat_lt, nat_le, is_none, is_some, refl, sym, ap, subst, ◌∙◌, inl, inr, arith, true≢false}
 use Rattle.std.specs.Prelude.{◌≤ℤ◌, ◌<ℤ◌, Contains, T, IsTrue}
 use Rattle.std.specs.List.{list_any}
 use Rattle.std.specs.Str.{bytes_eq}
@@ -10,6 +10,8 @@ use Rattle.std.proofs.Math.Nat.{mul-mod_left}
 use Rattle.std.proofs.lemmas.Nat.{div-add-mod'}
 use Rattle.apex_types.specs.declared.discipline.Discipline.{Discipline}
 use Rattle.apex_types.specs.declared.discipline.Discipline.TheVariants as discipline
+use Rattle.apex_types.specs.declared.object_kind.ObjectKind.{ObjectKind}
+use Rattle.apex_types.specs.declared.object_kind.ObjectKind.TheVariants as kind
 use Rattle.apex_types.specs.declared.record.Who.{Who}
 use Rattle.apex_machine.specs.declared.state.Direction.{Direction}
 use Rattle.apex_machine.specs.declared.state.Direction.TheVariants as direction
@@ -24,11 +26,12 @@ use Rattle.apex_machine.specs.Conditions.{is_cold_start, is_normal, is_taken, ma
 use Rattle.apex_machine.specs.Configuration.{Configuration, PartitionLimits, has_core, is_core, limits_of}
 use Rattle.apex_machine.specs.DueTimes.{is_suspension}
 use Rattle.apex_machine.specs.ObjectConditions.{owns_another}
+use Rattle.apex_machine.specs.Names.{number_named, number_of}
 use Rattle.apex_machine.specs.Objects.{is_owner}
 use Rattle.apex_machine.specs.PortConditions.{both_number, is_queuing_port, is_sampling_port, is_source, suits_refresh}
 use Rattle.apex_machine.specs.ProcessConditions.{is_periodic, is_suspended}
-use Rattle.apex_machine.specs.State.{Mutex, Partition, Table, created, given_object, item_at}
-use Rattle.apex_laws.specs.ConditionSentences.{IsCalledByPeriodic, IsCoreOf, IsDirection, IsDirectionAndDiscipline, IsFrom, IsMultipleOf, IsObject, IsPeriodic, IsPriority, IsProcess, IsQueuingPort, IsSamplingPort, IsSuspended, MayNotWait, NamesNoProcess, NamesNone, OneIsNamed, Owns}
+use Rattle.apex_machine.specs.State.{Blackboard, Buffer, Event, Mutex, Partition, Port, Semaphore, Table, created, given_object, item_at}
+use Rattle.apex_laws.specs.ConditionSentences.{IsCalledByPeriodic, IsCoreOf, IsDirection, IsDirectionAndDiscipline, IsFrom, IsMultipleOf, IsObject, IsPeriodic, IsPriority, IsProcess, IsQueuingPort, IsSamplingPort, IsSuspended, MayNotWait, NamesNoProcess, NamesNone, OneIsNamed, OneOfKindIsNamed, Owns}
 use Rattle.apex_laws.proofs.Booleans.{is_itself}
 
 -- a test tells a fact: it holds exactly where the fact does
@@ -287,6 +290,30 @@ named_tells {Object} name_of name objects =
     any_tells (λ entry. bytes_eq name (name_of entry.1)) (λ entry. name_of entry.1 ≡ name)
     (λ entry. (λ holds. sym ((bytes_eq-Decides name (name_of entry.1)).0 holds), λ fact. (bytes_eq-Decides name (name_of entry.1)).1 (sym fact)))
     (is_taken name_of name) refl (λ entry entries. refl) objects
+
+-- what is found under a name is found where one has the name
+found_where_taken : {Object : Type 0} → (name_of : Object → List ℕ) (name : List ℕ) (objects : List (ℕ × Object))
+    → is_none (number_named name_of name objects) ≡ not (is_taken name_of name objects)
+found_where_taken name_of name [] = refl
+found_where_taken name_of name (entry ∷ entries) =
+    elim (cases_Bool (bytes_eq name (name_of entry.1))) [
+      | inl here ↦ rw here refl
+      | inr other ↦ rw other (found_where_taken name_of name entries)
+    ]
+
+pub nothing_named_tells : {Object : Type 0} → (name_of : Object → List ℕ) (name : List ℕ) (objects : List (ℕ × Object))
+    → Tells (is_none (number_named name_of name objects)) (¬ OneIsNamed name name_of objects)
+nothing_named_tells name_of name objects =
+    rw (found_where_taken name_of name objects) (tells_not (is_taken name_of name objects) (OneIsNamed name name_of objects) (named_tells name_of name objects))
+
+pub unnamed_tells : (partition : Partition) (asked : ObjectKind) (name : List ℕ) → Tells (is_none (number_of partition asked name)) (¬ OneOfKindIsNamed partition asked name)
+unnamed_tells partition kind.Buffer name = nothing_named_tells (λ (buffer : Buffer). buffer.name) name partition.buffers
+unnamed_tells partition kind.Blackboard name = nothing_named_tells (λ (blackboard : Blackboard). blackboard.name) name partition.blackboards
+unnamed_tells partition kind.Semaphore name = nothing_named_tells (λ (semaphore : Semaphore). semaphore.name) name partition.semaphores
+unnamed_tells partition kind.Event name = nothing_named_tells (λ (event : Event). event.name) name partition.events
+unnamed_tells partition kind.Mutex name = nothing_named_tells (λ (mutex : Mutex). mutex.name) name partition.mutexes
+unnamed_tells partition kind.SamplingPort name = nothing_named_tells (λ (port : Port). port.name) name partition.sampling_ports
+unnamed_tells partition kind.QueuingPort name = nothing_named_tells (λ (port : Port). port.name) name partition.queuing_ports
 
 -- owners
 

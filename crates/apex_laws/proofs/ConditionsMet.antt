@@ -4,6 +4,7 @@ use Rattle.std.specs.Prelude.{◌<ℤ◌}
 use Rattle.std.proofs.lemmas.Bool.{and_from}
 use Rattle.apex_types.specs.declared.code.Code.{Code}
 use Rattle.apex_types.specs.declared.code.Code.TheVariants as code
+use Rattle.apex_types.specs.declared.object_kind.ObjectKind.TheVariants as kind
 use Rattle.apex_types.specs.declared.record.Who.{Who}
 use Rattle.apex_types.specs.declared.request.Request.{Request}
 use Rattle.apex_types.specs.declared.request.Request.TheVariants as request
@@ -14,6 +15,7 @@ use Rattle.apex_machine.specs.Arguments.{is_capacity, is_discipline, is_length, 
 use Rattle.apex_machine.specs.Channels.{queuing_port, sampling_port}
 use Rattle.apex_machine.specs.Conditions.{codes_for, creation_codes, is_cold_start, is_normal, is_taken, may_not_wait, of_caller, time_out_codes, waiting_codes, when}
 use Rattle.apex_machine.specs.Configuration.{Configuration, is_core, period_of}
+use Rattle.apex_machine.specs.Names.{number_of}
 use Rattle.apex_machine.specs.ObjectConditions.{message_codes, owns_another}
 use Rattle.apex_machine.specs.Objects.{is_owner}
 use Rattle.apex_machine.specs.PortConditions.{destination_codes, is_queuing_port, is_sampling_port, is_source, source_codes}
@@ -99,6 +101,13 @@ module _ (configuration : Configuration) (who : Who) (partition : Partition) whe
   nothing_met (request.SendQueuingMessage port length time_out message) names =
       in_first _ _ code.InvalidParam (in_first _ _ code.InvalidParam (in_first _ _ code.InvalidParam (no_object partition.queuing_ports port _ names)))
   nothing_met (request.ReceiveQueuingMessage port time_out) names = in_first _ _ code.InvalidParam (in_first _ _ code.InvalidParam (no_object partition.queuing_ports port _ names))
+  nothing_met (request.GetStatus kind.Buffer object) names = no_object partition.buffers object _ names
+  nothing_met (request.GetStatus kind.Blackboard object) names = no_object partition.blackboards object _ names
+  nothing_met (request.GetStatus kind.Semaphore object) names = no_object partition.semaphores object _ names
+  nothing_met (request.GetStatus kind.Event object) names = no_object partition.events object _ names
+  nothing_met (request.GetStatus kind.Mutex object) names = no_object partition.mutexes object _ names
+  nothing_met (request.GetStatus kind.SamplingPort object) names = no_object partition.sampling_ports object _ names
+  nothing_met (request.GetStatus kind.QueuingPort object) names = no_object partition.queuing_ports object _ names
   nothing_met _ names = absurd names
 
   -- time-outs
@@ -379,6 +388,8 @@ module _ (configuration : Configuration) (who : Who) (partition : Partition) whe
       in_first _ _ code.InvalidMode (in_first _ _ code.InvalidMode (no_source_met partition.queuing_ports port length found is other))
   met (HasCondition.receive_no_destination {port = port} found is other) =
       in_first _ _ code.InvalidMode (in_first _ _ code.InvalidMode (no_destination_met partition.queuing_ports port found is other))
+  met (HasCondition.get_id_unnamed {of = of} {name = name} other) =
+      in_when (is_none (number_of partition of name)) code.InvalidConfig ((tests.unnamed_tells partition of name).1 other)
 
 -- so a code is among those of a call exactly where a condition with it holds
 pub codes_are_the_sentences : CodesAreTheSentences

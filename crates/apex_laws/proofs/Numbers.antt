@@ -1,13 +1,16 @@
 -- Processes and objects by their numbers: what is found under a number, and which numbers are new.
-use Rattle.std.proofs.Common.{◌≡◌, ℕ, ◌<◌, ◌≤◌, ℤ, pos, negsuc, List, [], ◌∷◌, Option, Some, None, Bool, ◌&&◌, nat_eq, nat_le, nat_lt, is_none, cond, refl, sym, ap, subst, ◌∙◌, inl, inr, true≢false}
+use Rattle.std.proofs.Common.{◌≡◌, ℕ, ◌<◌, ◌≤◌, ℤ, pos, negsuc, List, [], ◌∷◌, Option, Some, None, Bool, true, ◌&&◌, nat_eq, nat_le, nat_lt, is_none, cond, refl, sym, ap, subst, ◌∙◌, inl, inr, true≢false}
 use Rattle.std.specs.Prelude.{Contains}
+use Rattle.std.specs.Str.{bytes_eq}
+use Rattle.std.proofs.lemmas.Slice.Eq.{bytes_eq-Decides}
 use Rattle.std.proofs.lemmas.Bool.{cases_Bool, eqb-true}
 use Rattle.std.proofs.lemmas.List.Elements.{All-contains, Contains-append_left, Contains-append_right, Contains-push}
 use Rattle.apex_machine.specs.Answer.{is_new}
 use Rattle.apex_machine.specs.State.{Blackboard, Buffer, Event, Mutex, Port, Semaphore, Table, is_free, item_at}
-use Rattle.apex_laws.specs.NumberLaws.{AreFound, AreNew, IsNewNumber, NewNumberIsTheSentence, ObjectsAreFound, ProcessesAreFound}
+use Rattle.apex_machine.specs.Names.{number_named}
+use Rattle.apex_laws.specs.NumberLaws.{AreFound, AreFoundByName, AreNew, IsNewNumber, NamesAreFound, NewNumberIsTheSentence, ObjectsAreFound, ProcessesAreFound}
 use Rattle.apex_laws.proofs.Booleans.{is_itself}
-use Rattle.apex_laws.proofs.ConditionTests.{Tells, absent, at_most_tells, below_tells, nobody, stands_cases, stands_nowhere, tells_both}
+use Rattle.apex_laws.proofs.ConditionTests.{Tells, absent, at_most_tells, below_tells, nobody, nothing_named_tells, stands_cases, stands_nowhere, tells_both}
 use Rattle.apex_laws.proofs.Entries.{at_its_number}
 
 -- what is found stands under its number
@@ -53,6 +56,48 @@ objects_are_found = record {
   events = are_found Event;
   mutexes = are_found Mutex;
   ports = are_found Port;
+}
+
+-- what is found by name has the name
+one_by_name : {Object : Type 0} → (name_of : Object → List ℕ) (objects : List (ℕ × Object)) (name : List ℕ) (number : ℕ) → number_named name_of name objects ≡ Some number
+    → (object : Object) × Contains objects (number, object) × (name_of object ≡ name)
+one_by_name name_of [] name number at = absurd (absent number at)
+one_by_name {Object} name_of (entry ∷ entries) name number at =
+    elim (cases_Bool (bytes_eq name (name_of entry.1))) [
+      | inl here ↦
+          let is : ◌≡◌ {A = Option ℕ} (Some entry.0) (Some number) = (let one : number_named name_of name (entry ∷ entries) ≡ Some entry.0 = rw here refl in sym one ∙ at) in
+          let same : entry.0 ≡ number = cc in
+          let one : ◌≡◌ {A = ℕ × Object} entry (number, entry.1) = λ i. (same i, entry.1) in (
+            entry.1,
+            subst (Contains (entry ∷ entries)) one (Contains-append_left (entry ∷ []) entries entry (Contains-push [] entry)),
+            sym ((bytes_eq-Decides name (name_of entry.1)).0 here),
+          )
+      | inr other ↦
+          let later : number_named name_of name entries ≡ Some number =
+          (let one : number_named name_of name (entry ∷ entries) ≡ number_named name_of name entries = rw other refl in sym one ∙ at) in
+          let found = one_by_name name_of entries name number later in
+          (found.0, Contains-append_right (entry ∷ []) entries (number, found.0) found.1, found.2)
+    ]
+
+-- a test of nothing
+none_is : (found : Option ℕ) → is_none found ≡ true → found ≡ None
+none_is None is = refl
+none_is (Some number) is = absurd (true≢false (sym is))
+
+found_by_name : {Object : Type 0} → (name_of : Object → List ℕ) → AreFoundByName name_of
+found_by_name name_of objects name = (
+  one_by_name name_of objects name,
+  (λ none. (nothing_named_tells name_of name objects).0 (ap is_none none), λ unnamed. none_is (number_named name_of name objects) ((nothing_named_tells name_of name objects).1 unnamed)),
+)
+
+pub names_are_found : NamesAreFound
+names_are_found = record {
+  buffers = found_by_name (λ (buffer : Buffer). buffer.name);
+  blackboards = found_by_name (λ (blackboard : Blackboard). blackboard.name);
+  semaphores = found_by_name (λ (semaphore : Semaphore). semaphore.name);
+  events = found_by_name (λ (event : Event). event.name);
+  mutexes = found_by_name (λ (mutex : Mutex). mutex.name);
+  ports = found_by_name (λ (port : Port). port.name);
 }
 
 -- a process is found as an object of its table is

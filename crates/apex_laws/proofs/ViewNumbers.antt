@@ -52,6 +52,20 @@ service_place service.ReadSamplingMessage = refl
 service_place service.CreateQueuingPort = refl
 service_place service.SendQueuingMessage = refl
 service_place service.ReceiveQueuingMessage = refl
+service_place service.GetBufferId = refl
+service_place service.GetBufferStatus = refl
+service_place service.GetBlackboardId = refl
+service_place service.GetBlackboardStatus = refl
+service_place service.GetSemaphoreId = refl
+service_place service.GetSemaphoreStatus = refl
+service_place service.GetEventId = refl
+service_place service.GetEventStatus = refl
+service_place service.GetMutexId = refl
+service_place service.GetMutexStatus = refl
+service_place service.GetSamplingPortId = refl
+service_place service.GetSamplingPortStatus = refl
+service_place service.GetQueuingPortId = refl
+service_place service.GetQueuingPortStatus = refl
 
 service_least : (service : Service) → 1 ≤ service_number service
 service_least service.CreateProcess = omega arith
@@ -91,6 +105,20 @@ service_least service.ReadSamplingMessage = omega arith
 service_least service.CreateQueuingPort = omega arith
 service_least service.SendQueuingMessage = omega arith
 service_least service.ReceiveQueuingMessage = omega arith
+service_least service.GetBufferId = omega arith
+service_least service.GetBufferStatus = omega arith
+service_least service.GetBlackboardId = omega arith
+service_least service.GetBlackboardStatus = omega arith
+service_least service.GetSemaphoreId = omega arith
+service_least service.GetSemaphoreStatus = omega arith
+service_least service.GetEventId = omega arith
+service_least service.GetEventStatus = omega arith
+service_least service.GetMutexId = omega arith
+service_least service.GetMutexStatus = omega arith
+service_least service.GetSamplingPortId = omega arith
+service_least service.GetSamplingPortStatus = omega arith
+service_least service.GetQueuingPortId = omega arith
+service_least service.GetQueuingPortStatus = omega arith
 
 services_differ : (one other : Service) → service_number one ≡ service_number other → one ≡ other
 services_differ one other same =

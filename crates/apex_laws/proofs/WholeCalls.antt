@@ -161,6 +161,8 @@ through_begun now channel (request.CreateQueuingPort name size capacity both) pr
 through_begun now channel request.StopSelf process given waits can = absurd (subst (CanHave request.StopSelf) waits can)
 through_begun now channel request.GetMyId process given waits can = absurd (subst (CanHave request.GetMyId) waits can)
 through_begun now channel request.GetTime process given waits can = absurd (subst (CanHave request.GetTime) waits can)
+through_begun now channel (request.GetId kind name) process given waits can = absurd (subst (CanHave (request.GetId kind name)) waits can)
+through_begun now channel (request.GetStatus kind object) process given waits can = absurd (subst (CanHave (request.GetStatus kind object)) waits can)
 
 -- a lawful call that waits
 begun : (configuration : Configuration) (state : State) (core : ℕ) (call : CallRecord) → IsLawfulCall configuration state core call → (process : Process)

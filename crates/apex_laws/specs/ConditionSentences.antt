@@ -6,6 +6,8 @@ use Rattle.apex_types.specs.declared.code.Code.{Code}
 use Rattle.apex_types.specs.declared.code.Code.TheVariants as code
 use Rattle.apex_types.specs.declared.discipline.Discipline.{Discipline}
 use Rattle.apex_types.specs.declared.discipline.Discipline.TheVariants as discipline
+use Rattle.apex_types.specs.declared.object_kind.ObjectKind.{ObjectKind}
+use Rattle.apex_types.specs.declared.object_kind.ObjectKind.TheVariants as kind
 use Rattle.apex_types.specs.declared.record.Who.{Who}
 use Rattle.apex_types.specs.declared.request.Request.{Request}
 use Rattle.apex_types.specs.declared.request.Request.TheVariants as request
@@ -93,6 +95,16 @@ IsCalledByPeriodic who partition = (process : Process) × IsCalledBy who partiti
 abbrev pub OneIsNamed : {Object : Type 0} → List ℕ → (Object → List ℕ) → List (ℕ × Object) → Type 0
 OneIsNamed {Object} name name_of objects = (entry : ℕ × Object) × Contains objects entry × (name_of entry.1 ≡ name)
 
+-- one of the objects or ports of a kind has this name
+abbrev pub OneOfKindIsNamed : Partition → ObjectKind → List ℕ → Type 0
+OneOfKindIsNamed partition kind.Buffer name = OneIsNamed name (λ (buffer : Buffer). buffer.name) partition.buffers
+OneOfKindIsNamed partition kind.Blackboard name = OneIsNamed name (λ (blackboard : Blackboard). blackboard.name) partition.blackboards
+OneOfKindIsNamed partition kind.Semaphore name = OneIsNamed name (λ (semaphore : Semaphore). semaphore.name) partition.semaphores
+OneOfKindIsNamed partition kind.Event name = OneIsNamed name (λ (event : Event). event.name) partition.events
+OneOfKindIsNamed partition kind.Mutex name = OneIsNamed name (λ (mutex : Mutex). mutex.name) partition.mutexes
+OneOfKindIsNamed partition kind.SamplingPort name = OneIsNamed name (λ (port : Port). port.name) partition.sampling_ports
+OneOfKindIsNamed partition kind.QueuingPort name = OneIsNamed name (λ (port : Port). port.name) partition.queuing_ports
+
 -- what the configuration says
 
 -- a number tells a direction: 0 a source, 1 a destination
@@ -158,6 +170,13 @@ NamesNothing partition (request.WriteSamplingMessage port length message) = Name
 NamesNothing partition (request.ReadSamplingMessage port) = NamesNone partition.sampling_ports port
 NamesNothing partition (request.SendQueuingMessage port length time_out message) = NamesNone partition.queuing_ports port
 NamesNothing partition (request.ReceiveQueuingMessage port time_out) = NamesNone partition.queuing_ports port
+NamesNothing partition (request.GetStatus kind.Buffer object) = NamesNone partition.buffers object
+NamesNothing partition (request.GetStatus kind.Blackboard object) = NamesNone partition.blackboards object
+NamesNothing partition (request.GetStatus kind.Semaphore object) = NamesNone partition.semaphores object
+NamesNothing partition (request.GetStatus kind.Event object) = NamesNone partition.events object
+NamesNothing partition (request.GetStatus kind.Mutex object) = NamesNone partition.mutexes object
+NamesNothing partition (request.GetStatus kind.SamplingPort object) = NamesNone partition.sampling_ports object
+NamesNothing partition (request.GetStatus kind.QueuingPort object) = NamesNone partition.queuing_ports object
 NamesNothing partition _ = ⊥
 
 -- a service that may wait at an object or a port, with this time-out
@@ -326,3 +345,5 @@ module _ (configuration : Configuration) (who : Who) (partition : Partition) whe
     -- RECEIVE_QUEUING_MESSAGE: a port that is no destination
     receive_no_destination : {port time_out : ℤ} (found : Port) → IsObject partition.queuing_ports port found → ¬ (found.direction ≡ direction.Destination)
         → HasCondition (request.ReceiveQueuingMessage port time_out) code.InvalidMode
+    -- GET_BUFFER_ID and its like: nothing of the kind has the name
+    get_id_unnamed : {of : ObjectKind} {name : List ℕ} → ¬ OneOfKindIsNamed partition of name → HasCondition (request.GetId of name) code.InvalidConfig

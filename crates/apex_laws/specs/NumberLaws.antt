@@ -4,6 +4,8 @@ use Rattle.apex_types.specs.Bounds.{greatest_number}
 use Rattle.apex_machine.specs.declared.state.Process.{Process}
 use Rattle.apex_machine.specs.Answer.{HasValue, NewNumber}
 use Rattle.apex_machine.specs.State.{Blackboard, Buffer, Event, Mutex, Port, Semaphore, Table, is_free, item_at}
+use Rattle.apex_machine.specs.Names.{number_named}
+use Rattle.apex_laws.specs.ConditionSentences.{OneIsNamed}
 use Rattle.apex_laws.specs.Laws.{are_distinct}
 
 -- under a number of a table of distinct numbers stands the process that has it, and none where no process has it
@@ -28,6 +30,22 @@ pub record ObjectsAreFound : Type 0 where
   pub events : AreFound Event
   pub mutexes : AreFound Mutex
   pub ports : AreFound Port
+
+-- under a name stands the number of one that has it, and none where nobody has it
+abbrev pub AreFoundByName : {Object : Type 0} → (Object → List ℕ) → Type 0
+AreFoundByName {Object} name_of =
+    (objects : List (ℕ × Object)) (name : List ℕ)
+    → ((number : ℕ) → number_named name_of name objects ≡ Some number → (object : Object) × Contains objects (number, object) × (name_of object ≡ name))
+    × ((number_named name_of name objects ≡ None) ↔ (¬ OneIsNamed name name_of objects))
+
+-- so it is of the objects and ports of each kind
+pub record NamesAreFound : Type 0 where
+  pub buffers : AreFoundByName (λ (buffer : Buffer). buffer.name)
+  pub blackboards : AreFoundByName (λ (blackboard : Blackboard). blackboard.name)
+  pub semaphores : AreFoundByName (λ (semaphore : Semaphore). semaphore.name)
+  pub events : AreFoundByName (λ (event : Event). event.name)
+  pub mutexes : AreFoundByName (λ (mutex : Mutex). mutex.name)
+  pub ports : AreFoundByName (λ (port : Port). port.name)
 
 -- a new number of a kind: it is 1 to 2,147,483,647, and no object of the kind has it
 pub record IsNewNumber {Object : Type 0} (objects : List (ℕ × Object)) (claimed : Option ℤ) : Type 0 where

@@ -21,7 +21,9 @@ use Rattle.apex_machine.specs.Arguments.{natural_of}
 use Rattle.apex_machine.specs.Objects.{acquired, mutex_released}
 use Rattle.apex_machine.specs.Processes.{outcome_of}
 use Rattle.apex_machine.specs.Answer.{Answer, NewNumber, Number, done, done_with, never, waiting, waking}
+use Rattle.apex_machine.specs.Names.{number_found, number_of}
 use Rattle.apex_machine.specs.Services.{answer_of, fellow}
+use Rattle.apex_machine.specs.Statuses.{status_of, telling}
 use Rattle.apex_machine.specs.State.{Mutex, Partition, created, given_object, is_free, item_at, time_of}
 use Rattle.apex_machine.specs.Waiting.{first_waiter, service_at, set_of}
 
@@ -231,4 +233,6 @@ IsAnswer now who partition (request.Start process) answer = answer ≡ done
 IsAnswer now who partition (request.Stop process) answer = answer ≡ done
 IsAnswer now who partition (request.Suspend process) answer = answer ≡ done
 IsAnswer now who partition (request.SetPriority process priority) answer = answer ≡ done
+IsAnswer now who partition (request.GetId of name) answer = answer ≡ done_with (number_found (number_of partition of name))
+IsAnswer now who partition (request.GetStatus of number) answer = answer ≡ telling (status_of partition of number)
 IsAnswer now who partition asked answer = answer ≡ answer_of now who partition asked

@@ -1,5 +1,6 @@
 -- Which calls stand outside the profile, in sentences.
 use Rattle.std.specs.Prelude.{◌≡◌, ◌↔◌, ℕ, ℤ, Option, Some, false}
+use Rattle.apex_types.specs.declared.object_kind.ObjectKind.TheVariants as kind
 use Rattle.apex_types.specs.declared.record.Who.{Who}
 use Rattle.apex_types.specs.declared.request.Request.{Request}
 use Rattle.apex_types.specs.declared.request.Request.TheVariants as request
@@ -37,6 +38,9 @@ module _ (who : Who) (partition : Partition) where
     -- the owner of a mutex, or a process that waits for one, gets another priority
     owner_is_changed : {process priority : ℤ} → IsOwner partition (natural_of process) → IsOutsideProfile (request.SetPriority process priority)
     waiter_is_changed : {process priority : ℤ} → AwaitsMutex partition (natural_of process) → IsOutsideProfile (request.SetPriority process priority)
+    -- the status of a port is asked for
+    status_of_sampling_port : {port : ℤ} → IsOutsideProfile (request.GetStatus kind.SamplingPort port)
+    status_of_queuing_port : {port : ℤ} → IsOutsideProfile (request.GetStatus kind.QueuingPort port)
 
 -- a call is not in the profile exactly where a sentence puts it outside
 abbrev pub ProfileIsTheSentence : Type 0

@@ -21,7 +21,10 @@ services_by_number =
     service.CreateBlackboard ∷ service.DisplayBlackboard ∷ service.ReadBlackboard ∷ service.ClearBlackboard ∷ service.CreateSemaphore ∷
     service.WaitSemaphore ∷ service.SignalSemaphore ∷ service.CreateEvent ∷ service.SetEvent ∷ service.ResetEvent ∷ service.WaitEvent ∷
     service.CreateMutex ∷ service.AcquireMutex ∷ service.ReleaseMutex ∷ service.CreateSamplingPort ∷ service.WriteSamplingMessage ∷
-    service.ReadSamplingMessage ∷ service.CreateQueuingPort ∷ service.SendQueuingMessage ∷ service.ReceiveQueuingMessage ∷ []
+    service.ReadSamplingMessage ∷ service.CreateQueuingPort ∷ service.SendQueuingMessage ∷ service.ReceiveQueuingMessage ∷
+    service.GetBufferId ∷ service.GetBufferStatus ∷ service.GetBlackboardId ∷ service.GetBlackboardStatus ∷ service.GetSemaphoreId ∷
+    service.GetSemaphoreStatus ∷ service.GetEventId ∷ service.GetEventStatus ∷ service.GetMutexId ∷ service.GetMutexStatus ∷
+    service.GetSamplingPortId ∷ service.GetSamplingPortStatus ∷ service.GetQueuingPortId ∷ service.GetQueuingPortStatus ∷ []
 
 -- the outcomes by their numbers, from 0 on: the codes, a call that waits, and one that does not return
 abbrev pub outcomes_by_number : List Out

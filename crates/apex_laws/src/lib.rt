@@ -14,7 +14,7 @@ ghost use Rattle.apex_laws.specs.ObjectLaws.{BlackboardIsTheSentence, ChannelIsT
 ghost use Rattle.apex_laws.specs.RecordLaws.{CallIsTheSentence, DispatchIsTheSentence, RefusalIsTheSentence, RestartIsTheSentence, ReturnIsTheSentence, SetIsTheSentence, TickIsTheSentence};
 ghost use Rattle.apex_laws.specs.ConditionFacts.{ConditionFacts};
 ghost use Rattle.apex_laws.specs.ConditionLaws.{CodesAreTheSentences};
-ghost use Rattle.apex_laws.specs.NumberLaws.{NewNumberIsTheSentence, ObjectsAreFound, ProcessesAreFound};
+ghost use Rattle.apex_laws.specs.NumberLaws.{NamesAreFound, NewNumberIsTheSentence, ObjectsAreFound, ProcessesAreFound};
 ghost use Rattle.apex_laws.specs.ProfileLaws.{ProfileIsTheSentence};
 ghost use Rattle.apex_laws.specs.WaitLaws.{EnteringIsTheSentence, TimeOutIsTheSentence};
 ghost use Rattle.apex_laws.specs.ViewLaws.{ViewsAreOfTheRun};
@@ -371,6 +371,11 @@ pub fn processes_are_found()
 /// What is found under a number of objects has this number, and none is found where no object has it.
 pub fn objects_are_found()
     ensures { ObjectsAreFound }
+{}
+
+/// What is found under a name has the name, and none is found where nobody has it.
+pub fn names_are_found()
+    ensures { NamesAreFound }
 {}
 
 /// A new number is 1 to 2,147,483,647, and nothing of its kind has it.

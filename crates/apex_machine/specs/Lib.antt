@@ -10,6 +10,8 @@ pub mod Queue
 pub mod Objects
 pub mod Ports
 pub mod Conditions
+pub mod Names
+pub mod Statuses
 pub mod ProcessConditions
 pub mod ObjectConditions
 pub mod PortConditions

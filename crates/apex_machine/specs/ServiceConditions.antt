@@ -6,9 +6,11 @@ use Rattle.apex_types.specs.declared.request.Request.{Request}
 use Rattle.apex_types.specs.declared.request.Request.TheVariants as request
 use Rattle.apex_machine.specs.Conditions.{codes_for, time_out_codes, waiting_codes}
 use Rattle.apex_machine.specs.Configuration.{Configuration}
+use Rattle.apex_machine.specs.Names.{get_id_codes, number_of}
 use Rattle.apex_machine.specs.ObjectConditions.{acquire_codes, create_blackboard_codes, create_buffer_codes, create_event_codes, create_mutex_codes, create_semaphore_codes, message_codes, object_codes, release_codes}
 use Rattle.apex_machine.specs.PortConditions.{create_queuing_codes, create_sampling_codes, destination_codes, source_codes}
 use Rattle.apex_machine.specs.ProcessConditions.{affinity_codes, create_process_codes, get_my_id_codes, periodic_wait_codes, resume_codes, set_mode_codes, set_priority_codes, start_codes, stop_codes, suspend_codes, suspend_self_codes, timed_wait_codes}
+use Rattle.apex_machine.specs.Statuses.{get_status_codes}
 use Rattle.apex_machine.specs.State.{Blackboard, Buffer, Partition, created, given_object}
 
 -- the codes whose condition holds for a call of this process; STOP_SELF and GET_TIME have none   (section 3)
@@ -70,3 +72,5 @@ condition_codes configuration who partition (request.SendQueuingMessage port len
     source_codes (given_object partition.queuing_ports port) length ++ time_out_codes time_out ++ waiting_codes who partition time_out
 condition_codes configuration who partition (request.ReceiveQueuingMessage port time_out) =
     destination_codes (given_object partition.queuing_ports port) ++ time_out_codes time_out ++ waiting_codes who partition time_out
+condition_codes configuration who partition (request.GetId kind name) = get_id_codes (number_of partition kind name)
+condition_codes configuration who partition (request.GetStatus kind object) = get_status_codes partition kind object

@@ -9,8 +9,10 @@ pub use Rattle.apex_machine.specs.Arguments.{is_number, is_over, natural_of}
 use Rattle.apex_machine.specs.Answer.{waking}
 use Rattle.apex_machine.specs.Conditions.{of_caller, owns_mutex}
 use Rattle.apex_machine.specs.DueTimes.{is_for_mutex, is_released, is_suspension}
+use Rattle.apex_machine.specs.Names.{number_found, number_of}
 use Rattle.apex_machine.specs.Objects.{acquired, board_read, buffer_received, buffer_sent, displayed, event_set, event_waited, mutex_released, semaphore_waited, signalled}
 use Rattle.apex_machine.specs.State.{Partition, Table, created, given_object, is_free, item_at}
+use Rattle.apex_machine.specs.Statuses.{is_of_objects, status_of, telling}
 use Rattle.apex_machine.specs.Waiting.{first_waiter}
 
 -- the profile
@@ -20,7 +22,8 @@ abbrev pub waits_for_mutex : Table → ℕ → Bool
 waits_for_mutex table number = of_caller (λ process. is_for_mutex process.wait) (item_at table number)
 
 -- where no error condition holds, these stand outside the profile: a stop of a mutex's owner, or of the initialising process by
--- itself; SUSPEND and SET_PRIORITY of a process that owns a mutex or waits for one
+-- itself; SUSPEND and SET_PRIORITY of a process that owns a mutex or waits for one; the status
+-- of a port
 abbrev pub in_profile : Who → Partition → Request → Bool
 in_profile who partition (request.Stop process) = not (owns_mutex partition.mutexes (natural_of process))
 in_profile who partition request.StopSelf = not (nat_eq who.proc 0) && not (owns_mutex partition.mutexes who.proc)
@@ -28,6 +31,7 @@ in_profile who partition (request.Suspend process) =
     not (owns_mutex partition.mutexes (natural_of process)) && not (waits_for_mutex partition.table (natural_of process))
 in_profile who partition (request.SetPriority process priority) =
     not (owns_mutex partition.mutexes (natural_of process)) && not (waits_for_mutex partition.table (natural_of process))
+in_profile who partition (request.GetStatus kind object) = is_of_objects kind
 in_profile who partition _ = true
 
 -- what the caller gets
@@ -47,8 +51,9 @@ abbrev pub fellow : Who → ℤ → Who
 fellow who process = record { part = who.part; proc = natural_of process }
 
 -- what each service gives, at its caller's core's time   (section 3): a creation a new number, GET_MY_ID the caller's,
--- GET_TIME the time; a wait with a time-out or a delay of 0 is over at once, PERIODIC_WAIT where the next release is reached;
--- STOP_SELF and SET_PARTITION_MODE do not return
+-- GET_TIME the time, GET_BUFFER_ID and its like the number of what has the name, GET_BUFFER_STATUS and its like what is told of
+-- the object; a wait with a time-out or a delay of 0 is over at once, PERIODIC_WAIT where the next release is reached; STOP_SELF and
+-- SET_PARTITION_MODE do not return
 abbrev pub answer_of : ℕ → Who → Partition → Request → Answer
 answer_of now who partition (request.CreateProcess name priority period) = done_with (NewNumber (is_free partition.table))
 answer_of now who partition request.StopSelf = never
@@ -86,4 +91,6 @@ answer_of now who partition (request.ReleaseMutex mutex) =
     answer_by (given_object partition.mutexes mutex) (λ found. (mutex_released (first_waiter found.discipline found.waiters) found).answer)
 answer_of now who partition (request.CreateSamplingPort name size direction refresh) = done_with (NewNumber (is_free partition.sampling_ports))
 answer_of now who partition (request.CreateQueuingPort name size capacity both) = done_with (NewNumber (is_free partition.queuing_ports))
+answer_of now who partition (request.GetId kind name) = done_with (number_found (number_of partition kind name))
+answer_of now who partition (request.GetStatus kind object) = telling (status_of partition kind object)
 answer_of now who partition _ = done

@@ -1,8 +1,30 @@
 -- The service of a request.
+use Rattle.apex_types.specs.declared.object_kind.ObjectKind.{ObjectKind}
+use Rattle.apex_types.specs.declared.object_kind.ObjectKind.TheVariants as kind
 use Rattle.apex_types.specs.declared.request.Request.{Request}
 use Rattle.apex_types.specs.declared.request.Request.TheVariants as request
 use Rattle.apex_types.specs.declared.service.Service.{Service}
 use Rattle.apex_types.specs.declared.service.Service.TheVariants as service
+
+-- the service that tells the number of what has a name, by its kind
+abbrev pub id_service : ObjectKind → Service
+id_service kind.Buffer = service.GetBufferId
+id_service kind.Blackboard = service.GetBlackboardId
+id_service kind.Semaphore = service.GetSemaphoreId
+id_service kind.Event = service.GetEventId
+id_service kind.Mutex = service.GetMutexId
+id_service kind.SamplingPort = service.GetSamplingPortId
+id_service kind.QueuingPort = service.GetQueuingPortId
+
+-- the service that tells the state of one of a kind
+abbrev pub status_service : ObjectKind → Service
+status_service kind.Buffer = service.GetBufferStatus
+status_service kind.Blackboard = service.GetBlackboardStatus
+status_service kind.Semaphore = service.GetSemaphoreStatus
+status_service kind.Event = service.GetEventStatus
+status_service kind.Mutex = service.GetMutexStatus
+status_service kind.SamplingPort = service.GetSamplingPortStatus
+status_service kind.QueuingPort = service.GetQueuingPortStatus
 
 -- the service of a request
 abbrev pub service_of : Request → Service
@@ -43,3 +65,5 @@ service_of (request.ReadSamplingMessage port) = service.ReadSamplingMessage
 service_of (request.CreateQueuingPort name size capacity direction_and_discipline) = service.CreateQueuingPort
 service_of (request.SendQueuingMessage port length time_out message) = service.SendQueuingMessage
 service_of (request.ReceiveQueuingMessage port time_out) = service.ReceiveQueuingMessage
+service_of (request.GetId kind name) = id_service kind
+service_of (request.GetStatus kind object) = status_service kind

@@ -3,6 +3,7 @@
 ghost use Rattle.std.specs.Prelude.{◌≡◌};
 ghost use Rattle.apex_types.specs.Requested.{service_of};
 
+use crate::object_kind::ObjectKind;
 use crate::service::Service;
 use crate::text::{Message, Name};
 
@@ -148,6 +149,16 @@ pub enum Request {
         port: i64,
         time_out: i64,
     },
+    /// GET_BUFFER_ID and its like, by the kind of what is asked for.
+    GetId {
+        kind: ObjectKind,
+        name: Name,
+    },
+    /// GET_BUFFER_STATUS and its like, by the kind of what is asked about.
+    GetStatus {
+        kind: ObjectKind,
+        object: i64,
+    },
 }
 
 impl Request {
@@ -193,6 +204,8 @@ impl Request {
             Request::CreateQueuingPort { .. } => Service::CreateQueuingPort,
             Request::SendQueuingMessage { .. } => Service::SendQueuingMessage,
             Request::ReceiveQueuingMessage { .. } => Service::ReceiveQueuingMessage,
+            Request::GetId { kind, .. } => kind.id_service(),
+            Request::GetStatus { kind, .. } => kind.status_service(),
         }
     }
 }

@@ -44,6 +44,20 @@ pub enum Service {
     CreateQueuingPort,
     SendQueuingMessage,
     ReceiveQueuingMessage,
+    GetBufferId,
+    GetBufferStatus,
+    GetBlackboardId,
+    GetBlackboardStatus,
+    GetSemaphoreId,
+    GetSemaphoreStatus,
+    GetEventId,
+    GetEventStatus,
+    GetMutexId,
+    GetMutexStatus,
+    GetSamplingPortId,
+    GetSamplingPortStatus,
+    GetQueuingPortId,
+    GetQueuingPortStatus,
 }
 
 impl Service {
@@ -89,6 +103,20 @@ impl Service {
             Service::CreateQueuingPort => b"CREATE_QUEUING_PORT",
             Service::SendQueuingMessage => b"SEND_QUEUING_MESSAGE",
             Service::ReceiveQueuingMessage => b"RECEIVE_QUEUING_MESSAGE",
+            Service::GetBufferId => b"GET_BUFFER_ID",
+            Service::GetBufferStatus => b"GET_BUFFER_STATUS",
+            Service::GetBlackboardId => b"GET_BLACKBOARD_ID",
+            Service::GetBlackboardStatus => b"GET_BLACKBOARD_STATUS",
+            Service::GetSemaphoreId => b"GET_SEMAPHORE_ID",
+            Service::GetSemaphoreStatus => b"GET_SEMAPHORE_STATUS",
+            Service::GetEventId => b"GET_EVENT_ID",
+            Service::GetEventStatus => b"GET_EVENT_STATUS",
+            Service::GetMutexId => b"GET_MUTEX_ID",
+            Service::GetMutexStatus => b"GET_MUTEX_STATUS",
+            Service::GetSamplingPortId => b"GET_SAMPLING_PORT_ID",
+            Service::GetSamplingPortStatus => b"GET_SAMPLING_PORT_STATUS",
+            Service::GetQueuingPortId => b"GET_QUEUING_PORT_ID",
+            Service::GetQueuingPortStatus => b"GET_QUEUING_PORT_STATUS",
         }
     }
 
@@ -134,6 +162,20 @@ impl Service {
             Service::CreateQueuingPort => 35,
             Service::SendQueuingMessage => 36,
             Service::ReceiveQueuingMessage => 37,
+            Service::GetBufferId => 38,
+            Service::GetBufferStatus => 39,
+            Service::GetBlackboardId => 40,
+            Service::GetBlackboardStatus => 41,
+            Service::GetSemaphoreId => 42,
+            Service::GetSemaphoreStatus => 43,
+            Service::GetEventId => 44,
+            Service::GetEventStatus => 45,
+            Service::GetMutexId => 46,
+            Service::GetMutexStatus => 47,
+            Service::GetSamplingPortId => 48,
+            Service::GetSamplingPortStatus => 49,
+            Service::GetQueuingPortId => 50,
+            Service::GetQueuingPortStatus => 51,
         }
     }
 }

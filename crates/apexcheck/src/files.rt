@@ -8,8 +8,10 @@ ghost use Rattle.apexcheck.specs.Files.{IsOfFiles, ending_of};
 ghost use Rattle.apexcheck.specs.Ruled.{IsRuledEnding, where_asked};
 
 use crate::ending::{Ending, out_of_memory, refused_by};
-use crate::ruled::{check_ruled, read_rules, tell_broken};
+use crate::explained::explain;
+use crate::ruled::{check_ruled, read_rules, tell_broken, tell_fields};
 use crate::usage::{FileNames, FilesAsked};
+use explanation::Explanation;
 use report::Last;
 use rule_options::RuleOption;
 use rules_file::RulesFault;
@@ -28,7 +30,8 @@ const LONGEST_TEXT: u64 = 1_048_576;
 /// named; then the order is opened, then the recordings, core 0 first. The text of rules is judged behind that.
 ///
 /// Where a file can't be opened, or the configuration or the text of rules can't be read, standard error names it and tells
-/// why, and so where the text of rules is refused. Where a rule is broken, standard error tells which.
+/// why, and so where the text of rules is refused. Where a rule is broken, standard error tells which. It explains the answer too,
+/// unless that is not asked for.
 pub fn check_files<R>(rt: &R, alloc: Global, asked: &FilesAsked) -> Ending
 where
     R: Files<File = File> + Eprint + AllocGlobal + Threads + Wait + Sync + Copy + Send + 'static,
@@ -38,7 +41,14 @@ where
         return end_by(OpenFault::Memory);
     };
     match Opened::open(rt, alloc, &asked.names) {
-        Ok(opened) => opened.check(rt, alloc, &options, asked),
+        Ok(opened) => {
+            let mut explanation = Explanation::new(alloc);
+            let ending = opened.check(rt, alloc, &options, asked, &mut explanation);
+            if !asked.quiet {
+                explain(rt, alloc, &asked.names, &ending, &explanation);
+            }
+            ending
+        }
         Err(fault) => end_by(fault),
     }
 }
@@ -87,8 +97,15 @@ impl Opened<File> {
 
 impl<F: Read + Drop + Send + 'static> Opened<F> {
     // Checks what the files hold, under the rules of these options and of the text, with the settings that are asked for. The last
-    // records before the place of a No are in the end where they are asked for.
-    fn check<R>(self, rt: &R, alloc: Global, options: &[RuleOption], asked: &FilesAsked) -> Ending
+    // records before the place of a No are in the end where they are asked for. What stands at that place is explained.
+    fn check<R>(
+        self,
+        rt: &R,
+        alloc: Global,
+        options: &[RuleOption],
+        asked: &FilesAsked,
+        explanation: &mut Explanation,
+    ) -> Ending
     where
         R: Eprint + Threads + Wait + Sync + Copy + Send + 'static,
         ensures of_files { IsOfFiles (is_some self.rules) result }
@@ -120,8 +137,10 @@ impl<F: Read + Drop + Send + 'static> Opened<F> {
             &rules,
             asked.settings,
             &mut last,
+            explanation,
         );
         tell_broken(rt, options, &rules, &outcome);
+        tell_fields(alloc, explanation, options, &rules, &outcome);
         Ending::Checked {
             outcome,
             last: where_asked(asked.last, last),
@@ -176,8 +195,8 @@ fn open_cores<R: Files<File = File> + Eprint>(
     Ok(cores)
 }
 
-// The text in the file of this name, as `read_text` reads it.
-fn open_text<R: Files<File = File>>(rt: &R, alloc: Global, name: &str) -> io::Result<Vec<u8>> {
+/// The text in the file of this name, as `read_text` reads it.
+pub fn open_text<R: Files<File = File>>(rt: &R, alloc: Global, name: &str) -> io::Result<Vec<u8>> {
     read_text(alloc, File::open(rt, name)?)
 }
 

@@ -8,6 +8,7 @@
 #![tactic(auto)]
 
 mod ending;
+mod explained;
 mod files;
 mod ruled;
 mod settings;
@@ -54,8 +55,7 @@ where
         Ok(Asked::Version) => Ending::Version,
         Ok(Asked::Files(asked)) => files::check_files(rt, alloc, &asked),
         Err(UsageFault::Usage) => {
-            // Standard error only helps a person, so that a failure there changes nothing.
-            let _ = rt.eprintln(usage::USAGE);
+            usage::tell_usage(rt, alloc);
             Ending::BadUsage
         }
         Err(UsageFault::Memory) => out_of_memory(),

@@ -6,7 +6,8 @@ ghost use Rattle.rules_file.specs.Keys.{Gives};
 ghost use Rattle.rules_file.specs.Reading.{said};
 ghost use Rattle.apexcheck.specs.Ruled.{HoldInTurn, IsRuledOutcome, SayBoth, rules_given};
 
-use report::{CheckFault, Last, MOST_RECORDS, Open, Settings, Verdict, check_relations};
+use explanation::Explanation;
+use report::{CheckFault, Last, MOST_RECORDS, Open, Settings, Verdict, Witness, check_relations};
 use rule_options::{RuleOption, relations_of};
 use rules_file::{NamedRule, RulesFault};
 use std::alloc::{AllocError, Global};
@@ -29,8 +30,8 @@ pub fn read_rules(alloc: Global, text: Option<&[u8]>) -> Result<Vec<NamedRule>, 
 /// that these options ask for, numbered in their order, and the named ones behind them. It is carried out as the settings say.
 ///
 /// Leaves the last records before the place of a No or of a broken rule in `last`, where none were before, and none behind any other
-/// answer.
-pub fn check_ruled<T, R, C>(
+/// answer. The witness is told what stands at that place.
+pub fn check_ruled<T, R, C, V>(
     rt: T,
     alloc: Global,
     config: &[u8],
@@ -40,11 +41,13 @@ pub fn check_ruled<T, R, C>(
     rules: &[NamedRule],
     settings: Settings,
     last: &mut Last,
+    witness: &mut V,
 ) -> Result<Verdict, CheckFault>
 where
     T: Threads + Wait + Sync + Copy + Send + 'static,
     R: Read + Drop + Send + 'static,
     C: Read + Drop,
+    V: Witness,
     ensures { (texts : List (List ℕ)) (certificate : List ℕ) → last.old ≡ [] → map (λ reader. R.remaining reader) readers.items ≡ map Some texts → C.remaining order ≡ Some certificate → IsRuledOutcome settings config.now texts certificate options.now (map said rules.now) result last.new }
 {
     let Ok(relations) = all_relations(alloc, options, rules) else {
@@ -61,6 +64,7 @@ where
         &Open,
         MOST_RECORDS,
         last,
+        witness,
     )
 }
 
@@ -87,6 +91,26 @@ fn relations_in(alloc: Global, rules: &[NamedRule]) -> Result<Vec<Relation>, All
         relations.push(rule.relation.clone()?)?;
     }
     Ok(relations)
+}
+
+/// Adds the fields of the view to what is told of a broken rule. Where memory is refused nothing is added.
+pub fn tell_fields(
+    alloc: Global,
+    explanation: &mut Explanation,
+    options: &[RuleOption],
+    rules: &[NamedRule],
+    outcome: &Result<Verdict, CheckFault>,
+) {
+    let Ok(Verdict::Broken { rule, .. }) = outcome else {
+        return;
+    };
+    if let Some(option) = options.get(*rule) {
+        if let Ok(relation) = option.relation(alloc) {
+            explanation.tell_fields(&relation);
+        }
+    } else if let Some(named) = rules.get(*rule - options.len()) {
+        explanation.tell_fields(&named.relation);
+    }
 }
 
 /// Tells a person which rule is broken, if one is: that of an option by its words, one of a text by its name.

@@ -10,6 +10,7 @@ ghost use Rattle.apexcheck.specs.Words.{NamesFiles, asks_version};
 use crate::settings::read_settings;
 use clap::error::ErrorKind;
 use clap::{Arg, ArgAction, ArgMatches, Command, Error};
+use explanation::{Words, tell_command_line};
 use report::Settings;
 use rule_options::RuleOptions;
 use std::alloc::{AllocError, Global};
@@ -18,7 +19,8 @@ use std::{env, io};
 
 /// What a person is told whose command line is refused.
 pub const USAGE: &str = "usage: apexcheck --config FILE --order FILE --workers N [--depth N]
-                 [--max-elapsed N] [--forbid SERVICE] [--rules FILE] [--last] CORE...
+                 [--max-elapsed N] [--forbid SERVICE] [--rules FILE] [--last] [--quiet]
+                 CORE...
        apexcheck
        apexcheck --version
 
@@ -28,8 +30,9 @@ records are judged, 1 to 64; --depth how many records ahead each file is read, 1
 4096, which is 64 if not given. Neither changes the answer. With --max-elapsed no call may
 return more than N ticks later, with --forbid no call may be of SERVICE, with --rules
 the rules of FILE may not be broken. With --last the last records before the place of a
-No, at most 8, follow its line. With no words it checks a run that stands in the
-program. With --version alone it prints its version, and the kit that it is proved with.";
+No, at most 8, follow its line. Why the answer is no Yes is told on standard error, unless
+--quiet is given. With no words it checks a run that stands in the program. With --version
+alone it prints its version, and the kit that it is proved with.";
 
 /// What the command line asks for.
 #[derive(Debug, Drop)]
@@ -53,6 +56,8 @@ pub struct FilesAsked {
     pub settings: Settings,
     /// Whether the last records before the place of a No are asked for.
     pub last: bool,
+    /// Whether it is not to be told on standard error why the answer is no Yes.
+    pub quiet: bool,
 }
 
 /// The files of a run, as the command line names them.
@@ -87,6 +92,22 @@ pub fn from_words(rt: &(impl Env + AllocGlobal), alloc: Global) -> Result<Asked,
     read_words(alloc, words.as_slice())
 }
 
+/// Tells a person what is wrong with the words that the program was given, and how it is used.
+pub fn tell_usage(rt: &(impl Env + Eprint + AllocGlobal), alloc: Global) {
+    let mut told = Words::new(alloc);
+    match env::args(rt) {
+        Ok(words) => {
+            if let Ok(words) = words.collect::<Vec<String>>(alloc) {
+                tell_command_line(&mut told, words.as_slice());
+            }
+        }
+        Err(_) => told.say("a word is no UTF-8 text"),
+    }
+    // Standard error only helps a person, so that a failure there changes nothing.
+    let _ = rt.eprintln(format_args!("apexcheck: {}", told.as_str()));
+    let _ = rt.eprintln(USAGE);
+}
+
 // Reads what these words ask for, of which the first is the program's own name.
 fn read_words(alloc: Global, words: &[String]) -> Result<Asked, UsageFault>
     ensures stored { length words.now ≤ 1 → result ≡ Ok Asked.StoredRun }
@@ -108,6 +129,7 @@ fn files_asked(alloc: Global, words: &[String]) -> Result<FilesAsked, UsageFault
         options: rule_options(&matches)?,
         settings: settings_asked(&matches)?,
         last: asks_last(&matches),
+        quiet: asks_quiet(&matches),
     })
 }
 
@@ -127,6 +149,15 @@ fn asks_last(matches: &ArgMatches<'_>) -> bool
     ensures none { one_text (found_of matches.now) (codes "last") ≡ None → result ≡ false }
 {
     matches.get_flag("last")
+}
+
+// Whether no explanation is asked for.
+fn asks_quiet(matches: &ArgMatches<'_>) -> bool
+    ensures given { one_text (found_of matches.now) (codes "quiet") ≡ Some (codes "true") → result ≡ true }
+    ensures not_given { one_text (found_of matches.now) (codes "quiet") ≡ Some (codes "false") → result ≡ false }
+    ensures none { one_text (found_of matches.now) (codes "quiet") ≡ None → result ≡ false }
+{
+    matches.get_flag("quiet")
 }
 
 // The values of the options that ask for rules.
@@ -189,11 +220,8 @@ fn command<'a>(alloc: Global) -> Result<Command<'a>, AllocError> {
         .arg(option(alloc, "max-elapsed"))?
         .arg(option(alloc, "forbid"))?
         .arg(option(alloc, "rules"))?
-        .arg(
-            Arg::new(alloc, "last")
-                .long("last")
-                .action(ArgAction::SetTrue),
-        )?
+        .arg(flag(alloc, "last"))?
+        .arg(flag(alloc, "quiet"))?
         .arg(
             Arg::new(alloc, "core")
                 .required(true)
@@ -205,6 +233,11 @@ fn command<'a>(alloc: Global) -> Result<Command<'a>, AllocError> {
 // The option of this name, which has a value.
 fn option<'a>(alloc: Global, name: &'static str) -> Arg<'a> {
     Arg::new(alloc, name).long(name).action(ArgAction::Set)
+}
+
+// The option of this name, which has none.
+fn flag<'a>(alloc: Global, name: &'static str) -> Arg<'a> {
+    Arg::new(alloc, name).long(name).action(ArgAction::SetTrue)
 }
 
 impl From<AllocError> for UsageFault {

@@ -1,14 +1,17 @@
 // Blackboards.
 
 ghost use Rattle.std.specs.Prelude.{◌≡◌, ◌↔◌, [], None, IfErr, IfOk, IsTrue, OnErr, OnOk};
+ghost use Rattle.std.specs.Option.{option_copied};
 ghost use Rattle.apex_types.specs.declared.record.Out.TheVariants as out;
 ghost use Rattle.apex_machine.specs.Demands.{AllHold, answer_demands};
 ghost use Rattle.apex_machine.specs.Objects.{board_read, cleared, displayed};
+ghost use Rattle.apex_machine.specs.Statuses.{blackboard_status};
 ghost use Rattle.wait_set.specs.Actors.{OwesNothing, Refuses, entry_with};
 ghost use Rattle.wait_set.specs.Givens.{answer_given};
 ghost use Rattle.wait_set.specs.Sets.{IsNew};
 ghost use Rattle.blackboard.specs.Blackboards as rules;
 
+use apex_machine::Status;
 use apex_types::{Claim, Discipline, Message, Name, Request, Who};
 use std::alloc::Global;
 use std::marker::Model;
@@ -51,6 +54,31 @@ impl Blackboard {
         ensures { result ≡ self.now.size }
     {
         self.size
+    }
+
+    /// The message on it, or None where it is empty.
+    pub fn message(&self) -> Option<&Message>
+        ensures { option_copied result ≡ self.now.message }
+    {
+        self.message.as_ref()
+    }
+
+    /// Those that wait to read.
+    pub fn readers(&self) -> &WaitSet
+        ensures { result.now.entries ≡ self.now.readers }
+    {
+        &self.readers
+    }
+
+    /// GET_BLACKBOARD_STATUS: whether a message is on it, and how many wait. Takes no memory.
+    pub fn status(&self) -> Status
+        ensures { result ≡ blackboard_status self.now }
+    {
+        Status {
+            val: u64::from(self.message.is_some()),
+            val2: self.readers.len() as u64,
+            val3: None,
+        }
     }
 
     // DISPLAY_BLACKBOARD: the message is on the blackboard, and all who wait for one get it.

@@ -1,9 +1,11 @@
 // Buffers.
 
 ghost use Rattle.std.specs.Prelude.{◌≡◌, [], IfOk};
+ghost use Rattle.apex_machine.specs.Statuses.{buffer_status};
 ghost use Rattle.wait_set.specs.Actors.{OwesNothing};
 ghost use Rattle.buffer.specs.Buffers as rules;
 
+use apex_machine::Status;
 use apex_types::{Claim, Discipline, Name, Request, Who};
 use message_queue::MessageQueue;
 use std::alloc::{AllocError, Global};
@@ -63,6 +65,24 @@ impl Buffer {
         ensures { result ≡ self.now.capacity }
     {
         self.queue.capacity()
+    }
+
+    /// The queue of its messages, with those that wait at it.
+    pub fn queue(&self) -> &MessageQueue
+        ensures { rules.buffer_of self.now.name self.now.size result.now ≡ self.now }
+    {
+        &self.queue
+    }
+
+    /// GET_BUFFER_STATUS: how many messages it holds, and how many wait to send or to receive. Takes no memory.
+    pub fn status(&self) -> Status
+        ensures { result ≡ buffer_status self.now }
+    {
+        Status {
+            val: self.queue.len() as u64,
+            val2: self.queue.senders().len() as u64 + self.queue.receivers().len() as u64,
+            val3: None,
+        }
     }
 }
 

@@ -1,12 +1,12 @@
 // What a check answers for texts in memory.
 
-ghost use Rattle.std.specs.Prelude.{◌≡◌, ◌↔◌, ◌++◌, ◌∷◌, [], IfOk, IsTrue, Some, map};
+ghost use Rattle.std.specs.Prelude.{◌≡◌, ◌↔◌, ◌++◌, ◌∷◌, [], IfOk, IfSome, IsTrue, Some, map};
 ghost use Rattle.std.specs.Io.Cursor.{cursor_remaining};
 ghost use Rattle.case_runner.specs.Answers.{IsAnswer, exit_status_of};
 
 use crate::fields::LINE_FEED;
 use crate::manner::Manner;
-use report::{CheckFault, Last, Open, Verdict, check_relations, write_report};
+use report::{CheckFault, Last, Nobody, Open, Verdict, check_relations, write_last, write_report};
 use rule_options::{RuleOption, relations_of};
 use sink::{FailureCount, Sink, SinkFault};
 use std::alloc::{AllocError, Global};
@@ -19,23 +19,39 @@ use std::thread::Threads;
 pub struct Answer {
     /// The line of the report, without its line feed.
     pub line: Vec<u8>,
+    /// The lines of the last records, each with its line feed.
+    pub last: Vec<u8>,
     /// The exit status that belongs to it.
     pub status: u64,
 }
 
-/// The line that has to come, without its line feed, and the exit status that belongs to it.
+/// The line that has to come, without its line feed, the lines of the last records if a case tells them, each with its line feed,
+/// and the exit status that belongs to it.
 #[derive(Clone, Copy, Debug)]
 pub struct Expected<'a> {
     pub line: &'a [u8],
+    pub last: Option<&'a [u8]>,
     pub status: u64,
 }
 
 impl Answer {
     /// Whether the answer is the expected one.
     pub fn is(&self, expected: Expected<'_>) -> bool
-        ensures { IsTrue result ↔ (self.now.line.items ≡ expected.entry.line.now) × (self.now.status ≡ expected.entry.status) }
+        ensures { IsTrue result ↔ (self.now.line.items ≡ expected.entry.line.now) × IfSome expected.entry.last (λ lines. self.now.last.items ≡ lines.now) × (self.now.status ≡ expected.entry.status) }
     {
-        self.line.as_slice() == expected.line && self.status == expected.status
+        self.line.as_slice() == expected.line
+            && has_lines(&self.last, expected.last)
+            && self.status == expected.status
+    }
+}
+
+// Whether these are the lines that have to come, if there are such.
+fn has_lines(lines: &[u8], expected: Option<&[u8]>) -> bool
+    ensures { IsTrue result ↔ IfSome expected.entry (λ wanted. lines.now ≡ wanted.now) }
+{
+    match expected {
+        Some(wanted) => lines == wanted,
+        None => true,
     }
 }
 
@@ -52,7 +68,7 @@ pub fn answer_to<T>(
 ) -> Result<Answer, AllocError>
 where
     T: Threads + Wait + Sync + Copy + Send + 'static,
-    ensures { IfOk result (λ answer. IsAnswer manner.settings config.now (map (λ recording. recording.items) recordings.now) order.now options.now answer.line.items answer.status) }
+    ensures { IfOk result (λ answer. IsAnswer manner.settings config.now (map (λ recording. recording.items) recordings.now) order.now options.now answer.line.items answer.last.items answer.status) }
 {
     let readers = readers_of(alloc, recordings)?;
     let relations = relations_of(alloc, options)?;
@@ -70,21 +86,25 @@ where
         &Open,
         manner.rounds.size(),
         &mut last,
+        &mut Nobody,
     );
-    let mut kept = Kept::new(alloc);
-    match write_report(&mut kept, &outcome) {
-        Ok(()) => {
-            let mut line = kept.taken;
-            match line.pop() {
-                Some(LINE_FEED) => Ok(Answer {
-                    line,
-                    status: status_of(&outcome),
-                }),
-                // No report lacks its line feed.
-                _ => Err(AllocError),
-            }
-        }
-        Err(_) => Err(AllocError),
+    let mut report = Kept::new(alloc);
+    let Ok(()) = write_report(&mut report, &outcome) else {
+        return Err(AllocError);
+    };
+    let mut lines = Kept::new(alloc);
+    let Ok(()) = write_last(&mut lines, &last) else {
+        return Err(AllocError);
+    };
+    let mut line = report.taken;
+    match line.pop() {
+        Some(LINE_FEED) => Ok(Answer {
+            line,
+            last: lines.taken,
+            status: status_of(&outcome),
+        }),
+        // No report lacks its line feed.
+        _ => Err(AllocError),
     }
 }
 

@@ -48,6 +48,7 @@ pub struct Case<'a> {
     rules: &'a [u8],
     named: Named,
     report: Option<&'a [u8]>,
+    last: Option<&'a [u8]>,
     status: Option<&'a [u8]>,
     cuts: Option<&'a [u8]>,
 }
@@ -66,6 +67,7 @@ impl<'a> Case<'a> {
                 depth: None,
             },
             report: None,
+            last: None,
             status: None,
             cuts: None,
         }
@@ -80,6 +82,7 @@ impl<'a> Case<'a> {
             Heading::Workers(workers) => self.named.workers = Some(workers),
             Heading::Depth(depth) => self.named.depth = Some(depth),
             Heading::Report => self.report = Some(section.body),
+            Heading::Last => self.last = Some(section.body),
             Heading::Status => self.status = Some(section.body),
             Heading::Cuts => self.cuts = Some(section.body),
         }
@@ -176,7 +179,11 @@ impl<'a> Case<'a> {
                     return Err(CaseFault::NoStatus);
                 }
                 let status = status_of(status)?;
-                Ok(Some(Expected { line, status }))
+                Ok(Some(Expected {
+                    line,
+                    last: self.last,
+                    status,
+                }))
             }
             (None, Some(cuts)) if !cuts.is_empty() => Ok(None),
             (None, _) => Err(CaseFault::NoReport),
@@ -211,7 +218,11 @@ fn cut_of(line: &[u8]) -> Result<Cut<'_>, CaseFault> {
     let status = status_of(status)?;
     Ok(Cut {
         bytes,
-        expected: Expected { line, status },
+        expected: Expected {
+            line,
+            last: None,
+            status,
+        },
     })
 }
 

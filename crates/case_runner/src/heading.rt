@@ -27,6 +27,8 @@ pub enum Heading<'a> {
     Depth(usize),
     /// `report`: the line that has to come.
     Report,
+    /// `last`: the lines of the last records, which have to come behind it.
+    Last,
     /// `status`: the exit status that belongs to it.
     Status,
     /// `cuts of core0.csv`: the lines that have to come where the recording of that core is cut.
@@ -65,6 +67,9 @@ impl<'a> Heading<'a> {
         }
         if heading == b"report".as_slice() {
             return Some(Heading::Report);
+        }
+        if heading == b"last".as_slice() {
+            return Some(Heading::Last);
         }
         if heading == b"status".as_slice() {
             return Some(Heading::Status);

@@ -311,6 +311,12 @@ fn tell_difference<W: Sink>(output: &mut W, difference: &Difference<'_>) -> Resu
     put_all(output, b", found ")?;
     put_answer(output, difference.found.status, &difference.found.line)?;
     put_all(output, b"\n")?;
+    if let Some(lines) = difference.expected.last {
+        put_all(output, b"expected behind it:\n")?;
+        put_all(output, lines)?;
+        put_all(output, b"found behind it:\n")?;
+        put_all(output, &difference.found.last)?;
+    }
     Ok(())
 }
 

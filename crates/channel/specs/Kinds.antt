@@ -1,6 +1,6 @@
 -- A channel of either kind, as it is held.
-use Rattle.std.specs.Prelude.{ℕ, [], Option}
-use Rattle.apex_machine.specs.State.{Queued, Sampled, Stamped}
+use Rattle.std.specs.Prelude.{ℕ, [], Bool, Option, None, true, false}
+use Rattle.apex_machine.specs.State.{Content, Queued, Sampled, Stamped}
 use Rattle.message_queue.specs.Queues.{Queue}
 use Rattle.channel.specs.declared.channel.Kind.{Kind}
 use Rattle.channel.specs.declared.channel.Kind.TheVariants.{Sampling, Queuing}
@@ -23,3 +23,13 @@ queuing_held number queue = record {
 abbrev pub held_as : ℕ → Kind → Held
 held_as number (Sampling channel) = sampling_held number channel.refresh channel.last
 held_as number (Queuing queue) = queuing_held number queue
+
+-- a content is that of a sampling channel
+abbrev pub is_sampled : Content → Bool
+is_sampled (Sampled last) = true
+is_sampled (Queued messages) = false
+
+-- the message that was last written, if it is that of a sampling channel and one was
+abbrev pub last_written : Content → Option Stamped
+last_written (Sampled last) = last
+last_written (Queued messages) = None

@@ -1,15 +1,16 @@
 // Channels of either kind.
 
-ghost use Rattle.std.specs.Prelude.{◌≡◌, ◌||◌, ℕ, None, Some, nat_eq, IfErr, IfOk, IsFalse, OnErr, OnOk};
+ghost use Rattle.std.specs.Prelude.{◌≡◌, ◌||◌, ℕ, None, Some, nat_eq, true, IfErr, IfNone, IfOk, IfSome, IsFalse, OnErr, OnOk};
+ghost use Rattle.std.specs.Option.{option_copied};
 ghost use Rattle.apex_machine.specs.Demands.{stands_in};
 ghost use Rattle.apex_machine.specs.State.{is_named, is_same};
 ghost use Rattle.wait_set.specs.Laws.{StandBefore};
 ghost use Rattle.channel.specs.Held as rules;
 ghost use Rattle.channel.specs.Held.{Accepts, AllBelow, IsAfterCall, RefusesCall};
-ghost use Rattle.channel.specs.Kinds.{queuing_held, sampling_held};
+ghost use Rattle.channel.specs.Kinds.{is_sampled, last_written, queuing_held, sampling_held};
 ghost use Rattle.message_queue.specs.Queues.{empty_queue};
 
-use crate::sampling::SamplingChannel;
+use crate::sampling::{SamplingChannel, Stamped};
 use apex_types::{Call, Cause, ChanId, Discipline, PartId, Place, Request, Who};
 use message_queue::MessageQueue;
 use std::alloc::{AllocError, Global};
@@ -80,6 +81,27 @@ impl Channel {
         ensures { result ≡ self.now.number }
     {
         self.number
+    }
+
+    /// The queue of a queuing channel; None where it is a sampling channel.
+    pub fn queue(&self) -> Option<&MessageQueue>
+        ensures held { IfSome result (λ queue. self.now ≡ queuing_held self.now.number queue.now) }
+        ensures none { IfNone result (is_sampled self.now.channel.content ≡ true) }
+    {
+        match &self.kind {
+            Kind::Sampling(_) => None,
+            Kind::Queuing(queue) => Some(queue),
+        }
+    }
+
+    /// The message that was last written to a sampling channel; None where nothing was, or where it is a queuing channel.
+    pub fn written(&self) -> Option<&Stamped>
+        ensures { option_copied result ≡ last_written self.now.channel.content }
+    {
+        match &self.kind {
+            Kind::Sampling(channel) => channel.last.as_ref(),
+            Kind::Queuing(_) => None,
+        }
     }
 
     /// Carries out a call through the channel, at this place and at this time of its core in ticks, where the call is what the

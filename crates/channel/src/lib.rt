@@ -30,3 +30,4 @@ mod channel;
 mod sampling;
 
 pub use channel::Channel;
+pub use sampling::Stamped;

@@ -14,7 +14,7 @@ use wait_set::{Given, ObjFault};
 
 /// A message with the time at which it was written, in ticks.
 #[derive(Drop)]
-pub(crate) struct Stamped {
+pub struct Stamped {
     message: Message,
     stamp: u64,
 }
@@ -28,6 +28,20 @@ impl Model for Stamped {
 }
 
 impl Stamped {
+    /// The message.
+    pub fn message(&self) -> &Message
+        ensures { result.now ≡ self.now.message }
+    {
+        &self.message
+    }
+
+    /// The time of the writer's core at the write, in ticks.
+    pub fn stamp(&self) -> u64
+        ensures { result ≡ self.now.stamp }
+    {
+        self.stamp
+    }
+
     // Whether the message is valid at this time, as the value that a reader gets: 1 where its age is at most the refresh period.
     fn validity(&self, now: u64, refresh: u64) -> i64
         ensures { result ≡ pos (ports.validity now refresh self.now) }

@@ -1,6 +1,7 @@
 // Queues of messages.
 
-ghost use Rattle.std.specs.Prelude.{◌≡◌, ◌↔◌, ◌<◌, ◌||◌, [], length, nat_eq, IfErr, IfOk, IsTrue, OnErr, OnOk};
+ghost use Rattle.std.specs.Prelude.{◌≡◌, ◌↔◌, ◌<◌, ◌||◌, [], length, nat_eq, slice_get, IfErr, IfOk, IsTrue, OnErr, OnOk};
+ghost use Rattle.std.specs.Option.{option_copied};
 ghost use Rattle.apex_machine.specs.Demands.{AllHold, answer_demands, stands_in};
 ghost use Rattle.apex_machine.specs.State.{is_named, is_same};
 ghost use Rattle.wait_set.specs.Actors.{Refuses, entry_with};
@@ -60,6 +61,34 @@ impl MessageQueue {
         ensures { result ≡ self.now.capacity }
     {
         self.messages.capacity()
+    }
+
+    /// How many messages it holds.
+    pub fn len(&self) -> usize
+        ensures { result ≡ length self.now.messages }
+    {
+        self.messages.len()
+    }
+
+    /// The oldest message that it holds, or None where it holds none.
+    pub fn oldest(&self) -> Option<&Message>
+        ensures { option_copied result ≡ slice_get self.now.messages 0 }
+    {
+        self.messages.front()
+    }
+
+    /// Those that wait to send.
+    pub fn senders(&self) -> &WaitSet
+        ensures { result.now ≡ self.now.senders }
+    {
+        &self.senders
+    }
+
+    /// Those that wait to receive.
+    pub fn receivers(&self) -> &WaitSet
+        ensures { result.now ≡ self.now.receivers }
+    {
+        &self.receivers
     }
 
     /// Sends a message, where the claim is what the rule gives: the receiver that waits first gets it; else, if there is room, the

@@ -5,11 +5,13 @@ ghost use Rattle.apex_types.specs.declared.record.Out.TheVariants as out;
 ghost use Rattle.apex_types.specs.Bounds.{place_count};
 ghost use Rattle.apex_machine.specs.Demands.{AllHold, answer_demands};
 ghost use Rattle.apex_machine.specs.Objects.{is_owner, owned_by};
+ghost use Rattle.apex_machine.specs.Statuses.{mutex_status};
 ghost use Rattle.wait_set.specs.Actors.{Refuses, entry_with};
 ghost use Rattle.wait_set.specs.Givens.{answer_given};
 ghost use Rattle.wait_set.specs.Sets.{IsNew};
 ghost use Rattle.mutex_ceiling.specs.Mutexes as rules;
 
+use apex_machine::Status;
 use apex_types::{Claim, Discipline, Name, ProcId, Request, Who};
 use std::alloc::Global;
 use std::marker::Model;
@@ -76,6 +78,29 @@ impl Mutex653 {
         ensures { result ≡ self.now.count }
     {
         self.count
+    }
+
+    /// Those that wait for it.
+    pub fn waiters(&self) -> &WaitSet
+        ensures discipline { result.now.discipline ≡ self.now.discipline }
+        ensures entries { result.now.entries ≡ self.now.waiters }
+    {
+        &self.waiters
+    }
+
+    /// GET_MUTEX_STATUS: its owner, or 0 where it is free, how many wait, and how often it was acquired. Takes no memory.
+    pub fn status(&self) -> Status
+        ensures { result ≡ mutex_status self.now }
+    {
+        let owner = match self.owner {
+            Some(owner) => u64::from(owner.number()),
+            None => 0,
+        };
+        Status {
+            val: owner,
+            val2: self.waiters.len() as u64,
+            val3: Some(self.count),
+        }
     }
 
     /// ACQUIRE_MUTEX: a free mutex is the caller's, its owner acquires it once more, another process waits.

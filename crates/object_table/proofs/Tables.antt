@@ -1,10 +1,12 @@
 -- One object of a table, found and changed.
-use Rattle.std.proofs.Common.{◌≡◌, ℕ, ◌<◌, ◌≤◌, ◌^◌, List, Bool, true, false, nat_eq, [], ◌∷◌, ◌++◌, ◌||◌, Some, None, refl, sym, ap, ◌∙◌, arith, cond}
+use Rattle.std.proofs.Common.{◌≡◌, ℕ, ◌<◌, ◌≤◌, ◌^◌, List, Bool, true, false, nat_eq, [], ◌∷◌, ◌++◌, ◌||◌, Option, Some, None, refl, sym, ap, ◌∙◌, arith, cond}
 use Rattle.std.proofs.lemmas.Bool.Decides.{nat_tests}
-use Rattle.std.specs.List.{AllByRecursion, IsDistinct, list_any}
+use Rattle.std.specs.List.{AllByRecursion, IsDistinct, find, list_any}
 use Rattle.std.specs.Map.{keys_of, lookup, set_value, values_of}
+use Rattle.std.specs.Option.{option_map}
 use Rattle.std.specs.Str.{bytes_eq}
 use Rattle.apex_machine.specs.Conditions.{is_taken}
+use Rattle.apex_machine.specs.Names.{number_named}
 use Rattle.apex_machine.specs.State.{change_at, item_at}
 use Rattle.object_table.specs.Numbers.{NumbersFit}
 
@@ -81,6 +83,30 @@ pub is_taken-any : {Object : Type 0} (name_of : Object → List ℕ) (name : Lis
     → is_taken name_of name entries ≡ list_any (λ object. bytes_eq name (name_of object)) (values_of entries)
 is_taken-any name_of name [] = refl
 is_taken-any name_of name (entry ∷ entries) = ap (λ rest. bytes_eq name (name_of entry.1) || rest) (is_taken-any name_of name entries)
+
+-- a search for a name
+pub number_named-find : {Object : Type 0} (name_of : Object → List ℕ) (name : List ℕ) (entries : List (ℕ × Object))
+    → number_named name_of name entries ≡ option_map (λ entry. entry.0) (find (λ entry. bytes_eq name (name_of entry.1)) entries)
+number_named-find name_of name [] = refl
+number_named-find name_of name (entry ∷ entries) = by (bytes_eq name (name_of entry.1)) (number_named-find name_of name entries)
+  where
+    by : (b : Bool)
+        → number_named name_of name entries ≡ option_map (λ entry. entry.0) (find (λ entry. bytes_eq name (name_of entry.1)) entries)
+        → cond b (Some entry.0) (number_named name_of name entries)
+        ≡ option_map (λ entry. entry.0) (cond b (Some entry) (find (λ entry. bytes_eq name (name_of entry.1)) entries))
+    by true rest = refl
+    by false rest = rest
+
+-- so the number of what it finds is that of the name
+pub found-named : {Object Found : Type 0} (name_of : Object → List ℕ) (name : List ℕ) (entries : List (ℕ × Object)) (see : Found → ℕ × Object)
+    (found : Option Found) → option_map see found ≡ find (λ entry. bytes_eq name (name_of entry.1)) entries
+    → option_map (λ item. (see item).0) found ≡ number_named name_of name entries
+found-named {Found = Found} name_of name entries see found is =
+    of_both found ∙ ap (option_map (λ entry. entry.0)) is ∙ sym (number_named-find name_of name entries)
+  where
+    of_both : (o : Option Found) → option_map (λ item. (see item).0) o ≡ option_map (λ entry. entry.0) (option_map see o)
+    of_both None = refl
+    of_both (Some item) = refl
 
 -- numbers that fit stay so
 

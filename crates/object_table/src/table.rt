@@ -3,12 +3,14 @@
 ghost use Rattle.std.specs.Prelude.{◌≡◌, ◌≢◌, ◌↔◌, ◌++◌, ◌∷◌, ℕ, [], None, pos, length, IfErr, IfOk, IfSome, IsTrue, OnErr, OnOk, List};
 ghost use Rattle.std.specs.Map.Iter.{ShowsInOrder, deref_pair};
 ghost use Rattle.std.specs.Option.{option_copied};
+ghost use Rattle.std.specs.Str.{bytes_eq};
 ghost use Rattle.apex_types.specs.declared.record.Out.TheVariants as out;
 ghost use Rattle.apex_machine.specs.After.{numbered};
 ghost use Rattle.apex_machine.specs.Answer.{is_new};
 ghost use Rattle.apex_machine.specs.Arguments.{natural_of};
 ghost use Rattle.apex_machine.specs.Conditions.{is_taken};
 ghost use Rattle.apex_machine.specs.Demands.{AllHold, answer_demands};
+ghost use Rattle.apex_machine.specs.Names.{number_named};
 ghost use Rattle.apex_machine.specs.State.{change_at, given_object, is_free, item_at};
 ghost use Rattle.wait_set.specs.Actors.{Refuses, entry_with};
 ghost use Rattle.wait_set.specs.Sets.{IsNewInEach};
@@ -141,6 +143,14 @@ impl<Object: Named> ObjectTable<Object> {
             .values()
             .any(|object| name.as_bytes() == object.name().as_bytes())
     }
+
+    /// The number of the first object that has this name, or None where none has.
+    pub fn number_named(&self, name: &Name) -> Option<u32>
+        ensures { result ≡ number_named Object.name_of name.now self.now }
+    {
+        let (number, _) = self.iter().find(|(_, object)| has_name(*object, name))?;
+        Some(*number)
+    }
 }
 
 impl<Object: ApexObject> ObjectTable<Object> {
@@ -183,6 +193,13 @@ impl<Object: ApexObject> ObjectTable<Object> {
             object.leave(who);
         }
     }
+}
+
+// Whether an object has this name.
+fn has_name<Object: Named>(object: &Object, name: &Name) -> bool
+    ensures { result ≡ bytes_eq name.now (Object.name_of object.now) }
+{
+    name.as_bytes() == object.name().as_bytes()
 }
 
 // The number of an object that a caller's number can be: 0 to 4,294,967,295; None for any other.

@@ -115,6 +115,12 @@ is_process_service request.GetTime = true
 is_process_service (request.SetPartitionMode mode) = true
 is_process_service _ = false
 
+-- the services that tell of an object or a port: they change none
+abbrev pub tells_only : Request → Bool
+tells_only (request.GetId kind name) = true
+tells_only (request.GetStatus kind object) = true
+tells_only _ = false
+
 -- the creations of objects
 abbrev pub creates_object : Request → Bool
 creates_object (request.CreateBuffer name size capacity discipline) = true

@@ -1,6 +1,6 @@
 // What a call makes of its partition.
 
-ghost use Rattle.std.specs.Prelude.{◌≡◌, ℕ, [], None, true, IfErr, IfOk, IsTrue, OnErr, OnOk};
+ghost use Rattle.std.specs.Prelude.{◌≡◌, ℕ, [], None, true, false, IfErr, IfOk, IsTrue, OnErr, OnOk};
 ghost use Rattle.apex_machine.specs.After.{own_partition, partition_called};
 ghost use Rattle.apex_machine.specs.Configuration.{Configuration, period_of};
 ghost use Rattle.apex_machine.specs.Demands.{AllHold, caller_demands, own_call_demands};
@@ -12,7 +12,7 @@ ghost use Rattle.apex_laws.specs.PartLaws.{IsSoundPart};
 ghost use Rattle.process_state.specs.Timely.{TimesFit};
 ghost use Rattle.process_state.specs.Transfers.{IsTransferOf};
 ghost use Rattle.wait_set.specs.Actors.{Refuses};
-ghost use Rattle.partition_state.specs.Calls.{IsClear, LeavesObjects, RefusesOrWants, is_process_service, mutex_used, objects_served, served_demands};
+ghost use Rattle.partition_state.specs.Calls.{IsClear, LeavesObjects, RefusesOrWants, is_process_service, mutex_used, objects_served, served_demands, tells_only};
 
 use crate::restarting::restart_of;
 use crate::state::PartitionState;
@@ -151,6 +151,29 @@ impl PartitionState {
         call: &Call,
     ) -> Result<(), ObjFault>
         requires others { mutex_used call.now.request ≡ None }
+        requires clear { IsClear config.now moment.now.cores.now moment.now.place moment.now.core self.old call.now }
+        ensures ok { OnOk result (AllHold (served_demands now self.old call.now)) }
+        ensures after { OnOk result (self.new ≡ objects_served config.now moment.now.place call.now call.now.request self.old) }
+        ensures refused { IfErr result (Refuses (served_demands now self.old call.now)) }
+        ensures unchanged { OnErr result (self.new ≡ self.old) }
+    {
+        match &call.request {
+            Request::GetId { .. } | Request::GetStatus { .. } => self.tell(call),
+            _ => self.operate_by_service(config, now, moment, call),
+        }
+    }
+
+    // The same for all services but those that change the owner of a mutex and those that tell of an object.
+    #[tactic(auto, using(crate::proofs::Clear::at_work, crate::proofs::Served::changed_is_served))]
+    fn operate_by_service(
+        &mut self,
+        config: &Config,
+        now: u64,
+        moment: &Moment<'_>,
+        call: &Call,
+    ) -> Result<(), ObjFault>
+        requires others { mutex_used call.now.request ≡ None }
+        requires untold { tells_only call.now.request ≡ false }
         requires clear { IsClear config.now moment.now.cores.now moment.now.place moment.now.core self.old call.now }
         ensures ok { OnOk result (AllHold (served_demands now self.old call.now)) }
         ensures after { OnOk result (self.new ≡ objects_served config.now moment.now.place call.now call.now.request self.old) }

@@ -1,6 +1,7 @@
 // All pieces of a module, which judge the records round by round.
 
-ghost use Rattle.std.specs.Prelude.{◌≡◌, ◌↔◌, ◌<◌, ◌+◌, ℕ, Err, IfOk, length};
+ghost use Rattle.std.specs.Prelude.{◌≡◌, ◌↔◌, ◌<◌, ◌+◌, ℕ, Err, IfOk, length, slice_get};
+ghost use Rattle.std.specs.Option.{option_copied};
 ghost use Rattle.apex_machine.specs.Pieces.{pieces};
 ghost use Rattle.apex_machine.specs.Runs.{ArePlaced, AreOfCores};
 ghost use Rattle.verdict_merge.specs.Rounds.{IsReady, IsRound, cold_parts, parts_of};
@@ -66,6 +67,14 @@ impl Judge {
         ensures { result ≡ self.now.count }
     {
         self.count
+    }
+
+    /// The piece of this number, or None where there is none. Behind a round with a finding the piece that refuses a record stands
+    /// as it stood before that record.
+    pub fn piece(&self, number: usize) -> Option<&Piece>
+        ensures { option_copied result ≡ slice_get self.now.pieces number }
+    {
+        self.pieces.get(number)
     }
 
     /// The views of the records of the last round, one for each in their order, up to the one that was refused; none where

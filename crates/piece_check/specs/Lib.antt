@@ -4,3 +4,4 @@ pub mod Subjects
 pub mod Held
 pub mod Judged
 pub mod Touching
+pub mod Seen

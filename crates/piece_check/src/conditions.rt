@@ -9,6 +9,7 @@ mod creations;
 mod objects;
 mod port_services;
 mod processes;
+mod told;
 
 use crate::arguments::{is_over, is_time_out};
 use apex_machine::Mode;
@@ -19,6 +20,7 @@ use objects::use_conditions;
 use partition_state::PartitionState;
 use port_services::{port_creation_conditions, port_use_conditions};
 use processes::process_conditions;
+use told::{id_conditions, status_conditions};
 use wait_set::Conditions;
 
 /// The error conditions that hold for a call of one of the partition's processes.
@@ -52,6 +54,8 @@ pub(crate) fn conditions_of(config: &Config, state: &PartitionState, call: &Call
         | Request::ReadSamplingMessage { .. }
         | Request::SendQueuingMessage { .. }
         | Request::ReceiveQueuingMessage { .. } => port_use_conditions(state, who, request),
+        Request::GetId { kind, name } => id_conditions(state, *kind, name),
+        Request::GetStatus { kind, object } => status_conditions(state, *kind, *object),
         _ => process_conditions(config, state, who, request),
     }
 }

@@ -18,6 +18,7 @@ mod outcome;
 mod partition_piece;
 mod piece;
 mod profile;
+mod seen;
 mod subject;
 mod touched;
 mod views;

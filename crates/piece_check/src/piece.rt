@@ -20,7 +20,7 @@ use wait_set::ObjFault;
 /// A piece: the module, a partition or a channel. It judges the records that touch it, each at its place.
 #[derive(Drop)]
 pub struct Piece {
-    held: Held,
+    pub(crate) held: Held,
     spent: bool,
 }
 

@@ -6,6 +6,7 @@ ghost use Rattle.apex_machine.specs.After.{numbered};
 ghost use Rattle.apex_machine.specs.Answer.{NewNumber, done_with};
 ghost use Rattle.apex_machine.specs.Conditions.{is_taken};
 ghost use Rattle.apex_machine.specs.Demands.{AllHold, answer_demands};
+ghost use Rattle.apex_machine.specs.Names.{number_named};
 ghost use Rattle.apex_machine.specs.Ports.{channel_by};
 ghost use Rattle.apex_machine.specs.State.{Port as Seen, given_object, is_free};
 ghost use Rattle.object_table.specs.Numbers.{NumbersFit};
@@ -56,6 +57,13 @@ impl PortTable {
         ensures { result ≡ is_taken (λ (port : Seen). port.name) name.now self.now }
     {
         self.ports.is_taken(name)
+    }
+
+    /// The number of the first port that has this name, or None where none has.
+    pub fn number_named(&self, name: &Name) -> Option<u32>
+        ensures { result ≡ number_named (λ (port : Seen). port.name) name.now self.now }
+    {
+        self.ports.number_named(name)
     }
 
     /// The port of the number that a caller gives, or None where there is none.

@@ -1,6 +1,7 @@
 // The processes of a partition under their numbers.
 
-ghost use Rattle.std.specs.Prelude.{◌≡◌, ◌≢◌, ◌∷◌, ◌↔◌, [], IfOk, IsTrue, MatchOption, None, pos};
+ghost use Rattle.std.specs.Prelude.{◌≡◌, ◌≢◌, ◌∷◌, ◌↔◌, [], IfOk, IsTrue, MatchOption, None, option_map, pos, slice_get};
+ghost use Rattle.std.specs.Map.Iter.{deref_pair};
 ghost use Rattle.std.specs.Option.{option_copied};
 ghost use Rattle.apex_types.specs.Rising.{IsRising};
 ghost use Rattle.apex_machine.specs.declared.state.Process.{Process as ProcessValue};
@@ -145,6 +146,14 @@ impl ProcTable {
         ensures { result ≡ created_count self.now.table }
     {
         self.processes.len().saturating_sub(1)
+    }
+
+    /// The process of this index in the order of creation, with its number, or None where there are no more; that of index 0 is
+    /// the initialising one.
+    pub fn at(&self, index: usize) -> Option<(&ProcId, &Process)>
+        ensures { option_map deref_pair result ≡ slice_get self.now.table index }
+    {
+        self.processes.get_index(index)
     }
 
     /// The process that this core is to run, where the window is this partition's: the ready one before which no other

@@ -1,6 +1,6 @@
 -- What is given by its name: a step of the reader gives it exactly where the field is its name.
 use Rattle.std.proofs.Common.{◌≡◌, ◌∙◌, ℕ, List, [], ◌∷◌, Bool, true, false, Option, Some, None, Ok, refl, sym, ap, subst, if◌then◌else◌}
-use Rattle.std.specs.Prelude.{codes, option_map}
+use Rattle.std.specs.Prelude.{IsTrue, codes, option_map}
 use Rattle.std.specs.Str.{bytes_eq}
 use Rattle.std.proofs.lemmas.Option.{none-some, same_Some}
 use Rattle.std.proofs.lemmas.Slice.Eq.{bytes_eq-Decides}
@@ -13,11 +13,13 @@ use Rattle.apex_types.specs.declared.service.Service.TheVariants as service
 use Rattle.apex_types.specs.CodeName as CodeName
 use Rattle.apex_types.specs.ServiceName as ServiceName
 use Rattle.record_read.specs.declared.fault.RowFault.TheVariants.{BadKind, BadOut, BadService, FieldNotForKind}
+use Rattle.record_read.specs.declared.format.Format.{Format}
 use Rattle.record_read.specs.declared.kind.Kind.{Kind}
 use Rattle.record_read.specs.declared.kind.Kind.TheVariants as kind
+use Rattle.record_read.specs.Format.{stands_in}
 use Rattle.record_read.specs.Grammar.{HoldsOutcome}
 use Rattle.record_read.specs.Named.{all_codes, all_services, code_among, code_named, code_of, kind_named, kind_of, out_named, out_of, service_among, service_named, service_of}
-use Rattle.record_read.proofs.GrammarFields.{no_fault, ok_some}
+use Rattle.record_read.proofs.GrammarFields.{no_fault, ok_some, step_ok, test_ok}
 
 -- the first of two finds: the text has the first name and this is what it names, or the second find gives it
 first_is : {A : Type 0} (name text : List ℕ) (named : A) (others : Option A) (found : A) (Holds : A → Type 0) → (name ≡ text → Holds named)
@@ -68,21 +70,26 @@ service_among_is [] text s e = absurd (none-some s e)
 service_among_is (first ∷ others) text s e =
     first_is (ServiceName.name_of first) text first (service_among others text) s (λ found. text ≡ ServiceName.name_of found) sym (service_among_is others text s) e
 
--- a field that is read as a service is its name
-pub service_is : (text : List ℕ) (s : Service) → service_of text ≡ Ok s → text ≡ ServiceName.name_of s
+-- a field that is read as a service is its name, and the service stands in the format
+pub service_is : (format : Format) (text : List ℕ) (s : Service) → service_of format text ≡ Ok s → (text ≡ ServiceName.name_of s) × IsTrue (stands_in format s)
 unfolding service_of service_named
-service_is [] s e = no_fault FieldNotForKind s e
-service_is (b ∷ bs) s e = service_among_is all_services (b ∷ bs) s (ok_some (service_named (b ∷ bs)) BadService s e)
+service_is format [] s e = no_fault FieldNotForKind s e
+service_is format (b ∷ bs) s e =
+    let found = step_ok _ _ s e in
+    let test = test_ok (stands_in format found.0) BadService found.0 s found.2 in (
+      service_among_is all_services (b ∷ bs) s (ok_some (service_named (b ∷ bs)) BadService s (found.1 ∙ ap Ok test.1)),
+      subst (λ given. IsTrue (stands_in format given)) test.1 test.0,
+    )
 
--- the name of a service names it, and no service before it
-of_service_name : (s : Service) → service_of (ServiceName.name_of s) ≡ Ok s
+-- the name of a service that stands in the format names it, and no service before it
+of_service_name : (format : Format) (s : Service) → IsTrue (stands_in format s) → service_of format (ServiceName.name_of s) ≡ Ok s
 unfolding service_of service_named service_among
-of_service_name service.CreateProcess = refl
-of_service_name _ = refl
+of_service_name format service.CreateProcess stands = rw stands refl
+of_service_name format _ stands = rw stands refl
 
--- a field that is the name of a service is read as it
-pub is_service : (text : List ℕ) (s : Service) → text ≡ ServiceName.name_of s → service_of text ≡ Ok s
-is_service text s e = ap service_of e ∙ of_service_name s
+-- a field that is the name of a service that stands in the format is read as it
+pub is_service : (format : Format) (text : List ℕ) (s : Service) → text ≡ ServiceName.name_of s → IsTrue (stands_in format s) → service_of format text ≡ Ok s
+is_service format text s e stands = ap (service_of format) e ∙ of_service_name format s stands
 
 -- a text that names a code among some is its name
 code_among_is : (cs : List Code) (text : List ℕ) (c : Code) → code_among cs text ≡ Some c → text ≡ CodeName.name_of c

@@ -80,9 +80,9 @@ unfolding who_in
 is_who fields who h = rw (holds_number greatest_partition (text_at fields 2) who.part (omega arith) h.part, holds_number greatest_number (text_at fields 3) who.proc (omega arith) h.proc) refl
 
 -- a request that is read is what the row holds
-request_is : (fields : Fields) (request : Request) → request_in fields ≡ Ok request → HoldsRequest (columns_of fields) request
+request_is : (format : Format) (fields : Fields) (request : Request) → request_in format fields ≡ Ok request → HoldsRequest format (columns_of fields) request
 unfolding request_in
-request_is fields request e =
+request_is format fields request e =
     let service = step_ok _ _ request e in
     let n1 = step_ok _ _ request service.2 in
     let n2 = step_ok _ _ request n1.2 in
@@ -90,6 +90,7 @@ request_is fields request e =
     let name = step_ok _ _ request n3.2 in
     let message = step_ok _ _ request name.2 in
     let takes = arguments_of service.0 in
+    let given = service_is format (text_at fields 4) service.0 service.1 in
     record {
       service = service.0;
       n1 = n1.0;
@@ -98,7 +99,8 @@ request_is fields request e =
       name = name.0;
       message = message.0;
       is = sym (same_ok (request_of service.0 n1.0 n2.0 n3.0 name.0 message.0) request message.2);
-      has_service = service_is (text_at fields 4) service.0 service.1;
+      has_service = given.0;
+      stands = given.1;
       has_n1 = argument_holds (nat_le 1 takes.numbers) (text_at fields 5) n1.0 n1.1;
       has_n2 = argument_holds (nat_le 2 takes.numbers) (text_at fields 6) n2.0 n2.1;
       has_n3 = argument_holds (nat_le 3 takes.numbers) (text_at fields 7) n3.0 n3.1;
@@ -107,12 +109,12 @@ request_is fields request e =
     }
 
 -- a request that the row holds is read
-is_request : (fields : Fields) (request : Request) → HoldsRequest (columns_of fields) request → request_in fields ≡ Ok request
+is_request : (format : Format) (fields : Fields) (request : Request) → HoldsRequest format (columns_of fields) request → request_in format fields ≡ Ok request
 unfolding request_in
-is_request fields request h =
+is_request format fields request h =
     let takes = arguments_of h.service in
     rw (
-      is_service (text_at fields 4) h.service h.has_service,
+      is_service format (text_at fields 4) h.service h.has_service h.stands,
       holds_argument (nat_le 1 takes.numbers) (text_at fields 5) h.n1 h.has_n1,
       holds_argument (nat_le 2 takes.numbers) (text_at fields 6) h.n2 h.has_n2,
       holds_argument (nat_le 3 takes.numbers) (text_at fields 7) h.n3 h.has_n3,
@@ -160,28 +162,30 @@ is_claim fields claim h =
     ) refl
 
 -- a row of this kind that is read as a call is its row
-call_is : (fields : Fields) (call : Call) → text_at fields 1 ≡ codes "call" → call_in fields ≡ Ok call → IsRowOfCall (columns_of fields) call
+call_is : (format : Format) (fields : Fields) (call : Call) → text_at fields 1 ≡ codes "call" → call_in format fields ≡ Ok call
+    → IsRowOfCall format (columns_of fields) call
 unfolding call_in
-call_is fields call named e =
+call_is format fields call named e =
     let who = step_ok _ _ call e in
     let request = step_ok _ _ call who.2 in
     let claim = step_ok _ _ call request.2 in
-    subst (IsRowOfCall (columns_of fields)) (same_ok (record { who = who.0; request = request.0; claim = claim.0 }) call claim.2) (record {
+    subst (IsRowOfCall format (columns_of fields)) (same_ok (record { who = who.0; request = request.0; claim = claim.0 }) call claim.2) (record {
       kind = named;
       who = who_is fields who.0 who.1;
-      request = request_is fields request.0 request.1;
+      request = request_is format fields request.0 request.1;
       claim = claim_is fields claim.0 claim.1;
     })
 
 -- the row of a call is read as the call
-is_call : (fields : Fields) (call : Call) → IsRowOfCall (columns_of fields) call → call_in fields ≡ Ok call
+is_call : (format : Format) (fields : Fields) (call : Call) → IsRowOfCall format (columns_of fields) call → call_in format fields ≡ Ok call
 unfolding call_in
-is_call fields call h = rw (is_who fields call.who h.who, is_request fields call.request h.request, is_claim fields call.claim h.claim) refl
+is_call format fields call h = rw (is_who fields call.who h.who, is_request format fields call.request h.request, is_claim fields call.claim h.claim) refl
 
 -- a row of this kind that is read as a return is its row
-return_is : (fields : Fields) (ret : Return) → text_at fields 1 ≡ codes "ret" → return_in fields ≡ Ok ret → IsRowOfReturn (columns_of fields) ret
+return_is : (format : Format) (fields : Fields) (ret : Return) → text_at fields 1 ≡ codes "ret" → return_in format fields ≡ Ok ret
+    → IsRowOfReturn format (columns_of fields) ret
 unfolding return_in
-return_is fields ret named e =
+return_is format fields ret named e =
     let who = step_ok _ _ ret e in
     let service = step_ok _ _ ret who.2 in
     let unused = step_ok _ _ ret service.2 in
@@ -191,11 +195,13 @@ return_is fields ret named e =
     let unused_too = step_ok _ _ ret bytes.2 in
     let val2 = step_ok _ _ ret unused_too.2 in
     let val3 = step_ok _ _ ret val2.2 in
-    subst (IsRowOfReturn (columns_of fields))
+    let given = service_is format (text_at fields 4) service.0 service.1 in
+    subst (IsRowOfReturn format (columns_of fields))
     (same_ok (record { who = who.0; service = service.0; code = code.0; val = val.0; val2 = val2.0; val3 = val3.0; bytes = bytes.0 }) ret val3.2) (record {
       kind = named;
       who = who_is fields who.0 who.1;
-      service = service_is (text_at fields 4) service.0 service.1;
+      service = given.0;
+      stands = given.1;
       code = code_is (text_at fields 11) code.0 code.1;
       val = maybe_signed_holds (text_at fields 12) val.0 val.1;
       val2 = maybe_signed_holds (text_at fields 16) val2.0 val2.1;
@@ -205,12 +211,12 @@ return_is fields ret named e =
     })
 
 -- the row of a return is read as the return
-is_return : (fields : Fields) (ret : Return) → IsRowOfReturn (columns_of fields) ret → return_in fields ≡ Ok ret
+is_return : (format : Format) (fields : Fields) (ret : Return) → IsRowOfReturn format (columns_of fields) ret → return_in format fields ≡ Ok ret
 unfolding return_in
-is_return fields ret h =
+is_return format fields ret h =
     rw (
       is_who fields ret.who h.who,
-      is_service (text_at fields 4) ret.service h.service,
+      is_service format (text_at fields 4) ret.service h.service h.stands,
       are_all_empty fields 5 6 (front_empty (texts_from fields 5 6) (texts_from fields 14 2) h.empty),
       is_code (text_at fields 11) ret.code h.code,
       holds_maybe_signed (text_at fields 12) ret.val h.val,
@@ -282,24 +288,25 @@ is_tick fields named h =
     ) refl
 
 -- a row of a kind that is read as something recorded is its row
-body_is : (fields : Fields) (k : Kind) (b : Body) → text_at fields 1 ≡ kind_name k → body_in k fields ≡ Ok b → IsRowOf (columns_of fields) b
+body_is : (format : Format) (fields : Fields) (k : Kind) (b : Body) → text_at fields 1 ≡ kind_name k → body_in format k fields ≡ Ok b → IsRowOf format (columns_of fields) b
 unfolding body_in
-body_is fields kind.Call b named e =
-    let call = step_ok _ _ b e in subst (IsRowOf (columns_of fields)) (same_ok (body.Call call.0) b call.2) (call_is fields call.0 named call.1)
-body_is fields kind.Ret b named e =
-    let ret = step_ok _ _ b e in subst (IsRowOf (columns_of fields)) (same_ok (body.Ret ret.0) b ret.2) (return_is fields ret.0 named ret.1)
-body_is fields kind.Disp b named e =
-    let who = step_ok _ _ b e in subst (IsRowOf (columns_of fields)) (same_ok (body.Disp who.0) b who.2) (dispatch_is fields who.0 named who.1)
-body_is fields kind.Tick b named e =
-    let woken = step_ok _ _ b e in subst (IsRowOf (columns_of fields)) (same_ok (body.Tick woken.0) b woken.2) (tick_is fields woken.0 named woken.1)
+body_is format fields kind.Call b named e =
+    let call = step_ok _ _ b e in subst (IsRowOf format (columns_of fields)) (same_ok (body.Call call.0) b call.2) (call_is format fields call.0 named call.1)
+body_is format fields kind.Ret b named e =
+    let ret = step_ok _ _ b e in subst (IsRowOf format (columns_of fields)) (same_ok (body.Ret ret.0) b ret.2) (return_is format fields ret.0 named ret.1)
+body_is format fields kind.Disp b named e =
+    let who = step_ok _ _ b e in subst (IsRowOf format (columns_of fields)) (same_ok (body.Disp who.0) b who.2) (dispatch_is fields who.0 named who.1)
+body_is format fields kind.Tick b named e =
+    let woken = step_ok _ _ b e in subst (IsRowOf format (columns_of fields)) (same_ok (body.Tick woken.0) b woken.2) (tick_is fields woken.0 named woken.1)
 
 -- the row of something recorded has a kind, and is read as a row of that kind
-is_body : (fields : Fields) (b : Body) → IsRowOf (columns_of fields) b → (k : Kind) × (text_at fields 1 ≡ kind_name k) × (body_in k fields ≡ Ok b)
+is_body : (format : Format) (fields : Fields) (b : Body) → IsRowOf format (columns_of fields) b
+    → (k : Kind) × (text_at fields 1 ≡ kind_name k) × (body_in format k fields ≡ Ok b)
 unfolding body_in
-is_body fields (body.Call call) h = (kind.Call, h.kind, rw (is_call fields call h) refl)
-is_body fields (body.Ret ret) h = (kind.Ret, h.kind, rw (is_return fields ret h) refl)
-is_body fields (body.Disp who) h = (kind.Disp, h.kind, rw (is_dispatch fields who h) refl)
-is_body fields (body.Tick named) h = (kind.Tick, h.kind, rw (is_tick fields named h) refl)
+is_body format fields (body.Call call) h = (kind.Call, h.kind, rw (is_call format fields call h) refl)
+is_body format fields (body.Ret ret) h = (kind.Ret, h.kind, rw (is_return format fields ret h) refl)
+is_body format fields (body.Disp who) h = (kind.Disp, h.kind, rw (is_dispatch fields who h) refl)
+is_body format fields (body.Tick named) h = (kind.Tick, h.kind, rw (is_tick fields named h) refl)
 
 -- a test that let a value through
 test_then : {A : Type 0} (test : Bool) (fault : RowFault) (read : Result A RowFault) (y : A) → (if test then read else Err fault) ≡ Ok y → (test ≡ true) × (read ≡ Ok y)
@@ -307,7 +314,7 @@ test_then true fault read y e = (refl, e)
 test_then false fault read y e = no_fault fault y e
 
 -- the fields of a row of its format that are read as a record are its row
-fields_are : (format : Format) (next : ℕ) (fields : Fields) (rec : Record) → length fields ≡ field_count format → fields_read next fields ≡ Ok rec → IsRow format next fields rec
+fields_are : (format : Format) (next : ℕ) (fields : Fields) (rec : Record) → length fields ≡ field_count format → fields_read format next fields ≡ Ok rec → IsRow format next fields rec
 unfolding fields_read seq_in
 fields_are format next fields rec count e =
     let room : pred most_records < 2 ^ 64 = omega arith in
@@ -323,14 +330,14 @@ fields_are format next fields rec count e =
       number = sym test.1 ∙ eqb-true given.0 next test.0;
       bound = subst (λ n. n < most_records) test.1 (omega arith);
       seq = number.written ∙ ap decimal test.1;
-      body = body_is fields k.0 found.0 (kind_is (text_at fields 1) k.0 k.1) found.1;
+      body = body_is format fields k.0 found.0 (kind_is (text_at fields 1) k.0 k.1) found.1;
     })
 
 -- the fields of the row of a record are read as the record
-are_fields : (format : Format) (next : ℕ) (fields : Fields) (rec : Record) → IsRow format next fields rec → fields_read next fields ≡ Ok rec
+are_fields : (format : Format) (next : ℕ) (fields : Fields) (rec : Record) → IsRow format next fields rec → fields_read format next fields ≡ Ok rec
 unfolding fields_read seq_in
 are_fields format next fields rec h =
-    let b = is_body fields rec.body h.body in
+    let b = is_body format fields rec.body h.body in
     let bound : rec.seq < most_records = h.bound in
     let seq : HoldsNumber (pred most_records) (text_at fields 0) rec.seq = record { written = h.seq; bound = omega arith } in
     rw (
@@ -345,7 +352,7 @@ row_is : (format : Format) (next : ℕ) (fields : Fields) (rec : Record) → rec
 unfolding record_of
 row_is format next fields rec e =
     let room = test_then (nat_lt next most_records) TooMany _ rec e in
-    let count = test_then (length fields == field_count format) FieldCount (fields_read next fields) rec room.1 in
+    let count = test_then (length fields == field_count format) FieldCount (fields_read format next fields) rec room.1 in
     fields_are format next fields rec (eqb-true (length fields) (field_count format) count.0) count.1
 
 -- the row of a record is read as the record

@@ -48,6 +48,20 @@ service_kept service.ReadSamplingMessage n1 n2 n3 name message = refl
 service_kept service.CreateQueuingPort n1 n2 n3 name message = refl
 service_kept service.SendQueuingMessage n1 n2 n3 name message = refl
 service_kept service.ReceiveQueuingMessage n1 n2 n3 name message = refl
+service_kept service.GetBufferId n1 n2 n3 name message = refl
+service_kept service.GetBufferStatus n1 n2 n3 name message = refl
+service_kept service.GetBlackboardId n1 n2 n3 name message = refl
+service_kept service.GetBlackboardStatus n1 n2 n3 name message = refl
+service_kept service.GetSemaphoreId n1 n2 n3 name message = refl
+service_kept service.GetSemaphoreStatus n1 n2 n3 name message = refl
+service_kept service.GetEventId n1 n2 n3 name message = refl
+service_kept service.GetEventStatus n1 n2 n3 name message = refl
+service_kept service.GetMutexId n1 n2 n3 name message = refl
+service_kept service.GetMutexStatus n1 n2 n3 name message = refl
+service_kept service.GetSamplingPortId n1 n2 n3 name message = refl
+service_kept service.GetSamplingPortStatus n1 n2 n3 name message = refl
+service_kept service.GetQueuingPortId n1 n2 n3 name message = refl
+service_kept service.GetQueuingPortStatus n1 n2 n3 name message = refl
 
 -- the call for which memory was refused
 pub call_needs : (s : Service) (n1 n2 n3 : ℤ) (name message : List ℕ) (call : Call) → call.request ≡ request_of s n1 n2 n3 name message

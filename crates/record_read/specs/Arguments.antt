@@ -2,6 +2,7 @@
 use Rattle.std.specs.Prelude.{ℕ, ℤ, List, true, false}
 use Rattle.apex_types.specs.declared.service.Service.{Service}
 use Rattle.apex_types.specs.declared.service.Service.TheVariants as service
+use Rattle.apex_types.specs.declared.object_kind.ObjectKind.TheVariants as kind
 use Rattle.apex_types.specs.declared.request.Request.{Request}
 use Rattle.apex_types.specs.declared.request.Request.TheVariants as request
 use Rattle.record_read.specs.declared.arguments.Arguments.{Arguments}
@@ -57,6 +58,20 @@ arguments_of service.ReadSamplingMessage = plain 1
 arguments_of service.CreateQueuingPort = named 3
 arguments_of service.SendQueuingMessage = sending 3
 arguments_of service.ReceiveQueuingMessage = plain 2
+arguments_of service.GetBufferId = named 0
+arguments_of service.GetBufferStatus = plain 1
+arguments_of service.GetBlackboardId = named 0
+arguments_of service.GetBlackboardStatus = plain 1
+arguments_of service.GetSemaphoreId = named 0
+arguments_of service.GetSemaphoreStatus = plain 1
+arguments_of service.GetEventId = named 0
+arguments_of service.GetEventStatus = plain 1
+arguments_of service.GetMutexId = named 0
+arguments_of service.GetMutexStatus = plain 1
+arguments_of service.GetSamplingPortId = named 0
+arguments_of service.GetSamplingPortStatus = plain 1
+arguments_of service.GetQueuingPortId = named 0
+arguments_of service.GetQueuingPortStatus = plain 1
 
 -- the request of a service, from n1, n2, n3, the name and the message; what the service does not take is not used
 unfoldable pub request_of : Service → ℤ → ℤ → ℤ → List ℕ → List ℕ → Request
@@ -97,3 +112,17 @@ request_of service.ReadSamplingMessage n1 n2 n3 name message = request.ReadSampl
 request_of service.CreateQueuingPort n1 n2 n3 name message = request.CreateQueuingPort name n1 n2 n3
 request_of service.SendQueuingMessage n1 n2 n3 name message = request.SendQueuingMessage n1 n2 n3 message
 request_of service.ReceiveQueuingMessage n1 n2 n3 name message = request.ReceiveQueuingMessage n1 n2
+request_of service.GetBufferId n1 n2 n3 name message = request.GetId kind.Buffer name
+request_of service.GetBufferStatus n1 n2 n3 name message = request.GetStatus kind.Buffer n1
+request_of service.GetBlackboardId n1 n2 n3 name message = request.GetId kind.Blackboard name
+request_of service.GetBlackboardStatus n1 n2 n3 name message = request.GetStatus kind.Blackboard n1
+request_of service.GetSemaphoreId n1 n2 n3 name message = request.GetId kind.Semaphore name
+request_of service.GetSemaphoreStatus n1 n2 n3 name message = request.GetStatus kind.Semaphore n1
+request_of service.GetEventId n1 n2 n3 name message = request.GetId kind.Event name
+request_of service.GetEventStatus n1 n2 n3 name message = request.GetStatus kind.Event n1
+request_of service.GetMutexId n1 n2 n3 name message = request.GetId kind.Mutex name
+request_of service.GetMutexStatus n1 n2 n3 name message = request.GetStatus kind.Mutex n1
+request_of service.GetSamplingPortId n1 n2 n3 name message = request.GetId kind.SamplingPort name
+request_of service.GetSamplingPortStatus n1 n2 n3 name message = request.GetStatus kind.SamplingPort n1
+request_of service.GetQueuingPortId n1 n2 n3 name message = request.GetId kind.QueuingPort name
+request_of service.GetQueuingPortStatus n1 n2 n3 name message = request.GetStatus kind.QueuingPort n1

@@ -1,5 +1,5 @@
 -- The grammar of rows: which rows are the row of a call, of a return, of a dispatch and of a tick, by what their fields hold.
-use Rattle.std.specs.Prelude.{◌≡◌, ◌≢◌, ◌⊎◌, ◌≤◌, ◌<◌, ℕ, ℤ, pos, negsuc, List, [], ◌∷◌, ◌++◌, Bool, true, false, Option, Some, None, Ok, codes, length, nat_le, FitsSigned}
+use Rattle.std.specs.Prelude.{◌≡◌, ◌≢◌, ◌⊎◌, ◌≤◌, ◌<◌, ℕ, ℤ, pos, negsuc, List, [], ◌∷◌, ◌++◌, Bool, true, false, Option, Some, None, Ok, IsTrue, codes, length, nat_le, FitsSigned}
 use Rattle.std.specs.Fmt.{decimal, signed_decimal}
 use Rattle.std.specs.Int.{w64}
 use Rattle.std.specs.List.{All, AllPass, join_by}
@@ -23,7 +23,7 @@ use Rattle.apex_types.specs.declared.service.Service.{Service}
 use Rattle.record_read.specs.declared.format.Format.{Format}
 use Rattle.record_read.specs.Arguments.{arguments_of, request_of}
 use Rattle.record_read.specs.Field.{text_at}
-use Rattle.record_read.specs.Format.{field_count}
+use Rattle.record_read.specs.Format.{field_count, stands_in}
 use Rattle.record_read.specs.Payload.{is_printable}
 
 -- what one field holds
@@ -156,8 +156,8 @@ pub record NamesProcess (row : Columns) (who : Who) : Type 0 where
   pub part : HoldsNumber greatest_partition row.part who.part
   pub proc : HoldsNumber greatest_number row.proc who.proc
 
--- the request of a call: a service by its name, and just the arguments that this service takes
-pub record HoldsRequest (row : Columns) (request : Request) : Type 0 where
+-- the request of a call: a service of the format by its name, and just the arguments that this service takes
+pub record HoldsRequest (format : Format) (row : Columns) (request : Request) : Type 0 where
   pub service : Service
   pub n1 : ℤ
   pub n2 : ℤ
@@ -166,6 +166,7 @@ pub record HoldsRequest (row : Columns) (request : Request) : Type 0 where
   pub message : List ℕ
   pub is : request ≡ request_of service n1 n2 n3 name message
   pub has_service : row.service ≡ ServiceName.name_of service
+  pub stands : IsTrue (stands_in format service)
   pub has_n1 : HoldsArgument service 1 row.n1 n1
   pub has_n2 : HoldsArgument service 2 row.n2 n2
   pub has_n3 : HoldsArgument service 3 row.n3 n3
@@ -184,17 +185,18 @@ pub record HoldsClaim (row : Columns) (claim : Claim) : Type 0 where
   pub woken : HoldsProcesses row.woken claim.woken
 
 -- the row of a call
-pub record IsRowOfCall (row : Columns) (call : Call) : Type 0 where
+pub record IsRowOfCall (format : Format) (row : Columns) (call : Call) : Type 0 where
   pub kind : row.kind ≡ codes "call"
   pub who : NamesProcess row call.who
-  pub request : HoldsRequest row call.request
+  pub request : HoldsRequest format row call.request
   pub claim : HoldsClaim row call.claim
 
--- the row of a return: a service without arguments, and a code
-pub record IsRowOfReturn (row : Columns) (ret : Return) : Type 0 where
+-- the row of a return: a service of the format without arguments, and a code
+pub record IsRowOfReturn (format : Format) (row : Columns) (ret : Return) : Type 0 where
   pub kind : row.kind ≡ codes "ret"
   pub who : NamesProcess row ret.who
   pub service : row.service ≡ ServiceName.name_of ret.service
+  pub stands : IsTrue (stands_in format ret.service)
   pub code : row.out ≡ CodeName.name_of ret.code
   pub val : MayHold HoldsSigned row.val ret.val
   pub val2 : MayHold HoldsSigned row.val2 ret.val2
@@ -220,11 +222,11 @@ pub record IsRowOfTick (row : Columns) (named : List Who) : Type 0 where
   pub empty : AreEmpty (row.part ∷ row.proc ∷ row.service ∷ row.n1 ∷ row.n2 ∷ row.n3 ∷ row.name ∷ row.msg ∷ row.prio ∷ row.out ∷ row.val ∷ row.«data» ∷ row.chan ∷ row.val2 ∷ row.val3 ∷ [])
 
 -- one case for each kind of row
-abbrev pub IsRowOf : Columns → Body → Type 0
-IsRowOf row (body.Call call) = IsRowOfCall row call
-IsRowOf row (body.Ret ret) = IsRowOfReturn row ret
-IsRowOf row (body.Disp who) = IsRowOfDispatch row who
-IsRowOf row (body.Tick woken) = IsRowOfTick row woken
+abbrev pub IsRowOf : Format → Columns → Body → Type 0
+IsRowOf format row (body.Call call) = IsRowOfCall format row call
+IsRowOf format row (body.Ret ret) = IsRowOfReturn format row ret
+IsRowOf format row (body.Disp who) = IsRowOfDispatch row who
+IsRowOf format row (body.Tick woken) = IsRowOfTick row woken
 
 -- fields are the row of a record, in a recording of this format: they are as many as the format has, the first holds the record's
 -- number, which is the row's, and the others are the row of what it records
@@ -233,4 +235,4 @@ pub record IsRow (format : Format) (next : ℕ) (fields : Fields) (rec : Record)
   pub number : rec.seq ≡ next
   pub bound : rec.seq < most_records
   pub seq : (columns_of fields).seq ≡ decimal rec.seq
-  pub body : IsRowOf (columns_of fields) rec.body
+  pub body : IsRowOf format (columns_of fields) rec.body

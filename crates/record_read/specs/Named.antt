@@ -1,5 +1,5 @@
 -- What is given by its name: kinds of rows, services, codes and outcomes.
-use Rattle.std.specs.Prelude.{ℕ, List, [], ◌∷◌, Option, Some, None, Result, Err, codes, option_map, if◌then◌else◌}
+use Rattle.std.specs.Prelude.{ℕ, List, [], ◌∷◌, Option, Some, None, Result, Ok, Err, codes, option_map, if◌then◌else◌}
 use Rattle.std.specs.Option.{ok_or}
 use Rattle.std.specs.Str.{bytes_eq}
 use Rattle.apex_types.specs.declared.code.Code.{Code}
@@ -10,10 +10,13 @@ use Rattle.apex_types.specs.declared.record.Out.{Out}
 use Rattle.apex_types.specs.declared.record.Out.TheVariants as out
 use Rattle.apex_types.specs.CodeName as CodeName
 use Rattle.apex_types.specs.ServiceName as ServiceName
+use Rattle.record_read.specs.declared.format.Format.{Format}
 use Rattle.record_read.specs.declared.kind.Kind.{Kind}
 use Rattle.record_read.specs.declared.kind.Kind.TheVariants as kind
 use Rattle.record_read.specs.declared.fault.RowFault.{RowFault}
 use Rattle.record_read.specs.declared.fault.RowFault.TheVariants.{FieldNotForKind, BadKind, BadService, BadOut}
+use Rattle.record_read.specs.Format.{stands_in}
+use Rattle.record_read.specs.Steps.{◌>>=◌}
 
 -- the kinds of rows are `call`, `ret`, `disp` and `tick`
 unfoldable pub kind_named : List ℕ → Option Kind
@@ -42,7 +45,7 @@ unfoldable pub service_among : List Service → List ℕ → Option Service
 service_among [] text = None
 service_among (s ∷ ss) text = if bytes_eq (ServiceName.name_of s) text then Some s else service_among ss text
 
--- the services that a row can name
+-- the services that rows name
 abbrev pub all_services : List Service
 all_services =
     service.CreateProcess ∷ service.InitializeProcessCoreAffinity ∷ service.Start ∷ service.Stop ∷ service.StopSelf
@@ -52,7 +55,10 @@ all_services =
     ∷ service.ClearBlackboard ∷ service.CreateSemaphore ∷ service.WaitSemaphore ∷ service.SignalSemaphore
     ∷ service.CreateEvent ∷ service.SetEvent ∷ service.ResetEvent ∷ service.WaitEvent ∷ service.CreateMutex
     ∷ service.AcquireMutex ∷ service.ReleaseMutex ∷ service.CreateSamplingPort ∷ service.WriteSamplingMessage
-    ∷ service.ReadSamplingMessage ∷ service.CreateQueuingPort ∷ service.SendQueuingMessage ∷ service.ReceiveQueuingMessage ∷ []
+    ∷ service.ReadSamplingMessage ∷ service.CreateQueuingPort ∷ service.SendQueuingMessage ∷ service.ReceiveQueuingMessage
+    ∷ service.GetBufferId ∷ service.GetBufferStatus ∷ service.GetBlackboardId ∷ service.GetBlackboardStatus ∷ service.GetSemaphoreId
+    ∷ service.GetSemaphoreStatus ∷ service.GetEventId ∷ service.GetEventStatus ∷ service.GetMutexId ∷ service.GetMutexStatus
+    ∷ service.GetSamplingPortId ∷ service.GetSamplingPortStatus ∷ service.GetQueuingPortId ∷ service.GetQueuingPortStatus ∷ []
 
 -- the service of this name
 unfoldable pub service_named : List ℕ → Option Service
@@ -63,10 +69,12 @@ unfoldable pub kind_of : List ℕ → Result Kind RowFault
 kind_of [] = Err FieldNotForKind
 kind_of (b ∷ bs) = ok_or (kind_named (b ∷ bs)) BadKind
 
--- a service, which must be filled
-unfoldable pub service_of : List ℕ → Result Service RowFault
-service_of [] = Err FieldNotForKind
-service_of (b ∷ bs) = ok_or (service_named (b ∷ bs)) BadService
+-- a service of the format, which must be filled
+unfoldable pub service_of : Format → List ℕ → Result Service RowFault
+service_of format [] = Err FieldNotForKind
+service_of format (b ∷ bs) = do
+  service ← ok_or (service_named (b ∷ bs)) BadService
+  if stands_in format service then Ok service else Err BadService
 
 -- a code, which must be filled
 unfoldable pub code_of : List ℕ → Result Code RowFault

@@ -34,10 +34,10 @@ who_in fields = do
   proc ← number greatest_number (text_at fields 3)
   Ok (record { part = part; proc = proc })
 
--- the request of a call: the service, and just the arguments that it takes
-unfoldable pub request_in : Fields → Result Request RowFault
-request_in fields = do
-  service ← service_of (text_at fields 4)
+-- the request of a call: the service, which stands in the format, and just the arguments that it takes
+unfoldable pub request_in : Format → Fields → Result Request RowFault
+request_in format fields = do
+  service ← service_of format (text_at fields 4)
   n1 ← argument (nat_le 1 (arguments_of service).numbers) (text_at fields 5)
   n2 ← argument (nat_le 2 (arguments_of service).numbers) (text_at fields 6)
   n3 ← argument (nat_le 3 (arguments_of service).numbers) (text_at fields 7)
@@ -59,18 +59,18 @@ claim_in fields = do
   Ok (record { prio = prio; out = out; val = val; val2 = val2; val3 = val3; bytes = bytes; chan = chan; woken = woken })
 
 -- a call
-unfoldable pub call_in : Fields → Result Call RowFault
-call_in fields = do
+unfoldable pub call_in : Format → Fields → Result Call RowFault
+call_in format fields = do
   who ← who_in fields
-  request ← request_in fields
+  request ← request_in format fields
   claim ← claim_in fields
   Ok (record { who = who; request = request; claim = claim })
 
 -- a return: its service without arguments, and a code
-unfoldable pub return_in : Fields → Result Return RowFault
-return_in fields = do
+unfoldable pub return_in : Format → Fields → Result Return RowFault
+return_in format fields = do
   who ← who_in fields
-  service ← service_of (text_at fields 4)
+  service ← service_of format (text_at fields 4)
   unused ← all_empty fields 5 6
   code ← code_of (text_at fields 11)
   val ← maybe_signed (text_at fields 12)
@@ -101,30 +101,30 @@ tick_in fields = do
   unused_too ← all_empty fields 16 2
   Ok woken
 
--- what a row of this kind records
-unfoldable pub body_in : Kind → Fields → Result Body RowFault
-body_in kind.Call fields = call_in fields >>= (λ call. Ok (body.Call call))
-body_in kind.Ret fields = return_in fields >>= (λ ret. Ok (body.Ret ret))
-body_in kind.Disp fields = dispatch_in fields >>= (λ who. Ok (body.Disp who))
-body_in kind.Tick fields = tick_in fields >>= (λ woken. Ok (body.Tick woken))
+-- what a row of this kind records, in a recording of this format
+unfoldable pub body_in : Format → Kind → Fields → Result Body RowFault
+body_in format kind.Call fields = call_in format fields >>= (λ call. Ok (body.Call call))
+body_in format kind.Ret fields = return_in format fields >>= (λ ret. Ok (body.Ret ret))
+body_in format kind.Disp fields = dispatch_in fields >>= (λ who. Ok (body.Disp who))
+body_in format kind.Tick fields = tick_in fields >>= (λ woken. Ok (body.Tick woken))
 
 -- a row's number is the next one
 unfoldable pub seq_in : ℕ → ℕ → Result ℕ RowFault
 seq_in next seq = if nat_eq seq next then Ok seq else Err SeqGap
 
 -- a row that has the fields of its format
-unfoldable pub fields_read : ℕ → Fields → Result Record RowFault
-fields_read next fields = do
+unfoldable pub fields_read : Format → ℕ → Fields → Result Record RowFault
+fields_read format next fields = do
   given ← number 4294967294 (text_at fields 0)
   seq ← seq_in next given
   kind ← kind_of (text_at fields 1)
-  body ← body_in kind fields
+  body ← body_in format kind fields
   Ok (record { seq = seq; body = body })
 
 -- the row of this number, from 0, in a recording of this format; a recording has at most 4,294,967,295 rows
 unfoldable pub record_of : Format → ℕ → Fields → Result Record RowFault
 record_of format next fields =
-    if nat_lt next most_records then (if length fields == field_count format then fields_read next fields else Err FieldCount) else Err TooMany
+    if nat_lt next most_records then (if length fields == field_count format then fields_read format next fields else Err FieldCount) else Err TooMany
 
 -- a record, or why a row is none
 abbrev pub Item : Type 0

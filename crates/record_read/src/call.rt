@@ -11,6 +11,7 @@ ghost use Rattle.record_read.specs.Woken.{IsList, processes_in};
 
 use crate::fault::RowFault;
 use crate::field::{optional_number, optional_signed, required_number, text};
+use crate::format::Format;
 use crate::named::read_out;
 use crate::payload::{copy_message, judge_data};
 use crate::request::{judge_request, make_request};
@@ -30,14 +31,14 @@ struct PlainClaim {
     chan: Option<ChanId>,
 }
 
-/// The call that these fields are. The whole row is judged before memory is taken.
+/// The call that these fields are in a recording of this format. The whole row is judged before memory is taken.
 #[tactic(auto, unfolding(crate::specs::Row::call_in))]
-pub fn read_call(alloc: Global, fields: &ByteRecord) -> Result<Call, RowFault>
-    ensures value { IfOk result (λ call. call_in (fields_of fields.now) ≡ Ok call) }
-    ensures refused { IfErr result (λ fault. Refuses CallNeeds fault (call_in (fields_of fields.now))) }
+pub fn read_call(alloc: Global, format: Format, fields: &ByteRecord) -> Result<Call, RowFault>
+    ensures value { IfOk result (λ call. call_in format (fields_of fields.now) ≡ Ok call) }
+    ensures refused { IfErr result (λ fault. Refuses CallNeeds fault (call_in format (fields_of fields.now))) }
 {
     let who = read_who(fields)?;
-    let request = judge_request(fields)?;
+    let request = judge_request(format, fields)?;
     let claim = judge_claim(fields)?;
     let Ok(request) = make_request(alloc, request) else {
         return Err(RowFault::Memory);

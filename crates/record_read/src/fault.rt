@@ -29,7 +29,7 @@ pub enum RowFault {
     /// A field is filled that must be empty, or empty that must be filled.
     #[error("a field does not go with the row's kind")]
     FieldNotForKind,
-    /// The service is not known.
+    /// The service is not known, or does not stand in the recording's format.
     #[error("a service is not known")]
     BadService,
     /// The name is too long or has a byte that is not printable.

@@ -5,6 +5,7 @@ ghost use Rattle.record_read.specs.Named.{code_among, code_named, code_of, out_n
 ghost use Rattle.record_read.specs.Steps.{IsOfRow};
 
 use crate::fault::RowFault;
+use crate::format::Format;
 use apex_types::{Code, Out, Service};
 
 // All codes, the most frequent one first.
@@ -18,17 +19,17 @@ const CODES: [Code; 7] = [
     Code::TimedOut,
 ];
 
-/// The service in a field that must be filled.
+/// The service in a field that must be filled, in a row of this format.
 #[tactic(auto, unfolding(crate::specs::Named::service_of))]
-pub fn read_service(text: &[u8]) -> Result<Service, RowFault>
-    ensures value { result ≡ service_of text.now }
+pub fn read_service(format: Format, text: &[u8]) -> Result<Service, RowFault>
+    ensures value { result ≡ service_of format text.now }
     ensures own { IfErr result (λ fault. IsOfRow fault) }
 {
     match text {
         [] => Err(RowFault::FieldNotForKind),
         _ => match find_service(text) {
-            Some(service) => Ok(service),
-            None => Err(RowFault::BadService),
+            Some(service) if format.names(service) => Ok(service),
+            _ => Err(RowFault::BadService),
         },
     }
 }
@@ -140,12 +141,15 @@ fn services_of_length(len: usize) -> &'static [Service]
             Service::SetPriority,
             Service::CreateEvent,
             Service::CreateMutex,
+            Service::GetEventId,
+            Service::GetMutexId,
         ],
         13 => &[
             Service::PeriodicWait,
             Service::CreateBuffer,
             Service::AcquireMutex,
             Service::ReleaseMutex,
+            Service::GetBufferId,
         ],
         14 => &[
             Service::CreateProcess,
@@ -157,21 +161,37 @@ fn services_of_length(len: usize) -> &'static [Service]
             Service::ClearBlackboard,
             Service::CreateSemaphore,
             Service::SignalSemaphore,
+            Service::GetSemaphoreId,
+            Service::GetEventStatus,
+            Service::GetMutexStatus,
         ],
-        17 => &[Service::CreateBlackboard],
+        17 => &[
+            Service::CreateBlackboard,
+            Service::GetBufferStatus,
+            Service::GetBlackboardId,
+        ],
         18 => &[Service::SetPartitionMode, Service::DisplayBlackboard],
-        19 => &[Service::CreateQueuingPort],
-        20 => &[Service::CreateSamplingPort, Service::SendQueuingMessage],
-        21 => &[Service::ReadSamplingMessage],
+        19 => &[Service::CreateQueuingPort, Service::GetQueuingPortId],
+        20 => &[
+            Service::CreateSamplingPort,
+            Service::SendQueuingMessage,
+            Service::GetSemaphoreStatus,
+            Service::GetSamplingPortId,
+        ],
+        21 => &[Service::ReadSamplingMessage, Service::GetBlackboardStatus],
         22 => &[Service::WriteSamplingMessage],
-        23 => &[Service::ReceiveQueuingMessage],
+        23 => &[
+            Service::ReceiveQueuingMessage,
+            Service::GetQueuingPortStatus,
+        ],
+        24 => &[Service::GetSamplingPortStatus],
         32 => &[Service::InitializeProcessCoreAffinity],
         _ => &SERVICES,
     }
 }
 
 // All services.
-const SERVICES: [Service; 37] = [
+const SERVICES: [Service; 51] = [
     Service::CreateProcess,
     Service::InitializeProcessCoreAffinity,
     Service::Start,
@@ -209,4 +229,18 @@ const SERVICES: [Service; 37] = [
     Service::CreateQueuingPort,
     Service::SendQueuingMessage,
     Service::ReceiveQueuingMessage,
+    Service::GetBufferId,
+    Service::GetBufferStatus,
+    Service::GetBlackboardId,
+    Service::GetBlackboardStatus,
+    Service::GetSemaphoreId,
+    Service::GetSemaphoreStatus,
+    Service::GetEventId,
+    Service::GetEventStatus,
+    Service::GetMutexId,
+    Service::GetMutexStatus,
+    Service::GetSamplingPortId,
+    Service::GetSamplingPortStatus,
+    Service::GetQueuingPortId,
+    Service::GetQueuingPortStatus,
 ];

@@ -10,9 +10,10 @@ ghost use Rattle.record_read.specs.Steps.{IsOfRow};
 use crate::arguments::taken_by;
 use crate::fault::RowFault;
 use crate::field::{read_argument, text};
+use crate::format::Format;
 use crate::named::read_service;
 use crate::payload::{copy_message, copy_name, judge_message, judge_name};
-use apex_types::{Message, Name, Request, Service};
+use apex_types::{Message, Name, ObjectKind, Request, Service};
 use csv::ByteRecord;
 use std::alloc::{AllocError, Global};
 
@@ -27,17 +28,17 @@ pub struct RequestText<'a> {
     pub message: &'a [u8],
 }
 
-/// Judges the request of a call: its service and the service's arguments.
+/// Judges the request of a call in a recording of this format: its service and the service's arguments.
 #[tactic(auto, unfolding(crate::specs::Row::request_in))]
-pub fn judge_request(fields: &ByteRecord) -> Result<RequestText<'_>, RowFault>
-    ensures value { IfOk result (λ given. request_in (fields_of fields.now) ≡ Ok (request_of given.service given.n1 given.n2 given.n3 given.name.now (hex_bytes given.message.now))) }
+pub fn judge_request(format: Format, fields: &ByteRecord) -> Result<RequestText<'_>, RowFault>
+    ensures value { IfOk result (λ given. request_in format (fields_of fields.now) ≡ Ok (request_of given.service given.n1 given.n2 given.n3 given.name.now (hex_bytes given.message.now))) }
     ensures hex { IfOk result (λ given. IsHex given.message.now) }
     ensures name { IfOk result (λ given. given.name.now ≢ [] → (arguments_of given.service).name ≡ true) }
     ensures message { IfOk result (λ given. hex_bytes given.message.now ≢ [] → (arguments_of given.service).message ≡ true) }
-    ensures refused { IfErr result (λ fault. request_in (fields_of fields.now) ≡ Err fault) }
+    ensures refused { IfErr result (λ fault. request_in format (fields_of fields.now) ≡ Err fault) }
     ensures own { IfErr result (λ fault. IsOfRow fault) }
 {
-    let service = read_service(text(fields, 4))?;
+    let service = read_service(format, text(fields, 4))?;
     let takes = taken_by(service);
     let n1 = read_argument(takes.numbers >= 1, text(fields, 5))?;
     let n2 = read_argument(takes.numbers >= 2, text(fields, 6))?;
@@ -185,5 +186,33 @@ fn fill_request(
             port: n1,
             time_out: n2,
         },
+        Service::GetBufferId => ask_id(ObjectKind::Buffer, name),
+        Service::GetBufferStatus => ask_status(ObjectKind::Buffer, n1),
+        Service::GetBlackboardId => ask_id(ObjectKind::Blackboard, name),
+        Service::GetBlackboardStatus => ask_status(ObjectKind::Blackboard, n1),
+        Service::GetSemaphoreId => ask_id(ObjectKind::Semaphore, name),
+        Service::GetSemaphoreStatus => ask_status(ObjectKind::Semaphore, n1),
+        Service::GetEventId => ask_id(ObjectKind::Event, name),
+        Service::GetEventStatus => ask_status(ObjectKind::Event, n1),
+        Service::GetMutexId => ask_id(ObjectKind::Mutex, name),
+        Service::GetMutexStatus => ask_status(ObjectKind::Mutex, n1),
+        Service::GetSamplingPortId => ask_id(ObjectKind::SamplingPort, name),
+        Service::GetSamplingPortStatus => ask_status(ObjectKind::SamplingPort, n1),
+        Service::GetQueuingPortId => ask_id(ObjectKind::QueuingPort, name),
+        Service::GetQueuingPortStatus => ask_status(ObjectKind::QueuingPort, n1),
     }
+}
+
+// The request for the number of what has this name.
+fn ask_id(kind: ObjectKind, name: Name) -> Request
+    ensures { result ≡ Request.GetId kind name }
+{
+    Request::GetId { kind, name }
+}
+
+// The request for the state of the one that has this number.
+fn ask_status(kind: ObjectKind, object: i64) -> Request
+    ensures { result ≡ Request.GetStatus kind object }
+{
+    Request::GetStatus { kind, object }
 }

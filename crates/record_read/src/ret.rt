@@ -9,20 +9,21 @@ ghost use Rattle.record_read.specs.Steps.{Refuses};
 use crate::call::read_who;
 use crate::fault::RowFault;
 use crate::field::{expect_all_empty, optional_signed, text};
+use crate::format::Format;
 use crate::named::{read_code, read_service};
 use crate::payload::{copy_message, judge_data};
 use apex_types::Return;
 use csv::ByteRecord;
 use std::alloc::Global;
 
-/// The return that these fields are. The whole row is judged before memory is taken.
+/// The return that these fields are in a recording of this format. The whole row is judged before memory is taken.
 #[tactic(auto, unfolding(crate::specs::Row::return_in))]
-pub fn read_return(alloc: Global, fields: &ByteRecord) -> Result<Return, RowFault>
-    ensures value { IfOk result (λ ret. return_in (fields_of fields.now) ≡ Ok ret) }
-    ensures refused { IfErr result (λ fault. Refuses ReturnNeeds fault (return_in (fields_of fields.now))) }
+pub fn read_return(alloc: Global, format: Format, fields: &ByteRecord) -> Result<Return, RowFault>
+    ensures value { IfOk result (λ ret. return_in format (fields_of fields.now) ≡ Ok ret) }
+    ensures refused { IfErr result (λ fault. Refuses ReturnNeeds fault (return_in format (fields_of fields.now))) }
 {
     let who = read_who(fields)?;
-    let service = read_service(text(fields, 4))?;
+    let service = read_service(format, text(fields, 4))?;
     expect_all_empty(fields, 5, 6)?;
     let code = read_code(text(fields, 11))?;
     let val = optional_signed(text(fields, 12))?;

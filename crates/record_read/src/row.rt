@@ -37,19 +37,24 @@ pub fn read_record(
     if fields.len() != format.field_count() {
         return Err(RowFault::FieldCount);
     }
-    read_fields(alloc, next, fields)
+    read_fields(alloc, format, next, fields)
 }
 
 // The record that the fields are of a row that has those of its format.
 #[tactic(auto, unfolding(crate::specs::Row::fields_read))]
-fn read_fields(alloc: Global, next: u32, fields: &ByteRecord) -> Result<Record, RowFault>
-    ensures value { IfOk result (λ made. fields_read next (fields_of fields.now) ≡ Ok made) }
-    ensures refused { IfErr result (λ fault. Refuses NeedsMemory fault (fields_read next (fields_of fields.now))) }
+fn read_fields(
+    alloc: Global,
+    format: Format,
+    next: u32,
+    fields: &ByteRecord,
+) -> Result<Record, RowFault>
+    ensures value { IfOk result (λ made. fields_read format next (fields_of fields.now) ≡ Ok made) }
+    ensures refused { IfErr result (λ fault. Refuses NeedsMemory fault (fields_read format next (fields_of fields.now))) }
 {
     let given = required_number(text(fields, 0), 4_294_967_294)?;
     let seq = expect_next(next, given)?;
     let kind = read_kind(text(fields, 1))?;
-    let body = read_body(alloc, kind, fields)?;
+    let body = read_body(alloc, format, kind, fields)?;
     Ok(Record { seq, body })
 }
 
@@ -65,15 +70,20 @@ fn expect_next(next: u32, seq: u64) -> Result<u32, RowFault>
     Ok(next)
 }
 
-// What a row of this kind records.
+// What a row of this kind records, in a recording of this format.
 #[tactic(auto, unfolding(crate::specs::Row::body_in))]
-fn read_body(alloc: Global, kind: Kind, fields: &ByteRecord) -> Result<Body, RowFault>
-    ensures value { IfOk result (λ body. body_in kind (fields_of fields.now) ≡ Ok body) }
-    ensures refused { IfErr result (λ fault. Refuses BodyNeeds fault (body_in kind (fields_of fields.now))) }
+fn read_body(
+    alloc: Global,
+    format: Format,
+    kind: Kind,
+    fields: &ByteRecord,
+) -> Result<Body, RowFault>
+    ensures value { IfOk result (λ body. body_in format kind (fields_of fields.now) ≡ Ok body) }
+    ensures refused { IfErr result (λ fault. Refuses BodyNeeds fault (body_in format kind (fields_of fields.now))) }
 {
     match kind {
-        Kind::Call => Ok(Body::Call(read_call(alloc, fields)?)),
-        Kind::Ret => Ok(Body::Ret(read_return(alloc, fields)?)),
+        Kind::Call => Ok(Body::Call(read_call(alloc, format, fields)?)),
+        Kind::Ret => Ok(Body::Ret(read_return(alloc, format, fields)?)),
         Kind::Disp => Ok(Body::Disp(read_dispatch(fields)?)),
         Kind::Tick => Ok(Body::Tick(read_tick(alloc, fields)?)),
     }

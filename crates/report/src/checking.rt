@@ -11,6 +11,7 @@ use crate::fault::{ArgumentFault, CheckFault};
 use crate::last::Last;
 use crate::rounds::judge_all;
 use crate::settings::Settings;
+use crate::witness::{Nobody, Witness};
 use core_intake::Intake;
 use module_config::{Config, ConfigFault};
 use order_cert::CertSource;
@@ -121,6 +122,7 @@ where
         gate,
         MOST_RECORDS,
         last,
+        &mut Nobody,
     )
 }
 
@@ -153,12 +155,22 @@ where
         return Err(CheckFault::Memory);
     };
     check_keeping(
-        rt, alloc, config, readers, cert, rules, settings, gate, size, &mut last,
+        rt,
+        alloc,
+        config,
+        readers,
+        cert,
+        rules,
+        settings,
+        gate,
+        size,
+        &mut last,
+        &mut Nobody,
     )
 }
 
-/// The check in rounds, which keeps the last records.
-pub(crate) fn check_keeping<T, R, C, G>(
+/// The check in rounds, which keeps the last records and tells the witness of a No.
+pub(crate) fn check_keeping<T, R, C, G, V>(
     rt: T,
     alloc: Global,
     config: &[u8],
@@ -169,12 +181,14 @@ pub(crate) fn check_keeping<T, R, C, G>(
     gate: &G,
     size: usize,
     last: &mut Last,
+    witness: &mut V,
 ) -> Result<Verdict, CheckFault>
 where
     T: Threads + Wait + Sync + Copy + Send + 'static,
     R: Read + Drop + Send + 'static,
     C: Read + Drop,
     G: Gate + Sync,
+    V: Witness,
     requires least { 1 ≤ size }
     requires most { size ≤ 4096 }
     ensures outcome { (texts : List (List ℕ)) (certificate : List ℕ) → map (λ reader. R.remaining reader) readers.items ≡ map Some texts → C.remaining cert ≡ Some certificate → IsOutcome settings config.now texts certificate (relations_of rules.now) result }
@@ -209,6 +223,7 @@ where
         gate,
         size,
         last,
+        witness,
     );
     placer.close(&rt);
     last.settle(&answer);

@@ -10,7 +10,8 @@
 //! No more is held at a time than two rounds of records, of which one is judged while the other is filled, and of each core what was
 //! read ahead: the depth and two batches.
 //!
-//! Whoever has relations, and no tests of their own, calls `check_relations`.
+//! Whoever has relations, and no tests of their own, calls `check_relations`. A witness is told there what stands at the place of a No,
+//! to tell it a person; nothing is promised of what it is told, and the answer is the same for every witness.
 #![tactic(auto)]
 
 mod checking;
@@ -23,6 +24,7 @@ mod relations;
 mod rounds;
 mod settings;
 mod text;
+mod witness;
 
 pub use checking::{MOST_RECORDS, check, check_in_rounds, check_with_last};
 pub use fault::{ArgumentFault, CheckFault};
@@ -34,3 +36,4 @@ pub use relations::check_relations;
 pub use settings::Settings;
 pub use text::write_report;
 pub use verdict_merge::Verdict;
+pub use witness::{Nobody, Witness};

@@ -10,6 +10,7 @@ use crate::checking::check_keeping;
 use crate::fault::CheckFault;
 use crate::last::Last;
 use crate::settings::Settings;
+use crate::witness::Witness;
 use apex_types::View;
 use partition_workers::Gate;
 use std::alloc::Global;
@@ -20,8 +21,8 @@ use user_rules::{Relation, Rule, Test};
 use verdict_merge::Verdict;
 
 /// What `check_in_rounds` answers where the rules are these relations, each of which is its own test; it leaves what
-/// `check_with_last` does.
-pub fn check_relations<T, R, C, G>(
+/// `check_with_last` does. The witness is told what stands at the place of a No or of a broken rule.
+pub fn check_relations<T, R, C, G, V>(
     rt: T,
     alloc: Global,
     config: &[u8],
@@ -32,12 +33,14 @@ pub fn check_relations<T, R, C, G>(
     gate: &G,
     size: usize,
     last: &mut Last,
+    witness: &mut V,
 ) -> Result<Verdict, CheckFault>
 where
     T: Threads + Wait + Sync + Copy + Send + 'static,
     R: Read + Drop + Send + 'static,
     C: Read + Drop,
     G: Gate + Sync,
+    V: Witness,
     requires least { 1 ≤ size }
     requires most { size ≤ 4096 }
     ensures outcome { (texts : List (List ℕ)) (certificate : List ℕ) → map (λ reader. R.remaining reader) readers.items ≡ map Some texts → C.remaining cert ≡ Some certificate → IsOutcome settings config.now texts certificate relations.items result }
@@ -60,6 +63,6 @@ where
         }
     }
     check_keeping(
-        rt, alloc, config, readers, cert, &rules, settings, gate, size, last,
+        rt, alloc, config, readers, cert, &rules, settings, gate, size, last, witness,
     )
 }

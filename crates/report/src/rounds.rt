@@ -13,6 +13,7 @@ ghost use Rattle.report.specs.Rounds.{IsDecided, IsLastAnswer, IsPlaced, MayJudg
 
 use crate::fault::{CheckFault, refusal};
 use crate::last::Last;
+use crate::witness::{Witness, tell};
 use apex_types::Ordered;
 use module_config::Config;
 use partition_workers::{Gate, Judge};
@@ -29,8 +30,8 @@ use verdict_merge::{Memory, Verdict};
 /// judged the next one is filled; behind a round with a finding nothing further is taken than that one.
 ///
 /// What is promised holds once the placer's threads are joined, since it is known then what they read. Behind a No the last
-/// records before it are kept.
-pub fn judge_all<T: Threads + Wait + Sync, R: Read, C: Read, G: Gate + Sync>(
+/// records before it are kept, and the witness is told of it.
+pub fn judge_all<T: Threads + Wait + Sync, R: Read, C: Read, G: Gate + Sync, V: Witness>(
     rt: &T,
     alloc: Global,
     config: &Config,
@@ -40,6 +41,7 @@ pub fn judge_all<T: Threads + Wait + Sync, R: Read, C: Read, G: Gate + Sync>(
     gate: &G,
     size: usize,
     last: &mut Last,
+    witness: &mut V,
 ) -> Result<Verdict, CheckFault>
     requires least { 1 ≤ size }
     requires going { placer.old.ended ≡ false }
@@ -66,6 +68,7 @@ pub fn judge_all<T: Threads + Wait + Sync, R: Read, C: Read, G: Gate + Sync>(
             Filled::Ended(end) => {
                 let answer = judge_last(rt, config, &mut judge, &round, rules, workers, gate, end);
                 last.keep_behind(&answer, first, &round);
+                tell(witness, config, &judge, &answer, first, &round);
                 return answer;
             }
         }
@@ -78,6 +81,7 @@ pub fn judge_all<T: Threads + Wait + Sync, R: Read, C: Read, G: Gate + Sync>(
             Ok(Some(verdict)) => {
                 let answer = Ok(verdict);
                 last.keep_behind(&answer, first, &round);
+                tell(witness, config, &judge, &answer, first, &round);
                 return answer;
             }
             Err(_) => return Err(CheckFault::Memory),

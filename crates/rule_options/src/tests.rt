@@ -50,6 +50,10 @@ fn reads_values(rt: HostRuntime) -> Result<(), Fail> {
             Some(Service::SignalSemaphore),
         ),
         (b"STOP".as_slice(), Some(Service::Stop)),
+        (
+            b"GET_QUEUING_PORT_STATUS".as_slice(),
+            Some(Service::GetQueuingPortStatus),
+        ),
         (b"stop".as_slice(), None),
         (b"NO_ERROR".as_slice(), None),
         (b"".as_slice(), None),

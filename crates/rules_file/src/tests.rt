@@ -157,6 +157,8 @@ fn knows_names(rt: HostRuntime) -> Result<(), Fail> {
         ("service", "CREATE_PROCESS", 1),
         ("service", "SEND_BUFFER", 16),
         ("service", "RECEIVE_QUEUING_MESSAGE", 37),
+        ("service", "GET_BUFFER_ID", 38),
+        ("service", "GET_QUEUING_PORT_STATUS", 51),
         ("out", "NO_ERROR", 0),
         ("out", "TIMED_OUT", 6),
         ("out", "wait", 7),

@@ -4,10 +4,12 @@ ghost use Rattle.std.specs.Prelude.{◌≡◌, ◌↔◌, [], false, IfErr, IfOk
 ghost use Rattle.apex_types.specs.declared.record.Out.TheVariants as out;
 ghost use Rattle.apex_machine.specs.Demands.{AllHold, answer_demands};
 ghost use Rattle.apex_machine.specs.Objects.{event_reset, event_set, event_waited};
+ghost use Rattle.apex_machine.specs.Statuses.{event_status};
 ghost use Rattle.wait_set.specs.Actors.{OwesNothing, Refuses, entry_with};
 ghost use Rattle.wait_set.specs.Sets.{IsNew};
 ghost use Rattle.semaphore_event.specs.Events as rules;
 
+use apex_machine::Status;
 use apex_types::{Claim, Discipline, Name, Request, Who};
 use std::alloc::Global;
 use std::marker::Model;
@@ -46,6 +48,24 @@ impl Event {
         ensures { result ≡ self.now.up }
     {
         self.up
+    }
+
+    /// Those that wait for it.
+    pub fn waiters(&self) -> &WaitSet
+        ensures { result.now.entries ≡ self.now.waiters }
+    {
+        &self.waiters
+    }
+
+    /// GET_EVENT_STATUS: whether it is up, and how many wait. Takes no memory.
+    pub fn status(&self) -> Status
+        ensures { result ≡ event_status self.now }
+    {
+        Status {
+            val: u64::from(self.up),
+            val2: self.waiters.len() as u64,
+            val3: None,
+        }
     }
 
     // SET_EVENT: the event is up, and all who wait for it go on.

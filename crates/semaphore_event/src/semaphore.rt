@@ -4,10 +4,12 @@ ghost use Rattle.std.specs.Prelude.{◌≡◌, ◌↔◌, [], IfErr, IfOk, IsTru
 ghost use Rattle.apex_types.specs.declared.record.Out.TheVariants as out;
 ghost use Rattle.apex_machine.specs.Demands.{AllHold, answer_demands};
 ghost use Rattle.apex_machine.specs.Objects.{semaphore_waited};
+ghost use Rattle.apex_machine.specs.Statuses.{semaphore_status};
 ghost use Rattle.wait_set.specs.Actors.{OwesNothing, Refuses, entry_with};
 ghost use Rattle.wait_set.specs.Sets.{IsNew};
 ghost use Rattle.semaphore_event.specs.Semaphores as rules;
 
+use apex_machine::Status;
 use apex_types::{Claim, Code, Discipline, Name, Request, Who};
 use std::alloc::Global;
 use std::marker::Model;
@@ -54,6 +56,32 @@ impl Semaphore {
         ensures { result ≡ self.now.value }
     {
         self.value
+    }
+
+    /// The greatest value that it may have.
+    pub fn maximum(&self) -> u16
+        ensures { result ≡ self.now.maximum }
+    {
+        self.maximum
+    }
+
+    /// Those that wait for it.
+    pub fn waiters(&self) -> &WaitSet
+        ensures discipline { result.now.discipline ≡ self.now.discipline }
+        ensures entries { result.now.entries ≡ self.now.waiters }
+    {
+        &self.waiters
+    }
+
+    /// GET_SEMAPHORE_STATUS: its value, and how many wait. Takes no memory.
+    pub fn status(&self) -> Status
+        ensures { result ≡ semaphore_status self.now }
+    {
+        Status {
+            val: u64::from(self.value),
+            val2: self.waiters.len() as u64,
+            val3: None,
+        }
     }
 
     // WAIT_SEMAPHORE: one is taken of a value above 0; else the caller waits.

@@ -15,9 +15,11 @@ mod named;
 mod object;
 mod rank;
 mod set;
+mod status;
 
 pub use conditions::Conditions;
 pub use given::{Given, has_no_values, judge_value, judge_waking_all};
 pub use laws::{enters_last, rising_is_roll};
 pub use object::{Actor, ApexObject, Effect, Named, ObjFault};
 pub use set::{Refused, WaitSet};
+pub use status::judge_status;

@@ -1,6 +1,6 @@
 // A waiting set.
 
-ghost use Rattle.std.specs.Prelude.{◌≡◌, ◌↔◌, [], None, Some, length, IfErr, IfOk, IfSome, IsTrue, OnErr, OnOk};
+ghost use Rattle.std.specs.Prelude.{◌≡◌, ◌↔◌, ◌<◌, ◌^◌, [], None, Some, length, IfErr, IfOk, IfSome, IsTrue, OnErr, OnOk};
 ghost use Rattle.std.specs.List.{list_all};
 ghost use Rattle.std.specs.Option.{option_copied};
 ghost use Rattle.apex_machine.specs.Answer.{NamesExactly, whos};
@@ -212,6 +212,7 @@ impl WaitSet {
     /// How many wait here. The places of the entries rise, and no process stands twice.
     pub fn len(&self) -> usize
         ensures len { result ≡ length self.now.entries }
+        ensures small { result < 2 ^ 63 }
         ensures rising { PlacesRise self.now.entries }
         ensures once { NobodyTwice (whos self.now.entries) }
     {

@@ -74,8 +74,8 @@ pub(super) fn use_conditions(state: &PartitionState, who: Who, request: &Request
     }
 }
 
-// A use of an object: a created one.
-fn use_of<Object>(object: Option<&Object>) -> Conditions
+/// A use of an object: a created one.
+pub(super) fn use_of<Object>(object: Option<&Object>) -> Conditions
     ensures { result ≡ codes_for (option_copied object.entry) (λ found. []) }
 {
     Conditions::none().with(object.is_none(), Code::InvalidParam)

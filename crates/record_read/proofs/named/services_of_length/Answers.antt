@@ -63,6 +63,9 @@ returns-in-22 c text h = named_by_length 22 text (h ∙ c.in-22.is)
 pub returns-in-23 : goal.returns-in-23
 returns-in-23 c text h = named_by_length 23 text (h ∙ c.in-23.is)
 
+pub returns-in-24 : goal.returns-in-24
+returns-in-24 c text h = named_by_length 24 text (h ∙ c.in-24.is)
+
 pub returns-in-32 : goal.returns-in-32
 returns-in-32 c text h = named_by_length 32 text (h ∙ c.in-32.is)
 

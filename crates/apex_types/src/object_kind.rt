@@ -1,0 +1,50 @@
+// The kinds of objects and ports.
+
+ghost use Rattle.std.specs.Prelude.{◌≡◌};
+ghost use Rattle.apex_types.specs.Requested.{id_service, status_service};
+
+use crate::service::Service;
+
+/// A kind of objects or ports of a partition. Each has its own numbers and names.
+#[derive(Clone, Copy, Debug, PartialEq, Eq)]
+pub enum ObjectKind {
+    Buffer,
+    Blackboard,
+    Semaphore,
+    Event,
+    Mutex,
+    SamplingPort,
+    QueuingPort,
+}
+
+impl ObjectKind {
+    /// The service that tells the number of what has a name.
+    pub fn id_service(self) -> Service
+        ensures { result ≡ id_service self }
+    {
+        match self {
+            ObjectKind::Buffer => Service::GetBufferId,
+            ObjectKind::Blackboard => Service::GetBlackboardId,
+            ObjectKind::Semaphore => Service::GetSemaphoreId,
+            ObjectKind::Event => Service::GetEventId,
+            ObjectKind::Mutex => Service::GetMutexId,
+            ObjectKind::SamplingPort => Service::GetSamplingPortId,
+            ObjectKind::QueuingPort => Service::GetQueuingPortId,
+        }
+    }
+
+    /// The service that tells the state of one of this kind.
+    pub fn status_service(self) -> Service
+        ensures { result ≡ status_service self }
+    {
+        match self {
+            ObjectKind::Buffer => Service::GetBufferStatus,
+            ObjectKind::Blackboard => Service::GetBlackboardStatus,
+            ObjectKind::Semaphore => Service::GetSemaphoreStatus,
+            ObjectKind::Event => Service::GetEventStatus,
+            ObjectKind::Mutex => Service::GetMutexStatus,
+            ObjectKind::SamplingPort => Service::GetSamplingPortStatus,
+            ObjectKind::QueuingPort => Service::GetQueuingPortStatus,
+        }
+    }
+}

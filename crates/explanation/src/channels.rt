@@ -1,0 +1,48 @@
+// What a channel refuses.
+
+use crate::claim::tell_difference;
+use crate::held::tell_channel_held;
+use crate::rules::answer_rule;
+use crate::wanted::wanted_through;
+use crate::words::Words;
+use apex_types::{Body, Cause, Ordered};
+use channel::Channel;
+use dispatch_rule::Times;
+use module_config::{ChannelKind, Config};
+
+/// Tells why a channel refuses a record.
+pub fn tell_channel(
+    words: &mut Words,
+    config: &Config,
+    channel: &Channel,
+    times: &Times,
+    ordered: &Ordered,
+    cause: Cause,
+) {
+    let Body::Call(call) = &ordered.rec.body else {
+        return;
+    };
+    let now = times.now(ordered.core);
+    let refresh = match config.channel_kind(channel.number()) {
+        Some(ChannelKind::Sampling { refresh }) => refresh,
+        _ => 0,
+    };
+    tell_channel_held(words, channel, now, refresh);
+    match cause {
+        Cause::Choice => {
+            words.next_line();
+            words.say("the caller waits at an end of the channel already");
+            words.rule("part 11, cause Choice of a channel (stands_in)");
+        }
+        Cause::Chan => {
+            words.next_line();
+            words.say("the service is not of the channel's kind");
+            words.rule("part 5 (suits)");
+        }
+        _ => {
+            let wanted = wanted_through(channel, now, refresh, call);
+            tell_difference(words, &wanted, None, &call.claim, cause);
+            words.rule(answer_rule(&call.request));
+        }
+    }
+}

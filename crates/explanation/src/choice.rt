@@ -1,0 +1,97 @@
+// Windows and choices that are not kept.
+
+use crate::module::tell_time;
+use crate::naming::{Numbered, Occupant};
+use crate::partition::Refusing;
+use crate::processes::{tell_choice, tell_numbered};
+use crate::words::Words;
+use apex_types::{Body, Call, CoreId, Ordered, Who};
+use module_config::Config;
+
+/// Tells whose window a core is in, where a call or a return is of another partition.
+pub fn tell_window(words: &mut Words, config: &Config, refusing: &Refusing<'_>, ordered: &Ordered) {
+    let core = ordered.core;
+    words.next_line();
+    match refusing.clock.window_now(config, core) {
+        Some(owner) => words.say(format_args!(
+            "core {} is in a window of partition {}: ",
+            core.number(),
+            owner.number()
+        )),
+        None => words.say(format_args!("core {} is in no window: ", core.number())),
+    }
+    tell_time(words, config, refusing.clock.now(core));
+    words.rule("part 11, cause Window; the windows: part 1 (window_at)");
+}
+
+/// Tells the choice of a core, where a record is not of it.
+pub fn tell_refused_choice(
+    words: &mut Words,
+    config: &Config,
+    refusing: &Refusing<'_>,
+    ordered: &Ordered,
+) {
+    let core = ordered.core;
+    words.next_line();
+    words.say(format_args!(
+        "core {} is in a window of partition {}: ",
+        core.number(),
+        refusing.number.number()
+    ));
+    tell_time(words, config, refusing.clock.now(core));
+    tell_choice(words, refusing.state, refusing.number, core);
+    match &ordered.rec.body {
+        Body::Disp(Some(who)) => tell_dispatched(words, refusing, *who),
+        Body::Disp(None) => {}
+        Body::Tick(_) => tell_occupant(words, refusing, core),
+        Body::Call(call) => tell_caller(words, refusing, core, call),
+        Body::Ret(ret) => {
+            tell_occupant(words, refusing, core);
+            tell_own(words, refusing, ret.who);
+        }
+    }
+    words.rule("part 2, the choice (IsChosen, GoesBefore)");
+}
+
+// Tells how the process stands to which a core is dispatched.
+fn tell_dispatched(words: &mut Words, refusing: &Refusing<'_>, who: Who) {
+    if who.part == refusing.number {
+        tell_numbered(words, refusing.state, who);
+        return;
+    }
+    words.next_line();
+    words.say(format_args!(
+        "{} is not of the partition whose window it is",
+        Numbered(who)
+    ));
+}
+
+// Tells the occupant of a core, and how it stands where it is the partition's.
+fn tell_occupant(words: &mut Words, refusing: &Refusing<'_>, core: CoreId) {
+    let occupant = refusing.clock.on(core);
+    words.next_line();
+    words.say(format_args!(
+        "the last dispatch gave core {} to {}",
+        core.number(),
+        Occupant(occupant)
+    ));
+    match refusing.clock.on(core) {
+        Some(who) => tell_own(words, refusing, who),
+        None => {}
+    }
+}
+
+// Tells how a process stands, where it is the partition's.
+fn tell_own(words: &mut Words, refusing: &Refusing<'_>, who: Who) {
+    if who.part == refusing.number {
+        tell_numbered(words, refusing.state, who);
+    }
+}
+
+// Tells the occupant and how the caller stands.
+fn tell_caller(words: &mut Words, refusing: &Refusing<'_>, core: CoreId, call: &Call) {
+    tell_occupant(words, refusing, core);
+    if refusing.clock.on(core) != Some(call.who) {
+        tell_own(words, refusing, call.who);
+    }
+}

@@ -1,0 +1,210 @@
+// What a call claims, beside what the rules give it.
+
+use crate::conditions::{tell_codes, tell_conditions};
+use crate::held::tell_held;
+use crate::naming::{Bytes, Numbered, out_name};
+use crate::processes::tell_numbered;
+use crate::rules::answer_rule;
+use crate::said::{tell_further, tell_processes};
+use crate::wanted::{Value, Waking, Wanted, wanted_of};
+use crate::words::Words;
+use apex_types::{Call, Cause, ChanId, Claim, Out, Request, Who};
+use module_config::Config;
+use partition_state::PartitionState;
+use wait_set::{Conditions, WaitSet};
+
+/// Tells the outcomes of a call on which error conditions hold, where its claim is none of them.
+pub fn tell_refused_outcome(
+    words: &mut Words,
+    config: &Config,
+    state: &PartitionState,
+    call: &Call,
+    conditions: &Conditions,
+    cause: Cause,
+) {
+    words.next_line();
+    words.say("an error condition holds, so that the call answers ");
+    tell_codes(words, conditions);
+    match cause {
+        Cause::Out => words.say(format_args!(", and not {}", out_name(call.claim.out))),
+        Cause::Val => words.say(", and has no value"),
+        Cause::Data => words.say(", and gives no message"),
+        Cause::Woken => words.say(", and ends no wait"),
+        Cause::Chan => words.say(", and goes through no channel"),
+        _ => {}
+    }
+    tell_conditions(words, config, state, call);
+}
+
+/// Tells what a partition sees of a call through this channel, where its claim is not so.
+pub fn tell_through(words: &mut Words, channel: ChanId, call: &Call, cause: Cause) {
+    words.next_line();
+    match cause {
+        Cause::Chan => {
+            words.say(format_args!(
+                "its port is of channel {}, and the record gives ",
+                channel.number()
+            ));
+            match call.claim.chan {
+                Some(claimed) => words.say(format_args!("channel {}", claimed.number())),
+                None => words.say("no channel"),
+            }
+            words.rule(
+                "part 10, Call, outcome (IsThrough); the channel of a port: part 5 (channel_of)",
+            );
+        }
+        Cause::Out => {
+            words.say(format_args!(
+                "no error condition holds, so that it can't have {} here",
+                out_name(call.claim.out)
+            ));
+            if call.claim.out == Out::Waits {
+                words.say(", since it has no time-out or one of 0");
+            }
+            words.rule("part 11, cause Out (CanHave)");
+        }
+        _ => {
+            words.say(
+                "a call through a channel ends waits of the other partition alone, and it names ",
+            );
+            tell_processes(words, call.claim.woken.as_slice());
+            words.rule("part 11, cause Woken");
+        }
+    }
+}
+
+/// Tells what the rules give a call that meets no error condition and goes through no channel, where its claim is not so.
+pub fn tell_answer(words: &mut Words, state: &PartitionState, now: u64, call: &Call, cause: Cause) {
+    if cause == Cause::Chan {
+        words.next_line();
+        words.say("the call goes through no channel, and the record gives one");
+        words.rule("part 10, Call, outcome (IsAnswered)");
+        return;
+    }
+    tell_held(words, state, &call.request);
+    tell_about(words, state, now, call);
+    let wanted = wanted_of(state, now, call);
+    let all = all_of(state, &call.request);
+    tell_difference(words, &wanted, all, &call.claim, cause);
+    words.rule(answer_rule(&call.request));
+}
+
+// Tells what a call of processes and time is judged by.
+fn tell_about(words: &mut Words, state: &PartitionState, now: u64, call: &Call) {
+    match &call.request {
+        Request::Resume { process } => {
+            if let Some(number) = state.processes().created_number(*process) {
+                let target = Who {
+                    part: call.who.part,
+                    proc: number,
+                };
+                tell_numbered(words, state, target);
+            }
+        }
+        Request::PeriodicWait => {
+            if let Some(process) = state.processes().proc(call.who.proc) {
+                words.next_line();
+                words.say(format_args!("its last release was at {}", process.last_release));
+                if let Some(period) = process.period {
+                    words.say(format_args!(", its period is {period}"));
+                }
+                words.say(format_args!(", and the time is {now}"));
+            }
+        }
+        Request::GetTime => {
+            words.next_line();
+            words.say(format_args!("the time of its core is {now}"));
+        }
+        _ => {}
+    }
+}
+
+// Those who wait at the object that a call uses, where it ends the waits of all.
+fn all_of<'a>(state: &'a PartitionState, request: &Request) -> Option<&'a WaitSet> {
+    match request {
+        Request::DisplayBlackboard { blackboard, .. } => {
+            match state.blackboards().given(*blackboard) {
+                Some(board) => Some(board.readers()),
+                None => None,
+            }
+        }
+        Request::SetEvent { event } => match state.events().given(*event) {
+            Some(event) => Some(event.waiters()),
+            None => None,
+        },
+        _ => None,
+    }
+}
+
+/// Tells what is wanted and what is claimed, of what the cause is about.
+pub fn tell_difference(
+    words: &mut Words,
+    wanted: &Wanted<'_>,
+    all: Option<&WaitSet>,
+    claim: &Claim,
+    cause: Cause,
+) {
+    words.next_line();
+    match cause {
+        Cause::Out => words.say(format_args!(
+            "wanted is the outcome {}, and the record gives {}",
+            out_name(wanted.out),
+            out_name(claim.out)
+        )),
+        Cause::Val => {
+            words.say("wanted is ");
+            tell_value(words, wanted.val);
+            tell_further(words, wanted.val2, wanted.val3);
+            words.say(", and the record gives ");
+            match claim.val {
+                Some(val) => words.say(format_args!("the value {val}")),
+                None => words.say("no value"),
+            }
+            tell_further(words, claim.val2, claim.val3);
+        }
+        Cause::Data => words.say(format_args!(
+            "wanted is {}, and the record gives {}",
+            Bytes(wanted.bytes),
+            Bytes(claim.bytes.as_bytes())
+        )),
+        Cause::Woken => tell_woken(words, wanted, all, claim),
+        _ => {}
+    }
+}
+
+// Tells a value that is wanted.
+fn tell_value(words: &mut Words, value: Value) {
+    match value {
+        Value::Nothing => words.say("no value"),
+        Value::Number(number) => words.say(format_args!("the value {number}")),
+        Value::New => words.say(
+            "a new number, 1 to 2,147,483,647, that nothing of its kind has in the partition",
+        ),
+    }
+}
+
+// Tells whose waits the call ends, and whom the record names.
+fn tell_woken(words: &mut Words, wanted: &Wanted<'_>, all: Option<&WaitSet>, claim: &Claim) {
+    words.say("the call ends ");
+    match (wanted.woken, all) {
+        (Waking::One(who), _) => words.say(format_args!("the wait of {}", Numbered(who))),
+        (Waking::All, Some(set)) => words.say(format_args!(
+            "the waits of all who wait there, which are {}",
+            set.len()
+        )),
+        _ => words.say("no wait"),
+    }
+    words.say(", and the record names ");
+    if claim.woken.as_slice().is_empty() {
+        words.say("nobody");
+    } else {
+        tell_processes(words, claim.woken.as_slice());
+    }
+    if let Some(set) = all {
+        for who in claim.woken.as_slice() {
+            if !set.has(*who) {
+                words.say(format_args!("; {} does not wait there", Numbered(*who)));
+            }
+        }
+    }
+}

@@ -1,0 +1,118 @@
+// A row of a text, looked for once more: its line and its fields.
+
+use csv::ByteRecord;
+use csv_rows::CsvRows;
+use std::alloc::Global;
+use std::io::Read;
+
+/// How many bytes of a text are read at once.
+const PIECE: usize = 8192;
+
+/// How many pieces of a text are read at most.
+const MOST_PIECES: usize = 65_536;
+
+/// How many bytes of a row are kept.
+const LONGEST_ROW: usize = 65_536;
+
+/// A row of a text: its line, counted from 1, and its first bytes.
+#[derive(Drop)]
+pub struct FoundRow {
+    pub line: u64,
+    text: Vec<u8>,
+}
+
+// Where a walk over a text stands.
+#[derive(Drop)]
+struct Walk {
+    line: u64,
+    rows: u64,
+    is_filled: bool,
+    is_behind_return: bool,
+    is_found: bool,
+    text: Vec<u8>,
+}
+
+impl Walk {
+    // Takes the next byte, where the row of this number is looked for.
+    fn take(&mut self, byte: u8, wanted: u64) {
+        let is_second = self.is_behind_return && byte == b'\n';
+        self.is_behind_return = byte == b'\r';
+        if is_second {
+            return;
+        }
+        if byte == b'\n' || byte == b'\r' {
+            self.end_line(wanted);
+            return;
+        }
+        self.is_filled = true;
+        if self.rows == wanted && self.text.len() < LONGEST_ROW {
+            // Of a row for which there is no memory the first bytes are told.
+            let _ = self.text.push(byte);
+        }
+    }
+
+    // A line ends; an empty one is no row.
+    fn end_line(&mut self, wanted: u64) {
+        if self.is_filled {
+            if self.rows == wanted {
+                self.is_found = true;
+                return;
+            }
+            self.rows = self.rows.saturating_add(1);
+        }
+        self.is_filled = false;
+        self.line = self.line.saturating_add(1);
+    }
+}
+
+/// The row of this number, counted from 0, of the text that a reader gives; None where it is not found among the first 512 MiB.
+pub fn find_row<R: Read + Drop>(alloc: Global, mut reader: R, wanted: u64) -> Option<FoundRow> {
+    let mut walk = Walk {
+        line: 1,
+        rows: 0,
+        is_filled: false,
+        is_behind_return: false,
+        is_found: false,
+        text: Vec::new(alloc),
+    };
+    let mut piece = [0u8; PIECE];
+    for _ in 0..MOST_PIECES {
+        let Ok(count) = reader.read(&mut piece) else {
+            return None;
+        };
+        if count == 0 {
+            walk.end_line(wanted);
+            return found(walk);
+        }
+        for byte in piece.iter().take(count) {
+            walk.take(*byte, wanted);
+            if walk.is_found {
+                return found(walk);
+            }
+        }
+    }
+    None
+}
+
+// The row at which a walk ended, if it is found.
+fn found(walk: Walk) -> Option<FoundRow> {
+    if !walk.is_found {
+        return None;
+    }
+    Some(FoundRow {
+        line: walk.line,
+        text: walk.text,
+    })
+}
+
+impl FoundRow {
+    /// The fields of the row; None where memory is refused for them.
+    pub fn fields(&self, alloc: Global) -> Option<ByteRecord> {
+        let mut fields = ByteRecord::new(alloc);
+        let mut rows = CsvRows::new(alloc, self.text.as_slice());
+        match rows.read(&mut fields) {
+            Ok(true) => Some(fields),
+            _ => None,
+        }
+    }
+}

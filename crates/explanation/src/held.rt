@@ -1,0 +1,170 @@
+// What objects and channels hold, in words.
+
+use crate::naming::{Ascii, Bytes, Count, Numbered, kind_name};
+use crate::words::Words;
+use apex_types::{Name, ObjectKind, Request};
+use channel::Channel;
+use message_queue::MessageQueue;
+use partition_state::PartitionState;
+use ports::Port;
+use wait_set::{Named, WaitSet};
+
+/// Tells what the object holds that a call uses, if it uses one.
+pub fn tell_held(words: &mut Words, state: &PartitionState, request: &Request) {
+    match request {
+        Request::SendBuffer { buffer, .. } | Request::ReceiveBuffer { buffer, .. } => {
+            tell_buffer(words, state, *buffer);
+        }
+        Request::DisplayBlackboard { blackboard, .. }
+        | Request::ReadBlackboard { blackboard, .. }
+        | Request::ClearBlackboard { blackboard } => tell_blackboard(words, state, *blackboard),
+        Request::WaitSemaphore { semaphore, .. } | Request::SignalSemaphore { semaphore } => {
+            tell_semaphore(words, state, *semaphore);
+        }
+        Request::SetEvent { event }
+        | Request::ResetEvent { event }
+        | Request::WaitEvent { event, .. } => tell_event(words, state, *event),
+        Request::AcquireMutex { mutex, .. } | Request::ReleaseMutex { mutex } => {
+            tell_mutex(words, state, *mutex);
+        }
+        Request::GetId { kind, name } => {
+            if let Some(number) = state.number_of(*kind, name) {
+                tell_one_of(words, state, *kind, i64::from(number));
+            }
+        }
+        Request::GetStatus { kind, object } => tell_one_of(words, state, *kind, *object),
+        _ => {}
+    }
+}
+
+// Tells what one of a kind holds.
+fn tell_one_of(words: &mut Words, state: &PartitionState, kind: ObjectKind, number: i64) {
+    match kind {
+        ObjectKind::Buffer => tell_buffer(words, state, number),
+        ObjectKind::Blackboard => tell_blackboard(words, state, number),
+        ObjectKind::Semaphore => tell_semaphore(words, state, number),
+        ObjectKind::Event => tell_event(words, state, number),
+        ObjectKind::Mutex => tell_mutex(words, state, number),
+        ObjectKind::SamplingPort => {
+            tell_port(words, kind, number, state.sampling_ports().given(number));
+        }
+        ObjectKind::QueuingPort => {
+            tell_port(words, kind, number, state.queuing_ports().given(number));
+        }
+    }
+}
+
+// Tells a port, if it is created.
+fn tell_port(words: &mut Words, kind: ObjectKind, number: i64, port: Option<&Port>) {
+    if let Some(port) = port {
+        begin(words, kind_name(kind), number, port.name());
+        words.say(format_args!("is of channel {}", port.channel().number()));
+    }
+}
+
+// Begins the line of an object.
+fn begin(words: &mut Words, kind: &str, number: i64, name: &Name) {
+    words.next_line();
+    words.say(format_args!("{kind} {number}, \"{}\", ", Ascii(name.as_bytes())));
+}
+
+fn tell_buffer(words: &mut Words, state: &PartitionState, number: i64) {
+    if let Some(buffer) = state.buffers().given(number) {
+        begin(words, "buffer", number, buffer.name());
+        tell_queue(words, buffer.queue());
+    }
+}
+
+fn tell_blackboard(words: &mut Words, state: &PartitionState, number: i64) {
+    let Some(board) = state.blackboards().given(number) else {
+        return;
+    };
+    begin(words, "blackboard", number, board.name());
+    match board.message() {
+        Some(message) => words.say(format_args!("shows {}", Bytes(message.as_bytes()))),
+        None => words.say("is empty"),
+    }
+    tell_waiters(words, board.readers(), "to read");
+}
+
+fn tell_semaphore(words: &mut Words, state: &PartitionState, number: i64) {
+    if let Some(semaphore) = state.semaphores().given(number) {
+        begin(words, "semaphore", number, semaphore.name());
+        let (value, maximum) = (semaphore.value(), semaphore.maximum());
+        words.say(format_args!("has the value {value}, and at most {maximum}"));
+        tell_waiters(words, semaphore.waiters(), "for it");
+    }
+}
+
+fn tell_event(words: &mut Words, state: &PartitionState, number: i64) {
+    if let Some(event) = state.events().given(number) {
+        begin(words, "event", number, event.name());
+        words.say(if event.is_up() { "is up" } else { "is down" });
+        tell_waiters(words, event.waiters(), "for it");
+    }
+}
+
+fn tell_mutex(words: &mut Words, state: &PartitionState, number: i64) {
+    let Some(mutex) = state.mutexes().given(number) else {
+        return;
+    };
+    begin(words, "mutex", number, mutex.name());
+    words.say(format_args!("of priority {}, ", mutex.priority()));
+    match mutex.owner() {
+        Some(owner) => words.say(format_args!(
+            "is owned by process {}, which has acquired it {}",
+            owner.number(),
+            Count(mutex.count() as usize, "time")
+        )),
+        None => words.say("is free"),
+    }
+    tell_waiters(words, mutex.waiters(), "for it");
+}
+
+/// Tells what a channel holds.
+pub fn tell_channel_held(words: &mut Words, channel: &Channel, now: u64, refresh: u64) {
+    words.next_line();
+    words.say(format_args!("channel {} ", channel.number().number()));
+    if let Some(queue) = channel.queue() {
+        tell_queue(words, queue);
+        return;
+    }
+    match channel.written() {
+        Some(last) => {
+            let age = now.saturating_sub(last.stamp());
+            words.say(format_args!("holds {}", Bytes(last.message().as_bytes())));
+            words.say(format_args!(", written at time {}", last.stamp()));
+            words.say(format_args!(": its age at time {now} is {age}"));
+            words.say(format_args!(", and the refresh period is {refresh}"));
+        }
+        None => words.say("holds nothing, since nothing was written to it"),
+    }
+}
+
+// Tells what a queue holds, and who waits at it.
+fn tell_queue(words: &mut Words, queue: &MessageQueue) {
+    let (count, capacity) = (queue.len(), queue.capacity());
+    words.say(format_args!("holds {} of {capacity}", Count(count, "message")));
+    if let Some(message) = queue.oldest() {
+        words.say(format_args!(", the oldest being {}", Bytes(message.as_bytes())));
+    }
+    tell_waiters(words, queue.senders(), "to send");
+    tell_waiters(words, queue.receivers(), "to receive");
+}
+
+// Tells how many wait in a set, and who goes on first.
+fn tell_waiters(words: &mut Words, set: &WaitSet, what: &str) {
+    let Some(first) = set.first() else {
+        words.say(format_args!("; nobody waits {what}"));
+        return;
+    };
+    let count = set.len();
+    if count == 1 {
+        words.say(format_args!("; 1 process waits {what}"));
+    } else {
+        words.say(format_args!("; {count} processes wait {what}"));
+    }
+    words.say(format_args!(", first {}", Numbered(first.who)));
+    words.say(format_args!(", since place {}", first.place.number()));
+    words.say(format_args!(" with priority {}", first.priority));
+}

@@ -1,0 +1,170 @@
+// How things are named: processes, names, messages, outcomes and waiting sets.
+
+use apex_machine::{Mode, WaitingSet};
+use apex_types::{Code, ObjectKind, Out, Who};
+use std::fmt::Write;
+use std::{fmt, str};
+
+/// How many bytes of a message are told.
+const MOST_BYTES: usize = 16;
+
+/// How many bytes of a text from outside are told.
+const MOST_TEXT: usize = 60;
+
+/// A process with its partition.
+#[derive(Clone, Copy)]
+pub struct Numbered(pub Who);
+
+impl fmt::Display for Numbered {
+    fn fmt<W: fmt::Write>(&self, f: &mut fmt::Formatter<W>) -> fmt::Result {
+        let (process, partition) = (self.0.proc.number(), self.0.part.number());
+        write!(f, "process {process} of partition {partition}")
+    }
+}
+
+/// The occupant of a core: a process, or nobody.
+#[derive(Clone, Copy)]
+pub struct Occupant(pub Option<Who>);
+
+impl fmt::Display for Occupant {
+    fn fmt<W: fmt::Write>(&self, f: &mut fmt::Formatter<W>) -> fmt::Result {
+        match self.0 {
+            Some(who) => write!(f, "{}", Numbered(who)),
+            None => write!(f, "no process"),
+        }
+    }
+}
+
+/// A text of printable ASCII, as the names of services and objects are.
+#[derive(Clone, Copy)]
+pub struct Ascii<'a>(pub &'a [u8]);
+
+impl fmt::Display for Ascii<'_> {
+    fn fmt<W: fmt::Write>(&self, f: &mut fmt::Formatter<W>) -> fmt::Result {
+        write!(f, "{}", str::from_utf8(self.0).unwrap_or("?"))
+    }
+}
+
+/// A text from outside in quotes: its first bytes, with `?` for those that are not printable.
+#[derive(Clone, Copy)]
+pub struct Found<'a>(pub &'a [u8]);
+
+impl fmt::Display for Found<'_> {
+    fn fmt<W: fmt::Write>(&self, f: &mut fmt::Formatter<W>) -> fmt::Result {
+        write!(f, "'")?;
+        for byte in self.0.iter().take(MOST_TEXT) {
+            if 0x20 <= *byte && *byte <= 0x7E {
+                f.write_char(char::from(*byte))?;
+            } else {
+                f.write_char('?')?;
+            }
+        }
+        if self.0.len() > MOST_TEXT {
+            write!(f, "..")?;
+        }
+        write!(f, "'")
+    }
+}
+
+/// A message: its first bytes in hexadecimal digits, and how many it has.
+#[derive(Clone, Copy)]
+pub struct Bytes<'a>(pub &'a [u8]);
+
+impl fmt::Display for Bytes<'_> {
+    fn fmt<W: fmt::Write>(&self, f: &mut fmt::Formatter<W>) -> fmt::Result {
+        let count = self.0.len();
+        if count == 0 {
+            return write!(f, "no message");
+        }
+        write!(f, "the message ")?;
+        for byte in self.0.iter().take(MOST_BYTES) {
+            write!(f, "{byte:02x}")?;
+        }
+        if count > MOST_BYTES {
+            write!(f, "..")?;
+        }
+        write!(f, " of {}", Count(count, "byte"))
+    }
+}
+
+/// So many of something, whose plural has an `s`.
+#[derive(Clone, Copy)]
+pub struct Count(pub usize, pub &'static str);
+
+impl fmt::Display for Count {
+    fn fmt<W: fmt::Write>(&self, f: &mut fmt::Formatter<W>) -> fmt::Result {
+        let (count, what) = (self.0, self.1);
+        if count == 1 {
+            return write!(f, "1 {what}");
+        }
+        write!(f, "{count} {what}s")
+    }
+}
+
+/// The name of a code.
+pub fn code_name(code: Code) -> &'static str {
+    match code {
+        Code::NoError => "NO_ERROR",
+        Code::NoAction => "NO_ACTION",
+        Code::NotAvailable => "NOT_AVAILABLE",
+        Code::InvalidParam => "INVALID_PARAM",
+        Code::InvalidConfig => "INVALID_CONFIG",
+        Code::InvalidMode => "INVALID_MODE",
+        Code::TimedOut => "TIMED_OUT",
+    }
+}
+
+/// An outcome by its word in a recording.
+pub fn out_name(out: Out) -> &'static str {
+    match out {
+        Out::Waits => "wait",
+        Out::Never => "none",
+        Out::Answer(code) => code_name(code),
+    }
+}
+
+/// The name of a mode.
+pub fn mode_name(mode: Mode) -> &'static str {
+    match mode {
+        Mode::Idle => "IDLE",
+        Mode::ColdStart => "COLD_START",
+        Mode::WarmStart => "WARM_START",
+        Mode::Normal => "NORMAL",
+    }
+}
+
+/// One of a kind of objects or ports.
+pub fn kind_name(kind: ObjectKind) -> &'static str {
+    match kind {
+        ObjectKind::Buffer => "buffer",
+        ObjectKind::Blackboard => "blackboard",
+        ObjectKind::Semaphore => "semaphore",
+        ObjectKind::Event => "event",
+        ObjectKind::Mutex => "mutex",
+        ObjectKind::SamplingPort => "sampling port",
+        ObjectKind::QueuingPort => "queuing port",
+    }
+}
+
+/// A waiting set.
+#[derive(Clone, Copy)]
+pub struct Set(pub WaitingSet);
+
+impl fmt::Display for Set {
+    fn fmt<W: fmt::Write>(&self, f: &mut fmt::Formatter<W>) -> fmt::Result {
+        match self.0 {
+            WaitingSet::BufferSenders(number) => write!(f, "to send to buffer {number}"),
+            WaitingSet::BufferReceivers(number) => write!(f, "to receive from buffer {number}"),
+            WaitingSet::BlackboardReaders(number) => write!(f, "to read blackboard {number}"),
+            WaitingSet::SemaphoreWaiters(number) => write!(f, "for semaphore {number}"),
+            WaitingSet::EventWaiters(number) => write!(f, "for event {number}"),
+            WaitingSet::MutexWaiters(number) => write!(f, "for mutex {number}"),
+            WaitingSet::ChannelSenders(channel) => {
+                write!(f, "to send through channel {}", channel.number())
+            }
+            WaitingSet::ChannelReceivers(channel) => {
+                write!(f, "to receive through channel {}", channel.number())
+            }
+        }
+    }
+}

@@ -1,0 +1,154 @@
+// What a partition refuses.
+
+use crate::choice::{tell_refused_choice, tell_window};
+use crate::claim::{tell_answer, tell_refused_outcome, tell_through};
+use crate::due::{tell_due_at_tick, tell_foreign_waits};
+use crate::naming::Ascii;
+use crate::outside::tell_outside;
+use crate::processes::tell_numbered;
+use crate::said::{tell_further, tell_message, tell_value};
+use crate::words::Words;
+use apex_machine::Outcome;
+use apex_types::{Body, Call, Cause, Ordered, PartId, Return, Who};
+use dispatch_rule::Clock;
+use module_config::Config;
+use partition_state::PartitionState;
+use piece_check::Piece;
+
+/// A partition that refuses a record: its number, the clock, its state, and its piece.
+#[derive(Drop)]
+pub struct Refusing<'a> {
+    pub number: PartId,
+    pub clock: &'a Clock,
+    pub state: &'a PartitionState,
+    pub piece: &'a Piece,
+}
+
+/// Tells why a partition refuses a record.
+pub fn tell_partition(
+    words: &mut Words,
+    config: &Config,
+    refusing: &Refusing<'_>,
+    ordered: &Ordered,
+    cause: Cause,
+) {
+    match cause {
+        Cause::Window => tell_window(words, config, refusing, ordered),
+        Cause::Choice => tell_refused_choice(words, config, refusing, ordered),
+        _ => match &ordered.rec.body {
+            Body::Call(call) => {
+                if call.who.part == refusing.number {
+                    tell_call(words, config, refusing, ordered, call, cause);
+                } else {
+                    tell_foreign_waits(words, refusing, call);
+                }
+            }
+            Body::Ret(ret) => tell_return(words, refusing, ret, cause),
+            Body::Tick(woken) => tell_due_at_tick(words, refusing, ordered.core, woken.as_slice()),
+            Body::Disp(_) => {}
+        },
+    }
+}
+
+// Tells why a call of one of the partition's own processes is refused.
+fn tell_call(
+    words: &mut Words,
+    config: &Config,
+    refusing: &Refusing<'_>,
+    ordered: &Ordered,
+    call: &Call,
+    cause: Cause,
+) {
+    match cause {
+        Cause::Return => tell_return_before(words, refusing, call.who),
+        Cause::OutsideProfile => tell_outside(words, refusing.state, call),
+        Cause::Prio => tell_priority(words, refusing, call),
+        _ => {
+            let conditions = refusing.piece.conditions(config, call);
+            if !conditions.is_empty() {
+                tell_refused_outcome(words, config, refusing.state, call, &conditions, cause);
+            } else if let Some(channel) = refusing.state.channel_of(&call.request) {
+                tell_through(words, channel, call, cause);
+            } else {
+                let now = refusing.clock.now(ordered.core);
+                tell_answer(words, refusing.state, now, call, cause);
+            }
+        }
+    }
+}
+
+// Tells which outcome a process has to return with before its next call.
+fn tell_return_before(words: &mut Words, refusing: &Refusing<'_>, who: Who) {
+    words.next_line();
+    match due_to(refusing.state, who) {
+        Some(outcome) => {
+            words.say("before it calls again it has to return from ");
+            tell_outcome(words, outcome);
+        }
+        None => words.say("it is no process of its partition"),
+    }
+    words.rule("part 10, Call, due");
+}
+
+// The outcome that is due to a process.
+fn due_to<'a>(state: &'a PartitionState, who: Who) -> Option<&'a Outcome> {
+    match state.processes().proc(who.proc) {
+        Some(process) => process.due.as_ref(),
+        None => None,
+    }
+}
+
+// Tells an outcome that is due.
+fn tell_outcome(words: &mut Words, outcome: &Outcome) {
+    words.say(Ascii(outcome.service.name()));
+    words.say(format_args!(" with {}", crate::naming::code_name(outcome.code)));
+    tell_value(words, outcome.val);
+    tell_further(words, outcome.val2, outcome.val3);
+    tell_message(words, outcome.bytes.as_bytes());
+}
+
+// Tells the current priority of a caller, and why it is not its base priority.
+fn tell_priority(words: &mut Words, refusing: &Refusing<'_>, call: &Call) {
+    let Some(process) = refusing.state.processes().proc(call.who.proc) else {
+        return;
+    };
+    words.next_line();
+    words.say(format_args!(
+        "its current priority is {}, and the record says {}",
+        process.current_priority, call.claim.prio
+    ));
+    words.say(format_args!("; its base priority is {}", process.base_priority));
+    for (number, mutex) in refusing.state.mutexes().iter() {
+        if mutex.is_owned_by(call.who.proc) {
+            words.next_line();
+            words.say(format_args!(
+                "it owns mutex {number} of priority {}, and had the priority {} before",
+                mutex.priority(),
+                process.retained_priority
+            ));
+        }
+    }
+    words.rule("part 10, Call, prio; what sets a priority: part 8");
+}
+
+// Tells why a return is refused.
+fn tell_return(words: &mut Words, refusing: &Refusing<'_>, ret: &Return, cause: Cause) {
+    match due_to(refusing.state, ret.who) {
+        Some(outcome) => {
+            words.next_line();
+            words.say("what is due to it is the return from ");
+            tell_outcome(words, outcome);
+        }
+        None => {
+            words.next_line();
+            words.say(
+                "nothing is due to it: each return belongs to a call before it, and a wait has to end first",
+            );
+            tell_numbered(words, refusing.state, ret.who);
+        }
+    }
+    match cause {
+        Cause::Return => words.rule("part 10, Return, due"),
+        _ => words.rule("part 10, Return, outcome_returned; how a wait ends: part 8"),
+    }
+}

@@ -1,0 +1,130 @@
+// Processes in words: what one waits for, and why it is not ready or not the choice.
+
+use crate::naming::{Ascii, Numbered, Set};
+use crate::words::Words;
+use apex_machine::{Process, Wait};
+use apex_types::{CoreId, PartId, ProcId, Who};
+use partition_state::PartitionState;
+
+/// Tells a process with its name and how it stands: ready, or why it is not.
+pub fn tell_process(words: &mut Words, who: Who, process: &Process) {
+    words.say(Numbered(who));
+    let name = process.name.as_bytes();
+    if !name.is_empty() {
+        words.say(format_args!(", \"{}\",", Ascii(name)));
+    }
+    tell_standing(words, process);
+    words.say(format_args!("; its core is {}", process.affinity.number()));
+    words.say(format_args!(" and its current priority {}", process.current_priority));
+}
+
+/// Tells how a process stands: dormant, suspended, waiting, or ready.
+pub fn tell_standing(words: &mut Words, process: &Process) {
+    if !process.alive {
+        words.say(" is dormant");
+        return;
+    }
+    if process.suspended {
+        words.say(" is suspended");
+        if process.wait != Wait::Nothing {
+            words.say(" and");
+        }
+    }
+    tell_wait(words, process);
+}
+
+// Tells what a process waits for, or that it is ready.
+fn tell_wait(words: &mut Words, process: &Process) {
+    match process.wait {
+        Wait::Nothing => {
+            if !process.suspended {
+                words.say(format_args!(" is ready since place {}", process.ready_position));
+            }
+        }
+        Wait::NormalMode => words.say(" waits for the mode NORMAL"),
+        Wait::FirstRelease(time) => {
+            words.say(format_args!(" waits for its first release at time {time}"));
+        }
+        Wait::Until(time) => words.say(format_args!(" waits in TIMED_WAIT until time {time}")),
+        Wait::PeriodicRelease(time) => {
+            words.say(format_args!(" waits in PERIODIC_WAIT until time {time}"));
+        }
+        Wait::Suspended(due) => {
+            words.say(" waits in SUSPEND_SELF to be resumed");
+            tell_due(words, due);
+        }
+        Wait::At(set, due) => {
+            words.say(format_args!(" waits {}", Set(set)));
+            tell_due(words, due);
+        }
+    }
+}
+
+// Tells when a wait with a time-out falls due.
+fn tell_due(words: &mut Words, due: Option<u64>) {
+    match due {
+        Some(time) => words.say(format_args!(", at most until time {time}")),
+        None => words.say(", without a time-out"),
+    }
+}
+
+/// The time at which a wait falls due, if it does.
+pub fn time_due(wait: Wait) -> Option<u64> {
+    match wait {
+        Wait::Nothing | Wait::NormalMode => None,
+        Wait::FirstRelease(time) | Wait::Until(time) | Wait::PeriodicRelease(time) => Some(time),
+        Wait::Suspended(due) | Wait::At(_, due) => due,
+    }
+}
+
+/// Whether a process is ready.
+pub fn is_ready(process: &Process) -> bool {
+    process.alive && !process.suspended && process.wait == Wait::Nothing
+}
+
+/// Tells a process of a partition by its number, on a line of its own.
+pub fn tell_numbered(words: &mut Words, state: &PartitionState, who: Who) {
+    words.next_line();
+    match state.processes().proc(who.proc) {
+        Some(process) => tell_process(words, who, process),
+        None => words.say(format_args!("there is no {}", Numbered(who))),
+    }
+}
+
+/// Tells the choice of a core in a partition's window, and why it is the choice.
+pub fn tell_choice(words: &mut Words, state: &PartitionState, part: PartId, core: CoreId) {
+    let number = core.number();
+    let Some(choice) = state.processes().ready_on(part, core) else {
+        words.next_line();
+        words.say(format_args!(
+            "the choice of core {number} is no process: none of partition {} is ready there",
+            part.number()
+        ));
+        return;
+    };
+    words.next_line();
+    words.say(format_args!("the choice of core {number} is {}", Numbered(choice)));
+    words.say(
+        ": the highest priority goes first, then the earliest ready position, then the smallest number",
+    );
+    let table = state.processes();
+    for index in 0..table.len().saturating_add(1) {
+        let Some((proc, process)) = table.at(index) else {
+            break;
+        };
+        if is_ready(process) && process.affinity == core {
+            tell_ready(words, *proc, process, *proc == choice.proc);
+        }
+    }
+}
+
+// Tells by what a ready process is chosen or not.
+fn tell_ready(words: &mut Words, proc: ProcId, process: &Process, is_choice: bool) {
+    words.next_line();
+    words.say(format_args!("  process {} is ready", proc.number()));
+    words.say(format_args!(" with priority {}", process.current_priority));
+    words.say(format_args!(" since place {}", process.ready_position));
+    if is_choice {
+        words.say(": the choice");
+    }
+}

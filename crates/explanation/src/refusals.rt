@@ -1,0 +1,78 @@
+// The refusals of a certificate, an order and the arguments in words.
+
+use crate::naming::Found;
+use crate::words::Words;
+use csv::ByteRecord;
+use order_cert::{CertFault, OrderFault};
+use report::ArgumentFault;
+
+/// Tells the fault of a row of the certificate.
+pub fn tell_certificate(words: &mut Words, fault: CertFault, fields: Option<&ByteRecord>) {
+    words.say(fault);
+    if let Some(fields) = fields {
+        words.next_line();
+        words.say(format_args!("it has {}", crate::naming::Count(fields.len(), "field")));
+        for field in [0, 1] {
+            if let Some(text) = fields.get(field) {
+                words.say(format_args!(", {}", Found(text)));
+            }
+        }
+        words.say(
+            ", and wanted is core,seq with numbers from 0 to 4294967295 in their shortest form",
+        );
+    }
+    words.next_line();
+    words.say("the certificate: docs/FORMATS.md, The certificate");
+}
+
+/// Tells why a pair may not stand in its place, or why the order may not end there: of this core, whose next record has this
+/// number, where the pair names that one, if it could be read once more.
+pub fn tell_order(words: &mut Words, fault: OrderFault, core: u32, named: Option<u64>) {
+    match fault {
+        OrderFault::NoSuchCore => words.say(format_args!("core {core} is not configured")),
+        OrderFault::Missing => words.say(format_args!(
+            "the certificate ends here, and the recording of core {core} has a further record"
+        )),
+        _ => words.say(format_args!("of core {core}: {fault}")),
+    }
+    if let Some(named) = named {
+        match fault {
+            OrderFault::NoSuchCore | OrderFault::Missing => {}
+            _ => words.say(format_args!(": the row names its record {named}")),
+        }
+    }
+    words.next_line();
+    match fault {
+        OrderFault::NoSuchCore => words.say("wanted is a core that the configuration has"),
+        OrderFault::Skipped => words.say(
+            "wanted is the core's next record, a smaller number; each record stands once, in its core's order",
+        ),
+        OrderFault::Repeated => words.say(
+            "wanted is the core's next record, a greater number; each record stands once, in its core's order",
+        ),
+        OrderFault::Absent => words.say(
+            "wanted is a recording that goes on, or a certificate without this row",
+        ),
+        OrderFault::Missing => words.say("wanted is a row for each record of each core"),
+    }
+    words.next_line();
+    words.say("lawful orders: docs/SPECIFICATION.md, part 15 (IsLawfulOrder)");
+}
+
+/// Tells what is wrong with the arguments of a check.
+pub fn tell_arguments(words: &mut Words, fault: ArgumentFault, recordings: usize) {
+    words.say(fault);
+    words.next_line();
+    match fault {
+        ArgumentFault::NoWorkers | ArgumentFault::TooManyWorkers => {
+            words.say("--workers wants a number from 1 to 64");
+        }
+        ArgumentFault::NoDepth | ArgumentFault::TooDeep => {
+            words.say("--depth wants a number from 1 to 4,096");
+        }
+        ArgumentFault::ReaderCount => words.say(format_args!(
+            "there are {}, and wanted is one for each core that the key cores of the configuration gives",
+            crate::naming::Count(recordings, "recording")
+        )),
+    }
+}

@@ -1,0 +1,32 @@
+// The error conditions of the services that tell the number of what has a name, or the state of an object.
+
+ghost use Rattle.std.specs.Prelude.{◌≡◌};
+ghost use Rattle.apex_machine.specs.Names.{get_id_codes, number_of};
+ghost use Rattle.apex_machine.specs.Statuses.{get_status_codes};
+
+use super::objects::use_of;
+use apex_types::{Code, Name, ObjectKind};
+use partition_state::PartitionState;
+use wait_set::Conditions;
+
+/// GET_BUFFER_ID and its like: one of the kind has the name.
+pub(super) fn id_conditions(state: &PartitionState, kind: ObjectKind, name: &Name) -> Conditions
+    ensures { result ≡ get_id_codes (number_of state.now kind name.now) }
+{
+    Conditions::none().with(state.number_of(kind, name).is_none(), Code::InvalidConfig)
+}
+
+/// GET_BUFFER_STATUS and its like: a created object or port of the kind.
+pub(super) fn status_conditions(state: &PartitionState, kind: ObjectKind, object: i64) -> Conditions
+    ensures { result ≡ get_status_codes state.now kind object }
+{
+    match kind {
+        ObjectKind::Buffer => use_of(state.buffers().given(object)),
+        ObjectKind::Blackboard => use_of(state.blackboards().given(object)),
+        ObjectKind::Semaphore => use_of(state.semaphores().given(object)),
+        ObjectKind::Event => use_of(state.events().given(object)),
+        ObjectKind::Mutex => use_of(state.mutexes().given(object)),
+        ObjectKind::SamplingPort => use_of(state.sampling_ports().given(object)),
+        ObjectKind::QueuingPort => use_of(state.queuing_ports().given(object)),
+    }
+}

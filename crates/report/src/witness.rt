@@ -1,0 +1,58 @@
+// Who is told what stands at the place of a No.
+
+use crate::fault::CheckFault;
+use apex_types::{Cause, Ordered, Place, View};
+use module_config::Config;
+use partition_workers::Judge;
+use piece_check::Piece;
+use verdict_merge::Verdict;
+
+/// Who is told what stands at the place of a No or of a broken rule, to tell it a person. No answer hangs on a witness.
+pub trait Witness {
+    /// The piece refuses this record for this cause. It stands as it stood before the record.
+    fn refused(&mut self, config: &Config, piece: &Piece, ordered: &Ordered, cause: Cause);
+
+    /// The view of this record breaks the rule of this number, counted from 0.
+    fn broken(&mut self, ordered: &Ordered, view: &View, rule: usize);
+}
+
+/// A witness that does nothing.
+#[derive(Clone, Copy, Debug, Drop)]
+pub struct Nobody;
+
+impl Witness for Nobody {
+    fn refused(&mut self, _config: &Config, _piece: &Piece, _ordered: &Ordered, _cause: Cause) {}
+
+    fn broken(&mut self, _ordered: &Ordered, _view: &View, _rule: usize) {}
+}
+
+/// Tells a witness of an answer over these records, of which the first stands at this place.
+pub(crate) fn tell<V: Witness>(
+    witness: &mut V,
+    config: &Config,
+    judge: &Judge,
+    answer: &Result<Verdict, CheckFault>,
+    first: u64,
+    records: &[Ordered],
+) {
+    match answer {
+        Ok(Verdict::No { pos, piece, cause }) => {
+            let found = records.get(index_of(*pos, first));
+            if let (Some(piece), Some(ordered)) = (judge.piece(*piece), found) {
+                witness.refused(config, piece, ordered, *cause);
+            }
+        }
+        Ok(Verdict::Broken { pos, rule }) => {
+            let index = index_of(*pos, first);
+            if let (Some(ordered), Some(view)) = (records.get(index), judge.views().get(index)) {
+                witness.broken(ordered, view, *rule);
+            }
+        }
+        _ => {}
+    }
+}
+
+// The index of a place among records of which the first stands at this one.
+fn index_of(pos: Place, first: u64) -> usize {
+    pos.number().saturating_sub(first) as usize
+}
