@@ -10,6 +10,7 @@ ghost use Rattle.core_intake.specs.Batches.{WasFed, all_answers};
 
 use crate::batch::Batch;
 use crate::rule::{Sender, Sends, Side};
+use crate::stoppable::Stoppable;
 use record_read::RowSource;
 use std::alloc::Global;
 use std::io::Read;
@@ -40,7 +41,8 @@ impl<R: Read> Promise<Fed> for FedBy<R> {
     ghost kept_by = { λ promise fed. WasFed promise.sender.value (option_map records_of (R.remaining promise.reader.value)) fed.sender fed.side };
 }
 
-/// Sends the recording, batch after batch, until it has ended, the flag says to stop or nobody receives any more.
+/// Sends the recording, batch after batch, until it has ended, the flag says to stop or nobody receives any more. Each read fails
+/// once the flag says to stop.
 pub fn feed<R: Read + Drop, T: Wait>(
     rt: &T,
     alloc: Global,
@@ -54,7 +56,7 @@ pub fn feed<R: Read + Drop, T: Wait>(
     requires fresh { view side ≡ log true false [] [] }
     ensures { WasFed sender (option_map records_of (R.remaining reader)) result.sender result.side }
 {
-    let mut source = RowSource::new(alloc, reader);
+    let mut source = RowSource::new(alloc, Stoppable::new(reader, stop));
     send_all(rt, alloc, &mut source, length, stop, &sender, &mut side);
     Fed { sender, side }
 }

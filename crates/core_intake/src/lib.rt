@@ -19,6 +19,7 @@ mod lane;
 #[cfg(test)]
 mod readers;
 mod rule;
+mod stoppable;
 #[cfg(test)]
 mod tests;
 
