@@ -16,12 +16,8 @@ mod feed;
 mod hand;
 mod intake;
 mod lane;
-#[cfg(test)]
-mod readers;
 mod rule;
 mod stoppable;
-#[cfg(test)]
-mod tests;
 
 pub use fault::IntakeFault;
 pub use intake::Intake;

@@ -15,8 +15,6 @@ mod job;
 mod judge;
 mod log;
 mod round;
-#[cfg(test)]
-mod tests;
 mod workers;
 
 pub use board::Board;

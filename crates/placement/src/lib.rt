@@ -7,8 +7,6 @@
 
 mod fault;
 mod placer;
-#[cfg(test)]
-mod tests;
 
 pub use fault::InputFault;
 pub use placer::{Filled, Placer};

@@ -15,6 +15,3 @@ mod option;
 
 pub use given::RuleOptions;
 pub use option::{RuleOption, relations_of};
-
-#[cfg(test)]
-mod tests;

@@ -15,6 +15,3 @@ mod text;
 pub use fault::{RuleFault, RulesFault};
 pub use rule::NamedRule;
 pub use text::read;
-
-#[cfg(test)]
-mod tests;

@@ -31,6 +31,3 @@ pub use broken::{Broken, first_broken, first_broken_in_turn};
 pub use laws::{first_broken_behind, first_broken_stays, one_first_broken};
 pub use relation::Relation;
 pub use rule::{Rule, Test};
-
-#[cfg(test)]
-mod tests;

@@ -1,5 +1,5 @@
 use Rattle.partition_workers.specs.Contents.{content_of, parts_held}
-use Rattle.partition_workers.proofs.tests.refuse_in_round.Given as goal
+use Rattle.crate_tests.proofs.workers.refuse_in_round.Given as goal
 
 -- the round is of what is lent to these pieces
 abbrev pub ghosts-refuse_all : goal.ghosts-refuse_all

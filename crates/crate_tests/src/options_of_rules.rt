@@ -1,7 +1,9 @@
-use super::*;
+// Rules that options ask for: what their texts give, their numbers, and their relations.
+
 use apex_types::{Service, View};
+use rule_options::{RuleOption, RuleOptions, relations_of};
 use std::alloc::Global;
-use std::test::*;
+use std::test::Fail;
 
 fn call_of(service: i64) -> View {
     View {

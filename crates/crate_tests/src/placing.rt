@@ -2,10 +2,10 @@
 
 ghost use Rattle.std.specs.Prelude.{◌≡◌, IfOk, IsTrue, false};
 
-use crate::{Filled, Placer};
 use apex_types::Ordered;
 use core_intake::{Intake, IntakeFault};
 use order_cert::CertSource;
+use placement::{Filled, Placer};
 use std::alloc::Global;
 use std::sync::Wait;
 use std::test::Fail;

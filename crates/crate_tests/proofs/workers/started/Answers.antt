@@ -8,7 +8,7 @@ use Rattle.piece_check.specs.Parts.{IsBehind, IsOf, IsPartOf, piece_at}
 use Rattle.verdict_merge.specs.Rounds.{cold_parts, holding_at}
 use Rattle.verdict_merge.proofs.Holdings.{holding_at-front, holding_at-last}
 use Rattle.verdict_merge.proofs.Splits.{up_to}
-use Rattle.partition_workers.proofs.tests.started.Goals as goal
+use Rattle.crate_tests.proofs.workers.started.Goals as goal
 
 pub pieces-preserved : goal.pieces-preserved
 pieces-preserved c =

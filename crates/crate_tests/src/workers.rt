@@ -7,9 +7,11 @@ ghost use Rattle.piece_check.specs.Touching.{AreSortedOut, indices_of};
 ghost use Rattle.verdict_merge.specs.Rounds.{AreGoing, cold_parts, holding_at};
 ghost use Rattle.partition_workers.specs.Contents.{AreGoingFrom, IsOpen, content_of, parts_held};
 
-use crate::{Board, Done, Gate, Naming, Open, PostRefusal, Round, RoundFault, judge_round};
 use apex_types::{Body, Cause, CoreId, Ordered, PartId, Place, ProcId, Record, Who, Woken};
 use module_config::Config;
+use partition_workers::{
+    Board, Done, Gate, Naming, Open, PostRefusal, Round, RoundFault, judge_round,
+};
 use piece_check::{Piece, Touched, count};
 use std::alloc::{AllocError, Global};
 use std::marker::Brand;

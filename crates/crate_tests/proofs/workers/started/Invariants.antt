@@ -1,7 +1,7 @@
 use Rattle.std.proofs.Common.{◌≡◌, ◌<◌, ℕ, length}
 use Rattle.piece_check.specs.Parts.{IsBehind, IsOf}
 use Rattle.verdict_merge.specs.Rounds.{cold_parts, holding_at}
-use Rattle.partition_workers.proofs.tests.started.Given as goal
+use Rattle.crate_tests.proofs.workers.started.Given as goal
 
 abbrev pub invariant-pieces : goal.invariant-pieces
 invariant-pieces l = record {

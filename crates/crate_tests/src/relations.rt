@@ -1,7 +1,9 @@
-use super::*;
+// Which views meet a relation, and the first view that breaks a rule, found by several threads and by one.
+
 use apex_types::{Field, View};
 use std::alloc::Global;
-use std::test::*;
+use std::test::Fail;
+use user_rules::{Broken, Relation, Rule, Test, first_broken, first_broken_in_turn};
 
 // The rule of a relation, whose test is the relation itself, over a clone of it.
 macro_rules! rule {

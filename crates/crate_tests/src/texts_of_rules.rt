@@ -1,7 +1,9 @@
-use super::*;
+// Texts of rules: what they say, why they are refused, and their limits.
+
 use apex_types::View;
+use rules_file::{RuleFault, RulesFault, read};
 use std::alloc::Global;
-use std::test::*;
+use std::test::Fail;
 
 // The view of a call of SEND_BUFFER in partition 0, at time 7.
 fn call_of_send_buffer() -> View {

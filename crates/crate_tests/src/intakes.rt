@@ -1,8 +1,8 @@
 // What no clause says: that the threads read beside one another, how far they read ahead, and what is left behind.
 
-use crate::readers::{Meeting, Piece, Piecewise, Trace};
-use crate::{Intake, IntakeFault};
+use crate::intake_readers::{Meeting, Piece, Piecewise, Trace};
 use apex_types::{Body, Record};
+use core_intake::{Intake, IntakeFault};
 use record_read::RowFault;
 use std::alloc::{AllocError, Global};
 use std::io::Read;

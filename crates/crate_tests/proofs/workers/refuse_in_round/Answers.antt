@@ -1,7 +1,7 @@
 use Rattle.std.proofs.Common.{◌∙◌, sym, ap, arith}
 use Rattle.partition_workers.specs.Contents.{content_of}
 use Rattle.partition_workers.proofs.Going.{all_going, same_parts}
-use Rattle.partition_workers.proofs.tests.refuse_in_round.Goals as goal
+use Rattle.crate_tests.proofs.workers.refuse_in_round.Goals as goal
 
 pub refuse_all-requires-clause-other_named : goal.refuse_all-requires-clause-other_named
 refuse_all-requires-clause-other_named c =
