@@ -64,7 +64,9 @@ impl Gathering {
 fn empty_slots(alloc: Global, count: usize) -> Result<Vec<Option<View>>, Memory>
     ensures { IfOk result (λ slots. slots.items ≡ replicate count None) }
 {
-    let mut slots = Vec::new(alloc);
+    let Ok(mut slots) = Vec::with_capacity(alloc, count) else {
+        return Err(Memory);
+    };
     for _ in 0..count {
         if slots.push(None).is_err() {
             return Err(Memory);
@@ -102,7 +104,9 @@ fn first_views(alloc: Global, slots: &[Option<View>], count: usize) -> Result<Ve
     requires filled { (index : ℕ) → index < count → (view : ViewOfRecord) × (slot_at slots.now index ≡ Some view) }
     ensures { IfOk result (λ views. map Some views.items ≡ take count slots.now) }
 {
-    let mut views = Vec::new(alloc);
+    let Ok(mut views) = Vec::with_capacity(alloc, count) else {
+        return Err(Memory);
+    };
     for index in 0..count {
         match slots[index] {
             Some(view) => {
