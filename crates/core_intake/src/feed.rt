@@ -9,6 +9,7 @@ ghost use Rattle.core_intake.specs.Told.{AreAnswers};
 ghost use Rattle.core_intake.specs.Batches.{WasFed, all_answers};
 
 use crate::batch::Batch;
+use crate::room::Rooms;
 use crate::rule::{Sender, Sends, Side};
 use crate::stoppable::Stoppable;
 use record_read::RowSource;
@@ -49,6 +50,7 @@ pub fn feed<R: Read + Drop, T: Wait>(
     reader: R,
     length: usize,
     stop: &AtomicBool,
+    rooms: &Rooms,
     sender: Sender,
     mut side: Side,
 ) -> Fed
@@ -57,7 +59,16 @@ pub fn feed<R: Read + Drop, T: Wait>(
     ensures { WasFed sender (option_map records_of (R.remaining reader)) result.sender result.side }
 {
     let mut source = RowSource::new(alloc, Stoppable::new(reader, stop));
-    send_all(rt, alloc, &mut source, length, stop, &sender, &mut side);
+    send_all(
+        rt,
+        alloc,
+        &mut source,
+        length,
+        stop,
+        rooms,
+        &sender,
+        &mut side,
+    );
     Fed { sender, side }
 }
 
@@ -68,6 +79,7 @@ fn send_all<R: Read, T: Wait>(
     source: &mut RowSource<R>,
     length: usize,
     stop: &AtomicBool,
+    rooms: &Rooms,
     sender: &Sender,
     side: &mut Side,
 )
@@ -79,7 +91,7 @@ fn send_all<R: Read, T: Wait>(
     ensures sent { AreAnswers source.old.left (all_answers (view side.new).sent) }
 {
     for _ in rt.forever() {
-        let batch = Batch::read(alloc, source, length, stop);
+        let batch = Batch::read(rt, alloc, source, length, stop, rooms);
         let is_last = batch.end.is_some();
         if !send(rt, sender, side, batch) {
             return;

@@ -8,25 +8,24 @@ use crate::batch::Batch;
 use apex_types::Record;
 use record_read::RowFault;
 use std::alloc::Global;
+use std::collections::VecDeque;
 use std::marker::Model;
-use std::vec::IntoIter;
 
 /// What is left of the last batch that came.
 #[derive(Drop)]
 pub struct Hand {
-    records: IntoIter<Record>,
+    records: VecDeque<Record>,
     end: Option<Result<(), RowFault>>,
 }
 
 impl Model for Hand {
     ghost use Rattle.std.specs.Prelude.{List};
-    ghost use Rattle.std.specs.Vec.Iter.{into_iter_items};
     ghost use Rattle.core_intake.specs.Told.{Answer};
     ghost use Rattle.core_intake.specs.Batches.{answers_of};
 
     ghost Value = { List Answer };
 
-    ghost view = { λ hand. answers_of (into_iter_items hand.records) hand.end };
+    ghost view = { λ hand. answers_of hand.records.items hand.end };
 }
 
 impl Hand {
@@ -35,7 +34,7 @@ impl Hand {
         ensures { result ≡ [] }
     {
         Hand {
-            records: Vec::new(alloc).into_iter(),
+            records: VecDeque::new(alloc),
             end: None,
         }
     }
@@ -45,10 +44,7 @@ impl Hand {
         ensures { result ≡ answers_in batch }
     {
         let Batch { records, end } = batch;
-        Hand {
-            records: records.into_iter(),
-            end,
-        }
+        Hand { records, end }
     }
 
     /// The first answer that is left, or None where none is.
@@ -56,7 +52,7 @@ impl Hand {
         ensures first { self.old ≡ option_to_list result ++ self.new }
         ensures none { IfNone result (self.old ≡ []) }
     {
-        if let Some(record) = self.records.next() {
+        if let Some(record) = self.records.pop_front() {
             return Some(Ok(Some(record)));
         }
         match self.end.take() {
@@ -64,5 +60,11 @@ impl Hand {
             Some(Ok(())) => Some(Ok(None)),
             Some(Err(fault)) => Some(Err(fault)),
         }
+    }
+
+    /// The room in which the batch came.
+    pub fn into_room(self) -> VecDeque<Record> {
+        let Hand { records, end: _ } = self;
+        records
     }
 }

@@ -12,6 +12,7 @@ use crate::batch::Batch;
 use crate::cut::cut_of;
 use crate::feed::{Fed, FedBy, feed};
 use crate::hand::Hand;
+use crate::room::{Spent, give_back};
 use crate::rule::{InOrder, Log, Receiver, Receives, Roles, Side, Total};
 use apex_types::Record;
 use record_read::RowFault;
@@ -21,15 +22,17 @@ use std::marker::Model;
 use std::snapshot::Snapshot;
 use std::sync::atomic::{AtomicBool, Ordering};
 use std::sync::{Arc, Wait};
-use std::thread;
 use std::thread::{PromisedHandle, Threads};
+use std::{mem, thread};
 
-/// A reader in a thread of its own, the channel on which its records come, and what is left of the last batch.
+/// A reader in a thread of its own, the channel on which its records come, what is left of the last batch, and the channel on which
+/// the rooms of batches go back.
 #[derive(Drop)]
 pub struct Lane<R: Read> {
     receiver: Receiver,
     side: Side,
     hand: Hand,
+    spent: Spent,
     ended: bool,
     stop: Arc<AtomicBool>,
     reader: PromisedHandle<Fed, FedBy<R>>,
@@ -77,6 +80,7 @@ impl<R: Read + Drop + Send + 'static> Lane<R> {
             Global,
         >(alloc, cut.slots)?;
         let side = sender.another::<Roles>(&mut sending);
+        let (spent, rooms) = crossbeam_channel::bounded(alloc, cut.slots)?;
         let promise = FedBy {
             sender: Snapshot::of(&sender),
             reader: Snapshot::of(&reader),
@@ -87,12 +91,13 @@ impl<R: Read + Drop + Send + 'static> Lane<R> {
             move || -> Fed
                 requires { IsSeatAt (sends_on sender) sending × (view sending ≡ log true false [] []) }
                 ensures { WasFed sender (option_map records_of (R.remaining reader)) result.sender result.side }
-            { feed(&rt, alloc, reader, length, &theirs, sender, sending) },
+            { feed(&rt, alloc, reader, length, &theirs, &rooms, sender, sending) },
         )?;
         Ok(Lane {
             receiver,
             side,
             hand: Hand::empty(alloc),
+            spent,
             ended: false,
             stop,
             reader,
@@ -110,7 +115,13 @@ impl<R: Read> Lane<R> {
         if self.ended {
             return Ok(None);
         }
-        let answer = take_answer(rt, &self.receiver, &mut self.side, &mut self.hand);
+        let answer = take_answer(
+            rt,
+            &self.receiver,
+            &mut self.side,
+            &mut self.hand,
+            &self.spent,
+        );
         self.ended = ends(&answer);
         answer
     }
@@ -123,6 +134,7 @@ impl<R: Read> Lane<R> {
             receiver,
             side,
             hand: _,
+            spent: _,
             ended: _,
             stop,
             reader,
@@ -146,12 +158,13 @@ fn ends(answer: &Result<Option<Record>, RowFault>) -> bool
     !matches!(answer, Ok(Some(_)))
 }
 
-// The next answer: of the batch at hand, or else of the next that comes.
+// The next answer: of the batch at hand, or else of the next that comes, when the room of the last one goes back.
 fn take_answer<T: Wait>(
     rt: &T,
     receiver: &Receiver,
     side: &mut Side,
     hand: &mut Hand,
+    spent: &Spent,
 ) -> Result<Option<Record>, RowFault>
     requires seat { IsSeatAt (receives_on receiver.now) side.old }
     requires receives { (view side.old).receives ≡ true }
@@ -163,7 +176,8 @@ fn take_answer<T: Wait>(
         if let Some(answer) = hand.next() {
             return answer;
         }
-        *hand = Hand::of(take_batch(rt, receiver, side));
+        let last = mem::replace(hand, Hand::of(take_batch(rt, receiver, side)));
+        give_back(rt, spent, last.into_room());
     }
     unreachable!()
 }

@@ -16,6 +16,7 @@ mod feed;
 mod hand;
 mod intake;
 mod lane;
+mod room;
 mod rule;
 mod stoppable;
 

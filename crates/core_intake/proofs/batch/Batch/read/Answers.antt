@@ -5,7 +5,7 @@ use Rattle.core_intake.proofs.batch.Batch.read.Goals as goal
 pub loop-preserved : goal.loop-preserved
 loop-preserved g c = (
   search rules,
-  reads_more _ _ _ _ _ _ c.next.result c.loop.invariant.1 (c.next.ensures.gives c.loop.invariant.0) (search rules) c.push_reserved.ensures.items,
+  reads_more _ _ _ _ _ _ c.next.result c.loop.invariant.1 (c.next.ensures.gives c.loop.invariant.0) (search rules) c.push_back_reserved.ensures.items,
   search rules,
   search rules,
 )

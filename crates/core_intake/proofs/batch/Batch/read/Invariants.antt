@@ -1,8 +1,8 @@
-use Rattle.std.proofs.Common.{◌≡◌, ◌≤◌, false, vec_len, vec_capacity}
+use Rattle.std.proofs.Common.{◌≡◌, ◌≤◌, false, deque_len, deque_capacity}
 use Rattle.core_intake.specs.Batches.{records_told}
 use Rattle.core_intake.proofs.Chains.{Leads}
 use Rattle.core_intake.proofs.batch.Batch.read.Given as goal
 
 abbrev pub invariant-loop : goal.invariant-loop
 invariant-loop g l = (l.source.stopped ≡ false) × Leads l.initial.source.left (records_told l.records.items) l.source.left
-    × (vec_len l.records ≤ l.counter) × (l.fn.length ≤ vec_capacity l.records)
+    × (deque_len l.records ≤ l.counter) × (l.fn.length ≤ deque_capacity l.records)

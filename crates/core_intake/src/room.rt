@@ -1,0 +1,39 @@
+// The room in which a batch passes, and its way back.
+
+ghost use Rattle.std.specs.Prelude.{◌≡◌, ◌≤◌, [], IfOk};
+ghost use Rattle.std.specs.VecDeque.{deque_capacity};
+
+use apex_types::Record;
+use std::alloc::{AllocError, Global};
+use std::collections::VecDeque;
+use std::sync::Wait;
+
+/// The end at which rooms come back to a reader's thread.
+pub type Rooms = crossbeam_channel::Receiver<VecDeque<Record>>;
+
+/// The other end of it.
+pub type Spent = crossbeam_channel::Sender<VecDeque<Record>>;
+
+/// A room for so many records, in which there is none: one that came back, or a new one.
+pub fn room_for<T: Wait>(
+    rt: &T,
+    alloc: Global,
+    rooms: &Rooms,
+    length: usize,
+) -> Result<VecDeque<Record>, AllocError>
+    ensures empty { IfOk result (λ room. room.items ≡ []) }
+    ensures large { IfOk result (λ room. length ≤ deque_capacity room) }
+{
+    if let Ok(mut room) = rooms.try_recv(rt) {
+        room.clear();
+        if room.capacity() >= length {
+            return Ok(room);
+        }
+    }
+    VecDeque::with_capacity(alloc, length)
+}
+
+/// Gives a room back. It is given up where nobody takes it.
+pub fn give_back<T: Wait>(rt: &T, spent: &Spent, room: VecDeque<Record>) {
+    let _ = spent.try_send(rt, room);
+}
