@@ -345,16 +345,12 @@ fn finish_next<J: Naming>(alloc: Global, board: &mut Board<J>, worker: usize) ->
     }
 }
 
-// Posts the first, and then the second.
-fn told_of_second<J: Naming>(
-    board: &mut Board<J>,
-    first: Done<J>,
-    second: Done<J>,
-) -> Option<Told> {
-    if board.post(first).is_err() {
-        return None;
+// Claims the next piece of the board by this worker, and posts what becomes of it.
+fn post_next<J: Naming>(alloc: Global, board: &mut Board<J>, worker: usize) -> bool {
+    match finish_next(alloc, board, worker) {
+        Some(done) => board.post(done).is_ok(),
+        None => false,
     }
-    told_by(board, second)
 }
 
 // Posts to a board what another board's worker 1 made of the first piece, before and after that piece is claimed and posted by a
@@ -370,10 +366,10 @@ fn refuse_first<J: Naming>(
     let Some((not_claimed, done)) = refuse(board, done) else {
         return None;
     };
-    let Some(own) = finish_next(alloc, board, 1) else {
+    if !post_next(alloc, board, 1) {
         return None;
-    };
-    match told_of_second(board, own, done) {
+    }
+    match told_by(board, done) {
         Some(repeated) => Some([not_claimed, repeated]),
         None => None,
     }
