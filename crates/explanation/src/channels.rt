@@ -5,10 +5,10 @@ use crate::held::tell_channel_held;
 use crate::rules::answer_rule;
 use crate::wanted::wanted_through;
 use crate::words::Words;
-use apex_types::{Body, Cause, Ordered};
+use apex_types::{Body, Cause, Ordered, Request};
 use channel::Channel;
 use dispatch_rule::Times;
-use module_config::{ChannelKind, Config};
+use module_config::Config;
 
 /// Tells why a channel refuses a record.
 pub fn tell_channel(
@@ -22,12 +22,11 @@ pub fn tell_channel(
     let Body::Call(call) = &ordered.rec.body else {
         return;
     };
-    let now = times.now(ordered.core);
-    let refresh = match config.channel_kind(channel.number()) {
-        Some(ChannelKind::Sampling { refresh }) => refresh,
-        _ => 0,
+    let Some(kind) = config.channel_kind(channel.number()) else {
+        return;
     };
-    tell_channel_held(words, channel, now, refresh);
+    let now = times.now(ordered.core);
+    tell_channel_held(words, channel, now, &kind);
     match cause {
         Cause::Choice => {
             words.next_line();
@@ -36,13 +35,22 @@ pub fn tell_channel(
         }
         Cause::Chan => {
             words.next_line();
-            words.say("the service is not of the channel's kind");
+            words.say(unsuited(channel, &call.request));
             words.rule("part 5 (suits)");
         }
         _ => {
-            let wanted = wanted_through(channel, now, refresh, call);
+            let wanted = wanted_through(channel, &kind, now, call);
             tell_difference(words, &wanted, None, &call.claim, cause);
             words.rule(answer_rule(&call.request));
         }
+    }
+}
+
+// Why a request does not suit a channel.
+fn unsuited(channel: &Channel, request: &Request) -> &'static str {
+    match (request, channel.queue()) {
+        (Request::GetStatus { .. }, Some(_)) =>
+            "the caller's partition is at neither end of the channel",
+        _ => "the service is not of the channel's kind",
     }
 }

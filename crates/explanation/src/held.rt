@@ -5,6 +5,7 @@ use crate::words::Words;
 use apex_types::{Name, ObjectKind, Request};
 use channel::Channel;
 use message_queue::MessageQueue;
+use module_config::ChannelKind;
 use partition_state::PartitionState;
 use ports::Port;
 use wait_set::{Named, WaitSet};
@@ -46,7 +47,9 @@ fn tell_one_of(words: &mut Words, state: &PartitionState, kind: ObjectKind, numb
         ObjectKind::Event => tell_event(words, state, number),
         ObjectKind::Mutex => tell_mutex(words, state, number),
         ObjectKind::SamplingPort => {
-            tell_port(words, kind, number, state.sampling_ports().given(number));
+            let port = state.sampling_ports().given(number);
+            tell_port(words, kind, number, port);
+            tell_last_read(words, port);
         }
         ObjectKind::QueuingPort => {
             tell_port(words, kind, number, state.queuing_ports().given(number));
@@ -59,6 +62,17 @@ fn tell_port(words: &mut Words, kind: ObjectKind, number: i64, port: Option<&Por
     if let Some(port) = port {
         begin(words, kind_name(kind), number, port.name());
         words.say(format_args!("is of channel {}", port.channel().number()));
+    }
+}
+
+// Tells of a sampling port whether the last read at it gave a valid message.
+fn tell_last_read(words: &mut Words, port: Option<&Port>) {
+    if let Some(port) = port {
+        words.say(if port.status().val == 1 {
+            "; the last read at it gave a valid message"
+        } else {
+            "; the last read at it, if there was one, gave no valid message"
+        });
     }
 }
 
@@ -122,7 +136,7 @@ fn tell_mutex(words: &mut Words, state: &PartitionState, number: i64) {
 }
 
 /// Tells what a channel holds.
-pub fn tell_channel_held(words: &mut Words, channel: &Channel, now: u64, refresh: u64) {
+pub fn tell_channel_held(words: &mut Words, channel: &Channel, now: u64, kind: &ChannelKind) {
     words.next_line();
     words.say(format_args!("channel {} ", channel.number().number()));
     if let Some(queue) = channel.queue() {
@@ -135,7 +149,9 @@ pub fn tell_channel_held(words: &mut Words, channel: &Channel, now: u64, refresh
             words.say(format_args!("holds {}", Bytes(last.message().as_bytes())));
             words.say(format_args!(", written at time {}", last.stamp()));
             words.say(format_args!(": its age at time {now} is {age}"));
-            words.say(format_args!(", and the refresh period is {refresh}"));
+            if let ChannelKind::Sampling { refresh } = kind {
+                words.say(format_args!(", and the refresh period is {refresh}"));
+            }
         }
         None => words.say("holds nothing, since nothing was written to it"),
     }

@@ -1,6 +1,5 @@
 // Calls that the program does not judge.
 
-use crate::naming::kind_name;
 use crate::words::Words;
 use apex_types::{Call, Request};
 use partition_state::PartitionState;
@@ -30,9 +29,6 @@ pub fn tell_outside(words: &mut Words, state: &PartitionState, call: &Call) {
             } else {
                 words.say("waits for a mutex");
             }
-        }
-        Request::GetStatus { kind, object } => {
-            words.say(format_args!("it asks for the status of {} {object}", kind_name(*kind)));
         }
         _ => {}
     }

@@ -1,6 +1,6 @@
 // The places in the specification where the rule of a service stands.
 
-use apex_types::Request;
+use apex_types::{ObjectKind, Request};
 
 /// Where the specification tells what a service gives that meets no error condition.
 pub fn answer_rule(request: &Request) -> &'static str {
@@ -25,6 +25,10 @@ pub fn answer_rule(request: &Request) -> &'static str {
         Request::ReadSamplingMessage { .. } => "part 5, READ_SAMPLING_MESSAGE (IsSampling)",
         Request::Resume { .. } => "part 7, RESUME (IsResuming)",
         Request::GetId { .. } => "part 7, the number under a name (number_of)",
+        Request::GetStatus {
+            kind: ObjectKind::QueuingPort,
+            ..
+        } => "part 5, GET_QUEUING_PORT_STATUS (channel_status)",
         Request::GetStatus { .. } => "part 7, the status of an object (status_of)",
         _ => "part 7, what a service gives (IsAnswer)",
     }

@@ -4,6 +4,7 @@ use apex_machine::{Process, Status, Wait};
 use apex_types::{Call, Code, Out, Request, Who};
 use channel::Channel;
 use message_queue::MessageQueue;
+use module_config::ChannelKind;
 use mutex_ceiling::Mutex653;
 use partition_state::PartitionState;
 use semaphore_event::Semaphore;
@@ -142,14 +143,10 @@ fn told<'a>(status: Option<Status>) -> Wanted<'a> {
     let Some(status) = status else {
         return Wanted::done();
     };
-    let val3 = match status.val3 {
-        Some(third) => Some(signed(third)),
-        None => None,
-    };
     Wanted {
         val: Value::Number(signed(status.val)),
-        val2: Some(signed(status.val2)),
-        val3,
+        val2: status.val2.map(signed),
+        val3: status.val3.map(signed),
         ..Wanted::done()
     }
 }
@@ -309,15 +306,46 @@ fn released<'a>(mutex: &'a Mutex653) -> Wanted<'a> {
     Wanted::waking(first_of(mutex.waiters()))
 }
 
-/// What a call through a channel gives, at this time of its core, where a message is valid for so many ticks.
-pub fn wanted_through<'a>(channel: &'a Channel, now: u64, refresh: u64, call: &Call) -> Wanted<'a> {
-    match (&call.request, channel.queue()) {
-        (Request::SendQueuingMessage { time_out, .. }, Some(queue)) => sent(queue, *time_out),
-        (Request::ReceiveQueuingMessage { time_out, .. }, Some(queue)) => {
-            received(queue, *time_out)
-        }
-        (Request::ReadSamplingMessage { .. }, None) => sampled(channel, now, refresh),
+/// What a call through a channel that is configured like this gives, at this time of its core.
+pub fn wanted_through<'a>(
+    channel: &'a Channel,
+    kind: &ChannelKind,
+    now: u64,
+    call: &Call,
+) -> Wanted<'a> {
+    match kind {
+        ChannelKind::Sampling { refresh } => match &call.request {
+            Request::ReadSamplingMessage { .. } => sampled(channel, now, *refresh),
+            _ => Wanted::done(),
+        },
+        ChannelKind::Queuing { source, .. } => match channel.queue() {
+            Some(queue) => queued(queue, call.who.part == *source, &call.request),
+            None => Wanted::done(),
+        },
+    }
+}
+
+// What a call of a partition at the source or at the destination of a queue gives.
+fn queued<'a>(queue: &'a MessageQueue, at_source: bool, request: &Request) -> Wanted<'a> {
+    match request {
+        Request::SendQueuingMessage { time_out, .. } => sent(queue, *time_out),
+        Request::ReceiveQueuingMessage { time_out, .. } => received(queue, *time_out),
+        Request::GetStatus { .. } => told(Some(status_at_end(queue, at_source))),
         _ => Wanted::done(),
+    }
+}
+
+// What GET_QUEUING_PORT_STATUS tells at the source or at the destination of a queue.
+fn status_at_end(queue: &MessageQueue, at_source: bool) -> Status {
+    let waiting = if at_source {
+        queue.senders()
+    } else {
+        queue.receivers()
+    };
+    Status {
+        val: queue.len() as u64,
+        val2: Some(waiting.len() as u64),
+        val3: None,
     }
 }
 
