@@ -2,6 +2,7 @@
 use Rattle.std.proofs.Common.{◌≡◌, ℕ, List, [], ◌∷◌, Bool, true, false, nat_eq, Option, Some, None, ◌||◌, IsTrue, sym, ap, subst, refl, ◌∙◌, true≢false}
 use Rattle.std.proofs.lemmas.Bool.{eqb-true, eq-eqb}
 use Rattle.apex_types.specs.declared.code.Code.{Code}
+use Rattle.apex_types.specs.declared.object_kind.ObjectKind.TheVariants as kind
 use Rattle.apex_types.specs.declared.record.Body.{Body}
 use Rattle.apex_types.specs.declared.record.Body.TheVariants.{Call, Ret, Disp, Tick}
 use Rattle.apex_types.specs.declared.record.Call.{Call as CallRecord}
@@ -33,7 +34,7 @@ use Rattle.apex_laws.proofs.Ends.{StandsAtEnd, port_is_at_end}
 use Rattle.apex_laws.proofs.Outcomes.{channel_can, if_due, outcome_holds, through_claimed}
 use Rattle.apex_laws.proofs.Parts.{same_time}
 use Rattle.apex_laws.proofs.Waiters.{all_weaker, stands_not}
-use Rattle.apex_laws.proofs.Wakes.{nobody, read_wakes_nobody, receive_wakes, send_wakes, write_wakes}
+use Rattle.apex_laws.proofs.Wakes.{ask_wakes, nobody, read_wakes_nobody, receive_wakes, send_wakes, write_wakes}
 use Rattle.apex_laws.proofs.Whos.{same_itself, some_named}
 use Rattle.apex_laws.proofs.Woken.{found, woken}
 
@@ -63,19 +64,21 @@ WaitsAcross (request.ReceiveQueuingMessage port time_out) partitions configurati
     IsTrue (is_sender configuration channel who.part) × IsTrue (waits_at (set.ChannelSenders channel) (found partitions who))
 WaitsAcross _ partitions configuration channel who = ⊥
 
-pub across : (configuration : Configuration) (state : State) (now channel : ℕ) (asked : Request) → AreTied configuration state → IsTrue (suits_use (use_of asked) (state.channels channel))
-    → (who : Who) → is_named who (channel_answer configuration now asked state.channels channel).woken ≡ true → WaitsAcross asked state.partitions configuration channel who
-across configuration state now channel (request.SendQueuingMessage port length time_out message) tied suited who named =
-    send_wakes (WaitsAcross (request.SendQueuingMessage port length time_out message) state.partitions configuration channel) configuration now channel message time_out (state.channels channel)
+pub across : (configuration : Configuration) (state : State) (now channel partition : ℕ) (asked : Request) → AreTied configuration state → IsTrue (suits_use configuration channel partition (use_of asked) (state.channels channel))
+    → (who : Who) → is_named who (channel_answer configuration now partition asked state.channels channel).woken ≡ true → WaitsAcross asked state.partitions configuration channel who
+across configuration state now channel partition (request.SendQueuingMessage port length time_out message) tied suited who named =
+    send_wakes (WaitsAcross (request.SendQueuingMessage port length time_out message) state.partitions configuration channel) configuration now channel partition message time_out (state.channels channel)
     (all_weaker (IsTied (λ home. IsTrue (is_receiver configuration channel home)) (set.ChannelReceivers channel) state.partitions) _ (λ entry tied. tied) (state.channels channel).receivers (tied.receivers channel)) who named
-across configuration state now channel (request.ReceiveQueuingMessage port time_out) tied suited who named =
-    receive_wakes (WaitsAcross (request.ReceiveQueuingMessage port time_out) state.partitions configuration channel) configuration now channel time_out (state.channels channel)
+across configuration state now channel partition (request.ReceiveQueuingMessage port time_out) tied suited who named =
+    receive_wakes (WaitsAcross (request.ReceiveQueuingMessage port time_out) state.partitions configuration channel) configuration now channel partition time_out (state.channels channel)
     (all_weaker (IsTied (λ home. IsTrue (is_sender configuration channel home)) (set.ChannelSenders channel) state.partitions) _ (λ entry tied. tied) (state.channels channel).senders (tied.senders channel)) who named
-across configuration state now channel (request.WriteSamplingMessage port length message) tied suited who named =
-    nobody who (channel_answer configuration now (request.WriteSamplingMessage port length message) state.channels channel).woken (write_wakes configuration now channel message (state.channels channel)) named
-across configuration state now channel (request.ReadSamplingMessage port) tied suited who named =
-    nobody who (channel_answer configuration now (request.ReadSamplingMessage port) state.channels channel).woken (read_wakes_nobody configuration now channel (state.channels channel)) named
-across configuration state now channel _ tied suited who named = absurd (true≢false (sym suited))
+across configuration state now channel partition (request.WriteSamplingMessage port length message) tied suited who named =
+    nobody who (channel_answer configuration now partition (request.WriteSamplingMessage port length message) state.channels channel).woken (write_wakes configuration now channel partition message (state.channels channel)) named
+across configuration state now channel partition (request.ReadSamplingMessage port) tied suited who named =
+    nobody who (channel_answer configuration now partition (request.ReadSamplingMessage port) state.channels channel).woken (read_wakes_nobody configuration now channel partition (state.channels channel)) named
+across configuration state now channel partition (request.GetStatus kind.QueuingPort port) tied suited who named =
+    nobody who (channel_answer configuration now partition (request.GetStatus kind.QueuingPort port) state.channels channel).woken (ask_wakes configuration now channel partition (state.channels channel)) named
+across configuration state now channel partition _ tied suited who named = absurd (true≢false (sym suited))
 
 -- the two ends of a channel are of two partitions
 other_end : (configuration : Configuration) (partitions : ℕ → Partition) (channel number : ℕ) (asked : Request) (who : Who) → EndsAreApart configuration
@@ -89,14 +92,14 @@ other_end configuration partitions channel number _ who ends stands waits same =
 -- so a call through a channel wakes nobody of its own partition
 wakes_no_fellow : (configuration : Configuration) (state : State) (now : ℕ) (who : Who) (asked : Request) (claim : Claim) (channel : ℕ) → EndsAreApart configuration
     → AreTied configuration state → condition_codes configuration who (state.partitions who.part) asked ≡ [] → channel_of (state.partitions who.part) asked ≡ Some channel
-    → IsThrough channel (suits_use (use_of asked) (state.channels channel)) (channel_answer configuration now asked state.channels channel) claim
+    → IsThrough channel (suits_use configuration channel who.part (use_of asked) (state.channels channel)) (channel_answer configuration now who.part asked state.channels channel) claim
     → names_one_of who.part claim.woken ≡ false
 wakes_no_fellow configuration state now who asked claim channel ends tied none of through =
     cannot_hold (names_one_of who.part claim.woken) (λ names.
     let one = some_named who.part claim.woken names in
     other_end configuration state.partitions channel who.part asked one.0 ends
     (port_is_at_end configuration who (state.partitions who.part) asked channel (tied.ports who.part) of none)
-    (across configuration state now channel asked tied through.kind one.0 (sym (through.woken one.0) ∙ one.1)) one.2)
+    (across configuration state now channel who.part asked tied through.kind one.0 (sym (through.woken one.0) ∙ one.1)) one.2)
 
 -- the partitions
 
@@ -105,19 +108,19 @@ fellows : (configuration : Configuration) (state : State) (core : ℕ) (call : C
     → (codes : List Code) → condition_codes configuration call.who (state.partitions call.who.part) call.request ≡ codes
     → (channel : Option ℕ) → channel_of (state.partitions call.who.part) call.request ≡ channel
     → HasOutcome codes channel (answer_of (time_of state.cores core) call.who (state.partitions call.who.part) call.request)
-    (λ number. suits_use (use_of call.request) (state.channels number))
-    (channel_answer configuration (time_of state.cores core) call.request state.channels) call.claim
+    (λ number. suits_use configuration number call.who.part (use_of call.request) (state.channels number))
+    (channel_answer configuration (time_of state.cores core) call.who.part call.request state.channels) call.claim
     → AllHold (outcome_demands codes channel call.who.part call.request
     (answer_of (time_of state.cores core) call.who (state.partitions call.who.part) call.request) call.claim)
 fellows configuration state core call ends tied (code ∷ codes) is channel of has =
     outcome_holds (code ∷ codes) channel call.who.part call.request (answer_of (time_of state.cores core) call.who (state.partitions call.who.part) call.request)
-    (λ number. suits_use (use_of call.request) (state.channels number)) (channel_answer configuration (time_of state.cores core) call.request state.channels) call.claim
-    (λ other suited. channel_can configuration (time_of state.cores core) other call.request (state.channels other) suited)
+    (λ number. suits_use configuration number call.who.part (use_of call.request) (state.channels number)) (channel_answer configuration (time_of state.cores core) call.who.part call.request state.channels) call.claim
+    (λ other suited. channel_can configuration (time_of state.cores core) other call.who.part call.request (state.channels other) suited)
     (λ other some through. (let nobody : call.claim.woken ≡ [] = has.woken in ap (names_one_of call.who.part) nobody)) has
 fellows configuration state core call ends tied [] is channel of has =
     outcome_holds [] channel call.who.part call.request (answer_of (time_of state.cores core) call.who (state.partitions call.who.part) call.request)
-    (λ number. suits_use (use_of call.request) (state.channels number)) (channel_answer configuration (time_of state.cores core) call.request state.channels) call.claim
-    (λ other suited. channel_can configuration (time_of state.cores core) other call.request (state.channels other) suited)
+    (λ number. suits_use configuration number call.who.part (use_of call.request) (state.channels number)) (channel_answer configuration (time_of state.cores core) call.who.part call.request state.channels) call.claim
+    (λ other suited. channel_can configuration (time_of state.cores core) other call.who.part call.request (state.channels other) suited)
     (λ other some through. wakes_no_fellow configuration state (time_of state.cores core) call.who call.request call.claim other ends tied is (of ∙ some) through) has
 
 -- the partition of the caller
@@ -166,7 +169,7 @@ wakes_here partitions configuration _ channel number others names wait = let one
 foreign_wakes : (configuration : Configuration) (state : State) (now : ℕ) (call : CallRecord) (number : ℕ) → AreTied configuration state
     → nat_eq call.who.part number ≡ false → names_one_of number call.claim.woken ≡ true → (codes : List Code) (channel : Option ℕ)
     → HasOutcome codes channel (answer_of now call.who (state.partitions call.who.part) call.request)
-    (λ number. suits_use (use_of call.request) (state.channels number)) (channel_answer configuration now call.request state.channels) call.claim
+    (λ number. suits_use configuration number call.who.part (use_of call.request) (state.channels number)) (channel_answer configuration now call.who.part call.request state.channels) call.claim
     → WakesHere call.request call.claim.chan number (state.partitions number).table call.claim.woken
 foreign_wakes configuration state now call number tied foreign names (code ∷ codes) channel has =
     absurd (true≢false (sym names ∙ ap (names_one_of number) has.woken))
@@ -177,7 +180,7 @@ foreign_wakes configuration state now call number tied foreign names [] None has
 foreign_wakes configuration state now call number tied foreign names [] (Some channel) has =
     subst (λ chan. WakesHere call.request chan number (state.partitions number).table call.claim.woken) (sym has.chan)
     (wakes_here state.partitions configuration call.request channel number call.claim.woken names
-    (λ who named. across configuration state now channel call.request tied has.kind who (sym (has.woken who) ∙ named)))
+    (λ who named. across configuration state now channel call.who.part call.request tied has.kind who (sym (has.woken who) ∙ named)))
 
 -- in the windows of the caller's partition the window is no other's
 foreign_window : (window : Option ℕ) (partitions : ℕ → Partition) (core : ℕ) (who : Who) (number : ℕ) (Demanded : Type 0) → IsChoice window partitions core who
@@ -264,8 +267,8 @@ used_demanded configuration state core call tied law number false is = tt
 used_demanded configuration state core call tied law number true is =
     let through = through_claimed (condition_codes configuration call.who (state.partitions call.who.part) call.request)
     (channel_of (state.partitions call.who.part) call.request) (answer_of (time_of state.cores core) call.who (state.partitions call.who.part) call.request)
-    (λ number. suits_use (use_of call.request) (state.channels number))
-    (channel_answer configuration (time_of state.cores core) call.request state.channels) call.claim number (goes_to call.claim.chan is) law.outcome in (
+    (λ number. suits_use configuration number call.who.part (use_of call.request) (state.channels number))
+    (channel_answer configuration (time_of state.cores core) call.who.part call.request state.channels) call.claim number (goes_to call.claim.chan is) law.outcome in (
       neither (stands_in call.who (state.channels number).senders) (stands_in call.who (state.channels number).receivers)
           (caller_stands_not configuration state core call tied law (λ home. IsTrue (is_sender configuration number home)) (set.ChannelSenders number) (state.channels number).senders (tied.senders number))
           (caller_stands_not configuration state core call tied law (λ home. IsTrue (is_receiver configuration number home)) (set.ChannelReceivers number) (state.channels number).receivers (tied.receivers number)),

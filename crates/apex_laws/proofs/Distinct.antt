@@ -125,8 +125,8 @@ lawful_value configuration state core call law done off =
     let partition = state.partitions call.who.part in
     let codes : List Code = condition_codes configuration call.who partition call.request in
     let answer = answer_of (time_of state.cores core) call.who partition call.request in
-    let suited : ℕ → Bool = λ number. suits_use (use_of call.request) (state.channels number) in
-    let through = channel_answer configuration (time_of state.cores core) call.request state.channels in
+    let suited : ℕ → Bool = λ number. suits_use configuration number call.who.part (use_of call.request) (state.channels number) in
+    let through = channel_answer configuration (time_of state.cores core) call.who.part call.request state.channels in
     let none = done_is_lawful codes (channel_of partition call.request) answer suited through call.claim (are_errors configuration call.who partition call.request) law.outcome done in
     (answered codes (channel_of partition call.request) answer suited through call.claim none off law.outcome).values.val
 

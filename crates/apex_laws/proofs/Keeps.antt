@@ -175,8 +175,8 @@ pub ready_call : (configuration : Configuration) (state : State) (core : ℕ) (c
 ready_call configuration state core call tied law = record {
   ready = chosen_stands (window_now configuration state.cores core) state.partitions core call.who (tied.distinct call.who.part) law.choice;
   none = λ done. done_is_lawful (condition_codes configuration call.who (state.partitions call.who.part) call.request) (channel_of (state.partitions call.who.part) call.request)
-      (answer_of (time_of state.cores core) call.who (state.partitions call.who.part) call.request) (λ number. suits_use (use_of call.request) (state.channels number))
-      (channel_answer configuration (time_of state.cores core) call.request state.channels) call.claim
+      (answer_of (time_of state.cores core) call.who (state.partitions call.who.part) call.request) (λ number. suits_use configuration number call.who.part (use_of call.request) (state.channels number))
+      (channel_answer configuration (time_of state.cores core) call.who.part call.request state.channels) call.claim
       (are_errors configuration call.who (state.partitions call.who.part) call.request) law.outcome done;
 }
 

@@ -46,7 +46,7 @@ choice_of_all configuration state core who windows idle own =
 -- what a channel says of a call through it
 says : (configuration : Configuration) (state : State) (core : ℕ) (call : CallRecord) (channel : ℕ) → call.claim.chan ≡ Some channel
     → AllHold (used_demands (is_channel channel call.claim.chan) configuration (time_of state.cores core) channel (state.channels channel) call)
-    → ChannelSays (suits_use (use_of call.request) (state.channels channel)) (channel_answer configuration (time_of state.cores core) call.request state.channels channel) call.claim
+    → ChannelSays (suits_use configuration channel call.who.part (use_of call.request) (state.channels channel)) (channel_answer configuration (time_of state.cores core) call.who.part call.request state.channels channel) call.claim
 says configuration state core call channel is hold =
     let goes : is_channel channel call.claim.chan ≡ true = rw is (is_itself channel) in
     let of_channel = subst (λ one. AllHold (used_demands one configuration (time_of state.cores core) channel (state.channels channel) call)) goes hold in
@@ -64,7 +64,7 @@ lawful_call : (configuration : Configuration) (state : State) (core : ℕ) (call
     → AllHold (module_demands configuration state.cores core (Call call))
     → AllHold (own_call_demands configuration call.who.part state.cores (state.partitions call.who.part) core call)
     → ((channel : ℕ) → call.claim.chan ≡ Some channel
-    → ChannelSays (suits_use (use_of call.request) (state.channels channel)) (channel_answer configuration (time_of state.cores core) call.request state.channels channel) call.claim)
+    → ChannelSays (suits_use configuration channel call.who.part (use_of call.request) (state.channels channel)) (channel_answer configuration (time_of state.cores core) call.who.part call.request state.channels channel) call.claim)
     → IsLawfulCall configuration state core call
 lawful_call configuration state core call of_module own of_channel = record {
   names = of_module.0;
@@ -76,8 +76,8 @@ lawful_call configuration state core call of_module own of_channel = record {
   outcome = has_outcome (condition_codes configuration call.who (state.partitions call.who.part) call.request)
       (channel_of (state.partitions call.who.part) call.request) call.who.part call.request
       (answer_of (time_of state.cores core) call.who (state.partitions call.who.part) call.request)
-      (λ number. suits_use (use_of call.request) (state.channels number))
-      (channel_answer configuration (time_of state.cores core) call.request state.channels) call.claim own.1.1.1.1.1 of_channel;
+      (λ number. suits_use configuration number call.who.part (use_of call.request) (state.channels number))
+      (channel_answer configuration (time_of state.cores core) call.who.part call.request state.channels) call.claim own.1.1.1.1.1 of_channel;
 }
 
 -- a return that the module and the returner's partition agree to

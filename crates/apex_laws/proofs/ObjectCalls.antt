@@ -7,7 +7,7 @@ use Rattle.apex_types.specs.declared.record.Who.{Who}
 use Rattle.apex_types.specs.declared.request.Request.TheVariants as request
 use Rattle.apex_machine.specs.declared.state.Entry.{Entry}
 use Rattle.apex_machine.specs.declared.state.WaitingSet.TheVariants as set
-use Rattle.apex_machine.specs.After.{new_blackboard, new_buffer, new_event, new_mutex, new_queuing_port, new_sampling_port, new_semaphore, numbered}
+use Rattle.apex_machine.specs.After.{is_valid, new_blackboard, new_buffer, new_event, new_mutex, new_queuing_port, new_sampling_port, new_semaphore, numbered}
 use Rattle.apex_machine.specs.Answer.{Answer, Effect, NewNumber, done, done_with}
 use Rattle.apex_machine.specs.Arguments.{is_length, is_longer, natural_of}
 use Rattle.apex_machine.specs.Channels.{QueuingPort, SamplingPort, queuing_port, sampling_port}
@@ -241,7 +241,7 @@ object_call_is_the_sentence configuration now who claimed (request.CreateSamplin
     let there = sampling_there (sampling_port configuration who.part name) size direction refresh
     (second_empty (creation_codes partition (is_taken (λ (port : Port). port.name) name partition.sampling_ports) false) (when (not (is_sampling_port (sampling_port configuration who.part name) size direction refresh)) code.InvalidConfig) none) in
     let port : SamplingPort = there.0 in
-    let new : Port = record { name = name; size = port.size; direction = port.direction; channel = port.channel } in (
+    let new : Port = record { name = name; size = port.size; direction = port.direction; channel = port.channel; valid = false } in (
       refl,
       (
         port,
@@ -254,7 +254,7 @@ object_call_is_the_sentence configuration now who claimed (request.CreateQueuing
     let there = queuing_there (queuing_port configuration who.part name) size capacity both
     (second_empty (creation_codes partition (is_taken (λ (port : Port). port.name) name partition.queuing_ports) false) (when (not (is_queuing_port (queuing_port configuration who.part name) size capacity both)) code.InvalidConfig) none) in
     let port : QueuingPort = there.0 in
-    let new : Port = record { name = name; size = port.size; direction = port.direction; channel = port.channel } in (
+    let new : Port = record { name = name; size = port.size; direction = port.direction; channel = port.channel; valid = false } in (
       refl,
       (
         port,
@@ -262,5 +262,11 @@ object_call_is_the_sentence configuration now who claimed (request.CreateQueuing
         subst (λ found. Creates partition.queuing_ports (partition.queuing_ports ++ new_queuing_port name claimed found) claimed new (done_with (NewNumber (is_free partition.queuing_ports))))
             (sym there.1) (creates partition.queuing_ports claimed new),
       ),
+    )
+object_call_is_the_sentence configuration now who claimed (request.ReadSamplingMessage port) partition apart none =
+    let change : Port → Port = λ found. record found { valid = is_valid claimed } in (
+      refl,
+      λ number found names at. subst (λ given. OneBecomes partition.sampling_ports (change_at (natural_of given) change partition.sampling_ports) number (change found)) (sym names)
+          (changes_one number change partition.sampling_ports found at),
     )
 object_call_is_the_sentence configuration now who claimed _ partition apart none = refl

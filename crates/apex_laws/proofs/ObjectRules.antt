@@ -1,20 +1,20 @@
 -- What each rule of an object or a channel computes is exactly what its sentences say.
-use Rattle.std.proofs.Common.{◌≡◌, ℕ, zero, suc, ◌-◌, ◌≤◌, ℤ, pos, negsuc, List, [], ◌∷◌, length, Option, Some, None, Bool, true, false, cond, nat_eq, nat_le, nat_lt, IsTrue, refl, sym, ap, subst, ◌∙◌, inl, inr, arith, true≢false}
+use Rattle.std.proofs.Common.{◌≡◌, ℕ, zero, suc, ◌-◌, ◌≤◌, ℤ, pos, negsuc, List, [], ◌∷◌, length, Option, Some, None, Bool, true, false, cond, ◌||◌, nat_eq, nat_le, nat_lt, IsTrue, refl, sym, ap, subst, ◌∙◌, inl, inr, arith, true≢false}
 use Rattle.std.proofs.lemmas.Bool.{cases_Bool, eqb-true, eq-eqb, eqb-false, ltb-true, leb-true}
 use Rattle.apex_types.specs.declared.code.Code.TheVariants as code
 use Rattle.apex_types.specs.declared.discipline.Discipline.{Discipline}
 use Rattle.apex_machine.specs.declared.state.Entry.{Entry}
 use Rattle.apex_machine.specs.Answer.{Effect, answering, unmet, waiting}
 use Rattle.apex_machine.specs.Arguments.{is_over}
-use Rattle.apex_machine.specs.Channels.{capacity_of, receiving_discipline, refresh_of, sending_discipline}
+use Rattle.apex_machine.specs.Channels.{capacity_of, is_at_destination, is_at_source, receiving_discipline, refresh_of, sending_discipline}
 use Rattle.apex_machine.specs.Configuration.{Configuration}
 use Rattle.apex_machine.specs.Objects.{acquired, acquired_again, acquired_from, at_maximum, board_read, handed_on as hand_on, mutex_released, not_acquired, raised, released_once, semaphore_waited, signalled, event_waited}
-use Rattle.apex_machine.specs.Ports.{Receive, Read, Send, Use, Write, on_queuing, on_sampling, sampled, suits, used, written}
+use Rattle.apex_machine.specs.Ports.{Ask, Receive, Read, Send, Use, Write, on_queuing, on_sampling, sampled, suits, used, written}
 use Rattle.apex_machine.specs.Queue.{Messages, appended, not_yet, received, sent}
 use Rattle.apex_machine.specs.State.{Channel, Content, Mutex, Queued, Sampled, Stamped}
 use Rattle.apex_machine.specs.Waiting.{IsFirst, first_waiter}
 use Rattle.apex_laws.specs.ObjectLaws.{AreApart, BlackboardIsTheSentence, ChannelIsTheSentence, EventIsTheSentence, MutexIsTheSentence, QueueIsTheSentence, SamplingIsTheSentence, SemaphoreIsTheSentence}
-use Rattle.apex_laws.specs.ObjectSentences.{IsAcquiring, IsEventWait, IsReading, IsReceiving, IsReleasing, IsSampling, IsSemaphoreWait, IsSending, IsSignal, IsUnmet, IsUse, no_error, reads}
+use Rattle.apex_laws.specs.ObjectSentences.{IsAcquiring, IsEventWait, IsReading, IsReceiving, IsReleasing, IsSampling, IsSemaphoreWait, IsSending, IsSignal, IsUnmet, IsUse, no_error, reads, tells_channel}
 use Rattle.apex_laws.specs.ObjectSentences.IsUnmet.{at_once, waits}
 use Rattle.apex_laws.specs.ObjectSentences.IsSending.{first_gets_it, no_room, room}
 use Rattle.apex_laws.specs.ObjectSentences.IsReceiving.{no_message, oldest_leaves, sender_wakes}
@@ -25,7 +25,7 @@ use Rattle.apex_laws.specs.ObjectSentences.IsEventWait.{is_down, is_up}
 use Rattle.apex_laws.specs.ObjectSentences.IsAcquiring.{of_another, once_more, was_free}
 use Rattle.apex_laws.specs.ObjectSentences.IsReleasing.{freed, handed_on, not_last}
 use Rattle.apex_laws.specs.ObjectSentences.IsSampling.{empty, too_old, valid}
-use Rattle.apex_laws.specs.ObjectSentences.IsUse.{receives, samples, sends, writes}
+use Rattle.apex_laws.specs.ObjectSentences.IsUse.{asks_destination, asks_source, receives, samples, sends, writes}
 use Rattle.apex_laws.proofs.Firsts.{first_is, first_is_the_sentence}
 
 -- the test of a time-out that is over
@@ -265,40 +265,55 @@ sampling_is_the_sentence = (
 
 -- any channel
 
-use_says : (configuration : Configuration) (now number : ℕ) (channel : Channel) (how : Use) (content : Content) (effect : Effect Content) → channel.content ≡ content → AreApart channel.senders → AreApart channel.receivers
-    → IsTrue (suits how content) → effect ≡ used configuration now number how channel content → IsUse configuration now number channel how effect
-use_says configuration now number channel (Write message) (Sampled last) effect at senders receivers suited is = writes message last (written now message) refl at refl is
-use_says configuration now number channel Read (Sampled last) effect at senders receivers suited is =
+ask_says : (configuration : Configuration) (now number partition : ℕ) (channel : Channel) (messages : Messages) (effect : Effect Content) → channel.content ≡ Queued messages
+    → (source : Bool) → is_at_source configuration number partition ≡ source → IsTrue (source || is_at_destination configuration number partition)
+    → effect ≡ tells_channel messages (cond source channel.senders channel.receivers) → IsUse configuration now number partition channel Ask effect
+ask_says configuration now number partition channel messages effect at true of suited is = asks_source messages refl at of is
+ask_says configuration now number partition channel messages effect at false of suited is = asks_destination messages refl at of suited is
+
+use_says : (configuration : Configuration) (now number partition : ℕ) (channel : Channel) (how : Use) (content : Content) (effect : Effect Content) → channel.content ≡ content → AreApart channel.senders → AreApart channel.receivers
+    → IsTrue (suits configuration number partition how content) → effect ≡ used configuration now number partition how channel content → IsUse configuration now number partition channel how effect
+use_says configuration now number partition channel (Write message) (Sampled last) effect at senders receivers suited is = writes message last (written now message) refl at refl is
+use_says configuration now number partition channel Read (Sampled last) effect at senders receivers suited is =
     samples last (sampled now (refresh_of configuration number) last) refl at (sampling_says now (refresh_of configuration number) last (sampled now (refresh_of configuration number) last) refl) is
-use_says configuration now number channel (Send message time_out) (Queued messages) effect at senders receivers suited is =
+use_says configuration now number partition channel (Send message time_out) (Queued messages) effect at senders receivers suited is =
     sends message time_out messages (sent (capacity_of configuration number) message time_out (first_waiter (receiving_discipline configuration number) channel.receivers) messages) refl at
     (sending_says (capacity_of configuration number) message time_out (receiving_discipline configuration number) channel.receivers messages
     (sent (capacity_of configuration number) message time_out (first_waiter (receiving_discipline configuration number) channel.receivers) messages) receivers
     (first_waiter (receiving_discipline configuration number) channel.receivers) refl refl) is
-use_says configuration now number channel (Receive time_out) (Queued messages) effect at senders receivers suited is =
+use_says configuration now number partition channel (Receive time_out) (Queued messages) effect at senders receivers suited is =
     receives time_out messages (received time_out (first_waiter (sending_discipline configuration number) channel.senders) messages) refl at
     (receiving_says time_out (sending_discipline configuration number) channel.senders messages
     (received time_out (first_waiter (sending_discipline configuration number) channel.senders) messages) senders
     (first_waiter (sending_discipline configuration number) channel.senders) refl refl) is
-use_says configuration now number channel (Write message) (Queued messages) effect at senders receivers suited is = absurd (true≢false (sym suited))
-use_says configuration now number channel Read (Queued messages) effect at senders receivers suited is = absurd (true≢false (sym suited))
-use_says configuration now number channel (Send message time_out) (Sampled last) effect at senders receivers suited is = absurd (true≢false (sym suited))
-use_says configuration now number channel (Receive time_out) (Sampled last) effect at senders receivers suited is = absurd (true≢false (sym suited))
+use_says configuration now number partition channel (Write message) (Queued messages) effect at senders receivers suited is = absurd (true≢false (sym suited))
+use_says configuration now number partition channel Read (Queued messages) effect at senders receivers suited is = absurd (true≢false (sym suited))
+use_says configuration now number partition channel (Send message time_out) (Sampled last) effect at senders receivers suited is = absurd (true≢false (sym suited))
+use_says configuration now number partition channel (Receive time_out) (Sampled last) effect at senders receivers suited is = absurd (true≢false (sym suited))
+use_says configuration now number partition channel Ask (Sampled last) effect at senders receivers suited is = absurd (true≢false (sym suited))
+use_says configuration now number partition channel Ask (Queued messages) effect at senders receivers suited is =
+    ask_says configuration now number partition channel messages effect at (is_at_source configuration number partition) refl suited is
 
-use_by : (configuration : Configuration) (now number : ℕ) (channel : Channel) (how : Use) (effect : Effect Content) → AreApart channel.senders → AreApart channel.receivers
-    → IsUse configuration now number channel how effect → effect ≡ used configuration now number how channel channel.content
-use_by configuration now number channel how effect senders receivers (writes message last inner uses at written_so is) =
-    is ∙ ap on_sampling written_so ∙ sym (ap (λ one. used configuration now number one channel channel.content) uses ∙ ap (used configuration now number (Write message) channel) at)
-use_by configuration now number channel how effect senders receivers (samples last inner uses at sampled_so is) =
+use_by : (configuration : Configuration) (now number partition : ℕ) (channel : Channel) (how : Use) (effect : Effect Content) → AreApart channel.senders → AreApart channel.receivers
+    → IsUse configuration now number partition channel how effect → effect ≡ used configuration now number partition how channel channel.content
+use_by configuration now number partition channel how effect senders receivers (writes message last inner uses at written_so is) =
+    is ∙ ap on_sampling written_so ∙ sym (ap (λ one. used configuration now number partition one channel channel.content) uses ∙ ap (used configuration now number partition (Write message) channel) at)
+use_by configuration now number partition channel how effect senders receivers (samples last inner uses at sampled_so is) =
     is ∙ ap on_sampling (sampling_by now (refresh_of configuration number) last inner sampled_so)
-    ∙ sym (ap (λ one. used configuration now number one channel channel.content) uses ∙ ap (used configuration now number Read channel) at)
-use_by configuration now number channel how effect senders receivers (sends message time_out messages inner uses at sent_so is) =
+    ∙ sym (ap (λ one. used configuration now number partition one channel channel.content) uses ∙ ap (used configuration now number partition Read channel) at)
+use_by configuration now number partition channel how effect senders receivers (sends message time_out messages inner uses at sent_so is) =
     is ∙ ap on_queuing (sending_by (capacity_of configuration number) message time_out (receiving_discipline configuration number) channel.receivers messages inner receivers sent_so)
-    ∙ sym (ap (λ one. used configuration now number one channel channel.content) uses ∙ ap (used configuration now number (Send message time_out) channel) at)
-use_by configuration now number channel how effect senders receivers (receives time_out messages inner uses at received_so is) =
+    ∙ sym (ap (λ one. used configuration now number partition one channel channel.content) uses ∙ ap (used configuration now number partition (Send message time_out) channel) at)
+use_by configuration now number partition channel how effect senders receivers (receives time_out messages inner uses at received_so is) =
     is ∙ ap on_queuing (receiving_by time_out (sending_discipline configuration number) channel.senders messages inner senders received_so)
-    ∙ sym (ap (λ one. used configuration now number one channel channel.content) uses ∙ ap (used configuration now number (Receive time_out) channel) at)
+    ∙ sym (ap (λ one. used configuration now number partition one channel channel.content) uses ∙ ap (used configuration now number partition (Receive time_out) channel) at)
+use_by configuration now number partition channel how effect senders receivers (asks_source messages uses at of is) =
+    is ∙ ap (λ test. tells_channel messages (cond test channel.senders channel.receivers)) (sym of)
+    ∙ sym (ap (λ one. used configuration now number partition one channel channel.content) uses ∙ ap (used configuration now number partition Ask channel) at)
+use_by configuration now number partition channel how effect senders receivers (asks_destination messages uses at of there is) =
+    is ∙ ap (λ test. tells_channel messages (cond test channel.senders channel.receivers)) (sym of)
+    ∙ sym (ap (λ one. used configuration now number partition one channel channel.content) uses ∙ ap (used configuration now number partition Ask channel) at)
 
 pub channel_is_the_sentence : ChannelIsTheSentence
-channel_is_the_sentence configuration now number channel how effect senders receivers suited =
-    (use_says configuration now number channel how channel.content effect refl senders receivers suited, use_by configuration now number channel how effect senders receivers)
+channel_is_the_sentence configuration now number partition channel how effect senders receivers suited =
+    (use_says configuration now number partition channel how channel.content effect refl senders receivers suited, use_by configuration now number partition channel how effect senders receivers)

@@ -2,6 +2,7 @@
 use Rattle.std.proofs.Common.{◌≡◌, ℕ, List, [], ◌∷◌, length, Bool, true, false, cond, nat_lt, ℤ, Option, Some, None, IsTrue, sym, subst, refl, ◌∙◌, true≢false}
 use Rattle.apex_types.specs.declared.code.Code.{Code}
 use Rattle.apex_types.specs.declared.code.Code.TheVariants as code
+use Rattle.apex_types.specs.declared.object_kind.ObjectKind.TheVariants as kind
 use Rattle.apex_types.specs.declared.record.Claim.{Claim}
 use Rattle.apex_types.specs.declared.record.Out.{Out}
 use Rattle.apex_types.specs.declared.record.Return.{Return}
@@ -14,7 +15,7 @@ use Rattle.apex_machine.specs.Arguments.{is_over}
 use Rattle.apex_machine.specs.Channels.{capacity_of, receiving_discipline, refresh_of, sending_discipline}
 use Rattle.apex_machine.specs.Configuration.{Configuration}
 use Rattle.apex_machine.specs.Demands.{AllHold, CanHave, IfDue, ReturnsValues, outcome_demands}
-use Rattle.apex_machine.specs.Ports.{Receive, Read, Send, Write, channel_effect, reading_of, suits_use, use_of, used}
+use Rattle.apex_machine.specs.Ports.{Ask, Receive, Read, Send, Write, channel_effect, reading_of, suits_use, use_of, used}
 use Rattle.apex_machine.specs.Queue.{Messages, appended, not_yet, received, sent}
 use Rattle.apex_machine.specs.State.{Channel, Content, Queued, Sampled, Stamped, names_one_of}
 use Rattle.apex_machine.specs.Step.{HasOutcome, IsThrough, outcome_returned}
@@ -90,39 +91,44 @@ done_can : (asked : Request) (one : Out) → one ≡ (answering code.NoError).ou
 done_can asked one is = subst (CanHave asked) (sym is) tt
 
 -- an outcome that a channel of the right kind gives is one that the partition lets pass
-pub channel_can : (configuration : Configuration) (now number : ℕ) (asked : Request) (channel : Channel) → IsTrue (suits_use (use_of asked) channel)
-    → CanHave asked (channel_effect configuration now number (use_of asked) channel).answer.out
-channel_can configuration now number (request.WriteSamplingMessage port length message) channel suited = by channel.content
+pub channel_can : (configuration : Configuration) (now number partition : ℕ) (asked : Request) (channel : Channel) → IsTrue (suits_use configuration number partition (use_of asked) channel)
+    → CanHave asked (channel_effect configuration now number partition (use_of asked) channel).answer.out
+channel_can configuration now number partition (request.WriteSamplingMessage port length message) channel suited = by channel.content
   where
-    by : (content : Content) → CanHave (request.WriteSamplingMessage port length message) (used configuration now number (Write message) channel content).answer.out
+    by : (content : Content) → CanHave (request.WriteSamplingMessage port length message) (used configuration now number partition (Write message) channel content).answer.out
     by (Sampled last) = tt
     by (Queued messages) = tt
-channel_can configuration now number (request.ReadSamplingMessage port) channel suited = by channel.content
+channel_can configuration now number partition (request.ReadSamplingMessage port) channel suited = by channel.content
   where
     read : (last : Option Stamped) → CanHave (request.ReadSamplingMessage port) (reading_of now (refresh_of configuration number) last).out
     read None = tt
     read (Some last) = tt
 
-    by : (content : Content) → CanHave (request.ReadSamplingMessage port) (used configuration now number Read channel content).answer.out
+    by : (content : Content) → CanHave (request.ReadSamplingMessage port) (used configuration now number partition Read channel content).answer.out
     by (Sampled last) = read last
     by (Queued messages) = tt
-channel_can configuration now number (request.SendQueuingMessage port length time_out message) channel suited = by channel.content
+channel_can configuration now number partition (request.SendQueuingMessage port length time_out message) channel suited = by channel.content
   where
-    by : (content : Content) → CanHave (request.SendQueuingMessage port length time_out message) (used configuration now number (Send message time_out) channel content).answer.out
+    by : (content : Content) → CanHave (request.SendQueuingMessage port length time_out message) (used configuration now number partition (Send message time_out) channel content).answer.out
     by (Queued messages) =
         sent_can (CanHave (request.SendQueuingMessage port length time_out message)) (capacity_of configuration number) message time_out
         (first_waiter (receiving_discipline configuration number) channel.receivers) messages
         (done_can (request.SendQueuingMessage port length time_out message)) tt (λ later. later)
     by (Sampled last) = tt
-channel_can configuration now number (request.ReceiveQueuingMessage port time_out) channel suited = by channel.content
+channel_can configuration now number partition (request.ReceiveQueuingMessage port time_out) channel suited = by channel.content
   where
-    by : (content : Content) → CanHave (request.ReceiveQueuingMessage port time_out) (used configuration now number (Receive time_out) channel content).answer.out
+    by : (content : Content) → CanHave (request.ReceiveQueuingMessage port time_out) (used configuration now number partition (Receive time_out) channel content).answer.out
     by (Queued messages) =
         received_can (CanHave (request.ReceiveQueuingMessage port time_out)) time_out
         (first_waiter (sending_discipline configuration number) channel.senders) messages
         (done_can (request.ReceiveQueuingMessage port time_out)) tt (λ later. later)
     by (Sampled last) = tt
-channel_can configuration now number _ channel suited = absurd (true≢false (sym suited))
+channel_can configuration now number partition (request.GetStatus kind.QueuingPort port) channel suited = by channel.content
+  where
+    by : (content : Content) → CanHave (request.GetStatus kind.QueuingPort port) (used configuration now number partition Ask channel content).answer.out
+    by (Queued messages) = tt
+    by (Sampled last) = tt
+channel_can configuration now number partition _ channel suited = absurd (true≢false (sym suited))
 
 -- returns
 

@@ -8,12 +8,12 @@ use Rattle.apex_types.specs.declared.request.Request.TheVariants as request
 use Rattle.apex_machine.specs.declared.state.Entry.{Entry}
 use Rattle.apex_machine.specs.declared.state.WaitingSet.{WaitingSet}
 use Rattle.apex_machine.specs.declared.state.WaitingSet.TheVariants as set
-use Rattle.apex_machine.specs.After.{each_set, is_done, new_blackboard, new_buffer, new_event, new_mutex, new_queuing_port, new_sampling_port, new_semaphore, numbered, objects_by}
+use Rattle.apex_machine.specs.After.{each_set, is_done, is_valid, new_blackboard, new_buffer, new_event, new_mutex, new_queuing_port, new_sampling_port, new_semaphore, numbered, objects_by}
 use Rattle.apex_machine.specs.Arguments.{natural_of}
 use Rattle.apex_machine.specs.Channels.{queuing_port, sampling_port}
 use Rattle.apex_machine.specs.Configuration.{Configuration}
 use Rattle.apex_machine.specs.Objects.{acquired, buffer_received, buffer_sent, cleared, displayed, event_reset, event_set, mutex_released, semaphore_waited, signalled}
-use Rattle.apex_machine.specs.State.{Blackboard, Buffer, Event, Mutex, Partition, Semaphore, change_at, each_item, item_at}
+use Rattle.apex_machine.specs.State.{Blackboard, Buffer, Event, Mutex, Partition, Port, Semaphore, change_at, each_item, item_at}
 use Rattle.apex_machine.specs.Queue.{Messages}
 use Rattle.apex_machine.specs.Waiting.{first_waiter, is_same_set, set_after}
 use Rattle.apex_laws.specs.PartLaws.{HasDistinctObjects, is_of_buffer, is_set_used}
@@ -311,6 +311,14 @@ changed_by configuration place call partition (request.CreateQueuingPort name si
     elim (is_done call.claim.out) as (λ done. each_set (set_after place (Call call)) (cond done (record partition { queuing_ports = after }) partition)
     ≡ record partition { queuing_ports = cond done after partition.queuing_ports }) [
       | true ↦ ap (λ (one : Partition). record one { queuing_ports = after }) stays
+      | false ↦ stays
+    ]
+changed_by configuration place call partition (request.ReadSamplingMessage port) has leaves empty =
+    let after = change_at (natural_of port) (λ (found : Port). record found { valid = is_valid call.claim.val }) partition.sampling_ports in
+    let stays = sets_stay (set_after place (Call call)) partition has (λ wanted off. leaves wanted refl) in
+    elim (is_done call.claim.out) as (λ done. each_set (set_after place (Call call)) (cond done (record partition { sampling_ports = after }) partition)
+    ≡ record partition { sampling_ports = cond done after partition.sampling_ports }) [
+      | true ↦ ap (λ (one : Partition). record one { sampling_ports = after }) stays
       | false ↦ stays
     ]
 changed_by configuration place call partition (request.SendQueuingMessage port length time_out message) has leaves empty =

@@ -66,8 +66,6 @@ module _ (who : Who) (partition : Partition) where
         | inl owns ↦ IsOutsideProfile.owner_is_changed ((owns_tells partition (natural_of process)).0 owns)
         | inr awaits ↦ IsOutsideProfile.waiter_is_changed ((awaits_tells partition (natural_of process)).0 awaits)
       ]
-  outside (request.GetStatus kind.SamplingPort object) is = IsOutsideProfile.status_of_sampling_port
-  outside (request.GetStatus kind.QueuingPort object) is = IsOutsideProfile.status_of_queuing_port
   outside _ is = absurd (true≢false is)
 
   stands_out : {asked : Request} → IsOutsideProfile who partition asked → in_profile who partition asked ≡ false
@@ -82,8 +80,6 @@ module _ (who : Who) (partition : Partition) where
       first_fails (owns_mutex partition.mutexes (natural_of process)) (waits_for_mutex partition.table (natural_of process)) ((owns_tells partition (natural_of process)).1 owns)
   stands_out (IsOutsideProfile.waiter_is_changed {process = process} awaits) =
       second_fails (owns_mutex partition.mutexes (natural_of process)) (waits_for_mutex partition.table (natural_of process)) ((awaits_tells partition (natural_of process)).1 awaits)
-  stands_out IsOutsideProfile.status_of_sampling_port = refl
-  stands_out IsOutsideProfile.status_of_queuing_port = refl
 
 pub profile_is_the_sentence : ProfileIsTheSentence
 profile_is_the_sentence who partition asked = (outside who partition asked, stands_out who partition)

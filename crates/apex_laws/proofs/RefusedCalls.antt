@@ -208,7 +208,7 @@ refusal_is_the_sentence configuration state ordered call next step is some =
           | inr elsewhere ↦ foreign_rest configuration place core call state next number (partitions number) elsewhere
         ];
         channels = λ number. next_channel configuration state ordered next (Call call) step is number ∙ (λ i. record {
-          content = ap (λ chan. cond (is_channel number chan) (channel_effect configuration now number (use_of call.request) (state.channels number)).next (state.channels number).content) refusal.chan i;
+          content = ap (λ chan. cond (is_channel number chan) (channel_effect configuration now number call.who.part (use_of call.request) (state.channels number)).next (state.channels number).content) refusal.chan i;
           senders = set_left place call not_so refusal.woken (set.ChannelSenders number) (state.channels number).senders i;
           receivers = set_left place call not_so refusal.woken (set.ChannelReceivers number) (state.channels number).receivers i;
         });

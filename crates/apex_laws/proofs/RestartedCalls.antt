@@ -158,7 +158,7 @@ says configuration state ordered call mode next step is restarted =
           (each_stays (λ other process. roused place call (record { part = number; proc = other }) process) (state.partitions number).table
           (λ other process. not_roused place call (record { part = number; proc = other }) process (quiet.nobody (record { part = number; proc = other }))));
       contents = λ number. ap (λ (one : Channel). one.content) (channels number)
-          ∙ ap (λ test. cond test (channel_effect configuration (time_of state.cores core) number (use_of call.request) (state.channels number)).next (state.channels number).content)
+          ∙ ap (λ test. cond test (channel_effect configuration (time_of state.cores core) number call.who.part (use_of call.request) (state.channels number)).next (state.channels number).content)
           (ap (is_channel number) quiet.no_channel);
       senders = λ number. subst (KeepsOnly (λ who. who.part ≡ part) (state.channels number).senders) (sym (ap (λ (one : Channel). one.senders) (channels number)))
           (restarted_set place call mode (set.ChannelSenders number) (state.channels number).senders restarted restart.never quiet.nobody);

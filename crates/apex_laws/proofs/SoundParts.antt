@@ -225,12 +225,12 @@ with_queuing_ports partition ports has distinct = record {
 sampling_port_new : (ports : List (ℕ × Port)) (name : List ℕ) (claimed : Option ℤ) (found : Option SamplingPort) → are_distinct ports ≡ true → is_new (is_free ports) claimed ≡ true
     → are_distinct (ports ++ new_sampling_port name claimed found) ≡ true
 sampling_port_new ports name claimed None distinct new = ap are_distinct (append-nil ports) ∙ distinct
-sampling_port_new ports name claimed (Some port) distinct new = distinct_new ports claimed (record { name = name; size = port.size; direction = port.direction; channel = port.channel }) distinct new
+sampling_port_new ports name claimed (Some port) distinct new = distinct_new ports claimed (record { name = name; size = port.size; direction = port.direction; channel = port.channel; valid = false }) distinct new
 
 queuing_port_new : (ports : List (ℕ × Port)) (name : List ℕ) (claimed : Option ℤ) (found : Option QueuingPort) → are_distinct ports ≡ true → is_new (is_free ports) claimed ≡ true
     → are_distinct (ports ++ new_queuing_port name claimed found) ≡ true
 queuing_port_new ports name claimed None distinct new = ap are_distinct (append-nil ports) ∙ distinct
-queuing_port_new ports name claimed (Some port) distinct new = distinct_new ports claimed (record { name = name; size = port.size; direction = port.direction; channel = port.channel }) distinct new
+queuing_port_new ports name claimed (Some port) distinct new = distinct_new ports claimed (record { name = name; size = port.size; direction = port.direction; channel = port.channel; valid = false }) distinct new
 
 -- what is created has a new number, and what is used keeps its own
 used_distinct : (configuration : Configuration) (now : ℕ) (who : Who) (claimed : Option ℤ) (asked : Request) (partition : Partition) → HasDistinctObjects partition
@@ -265,6 +265,8 @@ used_distinct configuration now who claimed (request.CreateSamplingPort name siz
     with_sampling_ports partition _ has (sampling_port_new partition.sampling_ports name claimed (sampling_port configuration who.part name) has.sampling_ports (value refl))
 used_distinct configuration now who claimed (request.CreateQueuingPort name size capacity both) partition has value =
     with_queuing_ports partition _ has (queuing_port_new partition.queuing_ports name claimed (queuing_port configuration who.part name) has.queuing_ports (value refl))
+used_distinct configuration now who claimed (request.ReadSamplingMessage port) partition has value =
+    with_sampling_ports partition _ has (distinct_each _ partition.sampling_ports ∙ has.sampling_ports)
 used_distinct configuration now who claimed _ partition has value = has
 
 -- a change of each set leaves the numbers

@@ -90,7 +90,7 @@ not_across _ partitions configuration channel wanted who not_sending not_receivi
 -- so who waits in a set of this partition isn't named
 not_named_here : (configuration : Configuration) (state : State) (now : ℕ) (call : CallRecord) (number : ℕ) → AreTied configuration state → nat_eq call.who.part number ≡ false
     → (codes : List Code) (channel : Option ℕ) → HasOutcome codes channel (answer_of now call.who (state.partitions call.who.part) call.request)
-    (λ number. suits_use (use_of call.request) (state.channels number)) (channel_answer configuration now call.request state.channels) call.claim
+    (λ number. suits_use configuration number call.who.part (use_of call.request) (state.channels number)) (channel_answer configuration now call.who.part call.request state.channels) call.claim
     → (wanted : WaitingSet) → ((other : ℕ) → ¬ (wanted ≡ set.ChannelSenders other)) → ((other : ℕ) → ¬ (wanted ≡ set.ChannelReceivers other))
     → (who : Who) → who.part ≡ number → waits_at wanted (found state.partitions who) ≡ true → is_named who call.claim.woken ≡ true → ⊥
 not_named_here configuration state now call number tied elsewhere (code ∷ codes) channel has wanted not_sending not_receiving who here waits named = nobody who call.claim.woken has.woken named
@@ -99,7 +99,7 @@ not_named_here configuration state now call number tied elsewhere [] None has wa
     true≢false (sym (eq-eqb call.who.part number (sym (by.own has.chan) ∙ here)) ∙ elsewhere)
 not_named_here configuration state now call number tied elsewhere [] (Some channel) has wanted not_sending not_receiving who here waits named =
     not_across call.request state.partitions configuration channel wanted who not_sending not_receiving waits
-    (across configuration state now channel call.request tied has.kind who (sym (has.woken who) ∙ named))
+    (across configuration state now channel call.who.part call.request tied has.kind who (sym (has.woken who) ∙ named))
 
 -- an entry of a set of this partition stays
 stays_here : (configuration : Configuration) (state : State) (core : ℕ) (call : CallRecord) → AreTied configuration state
@@ -155,7 +155,7 @@ home_of configuration state core call tied law channel is =
     by : (codes : List Code) → condition_codes configuration call.who (state.partitions call.who.part) call.request ≡ codes
         → (of : Option ℕ) → channel_of (state.partitions call.who.part) call.request ≡ of
         → HasOutcome codes of (answer_of (time_of state.cores core) call.who (state.partitions call.who.part) call.request)
-        (λ number. suits_use (use_of call.request) (state.channels number)) (channel_answer configuration (time_of state.cores core) call.request state.channels) call.claim
+        (λ number. suits_use configuration number call.who.part (use_of call.request) (state.channels number)) (channel_answer configuration (time_of state.cores core) call.who.part call.request state.channels) call.claim
         → StandsAtEnd call.request configuration channel call.who.part
     by (code ∷ codes) none of at has = let no : ◌≡◌ {A = Option ℕ} None (Some channel) = sym has.chan ∙ is in cc
     by [] none None at has = let no : ◌≡◌ {A = Option ℕ} None (Some channel) = sym has.chan ∙ is in cc

@@ -14,7 +14,7 @@ use Rattle.apex_machine.specs.Channels.{capacity_of, receiving_discipline, refre
 use Rattle.apex_machine.specs.DueTimes.{is_released, is_suspension}
 use Rattle.apex_machine.specs.Configuration.{Configuration}
 use Rattle.apex_machine.specs.Objects.{acquired, acquired_again, acquired_from, at_maximum, board_read, buffer_received, buffer_sent, displayed, event_set, event_waited, handed_on, mutex_released, not_acquired, raised, released_once, semaphore_waited, signalled}
-use Rattle.apex_machine.specs.Ports.{Receive, Read, Send, Use, Write, channel_effect, used, reading_of}
+use Rattle.apex_machine.specs.Ports.{Ask, Receive, Read, Send, Use, Write, channel_effect, used, reading_of}
 use Rattle.apex_machine.specs.Queue.{Messages, appended, not_yet, received, sent}
 use Rattle.apex_machine.specs.Services.{answer_by, answer_of, fellow, resuming}
 use Rattle.apex_machine.specs.State.{Blackboard, Buffer, Channel, Content, Event, Mutex, Partition, Queued, Sampled, Semaphore, Stamped, created, given_object, is_named, item_at}
@@ -188,64 +188,73 @@ read_wakes now refresh None = refl
 read_wakes now refresh (Some last) = refl
 
 -- what each use of a channel wakes
-use_wakes : (Fact : Who → Type 0) (configuration : Configuration) (now number : ℕ) (how : Use) (channel : Channel) (content : Content)
+use_wakes : (Fact : Who → Type 0) (configuration : Configuration) (now number partition : ℕ) (how : Use) (channel : Channel) (content : Content)
     → ((entry : Entry) → first_waiter (receiving_discipline configuration number) channel.receivers ≡ Some entry → Fact entry.who)
     → ((entry : Entry) → first_waiter (sending_discipline configuration number) channel.senders ≡ Some entry → Fact entry.who)
-    → (one : Who) → is_named one (used configuration now number how channel content).answer.woken ≡ true → Fact one
-use_wakes Fact configuration now number (Write message) channel (Sampled last) receivers senders one named = nobody one [] refl named
-use_wakes Fact configuration now number Read channel (Sampled last) receivers senders one named =
+    → (one : Who) → is_named one (used configuration now number partition how channel content).answer.woken ≡ true → Fact one
+use_wakes Fact configuration now number partition (Write message) channel (Sampled last) receivers senders one named = nobody one [] refl named
+use_wakes Fact configuration now number partition Read channel (Sampled last) receivers senders one named =
     nobody one (reading_of now (refresh_of configuration number) last).woken (read_wakes now (refresh_of configuration number) last) named
-use_wakes Fact configuration now number (Send message time_out) channel (Queued messages) receivers senders one named =
+use_wakes Fact configuration now number partition (Send message time_out) channel (Queued messages) receivers senders one named =
     sent_wakes Fact (capacity_of configuration number) message time_out (first_waiter (receiving_discipline configuration number) channel.receivers) messages receivers one named
-use_wakes Fact configuration now number (Receive time_out) channel (Queued messages) receivers senders one named =
+use_wakes Fact configuration now number partition (Receive time_out) channel (Queued messages) receivers senders one named =
     received_wakes Fact time_out (first_waiter (sending_discipline configuration number) channel.senders) messages senders one named
-use_wakes Fact configuration now number _ channel _ receivers senders one named = nobody one [] refl named
+use_wakes Fact configuration now number partition Ask channel (Queued messages) receivers senders one named = nobody one [] refl named
+use_wakes Fact configuration now number partition _ channel _ receivers senders one named = nobody one [] refl named
 
 -- a call through a channel wakes those who stand in its waiting sets
-pub channel_wakes : (Fact : Who → Type 0) (configuration : Configuration) (now number : ℕ) (how : Option Use) (channel : Channel)
+pub channel_wakes : (Fact : Who → Type 0) (configuration : Configuration) (now number partition : ℕ) (how : Option Use) (channel : Channel)
     → AllEntries (λ entry. Fact entry.who) channel.receivers → AllEntries (λ entry. Fact entry.who) channel.senders
-    → (one : Who) → is_named one (channel_effect configuration now number how channel).answer.woken ≡ true → Fact one
-channel_wakes Fact configuration now number None channel receivers senders one named = nobody one [] refl named
-channel_wakes Fact configuration now number (Some how) channel receivers senders one named =
-    use_wakes Fact configuration now number how channel channel.content
+    → (one : Who) → is_named one (channel_effect configuration now number partition how channel).answer.woken ≡ true → Fact one
+channel_wakes Fact configuration now number partition None channel receivers senders one named = nobody one [] refl named
+channel_wakes Fact configuration now number partition (Some how) channel receivers senders one named =
+    use_wakes Fact configuration now number partition how channel channel.content
     (λ entry first. first_has (λ entry. Fact entry.who) (receiving_discipline configuration number) channel.receivers entry receivers first)
     (λ entry first. first_has (λ entry. Fact entry.who) (sending_discipline configuration number) channel.senders entry senders first) one named
 
 -- a send wakes those who wait to receive, a receive those who wait to send, and nothing else wakes anybody
-pub send_wakes : (Fact : Who → Type 0) (configuration : Configuration) (now number : ℕ) (message : List ℕ) (time_out : ℤ) (channel : Channel)
+pub send_wakes : (Fact : Who → Type 0) (configuration : Configuration) (now number partition : ℕ) (message : List ℕ) (time_out : ℤ) (channel : Channel)
     → AllEntries (λ entry. Fact entry.who) channel.receivers
-    → (one : Who) → is_named one (channel_effect configuration now number (Some (Send message time_out)) channel).answer.woken ≡ true → Fact one
-send_wakes Fact configuration now number message time_out channel receivers one named = by channel.content named
+    → (one : Who) → is_named one (channel_effect configuration now number partition (Some (Send message time_out)) channel).answer.woken ≡ true → Fact one
+send_wakes Fact configuration now number partition message time_out channel receivers one named = by channel.content named
   where
-    by : (content : Content) → is_named one (used configuration now number (Send message time_out) channel content).answer.woken ≡ true → Fact one
+    by : (content : Content) → is_named one (used configuration now number partition (Send message time_out) channel content).answer.woken ≡ true → Fact one
     by (Queued messages) named =
         sent_wakes Fact (capacity_of configuration number) message time_out (first_waiter (receiving_discipline configuration number) channel.receivers) messages
         (λ entry first. first_has (λ entry. Fact entry.who) (receiving_discipline configuration number) channel.receivers entry receivers first) one named
     by (Sampled last) named = nobody one [] refl named
 
-pub receive_wakes : (Fact : Who → Type 0) (configuration : Configuration) (now number : ℕ) (time_out : ℤ) (channel : Channel)
+pub receive_wakes : (Fact : Who → Type 0) (configuration : Configuration) (now number partition : ℕ) (time_out : ℤ) (channel : Channel)
     → AllEntries (λ entry. Fact entry.who) channel.senders
-    → (one : Who) → is_named one (channel_effect configuration now number (Some (Receive time_out)) channel).answer.woken ≡ true → Fact one
-receive_wakes Fact configuration now number time_out channel senders one named = by channel.content named
+    → (one : Who) → is_named one (channel_effect configuration now number partition (Some (Receive time_out)) channel).answer.woken ≡ true → Fact one
+receive_wakes Fact configuration now number partition time_out channel senders one named = by channel.content named
   where
-    by : (content : Content) → is_named one (used configuration now number (Receive time_out) channel content).answer.woken ≡ true → Fact one
+    by : (content : Content) → is_named one (used configuration now number partition (Receive time_out) channel content).answer.woken ≡ true → Fact one
     by (Queued messages) named =
         received_wakes Fact time_out (first_waiter (sending_discipline configuration number) channel.senders) messages
         (λ entry first. first_has (λ entry. Fact entry.who) (sending_discipline configuration number) channel.senders entry senders first) one named
     by (Sampled last) named = nobody one [] refl named
 
-pub write_wakes : (configuration : Configuration) (now number : ℕ) (message : List ℕ) (channel : Channel)
-    → (channel_effect configuration now number (Some (Write message)) channel).answer.woken ≡ []
-write_wakes configuration now number message channel = by channel.content
+pub write_wakes : (configuration : Configuration) (now number partition : ℕ) (message : List ℕ) (channel : Channel)
+    → (channel_effect configuration now number partition (Some (Write message)) channel).answer.woken ≡ []
+write_wakes configuration now number partition message channel = by channel.content
   where
-    by : (content : Content) → (used configuration now number (Write message) channel content).answer.woken ≡ []
+    by : (content : Content) → (used configuration now number partition (Write message) channel content).answer.woken ≡ []
     by (Sampled last) = refl
     by (Queued messages) = refl
 
-pub read_wakes_nobody : (configuration : Configuration) (now number : ℕ) (channel : Channel)
-    → (channel_effect configuration now number (Some Read) channel).answer.woken ≡ []
-read_wakes_nobody configuration now number channel = by channel.content
+pub ask_wakes : (configuration : Configuration) (now number partition : ℕ) (channel : Channel)
+    → (channel_effect configuration now number partition (Some Ask) channel).answer.woken ≡ []
+ask_wakes configuration now number partition channel = by channel.content
   where
-    by : (content : Content) → (used configuration now number Read channel content).answer.woken ≡ []
+    by : (content : Content) → (used configuration now number partition Ask channel content).answer.woken ≡ []
+    by (Sampled last) = refl
+    by (Queued messages) = refl
+
+pub read_wakes_nobody : (configuration : Configuration) (now number partition : ℕ) (channel : Channel)
+    → (channel_effect configuration now number partition (Some Read) channel).answer.woken ≡ []
+read_wakes_nobody configuration now number partition channel = by channel.content
+  where
+    by : (content : Content) → (used configuration now number partition Read channel content).answer.woken ≡ []
     by (Sampled last) = read_wakes now (refresh_of configuration number) last
     by (Queued messages) = refl

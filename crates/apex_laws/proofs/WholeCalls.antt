@@ -177,7 +177,7 @@ begun configuration state core call law process waits =
 
     by : (codes : List Code) → condition_codes configuration call.who (state.partitions call.who.part) call.request ≡ codes → (channel : Option ℕ)
         → HasOutcome codes channel (answer_of (time_of state.cores core) call.who (state.partitions call.who.part) call.request)
-        (λ number. suits_use (use_of call.request) (state.channels number)) (channel_answer configuration (time_of state.cores core) call.request state.channels) call.claim
+        (λ number. suits_use configuration number call.who.part (use_of call.request) (state.channels number)) (channel_answer configuration (time_of state.cores core) call.who.part call.request state.channels) call.claim
         → IsBegun (time_of state.cores core) call.request call.claim.chan process (wait_of call.request call.claim.chan (time_of state.cores core) process)
     by (one ∷ codes) at channel has = absurd (refused (one ∷ codes) has.out)
       where
@@ -188,8 +188,8 @@ begun configuration state core call law process waits =
         (own_begun configuration (time_of state.cores core) call.who (state.partitions call.who.part) call.request process at (sym has.out ∙ is_waits call.claim.out waits))
     by [] at (Some channel) has =
         subst (λ chan. IsBegun (time_of state.cores core) call.request chan process (wait_of call.request chan (time_of state.cores core) process)) (sym has.chan)
-        (through_begun (time_of state.cores core) channel call.request process (channel_answer configuration (time_of state.cores core) call.request state.channels channel).out
-        (sym has.out ∙ is_waits call.claim.out waits) (channel_can configuration (time_of state.cores core) channel call.request (state.channels channel) has.kind))
+        (through_begun (time_of state.cores core) channel call.request process (channel_answer configuration (time_of state.cores core) call.who.part call.request state.channels channel).out
+        (sym has.out ∙ is_waits call.claim.out waits) (channel_can configuration (time_of state.cores core) channel call.who.part call.request (state.channels channel) has.kind))
 
 -- whom a call names waits for another
 
@@ -221,7 +221,7 @@ fellow_waits partitions who process target is suspends old at =
     subst (λ one. WaitsForOther one.wait) same (suspension_waits target.wait suspends)
 
 named_waits : (configuration : Configuration) (state : State) (now : ℕ) (who : Who) (asked : Request) (claim : Claim) → AreTied configuration state → (codes : List Code) (channel : Option ℕ)
-    → HasOutcome codes channel (answer_of now who (state.partitions who.part) asked) (λ number. suits_use (use_of asked) (state.channels number)) (channel_answer configuration now asked state.channels) claim
+    → HasOutcome codes channel (answer_of now who (state.partitions who.part) asked) (λ number. suits_use configuration number who.part (use_of asked) (state.channels number)) (channel_answer configuration now who.part asked state.channels) claim
     → (one : Who) → is_named one claim.woken ≡ true → OtherAwaited state.partitions one
 named_waits configuration state now who asked claim tied (code ∷ codes) channel has one named = nobody one claim.woken has.woken named
 named_waits configuration state now who asked claim tied [] None has one named =
@@ -230,7 +230,7 @@ named_waits configuration state now who asked claim tied [] None has one named =
     (λ process target is suspends. fellow_waits state.partitions who process target is suspends)
     one (sym (has.woken one) ∙ named)
 named_waits configuration state now who asked claim tied [] (Some channel) has one named =
-    channel_wakes (OtherAwaited state.partitions) configuration now channel (use_of asked) (state.channels channel)
+    channel_wakes (OtherAwaited state.partitions) configuration now channel who.part (use_of asked) (state.channels channel)
     (tied_waits (λ home. IsTrue (is_receiver configuration channel home)) (set.ChannelReceivers channel) state.partitions (state.channels channel).receivers (tied.receivers channel))
     (tied_waits (λ home. IsTrue (is_sender configuration channel home)) (set.ChannelSenders channel) state.partitions (state.channels channel).senders (tied.senders channel))
     one (sym (has.woken one) ∙ named)
@@ -275,8 +275,8 @@ named_keeps : (configuration : Configuration) (state : State) (place core : ℕ)
     → WaitsForOther (adjusted place (period_of configuration call.who.part) state.cores (state.partitions call.who.part) call number old).wait
 named_keeps configuration state place core call law one named number old waits =
     let set : Process = set_by place (period_of configuration call.who.part) state.cores (state.partitions call.who.part) call.who.proc call.request number old in
-    let starts = not_started configuration (time_of state.cores core) call.who (state.partitions call.who.part) call.request (λ number. suits_use (use_of call.request) (state.channels number))
-    (channel_answer configuration (time_of state.cores core) call.request state.channels) call.claim law.outcome one named number in
+    let starts = not_started configuration (time_of state.cores core) call.who (state.partitions call.who.part) call.request (λ number. suits_use configuration number call.who.part (use_of call.request) (state.channels number))
+    (channel_answer configuration (time_of state.cores core) call.who.part call.request state.channels) call.claim law.outcome one named number in
     let same = set_by_wait place (period_of configuration call.who.part) state.cores (state.partitions call.who.part) call.who.proc call.request number old starts (not_for_normal old.wait waits) in
     elim (is_done call.claim.out) as (λ done. WaitsForOther (cond done set old).wait) [
       | true ↦ subst WaitsForOther (sym same) waits
@@ -339,26 +339,27 @@ adds configuration call other number is = IsAdded.not_created (λ name priority 
 -- through a channel
 
 -- a use that suits is there
-suited_use : (found : Option Use) (channel : Channel) → suits_use found channel ≡ true → (how : Use) × (found ≡ Some how) × (suits how channel.content ≡ true)
-suited_use None channel suited = absurd (true≢false (sym suited))
-suited_use (Some how) channel suited = (how, refl, suited)
+suited_use : (configuration : Configuration) (number partition : ℕ) (found : Option Use) (channel : Channel) → suits_use configuration number partition found channel ≡ true
+    → (how : Use) × (found ≡ Some how) × (suits configuration number partition how channel.content ≡ true)
+suited_use configuration number partition None channel suited = absurd (true≢false (sym suited))
+suited_use configuration number partition (Some how) channel suited = (how, refl, suited)
 
 goes_through : (configuration : Configuration) (state : State) (now : ℕ) (call : CallRecord) (answer : Answer) (codes : List Code) (channel : Option ℕ) (number : ℕ) (next : Channel) → SetsAreInOrder state
-    → HasOutcome codes channel answer (λ number. suits_use (use_of call.request) (state.channels number)) (channel_answer configuration now call.request state.channels) call.claim
-    → call.claim.chan ≡ Some number → next.content ≡ (channel_effect configuration now number (use_of call.request) (state.channels number)).next
+    → HasOutcome codes channel answer (λ number. suits_use configuration number call.who.part (use_of call.request) (state.channels number)) (channel_answer configuration now call.who.part call.request state.channels) call.claim
+    → call.claim.chan ≡ Some number → next.content ≡ (channel_effect configuration now number call.who.part (use_of call.request) (state.channels number)).next
     → GoesThrough configuration now number call (state.channels number) next
 goes_through configuration state now call answer codes channel number next order has goes content =
-    let through = through_claimed codes channel answer (λ number. suits_use (use_of call.request) (state.channels number)) (channel_answer configuration now call.request state.channels) call.claim number goes has in
-    let how = suited_use (use_of call.request) (state.channels number) through.kind in
-    let effect : Effect Content = used configuration now number how.0 (state.channels number) (state.channels number).content in
-    let same : channel_effect configuration now number (use_of call.request) (state.channels number) ≡ effect = ap (λ found. channel_effect configuration now number found (state.channels number)) how.1 in
+    let through = through_claimed codes channel answer (λ number. suits_use configuration number call.who.part (use_of call.request) (state.channels number)) (channel_answer configuration now call.who.part call.request state.channels) call.claim number goes has in
+    let how = suited_use configuration number call.who.part (use_of call.request) (state.channels number) through.kind in
+    let effect : Effect Content = used configuration now number call.who.part how.0 (state.channels number) (state.channels number).content in
+    let same : channel_effect configuration now number call.who.part (use_of call.request) (state.channels number) ≡ effect = ap (λ found. channel_effect configuration now number call.who.part found (state.channels number)) how.1 in
     let senders = order_is_apart state.count (state.channels number).senders (order.senders number) in
     let receivers = order_is_apart state.count (state.channels number).receivers (order.receivers number) in
     record {
       how = how.0;
       uses = how.1;
       effect = effect;
-      rule = (channel_is_the_sentence configuration now number (state.channels number) how.0 effect senders receivers how.2).0 refl;
+      rule = (channel_is_the_sentence configuration now number call.who.part (state.channels number) how.0 effect senders receivers how.2).0 refl;
       content = content ∙ ap (λ one. one.next) same;
       out = through.out ∙ ap (λ one. one.answer.out) same;
       values = subst (λ one. HasValues one.answer.val one.answer.val2 one.answer.val3 call.claim) same through.values;
@@ -486,9 +487,9 @@ call_is_the_sentence configuration state ordered call next above tied order step
       through = λ number goes. goes_through configuration state now call (answer_of now call.who partition call.request) (condition_codes configuration call.who partition call.request)
           (channel_of partition call.request) number (next.channels number) order law.outcome goes
           (ap (λ one. one.content) (channels number)
-          ∙ ap (λ test. cond test (channel_effect configuration now number (use_of call.request) (state.channels number)).next (state.channels number).content) (ap (is_channel number) goes ∙ is_itself number));
+          ∙ ap (λ test. cond test (channel_effect configuration now number call.who.part (use_of call.request) (state.channels number)).next (state.channels number).content) (ap (is_channel number) goes ∙ is_itself number));
       contents = λ number differs. ap (λ one. one.content) (channels number)
-          ∙ ap (λ test. cond test (channel_effect configuration now number (use_of call.request) (state.channels number)).next (state.channels number).content)
+          ∙ ap (λ test. cond test (channel_effect configuration now number call.who.part (use_of call.request) (state.channels number)).next (state.channels number).content)
           (cannot_hold (is_channel number call.claim.chan) (λ goes. differs (goes_to number call.claim.chan goes)));
       cores = next_cores configuration state ordered next (Call call) step is;
     }

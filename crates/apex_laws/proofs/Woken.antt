@@ -102,8 +102,8 @@ channel_waiter partitions Home wanted number channel chan is sending receiving e
 -- whom a call with a lawful outcome names
 pub woken : (configuration : Configuration) (state : State) (now : ℕ) (who : Who) (asked : Request) (claim : Claim) → AreTied configuration state
     → (codes : List Code) (channel : Option ℕ)
-    → HasOutcome codes channel (answer_of now who (state.partitions who.part) asked) (λ number. suits_use (use_of asked) (state.channels number))
-    (channel_answer configuration now asked state.channels) claim
+    → HasOutcome codes channel (answer_of now who (state.partitions who.part) asked) (λ number. suits_use configuration number who.part (use_of asked) (state.channels number))
+    (channel_answer configuration now who.part asked state.channels) claim
     → (one : Who) → is_named one claim.woken ≡ true → IsWokenBy state.partitions who.part claim.chan one
 woken configuration state now who asked claim tied (code ∷ codes) channel has one named = nobody one claim.woken has.woken named
 woken configuration state now who asked claim tied [] None has one named =
@@ -112,7 +112,7 @@ woken configuration state now who asked claim tied [] None has one named =
     (λ process target is suspends. suspended_fellow state.partitions who claim.chan process target is suspends)
     one (sym (has.woken one) ∙ named)
 woken configuration state now who asked claim tied [] (Some channel) has one named =
-    channel_wakes (IsWokenBy state.partitions who.part claim.chan) configuration now channel (use_of asked) (state.channels channel)
+    channel_wakes (IsWokenBy state.partitions who.part claim.chan) configuration now channel who.part (use_of asked) (state.channels channel)
     (channel_waiter state.partitions (λ home. IsTrue (is_receiver configuration channel home)) (set.ChannelReceivers channel) who.part channel claim.chan has.chan
     (λ other e. cc) (λ other e. cc) (state.channels channel).receivers (tied.receivers channel))
     (channel_waiter state.partitions (λ home. IsTrue (is_sender configuration channel home)) (set.ChannelSenders channel) who.part channel claim.chan has.chan

@@ -4,11 +4,12 @@ use Rattle.std.specs.Prelude.{◌≡◌, ℕ, ℤ, pos, List, [], Option, Some, 
 use Rattle.apex_types.specs.declared.record.Who.{Who}
 use Rattle.apex_types.specs.declared.request.Request.{Request}
 use Rattle.apex_types.specs.declared.request.Request.TheVariants as request
+use Rattle.apex_machine.specs.After.{is_valid}
 use Rattle.apex_machine.specs.Answer.{Answer, Effect, NewNumber, done_with}
 use Rattle.apex_machine.specs.Arguments.{discipline_given, natural_of}
 use Rattle.apex_machine.specs.Channels.{QueuingPort, SamplingPort, queuing_port, sampling_port}
 use Rattle.apex_machine.specs.Configuration.{Configuration}
-use Rattle.apex_machine.specs.State.{Partition, is_free, item_at}
+use Rattle.apex_machine.specs.State.{Partition, Port, is_free, item_at}
 use Rattle.apex_laws.specs.ObjectSentences.{IsAcquiring, IsClearing, IsDisplay, IsEventWait, IsReading, IsReceiving, IsReleasing, IsResetting, IsSemaphoreWait, IsSending, IsSetting, IsSignal}
 
 -- the object of this number is this one afterwards, and the others are as before
@@ -96,10 +97,15 @@ IsObjectCall configuration who claimed (request.ReleaseMutex mutex) partition an
 IsObjectCall configuration who claimed (request.CreateSamplingPort name size direction refresh) partition answer next =
     (next ≡ record partition { sampling_ports = next.sampling_ports })
     × ((port : SamplingPort) × (sampling_port configuration who.part name ≡ Some port)
-    × Creates partition.sampling_ports next.sampling_ports claimed (record { name = name; size = port.size; direction = port.direction; channel = port.channel }) answer)
+    × Creates partition.sampling_ports next.sampling_ports claimed (record { name = name; size = port.size; direction = port.direction; channel = port.channel; valid = false }) answer)
 IsObjectCall configuration who claimed (request.CreateQueuingPort name size capacity both) partition answer next =
     (next ≡ record partition { queuing_ports = next.queuing_ports })
     × ((port : QueuingPort) × (queuing_port configuration who.part name ≡ Some port)
-    × Creates partition.queuing_ports next.queuing_ports claimed (record { name = name; size = port.size; direction = port.direction; channel = port.channel }) answer)
+    × Creates partition.queuing_ports next.queuing_ports claimed (record { name = name; size = port.size; direction = port.direction; channel = port.channel; valid = false }) answer)
+-- the port at which a sample is read knows whether that is a valid one
+IsObjectCall configuration who claimed (request.ReadSamplingMessage port) partition answer next =
+    (next ≡ record partition { sampling_ports = next.sampling_ports })
+    × ((number : ℕ) (found : Port) → port ≡ pos number → item_at partition.sampling_ports number ≡ Some found
+    → OneBecomes partition.sampling_ports next.sampling_ports number (record found { valid = is_valid claimed }))
 -- any other service leaves all objects and ports
 IsObjectCall configuration who claimed _ partition answer next = next ≡ partition

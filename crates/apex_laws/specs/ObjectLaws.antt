@@ -80,9 +80,9 @@ SamplingIsTheSentence =
 -- any channel
 abbrev pub ChannelIsTheSentence : Type 0
 ChannelIsTheSentence =
-    (configuration : Configuration) (now number : ℕ) (channel : Channel) (how : Use) (effect : Effect Content) → AreApart channel.senders → AreApart channel.receivers
-    → IsTrue (suits how channel.content)
-    → (effect ≡ used configuration now number how channel channel.content) ↔ IsUse configuration now number channel how effect
+    (configuration : Configuration) (now number partition : ℕ) (channel : Channel) (how : Use) (effect : Effect Content) → AreApart channel.senders → AreApart channel.receivers
+    → IsTrue (suits configuration number partition how channel.content)
+    → (effect ≡ used configuration now number partition how channel channel.content) ↔ IsUse configuration now number partition channel how effect
 
 -- the services of objects use and change exactly the object that they name, and creations add exactly one, by the sentences; in a
 -- partition whose waiting sets have their entries apart, and where no error condition holds

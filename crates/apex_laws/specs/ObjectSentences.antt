@@ -1,5 +1,5 @@
 -- What each operation on an object or a channel gives and leaves, in sentences: one case for each sentence of its rule.
-use Rattle.std.specs.Prelude.{◌≡◌, ℕ, ◌+◌, ◌-◌, ◌<◌, ◌≤◌, ℤ, pos, List, [], ◌∷◌, ◌++◌, length, Option, Some, None, Bool, true, false}
+use Rattle.std.specs.Prelude.{◌≡◌, ℕ, ◌+◌, ◌-◌, ◌<◌, ◌≤◌, ℤ, pos, List, [], ◌∷◌, ◌++◌, length, Option, Some, None, Bool, true, false, IsFalse, IsTrue}
 use Rattle.apex_types.specs.declared.code.Code.TheVariants as code
 use Rattle.apex_types.specs.declared.discipline.Discipline.{Discipline}
 use Rattle.apex_types.specs.declared.record.Out.{Out}
@@ -7,9 +7,9 @@ use Rattle.apex_types.specs.declared.record.Out.TheVariants as out
 use Rattle.apex_types.specs.declared.record.Who.{Who}
 use Rattle.apex_machine.specs.declared.state.Entry.{Entry}
 use Rattle.apex_machine.specs.Answer.{Effect, Nothing, Number, whos}
-use Rattle.apex_machine.specs.Channels.{capacity_of, receiving_discipline, refresh_of, sending_discipline}
+use Rattle.apex_machine.specs.Channels.{capacity_of, is_at_destination, is_at_source, receiving_discipline, refresh_of, sending_discipline}
 use Rattle.apex_machine.specs.Configuration.{Configuration}
-use Rattle.apex_machine.specs.Ports.{Receive, Read, Send, Use, Write, on_queuing, on_sampling}
+use Rattle.apex_machine.specs.Ports.{Ask, Receive, Read, Send, Use, Write, on_queuing, on_sampling}
 use Rattle.apex_machine.specs.Queue.{Messages}
 use Rattle.apex_machine.specs.State.{Channel, Content, Mutex, Queued, Sampled, Stamped}
 use Rattle.apex_machine.specs.Waiting.{IsFirst}
@@ -116,16 +116,29 @@ pub data IsSampling (now refresh : ℕ) (last : Option Stamped) (effect : Effect
   valid : (found : Stamped) → last ≡ Some found → now - found.stamp ≤ refresh → effect ≡ reads no_error 1 found.message (Some found) → IsSampling now refresh last effect
   too_old : (found : Stamped) → last ≡ Some found → refresh < now - found.stamp → effect ≡ reads no_error 0 found.message (Some found) → IsSampling now refresh last effect
 
+-- GET_QUEUING_PORT_STATUS: how many messages there are and how many wait at the end; they stay
+abbrev pub tells_channel : Messages → List Entry → Effect Content
+tells_channel messages waiting = record {
+  answer = record { out = no_error; val = Number (pos (length messages)); val2 = Some (pos (length waiting)); val3 = None; bytes = []; woken = [] };
+  next = Queued messages;
+}
+
 -- a use of a channel of its kind: a sampling channel is written and read; a queuing channel's messages go to the receivers of
--- its destination port and come from the senders of its source port, each set by its own port's discipline
-pub data IsUse (configuration : Configuration) (now number : ℕ) (channel : Channel) (how : Use) (effect : Effect Content) : Type 0 where
+-- its destination port and come from the senders of its source port, each set by its own port's discipline; a partition at one of its ends
+-- is told how many wait there
+pub data IsUse (configuration : Configuration) (now number partition : ℕ) (channel : Channel) (how : Use) (effect : Effect Content) : Type 0 where
   writes : (message : List ℕ) (last : Option Stamped) (inner : Effect (Option Stamped)) → how ≡ Write message → channel.content ≡ Sampled last → IsWriting now message inner
-      → effect ≡ on_sampling inner → IsUse configuration now number channel how effect
+      → effect ≡ on_sampling inner → IsUse configuration now number partition channel how effect
   samples : (last : Option Stamped) (inner : Effect (Option Stamped)) → how ≡ Read → channel.content ≡ Sampled last → IsSampling now (refresh_of configuration number) last inner
-      → effect ≡ on_sampling inner → IsUse configuration now number channel how effect
+      → effect ≡ on_sampling inner → IsUse configuration now number partition channel how effect
   sends : (message : List ℕ) (time_out : ℤ) (messages : Messages) (inner : Effect Messages) → how ≡ Send message time_out → channel.content ≡ Queued messages
       → IsSending (capacity_of configuration number) message time_out (receiving_discipline configuration number) channel.receivers messages inner
-      → effect ≡ on_queuing inner → IsUse configuration now number channel how effect
+      → effect ≡ on_queuing inner → IsUse configuration now number partition channel how effect
   receives : (time_out : ℤ) (messages : Messages) (inner : Effect Messages) → how ≡ Receive time_out → channel.content ≡ Queued messages
       → IsReceiving time_out (sending_discipline configuration number) channel.senders messages inner
-      → effect ≡ on_queuing inner → IsUse configuration now number channel how effect
+      → effect ≡ on_queuing inner → IsUse configuration now number partition channel how effect
+  asks_source : (messages : Messages) → how ≡ Ask → channel.content ≡ Queued messages → IsTrue (is_at_source configuration number partition)
+      → effect ≡ tells_channel messages channel.senders → IsUse configuration now number partition channel how effect
+  asks_destination : (messages : Messages) → how ≡ Ask → channel.content ≡ Queued messages → IsFalse (is_at_source configuration number partition)
+      → IsTrue (is_at_destination configuration number partition) → effect ≡ tells_channel messages channel.receivers
+      → IsUse configuration now number partition channel how effect

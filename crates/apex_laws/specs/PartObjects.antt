@@ -13,14 +13,14 @@ use Rattle.apex_machine.specs.declared.state.Wait.{Wait}
 use Rattle.apex_machine.specs.declared.state.Wait.TheVariants as wait
 use Rattle.apex_machine.specs.declared.state.WaitingSet.{WaitingSet}
 use Rattle.apex_machine.specs.declared.state.WaitingSet.TheVariants as set
-use Rattle.apex_machine.specs.After.{each_set, is_done, new_blackboard, new_buffer, new_event, new_mutex, new_queuing_port, new_sampling_port, new_semaphore, numbered, objects_called}
+use Rattle.apex_machine.specs.After.{each_set, is_done, is_valid, new_blackboard, new_buffer, new_event, new_mutex, new_queuing_port, new_sampling_port, new_semaphore, numbered, objects_called}
 use Rattle.apex_machine.specs.Arguments.{natural_of}
 use Rattle.apex_machine.specs.Channels.{queuing_port, sampling_port}
 use Rattle.apex_machine.specs.Configuration.{Configuration}
 use Rattle.apex_machine.specs.Objects.{acquired, buffer_received, buffer_sent, cleared, displayed, event_reset, event_set, mutex_released, semaphore_waited, signalled}
 use Rattle.apex_machine.specs.Pieces.{stops_some}
 use Rattle.apex_machine.specs.Services.{fellow}
-use Rattle.apex_machine.specs.State.{Partition, Table, change_at, created, is_named, is_same}
+use Rattle.apex_machine.specs.State.{Partition, Port, Table, change_at, created, is_named, is_same}
 use Rattle.apex_machine.specs.Waiting.{first_waiter, is_in, is_no_error, set_after, without}
 use Rattle.apex_laws.specs.Laws.{entries_at}
 use Rattle.apex_laws.specs.PartLaws.{IsOwnCall, IsSoundPart}
@@ -120,6 +120,11 @@ objects_changed configuration place call (request.CreateQueuingPort name size ca
   queuing_ports = if is_done call.claim.out
       then partition.queuing_ports ++ new_queuing_port name call.claim.val (queuing_port configuration call.who.part name)
       else partition.queuing_ports;
+}
+objects_changed configuration place call (request.ReadSamplingMessage port) partition = record partition {
+  sampling_ports = if is_done call.claim.out
+      then change_at (natural_of port) (λ (found : Port). record found { valid = is_valid call.claim.val }) partition.sampling_ports
+      else partition.sampling_ports;
 }
 objects_changed configuration place call _ partition = partition
 

@@ -38,9 +38,6 @@ module _ (who : Who) (partition : Partition) where
     -- the owner of a mutex, or a process that waits for one, gets another priority
     owner_is_changed : {process priority : ℤ} → IsOwner partition (natural_of process) → IsOutsideProfile (request.SetPriority process priority)
     waiter_is_changed : {process priority : ℤ} → AwaitsMutex partition (natural_of process) → IsOutsideProfile (request.SetPriority process priority)
-    -- the status of a port is asked for
-    status_of_sampling_port : {port : ℤ} → IsOutsideProfile (request.GetStatus kind.SamplingPort port)
-    status_of_queuing_port : {port : ℤ} → IsOutsideProfile (request.GetStatus kind.QueuingPort port)
 
 -- a call is not in the profile exactly where a sentence puts it outside
 abbrev pub ProfileIsTheSentence : Type 0

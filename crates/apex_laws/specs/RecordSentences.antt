@@ -175,7 +175,7 @@ pub record GoesThrough (configuration : Configuration) (now number : ℕ) (call 
   pub how : Use
   pub uses : use_of call.request ≡ Some how
   pub effect : Effect Content
-  pub rule : IsUse configuration now number channel how effect
+  pub rule : IsUse configuration now number call.who.part channel how effect
   pub content : next.content ≡ effect.next
   pub out : call.claim.out ≡ effect.answer.out
   pub values : HasValues effect.answer.val effect.answer.val2 effect.answer.val3 call.claim

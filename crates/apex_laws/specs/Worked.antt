@@ -174,7 +174,7 @@ gets state who asked = answer_of (time_of state.cores who.part) who (state.parti
 
 -- what a service gives through a channel
 abbrev pub gets_through : Configuration → State → Who → Request → ℕ → Answer
-gets_through configuration state who asked channel = channel_answer configuration (time_of state.cores who.part) asked state.channels channel
+gets_through configuration state who asked channel = channel_answer configuration (time_of state.cores who.part) who.part asked state.channels channel
 
 -- the codes of the error conditions
 abbrev pub codes_for : Configuration → State → Who → Request → List Code

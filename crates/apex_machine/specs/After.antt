@@ -1,5 +1,7 @@
 -- The state after a record: what each process, partition, channel and core becomes by what the record claims.
 use Rattle.std.specs.Prelude.{ℕ, suc, ◌+◌, List, [], ◌∷◌, ◌++◌, Option, Some, None, Bool, true, false, ℤ, pos, negsuc, nat_eq, if◌then◌else◌}
+use Rattle.std.specs.Option.{option_eq}
+use Rattle.std.specs.Ordering.{int_eq}
 use Rattle.apex_types.specs.declared.code.Code.TheVariants as code
 use Rattle.apex_types.specs.declared.record.Body.{Body}
 use Rattle.apex_types.specs.declared.record.Body.TheVariants.{Call, Ret, Disp, Tick}
@@ -73,17 +75,17 @@ created_by core call _ = []
 
 -- objects
 
--- a created sampling port, as it is configured
+-- a created sampling port, as it is configured: nothing was read at it
 abbrev pub new_sampling_port : List ℕ → Option ℤ → Option SamplingPort → List (ℕ × Port)
 new_sampling_port name claimed None = []
 new_sampling_port name claimed (Some port) =
-    numbered claimed (record { name = name; size = port.size; direction = port.direction; channel = port.channel })
+    numbered claimed (record { name = name; size = port.size; direction = port.direction; channel = port.channel; valid = false })
 
 -- a created queuing port, as it is configured
 abbrev pub new_queuing_port : List ℕ → Option ℤ → Option QueuingPort → List (ℕ × Port)
 new_queuing_port name claimed None = []
 new_queuing_port name claimed (Some port) =
-    numbered claimed (record { name = name; size = port.size; direction = port.direction; channel = port.channel })
+    numbered claimed (record { name = name; size = port.size; direction = port.direction; channel = port.channel; valid = false })
 
 -- a created buffer holds nothing   (CREATE_BUFFER, section 3)
 abbrev pub new_buffer : List ℕ → ℤ → ℤ → ℤ → Buffer
@@ -115,8 +117,12 @@ abbrev pub new_mutex : List ℕ → ℤ → ℤ → Mutex
 new_mutex name priority discipline =
     record { name = name; priority = natural_of priority; discipline = discipline_given discipline; owner = None; count = 0; waiters = [] }
 
+-- whether a read claims a valid sample
+abbrev pub is_valid : Option ℤ → Bool
+is_valid claimed = option_eq int_eq claimed (Some (pos 1))
+
 -- the objects and ports of the caller's partition after a call that is done, waiting sets aside: what is created stands under
--- the number that is claimed, and the object that is used is as its rule leaves it
+-- the number that is claimed, and the object that is used is as its rule leaves it; a port knows whether its last read gave a valid sample
 abbrev pub objects_by : Configuration → Who → Option ℤ → Request → Partition → Partition
 objects_by configuration who claimed (request.CreateBuffer name size capacity discipline) partition =
     record partition { buffers = partition.buffers ++ numbered claimed (new_buffer name size capacity discipline) }
@@ -159,6 +165,9 @@ objects_by configuration who claimed (request.CreateSamplingPort name size direc
     record partition { sampling_ports = partition.sampling_ports ++ new_sampling_port name claimed (sampling_port configuration who.part name) }
 objects_by configuration who claimed (request.CreateQueuingPort name size capacity both) partition =
     record partition { queuing_ports = partition.queuing_ports ++ new_queuing_port name claimed (queuing_port configuration who.part name) }
+objects_by configuration who claimed (request.ReadSamplingMessage port) partition = record partition {
+  sampling_ports = change_at (natural_of port) (λ found. record found { valid = is_valid claimed }) partition.sampling_ports;
+}
 objects_by configuration who claimed _ partition = partition
 
 -- each waiting set of a partition changed
@@ -231,7 +240,7 @@ is_channel number (Some channel) = nat_eq channel number
 -- what a channel holds after a record at this time of its core: only a call through it changes that
 abbrev pub content_by : Configuration → ℕ → ℕ → Body → Channel → Content
 content_by configuration now number (Call call) channel =
-    if is_channel number call.claim.chan then (channel_effect configuration now number (use_of call.request) channel).next else channel.content
+    if is_channel number call.claim.chan then (channel_effect configuration now number call.who.part (use_of call.request) channel).next else channel.content
 content_by configuration now number _ channel = channel.content
 
 -- a channel after a record at this time of its core

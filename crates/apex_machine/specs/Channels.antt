@@ -1,5 +1,5 @@
 -- What the configuration says of a channel by its number, and of a port by its partition and name.
-use Rattle.std.specs.Prelude.{ℕ, List, [], ◌∷◌, Option, Some, None, Bool, ◌&&◌, ◌||◌, IsTrue, map, nat_eq, nat_le, if◌then◌else◌, is_some}
+use Rattle.std.specs.Prelude.{ℕ, List, [], ◌∷◌, Option, Some, None, Bool, false, ◌&&◌, ◌||◌, IsTrue, map, nat_eq, nat_le, if◌then◌else◌, is_some}
 use Rattle.std.specs.List.{list_any}
 use Rattle.std.specs.Str.{bytes_eq}
 use Rattle.apex_types.specs.declared.discipline.Discipline.{Discipline}
@@ -67,6 +67,24 @@ sending_discipline configuration number = sending_in (queuing_of configuration n
 -- the discipline of those that wait to receive
 abbrev pub receiving_discipline : Configuration → ℕ → Discipline
 receiving_discipline configuration number = receiving_in (queuing_of configuration number)
+
+-- whether a partition is at the source of a channel, if it is a queuing channel
+abbrev pub is_source_in : ℕ → Option QueuingChannel → Bool
+is_source_in partition None = false
+is_source_in partition (Some channel) = nat_eq channel.source.partition partition
+
+-- whether a partition is at the destination of a channel, if it is a queuing channel
+abbrev pub is_destination_in : ℕ → Option QueuingChannel → Bool
+is_destination_in partition None = false
+is_destination_in partition (Some channel) = nat_eq channel.destination.partition partition
+
+-- whether a partition is at the source of the queuing channel of this number
+abbrev pub is_at_source : Configuration → ℕ → ℕ → Bool
+is_at_source configuration number partition = is_source_in partition (queuing_of configuration number)
+
+-- whether a partition is at the destination of the queuing channel of this number
+abbrev pub is_at_destination : Configuration → ℕ → ℕ → Bool
+is_at_destination configuration number partition = is_destination_in partition (queuing_of configuration number)
 
 -- the numbers of the channels, in rising order
 

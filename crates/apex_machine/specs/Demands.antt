@@ -221,8 +221,8 @@ stands_in who (entry ∷ entries) = is_same who entry.who || stands_in who entri
 abbrev pub through_demands : Configuration → ℕ → ℕ → Channel → CallRecord → List {1} Demand
 through_demands configuration now number channel call =
     record { cause = cause.Choice; holds = IsFalse (stands_in call.who channel.senders || stands_in call.who channel.receivers) }
-    ∷ record { cause = cause.Chan; holds = IsTrue (suits_use (use_of call.request) channel) }
-    ∷ answer_demands (channel_effect configuration now number (use_of call.request) channel).answer call.claim
+    ∷ record { cause = cause.Chan; holds = IsTrue (suits_use configuration number call.who.part (use_of call.request) channel) }
+    ∷ answer_demands (channel_effect configuration now number call.who.part (use_of call.request) channel).answer call.claim
 
 -- a call that goes through the channel, or doesn't
 abbrev pub used_demands : Bool → Configuration → ℕ → ℕ → Channel → CallRecord → List {1} Demand

@@ -1,14 +1,19 @@
 -- Channels: what a call through a port gives its caller, and what the channel holds after it.
-use Rattle.std.specs.Prelude.{ℕ, ◌-◌, List, [], Option, Some, None, Bool, true, false, ℤ, pos, nat_le, if◌then◌else◌}
+use Rattle.std.specs.Prelude.{ℕ, ◌-◌, List, [], Option, Some, None, Bool, true, false, ℤ, pos, nat_le, length, ◌||◌, if◌then◌else◌}
 use Rattle.apex_types.specs.declared.code.Code.TheVariants as code
+use Rattle.apex_types.specs.declared.object_kind.ObjectKind.{ObjectKind}
+use Rattle.apex_types.specs.declared.object_kind.ObjectKind.TheVariants as kind
 use Rattle.apex_types.specs.declared.record.Out.TheVariants as out
 use Rattle.apex_types.specs.declared.request.Request.{Request}
 use Rattle.apex_types.specs.declared.request.Request.TheVariants as request
+use Rattle.apex_machine.specs.declared.state.Entry.{Entry}
+use Rattle.apex_machine.specs.declared.state.Status.{Status}
 use Rattle.apex_machine.specs.Answer.{Answer, Effect, Number, done}
-use Rattle.apex_machine.specs.Channels.{capacity_of, receiving_discipline, refresh_of, sending_discipline}
+use Rattle.apex_machine.specs.Channels.{capacity_of, is_at_destination, is_at_source, receiving_discipline, refresh_of, sending_discipline}
 use Rattle.apex_machine.specs.Configuration.{Configuration}
 use Rattle.apex_machine.specs.Queue.{Messages, received, sent}
 use Rattle.apex_machine.specs.State.{Channel, Content, Partition, Port, Queued, Sampled, Stamped, given_object}
+use Rattle.apex_machine.specs.Statuses.{telling}
 use Rattle.apex_machine.specs.Waiting.{first_waiter}
 
 -- how a call uses a channel
@@ -17,6 +22,12 @@ pub data Use : Type 0 where
   Read : Use
   Send : (message : List ℕ) → (time_out : ℤ) → Use
   Receive : (time_out : ℤ) → Use
+  Ask : Use
+
+-- GET_QUEUING_PORT_STATUS asks the channel; the status of anything else is its partition's
+abbrev pub asked_of : ObjectKind → Option Use
+asked_of kind.QueuingPort = Some Ask
+asked_of _ = None
 
 -- how a service uses a channel, if it does
 abbrev pub use_of : Request → Option Use
@@ -24,7 +35,13 @@ use_of (request.WriteSamplingMessage port length message) = Some (Write message)
 use_of (request.ReadSamplingMessage port) = Some Read
 use_of (request.SendQueuingMessage port length time_out message) = Some (Send message time_out)
 use_of (request.ReceiveQueuingMessage port time_out) = Some (Receive time_out)
+use_of (request.GetStatus kind object) = asked_of kind
 use_of _ = None
+
+-- the port whose channel is asked for a status, if it is created
+abbrev pub port_asked : Partition → ObjectKind → ℤ → Option Port
+port_asked partition kind.QueuingPort port = given_object partition.queuing_ports port
+port_asked partition _ object = None
 
 -- the port that a service goes through, if it is created
 abbrev pub port_of : Partition → Request → Option Port
@@ -32,6 +49,7 @@ port_of partition (request.WriteSamplingMessage port length message) = given_obj
 port_of partition (request.ReadSamplingMessage port) = given_object partition.sampling_ports port
 port_of partition (request.SendQueuingMessage port length time_out message) = given_object partition.queuing_ports port
 port_of partition (request.ReceiveQueuingMessage port time_out) = given_object partition.queuing_ports port
+port_of partition (request.GetStatus kind object) = port_asked partition kind object
 port_of partition _ = None
 
 -- the channel of a port
@@ -73,30 +91,41 @@ on_sampling effect = record { answer = effect.answer; next = Sampled effect.next
 abbrev pub on_queuing : Effect Messages → Effect Content
 on_queuing effect = record { answer = effect.answer; next = Queued effect.next }
 
--- whether a channel is of the kind that this use wants
-abbrev pub suits : Use → Content → Bool
-suits (Write message) (Sampled last) = true
-suits Read (Sampled last) = true
-suits (Send message time_out) (Queued messages) = true
-suits (Receive time_out) (Queued messages) = true
-suits _ _ = false
+-- those that wait at a partition's end of a queuing channel: at its source to send, else to receive
+abbrev pub waiting_at_end : Configuration → ℕ → ℕ → Channel → List Entry
+waiting_at_end configuration number partition channel = if is_at_source configuration number partition then channel.senders else channel.receivers
 
--- the use of a channel, at the caller's time; of the wrong kind it does nothing, and no such call is lawful
-abbrev pub used : Configuration → ℕ → ℕ → Use → Channel → Content → Effect Content
-used configuration now number (Write message) channel (Sampled last) = on_sampling (written now message)
-used configuration now number Read channel (Sampled last) = on_sampling (sampled now (refresh_of configuration number) last)
-used configuration now number (Send message time_out) channel (Queued messages) =
+-- GET_QUEUING_PORT_STATUS: how many messages the channel holds, and how many wait at the caller's end
+abbrev pub channel_status : Messages → List Entry → Status
+channel_status messages waiting = record { val = length messages; val2 = Some (length waiting); val3 = None }
+
+-- whether a channel is of the kind that this use wants; only a partition at one of its ends may ask for its status
+abbrev pub suits : Configuration → ℕ → ℕ → Use → Content → Bool
+suits configuration number partition (Write message) (Sampled last) = true
+suits configuration number partition Read (Sampled last) = true
+suits configuration number partition (Send message time_out) (Queued messages) = true
+suits configuration number partition (Receive time_out) (Queued messages) = true
+suits configuration number partition Ask (Queued messages) = is_at_source configuration number partition || is_at_destination configuration number partition
+suits configuration number partition _ _ = false
+
+-- the use of a channel by this partition, at the caller's time; of the wrong kind it does nothing, and no such call is lawful
+abbrev pub used : Configuration → ℕ → ℕ → ℕ → Use → Channel → Content → Effect Content
+used configuration now number partition (Write message) channel (Sampled last) = on_sampling (written now message)
+used configuration now number partition Read channel (Sampled last) = on_sampling (sampled now (refresh_of configuration number) last)
+used configuration now number partition (Send message time_out) channel (Queued messages) =
     on_queuing (sent (capacity_of configuration number) message time_out (first_waiter (receiving_discipline configuration number) channel.receivers) messages)
-used configuration now number (Receive time_out) channel (Queued messages) =
+used configuration now number partition (Receive time_out) channel (Queued messages) =
     on_queuing (received time_out (first_waiter (sending_discipline configuration number) channel.senders) messages)
-used configuration now number how channel content = record { answer = done; next = content }
+used configuration now number partition Ask channel (Queued messages) =
+    record { answer = telling (Some (channel_status messages (waiting_at_end configuration number partition channel))); next = Queued messages }
+used configuration now number partition how channel content = record { answer = done; next = content }
 
--- what a channel gives the caller of a request, and what it holds afterwards
-abbrev pub channel_effect : Configuration → ℕ → ℕ → Option Use → Channel → Effect Content
-channel_effect configuration now number None channel = record { answer = done; next = channel.content }
-channel_effect configuration now number (Some how) channel = used configuration now number how channel channel.content
+-- what a channel gives the caller of a request, by the caller's partition, and what it holds afterwards
+abbrev pub channel_effect : Configuration → ℕ → ℕ → ℕ → Option Use → Channel → Effect Content
+channel_effect configuration now number partition None channel = record { answer = done; next = channel.content }
+channel_effect configuration now number partition (Some how) channel = used configuration now number partition how channel channel.content
 
--- whether the channel suits the request
-abbrev pub suits_use : Option Use → Channel → Bool
-suits_use None channel = false
-suits_use (Some how) channel = suits how channel.content
+-- whether the channel suits the request of this partition
+abbrev pub suits_use : Configuration → ℕ → ℕ → Option Use → Channel → Bool
+suits_use configuration number partition None channel = false
+suits_use configuration number partition (Some how) channel = suits configuration number partition how channel.content

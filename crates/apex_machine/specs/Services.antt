@@ -12,7 +12,7 @@ use Rattle.apex_machine.specs.DueTimes.{is_for_mutex, is_released, is_suspension
 use Rattle.apex_machine.specs.Names.{number_found, number_of}
 use Rattle.apex_machine.specs.Objects.{acquired, board_read, buffer_received, buffer_sent, displayed, event_set, event_waited, mutex_released, semaphore_waited, signalled}
 use Rattle.apex_machine.specs.State.{Partition, Table, created, given_object, is_free, item_at}
-use Rattle.apex_machine.specs.Statuses.{is_of_objects, status_of, telling}
+use Rattle.apex_machine.specs.Statuses.{status_of, telling}
 use Rattle.apex_machine.specs.Waiting.{first_waiter}
 
 -- the profile
@@ -22,8 +22,7 @@ abbrev pub waits_for_mutex : Table → ℕ → Bool
 waits_for_mutex table number = of_caller (λ process. is_for_mutex process.wait) (item_at table number)
 
 -- where no error condition holds, these stand outside the profile: a stop of a mutex's owner, or of the initialising process by
--- itself; SUSPEND and SET_PRIORITY of a process that owns a mutex or waits for one; the status
--- of a port
+-- itself; SUSPEND and SET_PRIORITY of a process that owns a mutex or waits for one
 abbrev pub in_profile : Who → Partition → Request → Bool
 in_profile who partition (request.Stop process) = not (owns_mutex partition.mutexes (natural_of process))
 in_profile who partition request.StopSelf = not (nat_eq who.proc 0) && not (owns_mutex partition.mutexes who.proc)
@@ -31,7 +30,6 @@ in_profile who partition (request.Suspend process) =
     not (owns_mutex partition.mutexes (natural_of process)) && not (waits_for_mutex partition.table (natural_of process))
 in_profile who partition (request.SetPriority process priority) =
     not (owns_mutex partition.mutexes (natural_of process)) && not (waits_for_mutex partition.table (natural_of process))
-in_profile who partition (request.GetStatus kind object) = is_of_objects kind
 in_profile who partition _ = true
 
 -- what the caller gets

@@ -56,12 +56,14 @@ pub record Mutex : Type 0 where
   pub count : ℕ
   pub waiters : List Entry
 
--- a created port: the greatest size of its messages, its direction and its channel   (ports, section 3)
+-- a created port: the greatest size of its messages, its direction, its channel, and whether the last read at it
+-- gave a valid sample   (ports, section 3)
 pub record Port : Type 0 where
   pub name : List ℕ
   pub size : ℕ
   pub direction : Direction
   pub channel : ℕ
+  pub valid : Bool
 
 -- a partition: its operating mode, its processes, and its objects and ports of each kind under their numbers   (section 2)
 pub record Partition : Type 0 where

@@ -8,7 +8,7 @@ use Rattle.apex_types.specs.declared.record.Out.TheVariants as out
 use Rattle.apex_machine.specs.declared.state.Status.{Status}
 use Rattle.apex_machine.specs.Answer.{Answer, Nothing, Number, Value}
 use Rattle.apex_machine.specs.Conditions.{codes_for}
-use Rattle.apex_machine.specs.State.{Blackboard, Buffer, Event, Mutex, Partition, Semaphore, given_object}
+use Rattle.apex_machine.specs.State.{Blackboard, Buffer, Event, Mutex, Partition, Port, Semaphore, given_object}
 
 -- 1 for what is so, 0 for what isn't
 abbrev pub number_told : Bool → ℕ
@@ -17,19 +17,19 @@ number_told false = 0
 
 -- GET_BUFFER_STATUS: how many messages it holds, and how many wait to send or to receive
 abbrev pub buffer_status : Buffer → Status
-buffer_status buffer = record { val = length buffer.messages; val2 = length buffer.senders + length buffer.receivers; val3 = None }
+buffer_status buffer = record { val = length buffer.messages; val2 = Some (length buffer.senders + length buffer.receivers); val3 = None }
 
 -- GET_BLACKBOARD_STATUS: whether a message is on it, and how many wait
 abbrev pub blackboard_status : Blackboard → Status
-blackboard_status blackboard = record { val = number_told (is_some blackboard.message); val2 = length blackboard.readers; val3 = None }
+blackboard_status blackboard = record { val = number_told (is_some blackboard.message); val2 = Some (length blackboard.readers); val3 = None }
 
 -- GET_SEMAPHORE_STATUS: its value, and how many wait
 abbrev pub semaphore_status : Semaphore → Status
-semaphore_status semaphore = record { val = semaphore.value; val2 = length semaphore.waiters; val3 = None }
+semaphore_status semaphore = record { val = semaphore.value; val2 = Some (length semaphore.waiters); val3 = None }
 
 -- GET_EVENT_STATUS: whether it is up, and how many wait
 abbrev pub event_status : Event → Status
-event_status event = record { val = number_told event.up; val2 = length event.waiters; val3 = None }
+event_status event = record { val = number_told event.up; val2 = Some (length event.waiters); val3 = None }
 
 -- the number of a mutex's owner, and 0 where it has none; no mutex is owned by the initialising process
 abbrev pub owner_told : Option ℕ → ℕ
@@ -38,16 +38,20 @@ owner_told (Some owner) = owner
 
 -- GET_MUTEX_STATUS: its owner, how many wait, and how often it was acquired
 abbrev pub mutex_status : Mutex → Status
-mutex_status mutex = record { val = owner_told mutex.owner; val2 = length mutex.waiters; val3 = Some mutex.count }
+mutex_status mutex = record { val = owner_told mutex.owner; val2 = Some (length mutex.waiters); val3 = Some mutex.count }
 
--- the status of the object of a kind that has this number, if it is created
+-- GET_SAMPLING_PORT_STATUS: whether its last read gave a valid sample; nobody reads at a source
+abbrev pub sampling_port_status : Port → Status
+sampling_port_status port = record { val = number_told port.valid; val2 = None; val3 = None }
+
+-- the status of the object of a kind that has this number, if it is created; that of a queuing port is its channel's to tell
 abbrev pub status_of : Partition → ObjectKind → ℤ → Option Status
 status_of partition kind.Buffer buffer = option_map buffer_status (given_object partition.buffers buffer)
 status_of partition kind.Blackboard blackboard = option_map blackboard_status (given_object partition.blackboards blackboard)
 status_of partition kind.Semaphore semaphore = option_map semaphore_status (given_object partition.semaphores semaphore)
 status_of partition kind.Event event = option_map event_status (given_object partition.events event)
 status_of partition kind.Mutex mutex = option_map mutex_status (given_object partition.mutexes mutex)
-status_of partition kind.SamplingPort port = None
+status_of partition kind.SamplingPort port = option_map sampling_port_status (given_object partition.sampling_ports port)
 status_of partition kind.QueuingPort port = None
 
 -- GET_BUFFER_STATUS and its like: a created object or port of the kind
@@ -65,10 +69,10 @@ abbrev pub first_told : Option Status → Value
 first_told None = Nothing
 first_told (Some status) = Number (pos status.val)
 
--- the second number of a status
+-- the second number of a status, if it has one
 abbrev pub second_told : Option Status → Option ℤ
 second_told None = None
-second_told (Some status) = Some (pos status.val2)
+second_told (Some status) = option_map pos status.val2
 
 -- the third number of a status, if it has one
 abbrev pub third_told : Option Status → Option ℤ
@@ -85,9 +89,3 @@ telling status = record {
   bytes = [];
   woken = [];
 }
-
--- whether a kind is one of objects, and not of ports
-abbrev pub is_of_objects : ObjectKind → Bool
-is_of_objects kind.SamplingPort = false
-is_of_objects kind.QueuingPort = false
-is_of_objects _ = true

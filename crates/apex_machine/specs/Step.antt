@@ -117,9 +117,10 @@ WhereNone (code ∷ codes) Demanded = Unit {0}
 abbrev pub IsWithinProfile : List Code → Who → Partition → Request → Type 0
 IsWithinProfile codes who partition request = WhereNone codes (IsTrue (in_profile who partition request))
 
--- what a channel answers to a call at this time of the caller's core
-abbrev pub channel_answer : Configuration → ℕ → Request → (ℕ → Channel) → ℕ → Answer
-channel_answer configuration now request channels number = (channel_effect configuration now number (use_of request) (channels number)).answer
+-- what a channel answers to a call of this partition, at this time of the caller's core
+abbrev pub channel_answer : Configuration → ℕ → ℕ → Request → (ℕ → Channel) → ℕ → Answer
+channel_answer configuration now partition request channels number =
+    (channel_effect configuration now number partition (use_of request) (channels number)).answer
 
 -- what a return gives back
 abbrev pub outcome_returned : Return → Outcome
@@ -153,8 +154,8 @@ pub record IsLawfulCall (configuration : Configuration) (state : State) (core : 
   pub outcome : HasOutcome (condition_codes configuration call.who (state.partitions call.who.part) call.request)
       (channel_of (state.partitions call.who.part) call.request)
       (answer_of (time_of state.cores core) call.who (state.partitions call.who.part) call.request)
-      (λ number. suits_use (use_of call.request) (state.channels number))
-      (channel_answer configuration (time_of state.cores core) call.request state.channels) call.claim
+      (λ number. suits_use configuration number call.who.part (use_of call.request) (state.channels number))
+      (channel_answer configuration (time_of state.cores core) call.who.part call.request state.channels) call.claim
 
 -- a return comes from the occupant, which is the choice, and gives back the outcome that is due
 pub record IsLawfulReturn (configuration : Configuration) (state : State) (core : ℕ) (ret : Return) : Type 0 where

@@ -107,10 +107,10 @@ pub struct CoreState {
     pub occupant: Option<Who>,
 }
 
-/// What GET_BUFFER_STATUS and its like tell of an object, in the order in which they tell it.
+/// What GET_BUFFER_STATUS and its like tell of an object or a port, in the order in which they tell it.
 #[derive(Clone, Copy, Debug, PartialEq, Eq)]
 pub struct Status {
     pub val: u64,
-    pub val2: u64,
+    pub val2: Option<u64>,
     pub val3: Option<u64>,
 }

@@ -76,7 +76,7 @@ impl Blackboard {
     {
         Status {
             val: u64::from(self.message.is_some()),
-            val2: self.readers.len() as u64,
+            val2: Some(self.readers.len() as u64),
             val3: None,
         }
     }

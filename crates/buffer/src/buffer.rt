@@ -80,7 +80,7 @@ impl Buffer {
     {
         Status {
             val: self.queue.len() as u64,
-            val2: self.queue.senders().len() as u64 + self.queue.receivers().len() as u64,
+            val2: Some(self.queue.senders().len() as u64 + self.queue.receivers().len() as u64),
             val3: None,
         }
     }

@@ -1,13 +1,13 @@
 -- A channel with its number and what was given when it was made: what a configuration says of it, what it demands of a call, and
 -- what it is afterwards.
-use Rattle.std.specs.Prelude.{◌≡◌, ℕ, Bool}
+use Rattle.std.specs.Prelude.{◌≡◌, ℕ, Bool, nat_eq}
 use Rattle.apex_types.specs.declared.discipline.Discipline.{Discipline}
 use Rattle.apex_types.specs.declared.record.Body.TheVariants.{Call}
 use Rattle.apex_types.specs.declared.record.Call.{Call as CallRecord}
 use Rattle.apex_types.specs.declared.record.Who.{Who}
 use Rattle.apex_machine.specs.declared.state.WaitingSet.TheVariants as set
 use Rattle.apex_machine.specs.After.{content_by}
-use Rattle.apex_machine.specs.Channels.{capacity_of, receiving_discipline, refresh_of, sending_discipline}
+use Rattle.apex_machine.specs.Channels.{capacity_of, is_at_destination, is_at_source, receiving_discipline, refresh_of, sending_discipline}
 use Rattle.apex_machine.specs.Configuration.{Configuration}
 use Rattle.apex_machine.specs.Demands.{AllHold, through_demands}
 use Rattle.apex_machine.specs.State.{Channel}
@@ -17,10 +17,10 @@ use Rattle.wait_set.specs.Actors.{Refuses}
 use Rattle.wait_set.specs.Laws.{StandBefore}
 
 -- what was given when a channel was made: the refresh period of a sampling channel; how many messages a queuing channel holds at
--- most, and the disciplines of those who wait to send and to receive
+-- most, the disciplines of those who wait to send and to receive, and the partitions at its source and at its destination
 pub data Settings : Type 0 where
   SamplingSettings : (refresh : ℕ) → Settings
-  QueuingSettings : (capacity : ℕ) → (sending : Discipline) → (receiving : Discipline) → Settings
+  QueuingSettings : (capacity : ℕ) → (sending : Discipline) → (receiving : Discipline) → (source : ℕ) → (destination : ℕ) → Settings
 
 -- a channel with its number and what was given when it was made
 pub record Held : Type 0 where
@@ -33,10 +33,12 @@ pub record Held : Type 0 where
 -- a configuration says of the channel of this number what was given
 abbrev pub SaysTheSame : Configuration → ℕ → Settings → Type 0
 SaysTheSame configuration number (SamplingSettings refresh) = refresh_of configuration number ≡ refresh
-SaysTheSame configuration number (QueuingSettings capacity sending receiving) =
+SaysTheSame configuration number (QueuingSettings capacity sending receiving source destination) =
     (capacity_of configuration number ≡ capacity)
     × (sending_discipline configuration number ≡ sending)
     × (receiving_discipline configuration number ≡ receiving)
+    × ((partition : ℕ) → is_at_source configuration number partition ≡ nat_eq source partition)
+    × ((partition : ℕ) → is_at_destination configuration number partition ≡ nat_eq destination partition)
 
 -- a channel is configured as it was made
 abbrev pub IsConfigured : Configuration → Held → Type 0

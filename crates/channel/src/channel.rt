@@ -1,21 +1,21 @@
 // Channels of either kind.
 
-ghost use Rattle.std.specs.Prelude.{◌≡◌, ◌||◌, ℕ, None, Some, nat_eq, true, IfErr, IfNone, IfOk, IfSome, IsFalse, OnErr, OnOk};
+ghost use Rattle.std.specs.Prelude.{◌≡◌, ◌||◌, ℕ, None, Some, nat_eq, true, IfErr, IfNone, IfOk, IfSome, OnErr, OnOk};
 ghost use Rattle.std.specs.Option.{option_copied};
 ghost use Rattle.apex_machine.specs.Demands.{stands_in};
 ghost use Rattle.apex_machine.specs.State.{is_named, is_same};
-ghost use Rattle.wait_set.specs.Laws.{StandBefore};
 ghost use Rattle.channel.specs.Held as rules;
 ghost use Rattle.channel.specs.Held.{Accepts, AllBelow, IsAfterCall, RefusesCall};
-ghost use Rattle.channel.specs.Kinds.{is_sampled, last_written, queuing_held, sampling_held};
+ghost use Rattle.channel.specs.Kinds.{destination_in, is_sampled, last_written, queuing_held, sampling_held, source_in};
 ghost use Rattle.message_queue.specs.Queues.{empty_queue};
 
+use crate::queuing::QueuingChannel;
 use crate::sampling::{SamplingChannel, Stamped};
-use apex_types::{Call, Cause, ChanId, Discipline, PartId, Place, Request, Who};
+use apex_types::{Call, Cause, ChanId, Discipline, PartId, Place, Who};
 use message_queue::MessageQueue;
 use std::alloc::{AllocError, Global};
 use std::marker::Model;
-use wait_set::{Actor, ObjFault};
+use wait_set::ObjFault;
 
 /// A channel, which knows its number.
 #[derive(Drop)]
@@ -28,7 +28,7 @@ pub struct Channel {
 #[derive(Drop)]
 enum Kind {
     Sampling(SamplingChannel),
-    Queuing(MessageQueue),
+    Queuing(QueuingChannel),
 }
 
 impl Model for Channel {
@@ -57,7 +57,8 @@ impl Channel {
     }
 
     /// The queuing channel of this number, without a message, at which nobody waits. It holds at most `capacity` messages; those
-    /// who wait to send go by the first of the two disciplines, those who wait to receive by the second.
+    /// who wait to send go by the first of the two disciplines, those who wait to receive by the second. `source` and `destination`
+    /// are the partitions at its ends.
     ///
     /// AllocError where memory for the places of its messages is refused. No other operation takes memory for a place.
     pub fn queuing(
@@ -66,13 +67,19 @@ impl Channel {
         capacity: u16,
         sending: Discipline,
         receiving: Discipline,
+        source: PartId,
+        destination: PartId,
     ) -> Result<Channel, AllocError>
-        ensures { IfOk result (λ channel. channel ≡ queuing_held number (empty_queue capacity sending receiving)) }
+        ensures { IfOk result (λ channel. channel ≡ queuing_held number source destination (empty_queue capacity sending receiving)) }
     {
         let queue = MessageQueue::new(alloc, capacity, sending, receiving)?;
         Ok(Channel {
             number,
-            kind: Kind::Queuing(queue),
+            kind: Kind::Queuing(QueuingChannel {
+                queue,
+                source,
+                destination,
+            }),
         })
     }
 
@@ -85,12 +92,12 @@ impl Channel {
 
     /// The queue of a queuing channel; None where it is a sampling channel.
     pub fn queue(&self) -> Option<&MessageQueue>
-        ensures held { IfSome result (λ queue. self.now ≡ queuing_held self.now.number queue.now) }
+        ensures held { IfSome result (λ queue. self.now ≡ queuing_held self.now.number (source_in self.now.settings) (destination_in self.now.settings) queue.now) }
         ensures none { IfNone result (is_sampled self.now.channel.content ≡ true) }
     {
         match &self.kind {
             Kind::Sampling(_) => None,
-            Kind::Queuing(queue) => Some(queue),
+            Kind::Queuing(channel) => Some(&channel.queue),
         }
     }
 
@@ -123,7 +130,7 @@ impl Channel {
         }
         match &mut self.kind {
             Kind::Sampling(channel) => channel.apply(now, call),
-            Kind::Queuing(queue) => use_queue(queue, place, call),
+            Kind::Queuing(channel) => channel.apply(place, call),
         }
     }
 
@@ -133,7 +140,7 @@ impl Channel {
     {
         match &self.kind {
             Kind::Sampling(_) => false,
-            Kind::Queuing(queue) => queue.has(who),
+            Kind::Queuing(channel) => channel.queue.has(who),
         }
     }
 
@@ -144,7 +151,7 @@ impl Channel {
     {
         match &mut self.kind {
             Kind::Sampling(_) => false,
-            Kind::Queuing(queue) => queue.leave(who),
+            Kind::Queuing(channel) => channel.queue.leave(who),
         }
     }
 
@@ -154,7 +161,7 @@ impl Channel {
     {
         match &mut self.kind {
             Kind::Sampling(_) => {}
-            Kind::Queuing(queue) => queue.release(woken),
+            Kind::Queuing(channel) => channel.queue.release(woken),
         }
     }
 
@@ -166,35 +173,7 @@ impl Channel {
         match &mut self.kind {
             // Nobody waits at a sampling channel.
             Kind::Sampling(_) => {}
-            Kind::Queuing(queue) => queue.leave_all(part),
+            Kind::Queuing(channel) => channel.queue.leave_all(part),
         }
-    }
-}
-
-// Carries out a call through a queuing channel at this place. Its caller waits at neither end.
-fn use_queue(queue: &mut MessageQueue, place: Place, call: &Call) -> Result<(), ObjFault>
-    requires apart { IsFalse (stands_in call.now.who queue.old.senders.entries || stands_in call.now.who queue.old.receivers.entries) }
-    requires senders_below { StandBefore place queue.old.senders.entries }
-    requires receivers_below { StandBefore place queue.old.receivers.entries }
-    ensures ok { OnOk result ((now number : ℕ) → Accepts now call.now (queuing_held number queue.old)) }
-    ensures after { OnOk result ((now number : ℕ) → call.now.claim.chan ≡ Some number → IsAfterCall place now call.now (queuing_held number queue.old) (queuing_held number queue.new)) }
-    ensures refused { IfErr result (λ fault. (now number : ℕ) → RefusesCall now call.now (queuing_held number queue.old) fault) }
-    ensures unchanged { OnErr result (queue.new ≡ queue.old) }
-{
-    let actor = Actor {
-        who: call.who,
-        priority: call.claim.prio,
-        place,
-    };
-    match &call.request {
-        Request::SendQueuingMessage {
-            time_out,
-            message,
-            ..
-        } => queue.send(actor, message, *time_out, &call.claim),
-        Request::ReceiveQueuingMessage { time_out, .. } => {
-            queue.receive(actor, *time_out, &call.claim)
-        }
-        _ => Err(ObjFault::Unlawful(Cause::Chan)),
     }
 }

@@ -10,8 +10,8 @@
 //! A channel needs no partition around it. Calls through a single one can be judged by it alone:
 //!
 //! ```text
-//! // Channel 4 holds one message. Those who wait to receive go by priority.
-//! let mut channel = Channel::queuing(alloc, ChanId::new(4), 1, Discipline::Fifo, Discipline::Priority)?;
+//! // Channel 4 of partition 0 to partition 1 holds one message. Those who wait to receive go by priority.
+//! let mut channel = Channel::queuing(alloc, ChanId::new(4), 1, Discipline::Fifo, Discipline::Priority, PartId::new(0), PartId::new(1))?;
 //!
 //! // Process 1 of partition 0 fills the one place that there is, and process 2 waits. The places of their calls rise.
 //! channel.apply(Place::new(10), 3, &send_is_done)?;
@@ -27,6 +27,7 @@
 #![tactic(auto)]
 
 mod channel;
+mod queuing;
 mod sampling;
 
 pub use channel::Channel;

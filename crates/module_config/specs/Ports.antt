@@ -19,7 +19,7 @@ told_queuing port =
 
 -- what is configured of a channel, by the queuing channel and the sampling channel of its number, if there is one
 abbrev pub kind_in : Option QueuingChannel → Option SamplingChannel → Option ChannelKind
-kind_in (Some channel) other = Some (Queuing channel.capacity channel.source_discipline channel.destination_discipline)
+kind_in (Some channel) other = Some (Queuing channel.capacity channel.source_discipline channel.destination_discipline channel.source.partition channel.destination.partition)
 kind_in None (Some channel) = Some (Sampling channel.refresh)
 kind_in None None = None
 

@@ -44,6 +44,8 @@ impl Config {
                 capacity: channel.capacity,
                 sending: channel.source_discipline,
                 receiving: channel.destination_discipline,
+                source: channel.source.partition,
+                destination: channel.destination.partition,
             });
         }
         let channel = find_sampling(&self.sampling, chan)?;

@@ -31,7 +31,7 @@ pub(crate) enum Likeness {
 /// An end of a channel: a partition's port, by its name.
 #[derive(Debug, Drop)]
 pub(crate) struct PortEnd {
-    partition: PartId,
+    pub(crate) partition: PartId,
     port: ArrayVec<u8, LONGEST_NAME>,
 }
 

@@ -1,7 +1,7 @@
 // What is configured of ports and of channels, as their users get it.
 
 use apex_machine::Direction;
-use apex_types::{ChanId, Discipline};
+use apex_types::{ChanId, Discipline, PartId};
 
 /// What is configured of a sampling port: its channel, the greatest size of its messages in bytes, its direction, and the
 /// channel's refresh period in ticks.
@@ -31,10 +31,12 @@ pub enum ChannelKind {
     Sampling {
         refresh: u64,
     },
-    /// How many messages it holds, and the disciplines of those who wait to send and to receive.
+    /// How many messages it holds, the disciplines of those who wait to send and to receive, and the partitions at its two ends.
     Queuing {
         capacity: u16,
         sending: Discipline,
         receiving: Discipline,
+        source: PartId,
+        destination: PartId,
     },
 }

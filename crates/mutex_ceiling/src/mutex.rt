@@ -98,7 +98,7 @@ impl Mutex653 {
         };
         Status {
             val: owner,
-            val2: self.waiters.len() as u64,
+            val2: Some(self.waiters.len() as u64),
             val3: Some(self.count),
         }
     }

@@ -17,6 +17,7 @@ ghost use Rattle.wait_set.specs.Sets.{IsNewInEach};
 ghost use Rattle.wait_set.specs.declared.object.ObjFault.TheVariants.{Memory};
 ghost use Rattle.object_table.specs.Numbers.{NumbersFit, number_of};
 
+use crate::marked::Marked;
 use apex_types::{Claim, Name, Request, Who};
 use indexmap::IndexMap;
 use indexmap::map::Iter;
@@ -191,6 +192,24 @@ impl<Object: ApexObject> ObjectTable<Object> {
     {
         if let Some(object) = self.objects.get_mut(&number) {
             object.leave(who);
+        }
+    }
+}
+
+impl<Object: Marked> ObjectTable<Object> {
+    /// Leaves the mark of a call that claims this value with the object of the number that a caller gives. Takes no memory.
+    pub fn mark(&mut self, number: i64, claimed: Option<i64>)
+        requires found { given_object self.old number ≢ None }
+        ensures { self.new ≡ change_at (natural_of number) (Object.marked claimed) self.old }
+    {
+        // What is known of each table, that its numbers fit 32 bits, is known where one of its fields is used.
+        let _ = &self.objects;
+        let Some(key) = object_number(number) else {
+            unreachable!()
+        };
+        match self.objects.get_mut(&key) {
+            Some(object) => object.mark(claimed),
+            None => unreachable!(),
         }
     }
 }

@@ -17,8 +17,9 @@ use Rattle.apex_machine.specs.ServiceConditions.{condition_codes}
 use Rattle.apex_machine.specs.Services.{Answer, answer_of}
 use Rattle.apex_machine.specs.State.{Mutex, Partition, created, given_object, item_at, time_of}
 use Rattle.apex_laws.specs.PartLaws.{IsOwnCall}
-use Rattle.apex_laws.proofs.SoundParts.{running_stands_nowhere}
-use Rattle.partition_state.specs.Calls.{IsAtWork, IsClear, blackboard_used, buffer_used, event_used, mutex_used, semaphore_used, served_demands}
+use Rattle.apex_laws.proofs.Codes.{are_errors}
+use Rattle.apex_laws.proofs.SoundParts.{demands_none, running_stands_nowhere}
+use Rattle.partition_state.specs.Calls.{IsAtWork, IsClear, ReadsAtPort, blackboard_used, buffer_used, event_used, mutex_used, semaphore_used, served_demands}
 
 -- lists of codes
 
@@ -107,6 +108,19 @@ mutex_found configuration who partition _ given is none = cc
 pub target_found : (configuration : Configuration) (who : Who) (partition : Partition) (process : ℤ)
     → condition_codes configuration who partition (request.Stop process) ≡ [] → created partition.table process ≢ None
 target_found configuration who partition process none = is_first (created partition.table process) _ _ none
+
+-- a read that is done is at a port that is created
+pub port_found : (configuration : Configuration) (number place core : ℕ) (cores : List CoreState) (partition : Partition) (call : CallRecord)
+    → IsOwnCall configuration number place core cores partition call → ReadsAtPort call call.request partition
+port_found configuration number place core cores partition call own = by call.request refl
+  where
+    by : (asked : Request) → call.request ≡ asked → ReadsAtPort call asked partition
+    by (request.ReadSamplingMessage port) is = λ done.
+        let none = demands_none (condition_codes configuration call.who partition call.request) (channel_of partition call.request) number call.request
+        (answer_of (time_of cores core) call.who partition call.request) call.claim (are_errors configuration call.who partition call.request)
+        own.demands.1.1.1.1.1 done in
+        is_there (given_object partition.sampling_ports port) _ (rw is at none)
+    by _ is = tt
 
 -- the caller
 

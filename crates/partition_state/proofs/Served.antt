@@ -24,7 +24,7 @@ use Rattle.process_state.specs.Processes.{Processes, processes_of}
 use Rattle.wait_set.specs.declared.object.ObjFault.{ObjFault}
 use Rattle.wait_set.specs.declared.object.ObjFault.TheVariants.{Unlawful, Memory}
 use Rattle.wait_set.specs.Actors.{Refuses}
-use Rattle.partition_state.specs.Calls.{IsClear, RefusesOrWants, objects_served, served_demands}
+use Rattle.partition_state.specs.Calls.{IsClear, ReadsAtPort, RefusesOrWants, objects_noted, objects_served, served_demands}
 use Rattle.partition_state.proofs.Clear.{own_call, target_found}
 
 -- whether a request is STOP
@@ -95,6 +95,17 @@ served_keeps configuration place call partition _ = refl
 -- the partition with these processes
 abbrev pub with_processes : Processes → Partition → Partition
 with_processes processes partition = record partition { mode = processes.mode; table = processes.table }
+
+-- what a call leaves with its port does not look at the processes
+pub noted_with : (processes : Processes) (call : CallRecord) (asked : Request) (partition : Partition)
+    → objects_noted call asked (with_processes processes partition) ≡ with_processes processes (objects_noted call asked partition)
+noted_with processes call (request.ReadSamplingMessage port) partition = refl
+noted_with processes call _ partition = refl
+
+pub reads_with : (processes : Processes) (call : CallRecord) (asked : Request) (partition : Partition) → ReadsAtPort call asked partition
+    → ReadsAtPort call asked (with_processes processes partition)
+reads_with processes call (request.ReadSamplingMessage port) partition reads = reads
+reads_with processes call _ partition reads = tt
 
 -- with the objects and the processes after a call it is the partition after it
 pub is_called : (configuration : Configuration) (cores : List CoreState) (place core : ℕ) (call : CallRecord) (old new : Partition) (processes : Processes)

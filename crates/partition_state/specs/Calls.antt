@@ -1,5 +1,5 @@
 -- Whom a partition may serve, what it answers, and which object a request is for.
-use Rattle.std.specs.Prelude.{◌≡◌, ◌⊎◌, ℕ, ℤ, Bool, true, false, List, [], Option, Some, None, IsFalse, IsTrue, is_some}
+use Rattle.std.specs.Prelude.{◌≡◌, ◌≢◌, ◌⊎◌, ℕ, ℤ, Bool, true, false, List, [], Option, Some, None, IsFalse, IsTrue, is_some, if◌then◌else◌}
 use Rattle.apex_types.specs.declared.record.Call.{Call as CallRecord}
 use Rattle.apex_types.specs.declared.record.Who.{Who}
 use Rattle.apex_types.specs.declared.request.Request.{Request}
@@ -7,18 +7,20 @@ use Rattle.apex_types.specs.declared.request.Request.TheVariants as request
 use Rattle.apex_machine.specs.declared.state.CoreState.{CoreState}
 use Rattle.apex_machine.specs.declared.state.WaitingSet.{WaitingSet}
 use Rattle.apex_machine.specs.After.{is_done}
+use Rattle.apex_machine.specs.Arguments.{natural_of}
 use Rattle.apex_machine.specs.Configuration.{Configuration}
 use Rattle.apex_machine.specs.Demands.{AllHold, Demand, FirstFails, answer_demands, caller_demands, stands_in}
 use Rattle.apex_machine.specs.Ports.{channel_of, use_of}
 use Rattle.apex_machine.specs.ServiceConditions.{condition_codes}
 use Rattle.apex_machine.specs.Services.{answer_of, fellow}
-use Rattle.apex_machine.specs.State.{Partition, created}
+use Rattle.apex_machine.specs.State.{Partition, change_at, created, given_object}
 use Rattle.apex_laws.specs.Laws.{entries_at}
 use Rattle.apex_laws.specs.PartLaws.{IsSoundPart}
 use Rattle.apex_laws.specs.PartBounds.{IsBoundedPart}
 use Rattle.apex_laws.specs.PartObjects.{objects_changed}
 use Rattle.apex_laws.specs.PartSets.{left_if_there}
 use Rattle.object_table.specs.Numbers.{NumbersFit}
+use Rattle.ports.specs.Ports.{read_at}
 use Rattle.wait_set.specs.declared.object.ObjFault.{ObjFault}
 use Rattle.wait_set.specs.declared.object.ObjFault.TheVariants.{Unlawful, Memory}
 
@@ -55,9 +57,21 @@ abbrev pub RefusesOrWants : List {1} Demand → ObjFault → Type 0
 RefusesOrWants demands (Unlawful cause) = FirstFails demands cause
 RefusesOrWants demands Memory = Unit {0}
 
--- a call that leaves all objects and ports of its partition: it is not done, or it uses a channel
+-- a call that leaves all objects of its partition: it is not done, or it uses a channel
 abbrev pub LeavesObjects : CallRecord → Type 0
 LeavesObjects call = IsFalse (is_done call.claim.out) ⊎ IsTrue (is_some (use_of call.request))
+
+-- a read that is done is at a port that is created
+abbrev pub ReadsAtPort : CallRecord → Request → Partition → Type 0
+ReadsAtPort call (request.ReadSamplingMessage port) partition = IsTrue (is_done call.claim.out) → given_object partition.sampling_ports port ≢ None
+ReadsAtPort call _ partition = Unit {0}
+
+-- the ports of a partition after a call that leaves its objects: a port knows whether its last read gave a valid sample
+abbrev pub objects_noted : CallRecord → Request → Partition → Partition
+objects_noted call (request.ReadSamplingMessage port) partition = record partition {
+  sampling_ports = if is_done call.claim.out then change_at (natural_of port) (read_at call.claim.val) partition.sampling_ports else partition.sampling_ports;
+}
+objects_noted call _ partition = partition
 
 -- the objects of a partition after a call that was served: STOP takes its target out of its waiting set, any other service changes
 -- the one object that it names

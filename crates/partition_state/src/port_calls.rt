@@ -1,4 +1,4 @@
-// Ports: their creation, and to which channel a call through one goes.
+// Ports: their creation, to which channel a call through one goes, and what a read leaves with its port.
 
 ghost use Rattle.std.specs.Prelude.{◌≡◌, ℕ, [], true, IfErr, OnErr, OnOk};
 ghost use Rattle.apex_machine.specs.Demands.{AllHold};
@@ -6,13 +6,14 @@ ghost use Rattle.apex_machine.specs.Ports.{channel_of};
 ghost use Rattle.apex_machine.specs.ServiceConditions.{condition_codes};
 ghost use Rattle.apex_laws.specs.PartObjects.{objects_changed};
 ghost use Rattle.wait_set.specs.Actors.{Refuses};
-ghost use Rattle.partition_state.specs.Calls.{creates_port, served_demands};
+ghost use Rattle.partition_state.specs.Calls.{ReadsAtPort, creates_port, objects_noted, served_demands};
 
 use crate::state::PartitionState;
 use apex_machine::Direction;
-use apex_types::{Call, ChanId, Request};
+use apex_types::{Call, ChanId, ObjectKind, Request};
 use module_config::Config;
 use ports::PortSettings;
+use process_state::is_done;
 use wait_set::ObjFault;
 
 impl PartitionState {
@@ -26,7 +27,23 @@ impl PartitionState {
             }
             Request::SendQueuingMessage { port, .. }
             | Request::ReceiveQueuingMessage { port, .. } => self.queuing_ports.channel_of(*port),
+            Request::GetStatus {
+                kind: ObjectKind::QueuingPort,
+                object,
+            } => self.queuing_ports.channel_of(*object),
             _ => None,
+        }
+    }
+
+    /// A call that changes no object: the port at which it read knows whether the sample is valid. Takes no memory.
+    pub(crate) fn note_read(&mut self, call: &Call)
+        requires port { ReadsAtPort call.now call.now.request self.old }
+        ensures { self.new ≡ objects_noted call.now call.now.request self.old }
+    {
+        if let Request::ReadSamplingMessage { port } = &call.request {
+            if is_done(call.claim.out) {
+                self.sampling_ports.note_read(*port, call.claim.val);
+            }
         }
     }
 

@@ -88,7 +88,8 @@ impl PartitionState {
     }
 
     /// A lawful call of one of the partition's processes that changes none of its objects: an error condition refused it, or it
-    /// goes through a channel. Its caller waits or has an outcome due, and whose waits it ends go on.
+    /// goes through a channel. Its caller waits or has an outcome due, whose waits it ends go on, and the port at which it read
+    /// knows whether the sample is valid.
     ///
     /// AllocError where memory is refused; nothing has changed then.
     pub fn note(
@@ -110,7 +111,9 @@ impl PartitionState {
         let first_core = config.first_core(call.who.part);
         let period = config.period(call.who.part);
         let prepared = self.processes.prepare(call)?;
-        self.processes.call(first_core, period, moment, Transfer::none(), prepared, call)
+        self.processes.call(first_core, period, moment, Transfer::none(), prepared, call)?;
+        self.note_read(call);
+        Ok(())
     }
 
     // What a call claims is judged by what its service gives, and what it makes of the objects is made. It says whose a mutex

@@ -30,7 +30,8 @@ impl PartitionState {
         }
     }
 
-    /// The status of the object of a kind that has the number that a caller gives, or None where none has; None for a port.
+    /// The status of the object or the sampling port of a kind that has the number that a caller gives, or None where none has; None
+    /// for a queuing port, whose channel tells it.
     pub fn status_of(&self, kind: ObjectKind, object: i64) -> Option<Status>
         ensures { result ≡ statuses.status_of self.now kind object }
     {
@@ -40,7 +41,8 @@ impl PartitionState {
             ObjectKind::Semaphore => Some(self.semaphores.given(object)?.status()),
             ObjectKind::Event => Some(self.events.given(object)?.status()),
             ObjectKind::Mutex => Some(self.mutexes.given(object)?.status()),
-            ObjectKind::SamplingPort | ObjectKind::QueuingPort => None,
+            ObjectKind::SamplingPort => Some(self.sampling_ports.given(object)?.status()),
+            ObjectKind::QueuingPort => None,
         }
     }
 

@@ -3,6 +3,7 @@ use Rattle.std.proofs.Common.{◌≡◌, ◌≢◌, ℕ, List, [], ◌∷◌, �
 use Rattle.apex_types.specs.declared.cause.Cause.{Cause}
 use Rattle.apex_types.specs.declared.cause.Cause.TheVariants as cause
 use Rattle.apex_types.specs.declared.code.Code.{Code}
+use Rattle.apex_types.specs.declared.object_kind.ObjectKind.TheVariants as kind
 use Rattle.apex_types.specs.declared.record.Call.{Call as CallRecord}
 use Rattle.apex_types.specs.declared.record.Claim.{Claim}
 use Rattle.apex_types.specs.declared.request.Request.{Request}
@@ -126,6 +127,7 @@ goes_is_use partition (request.WriteSamplingMessage port length message) channel
 goes_is_use partition (request.ReadSamplingMessage port) channel goes = refl
 goes_is_use partition (request.SendQueuingMessage port length time_out message) channel goes = refl
 goes_is_use partition (request.ReceiveQueuingMessage port time_out) channel goes = refl
+goes_is_use partition (request.GetStatus kind.QueuingPort port) channel goes = refl
 goes_is_use partition _ channel goes = cc
 
 -- where some error condition holds

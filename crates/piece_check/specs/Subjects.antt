@@ -41,3 +41,11 @@ uses_object (request.WaitEvent event time_out) = true
 uses_object (request.AcquireMutex mutex time_out) = true
 uses_object (request.ReleaseMutex mutex) = true
 uses_object _ = false
+
+-- whether a service carries a message through a port
+abbrev pub carries_message : Request → Bool
+carries_message (request.WriteSamplingMessage port length message) = true
+carries_message (request.ReadSamplingMessage port) = true
+carries_message (request.SendQueuingMessage port length time_out message) = true
+carries_message (request.ReceiveQueuingMessage port time_out) = true
+carries_message _ = false

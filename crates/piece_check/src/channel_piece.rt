@@ -106,16 +106,26 @@ fn empty_channel(alloc: Global, config: &Config, number: ChanId) -> Result<Chann
     ensures cold { IfOk result (λ channel. channel.channel ≡ cold_channel config.now number) }
     ensures configured { IfOk result (IsConfigured config.now) }
 {
-    match config.channel_kind(number) {
-        Some(ChannelKind::Sampling { refresh }) => Ok(Channel::sampling(alloc, number, refresh)),
-        Some(
-            ChannelKind::Queuing {
-                capacity,
-                sending,
-                receiving,
-            },
-        ) => Channel::queuing(alloc, number, capacity, sending, receiving),
-        None => unreachable!(),
+    let Some(kind) = config.channel_kind(number) else {
+        unreachable!()
+    };
+    match &kind {
+        ChannelKind::Sampling { refresh } => Ok(Channel::sampling(alloc, number, *refresh)),
+        ChannelKind::Queuing {
+            capacity,
+            sending,
+            receiving,
+            source,
+            destination,
+        } => Channel::queuing(
+            alloc,
+            number,
+            *capacity,
+            *sending,
+            *receiving,
+            *source,
+            *destination,
+        ),
     }
 }
 

@@ -2,10 +2,9 @@
 
 ghost use Rattle.std.specs.Prelude.{◌≡◌, ◌↔◌, IsTrue};
 ghost use Rattle.apex_machine.specs.Services as services;
-ghost use Rattle.apex_machine.specs.Statuses as statuses;
 ghost use Rattle.apex_machine.specs.Step.{WhereNone};
 
-use apex_types::{ObjectKind, Request, Who};
+use apex_types::{Request, Who};
 use partition_state::PartitionState;
 use wait_set::Conditions;
 
@@ -23,8 +22,8 @@ pub(crate) fn is_within(
 }
 
 /// Whether a request on which no error condition holds is used as the profile has it: nobody stops the owner of a mutex, and
-/// the initialising process does not stop itself; nobody suspends the owner of a mutex or one that waits for a mutex, or sets
-/// its priority; and nobody asks for the status of a port.
+/// the initialising process does not stop itself; and nobody suspends the owner of a mutex or one that waits for a mutex, or
+/// sets its priority.
 fn in_profile(state: &PartitionState, who: Who, request: &Request) -> bool
     ensures { result ≡ services.in_profile who state.now request.now }
 {
@@ -34,17 +33,6 @@ fn in_profile(state: &PartitionState, who: Who, request: &Request) -> bool
         Request::Suspend { process } | Request::SetPriority { process, .. } => {
             !state.numbered_owns_mutex(*process) && !state.processes().waits_for_mutex(*process)
         }
-        Request::GetStatus { kind, .. } => is_of_objects(*kind),
-        _ => true,
-    }
-}
-
-// Whether a kind is one of objects, and not of ports.
-fn is_of_objects(kind: ObjectKind) -> bool
-    ensures { result ≡ statuses.is_of_objects kind }
-{
-    match kind {
-        ObjectKind::SamplingPort | ObjectKind::QueuingPort => false,
         _ => true,
     }
 }

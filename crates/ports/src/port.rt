@@ -1,10 +1,12 @@
 // A port, and with which settings it is created.
 
-ghost use Rattle.std.specs.Prelude.{◌≡◌};
-ghost use Rattle.ports.specs.Ports.{port_of};
+ghost use Rattle.std.specs.Prelude.{◌≡◌, false};
+ghost use Rattle.apex_machine.specs.Statuses.{sampling_port_status};
+ghost use Rattle.ports.specs.Ports.{port_of, read_at};
 
-use apex_machine::Direction;
+use apex_machine::{Direction, Status};
 use apex_types::{ChanId, Name};
+use object_table::Marked;
 use std::marker::Model;
 use wait_set::Named;
 
@@ -21,6 +23,7 @@ pub struct PortSettings {
 pub struct Port {
     name: Name,
     settings: PortSettings,
+    valid: bool,
 }
 
 impl Model for Port {
@@ -29,15 +32,19 @@ impl Model for Port {
 
     ghost Value = { Seen };
 
-    ghost view = { λ port. port_of port.name port.settings };
+    ghost view = { λ port. port_of port.name port.settings port.valid };
 }
 
 impl Port {
-    /// The port of this name with these settings. Takes no memory.
+    /// The port of this name with these settings, at which nothing was read. Takes no memory.
     pub fn new(name: Name, settings: PortSettings) -> Port
-        ensures { result ≡ port_of name settings }
+        ensures { result ≡ port_of name settings false }
     {
-        Port { name, settings }
+        Port {
+            name,
+            settings,
+            valid: false,
+        }
     }
 
     /// The greatest size of its messages, in bytes.
@@ -59,6 +66,25 @@ impl Port {
         ensures { result ≡ self.now.channel }
     {
         self.settings.channel
+    }
+
+    /// GET_SAMPLING_PORT_STATUS: whether the last read at it gave a valid sample. Takes no memory.
+    pub fn status(&self) -> Status
+        ensures { result ≡ sampling_port_status self.now }
+    {
+        Status {
+            val: u64::from(self.valid),
+            val2: None,
+            val3: None,
+        }
+    }
+}
+
+impl Marked for Port {
+    ghost marked = { read_at };
+
+    fn mark(&mut self, claimed: Option<i64>) {
+        self.valid = claimed == Some(1);
     }
 }
 

@@ -1,17 +1,18 @@
 // The table of the ports of one kind.
 
-ghost use Rattle.std.specs.Prelude.{◌≡◌, ◌++◌, [], IfErr, OnErr, OnOk};
+ghost use Rattle.std.specs.Prelude.{◌≡◌, ◌≢◌, ◌++◌, [], None, false, IfErr, OnErr, OnOk};
 ghost use Rattle.std.specs.Option.{option_copied};
 ghost use Rattle.apex_machine.specs.After.{numbered};
+ghost use Rattle.apex_machine.specs.Arguments.{natural_of};
 ghost use Rattle.apex_machine.specs.Answer.{NewNumber, done_with};
 ghost use Rattle.apex_machine.specs.Conditions.{is_taken};
 ghost use Rattle.apex_machine.specs.Demands.{AllHold, answer_demands};
 ghost use Rattle.apex_machine.specs.Names.{number_named};
 ghost use Rattle.apex_machine.specs.Ports.{channel_by};
-ghost use Rattle.apex_machine.specs.State.{Port as Seen, given_object, is_free};
+ghost use Rattle.apex_machine.specs.State.{Port as Seen, change_at, given_object, is_free};
 ghost use Rattle.object_table.specs.Numbers.{NumbersFit};
 ghost use Rattle.wait_set.specs.Actors.{Refuses};
-ghost use Rattle.ports.specs.Ports.{port_of};
+ghost use Rattle.ports.specs.Ports.{port_of, read_at};
 
 use crate::port::{Port, PortSettings};
 use apex_types::{ChanId, Claim, Name};
@@ -95,12 +96,21 @@ impl PortTable {
         claim: &Claim,
     ) -> Result<(), ObjFault>
         ensures ok { OnOk result (AllHold (answer_demands (done_with (NewNumber (is_free self.old))) claim.now)) }
-        ensures created { OnOk result (self.new ≡ self.old ++ numbered claim.now.val (port_of name.now settings)) }
+        ensures created { OnOk result (self.new ≡ self.old ++ numbered claim.now.val (port_of name.now settings false)) }
         ensures refused { IfErr result (Refuses (answer_demands (done_with (NewNumber (is_free self.old))) claim.now)) }
         ensures unchanged { OnErr result (self.new ≡ self.old) }
     {
         self.ports.judge_creation(claim)?;
         let port = Port::new(copy_of(alloc, name)?, settings);
         self.ports.add(claim.val, port)
+    }
+
+    /// A read at the port of the number that a caller gives, which claims this value: the port knows whether the sample is valid.
+    /// Takes no memory.
+    pub fn note_read(&mut self, number: i64, claimed: Option<i64>)
+        requires found { given_object self.old number ≢ None }
+        ensures { self.new ≡ change_at (natural_of number) (read_at claimed) self.old }
+    {
+        self.ports.mark(number, claimed);
     }
 }

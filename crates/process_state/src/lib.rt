@@ -20,6 +20,7 @@ mod transfer;
 mod wait;
 mod waiting;
 
+pub use caller::is_done;
 pub use moment::Moment;
 pub use prepared::Prepared;
 pub use table::ProcTable;

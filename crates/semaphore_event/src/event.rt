@@ -63,7 +63,7 @@ impl Event {
     {
         Status {
             val: u64::from(self.up),
-            val2: self.waiters.len() as u64,
+            val2: Some(self.waiters.len() as u64),
             val3: None,
         }
     }

@@ -79,7 +79,7 @@ impl Semaphore {
     {
         Status {
             val: u64::from(self.value),
-            val2: self.waiters.len() as u64,
+            val2: Some(self.waiters.len() as u64),
             val3: None,
         }
     }

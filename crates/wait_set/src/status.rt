@@ -37,8 +37,8 @@ fn has_status(status: Option<Status>, claim: &Claim) -> bool
     match status {
         Some(status) => {
             is_number(status.val, claim.val)
-                && is_number(status.val2, claim.val2)
-                && is_third(status.val3, claim.val3)
+                && is_further(status.val2, claim.val2)
+                && is_further(status.val3, claim.val3)
         }
         None => has_no_values(claim),
     }
@@ -52,7 +52,7 @@ fn is_number(number: u64, claimed: Option<i64>) -> bool
 }
 
 // Whether a claimed value is this number, if it is one, and else none.
-fn is_third(number: Option<u64>, claimed: Option<i64>) -> bool
+fn is_further(number: Option<u64>, claimed: Option<i64>) -> bool
     ensures { IsTrue result ↔ (claimed ≡ option_map pos number) }
 {
     match number {

@@ -1,15 +1,15 @@
 // The error conditions of the services of ports.
 
-ghost use Rattle.std.specs.Prelude.{◌≡◌, ◌≤◌, ℕ, List, Option, Some, IsTrue, is_some, length as count_of, true};
+ghost use Rattle.std.specs.Prelude.{◌≡◌, ◌≤◌, ℕ, List, Option, Some, length as count_of, true};
 ghost use Rattle.apex_types.specs.declared.code.Code.{Code as CodeValue};
 ghost use Rattle.apex_machine.specs.Configuration.{Configuration};
 ghost use Rattle.apex_machine.specs.PortConditions as codes;
-ghost use Rattle.apex_machine.specs.Ports as rules;
 ghost use Rattle.apex_machine.specs.ServiceConditions.{condition_codes};
 ghost use Rattle.apex_machine.specs.State.{given_object};
 ghost use Rattle.module_config.specs.Ports.{told_queuing, told_sampling};
 ghost use Rattle.partition_state.specs.Calls.{creates_port};
 ghost use Rattle.ports.specs.Guards.{IsGuard};
+ghost use Rattle.piece_check.specs.Subjects.{carries_message};
 
 use super::{creation, with_wait};
 use crate::arguments::{direction_number, discipline_number, is_number};
@@ -125,9 +125,9 @@ fn both_number(port: QueuingPort) -> u64
     direction_number(port.direction) + 2 * discipline_number(port.discipline)
 }
 
-/// The error conditions that hold for a call that goes through a port.
+/// The error conditions that hold for a call that carries a message through a port.
 pub(super) fn port_use_conditions(state: &PartitionState, who: Who, request: &Request) -> Conditions
-    requires { IsTrue (is_some (rules.use_of request.now)) }
+    requires { carries_message request.now ≡ true }
     ensures { (configuration : Configuration) → result ≡ condition_codes configuration who state.now request.now }
 {
     match request {

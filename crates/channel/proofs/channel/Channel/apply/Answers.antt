@@ -10,7 +10,7 @@ returns-clause-ok c =
           rw (w.result-is, ← c.self.view_is, w.in-Sampling.is) (on_ok_weaker w.apply.result (λ accepted. accepted number) w.apply.ensures.ok)
       | in-Queuing w ↦
           rw (w.result-is, ← c.self.view_is, w.in-Queuing.is)
-          (on_ok_weaker w.use_queue.result (λ accepted. accepted c.args.now number) w.use_queue.ensures.ok)
+          (on_ok_weaker w.apply-in-Queuing.result (λ accepted. accepted c.args.now number) w.apply-in-Queuing.ensures.ok)
     ]
 
 pub returns-clause-refused : goal.returns-clause-refused
@@ -22,5 +22,5 @@ returns-clause-refused c =
           (IfErr-weaker w.apply.result _ _ (λ fault refused. refused number) w.apply.ensures.refused)
       | in-Queuing w ↦
           rw (w.result-is, ← c.self.view_is, w.in-Queuing.is)
-          (IfErr-weaker w.use_queue.result _ _ (λ fault refused. refused c.args.now number) w.use_queue.ensures.refused)
+          (IfErr-weaker w.apply-in-Queuing.result _ _ (λ fault refused. refused c.args.now number) w.apply-in-Queuing.ensures.refused)
     ]

@@ -1,9 +1,11 @@
--- The objects stay, and the processes are those after the call.
+-- The objects stay but for the port of a read, and the processes are those after the call.
 use Rattle.std.proofs.Common.{◌<◌, ap, refl, sym, ◌∙◌, arith}
-use Rattle.std.proofs.lemmas.Result.{on_ok_weaker}
 use Rattle.apex_types.specs.Bounds.{place_count}
+use Rattle.apex_laws.specs.PartLaws.{IsOwnCall}
 use Rattle.process_state.specs.Processes.{processes_of}
-use Rattle.partition_state.proofs.Served.{is_called}
+use Rattle.partition_state.specs.Calls.{objects_noted}
+use Rattle.partition_state.proofs.Clear.{port_found}
+use Rattle.partition_state.proofs.Served.{is_called, noted_with, reads_with}
 use Rattle.partition_state.proofs.Uses.{leaves_objects, noted_goes_on, noted_transfer, sound_noted}
 use Rattle.partition_state.proofs.state.PartitionState.note.Goals as goal
 
@@ -13,6 +15,15 @@ call-requires-clause-sound c =
     let below : a.moment.now.place < place_count = omega (arith, c.number-place.ensures.number, c.number-place.ensures.bound) in
     let bounded = rw (← c.self.view_is) at c.requires.bounded in
     sound_noted a.moment.now.place _ a.call.now bounded c.requires.leaves below
+
+pub note_read-requires : goal.note_read-requires
+note_read-requires c =
+    let a = c.args in
+    let call = a.call.now in
+    let own : IsOwnCall a.config.now call.who.part a.moment.now.place a.moment.now.core a.moment.now.cores.now a.self.now call =
+    record { sound = c.requires.sound; own = refl; demands = c.requires.lawful } in
+    let found = port_found a.config.now call.who.part a.moment.now.place a.moment.now.core a.moment.now.cores.now a.self.now call own in
+    record { port = reads_with c.call.new.self call call.request _ (rw (← c.self.view_is) at found) }
 
 pub returns-clause-ok : goal.returns-clause-ok
 returns-clause-ok c =
@@ -24,8 +35,9 @@ returns-clause-ok c =
     let call = a.call.now in
     let leaves = leaves_objects config call.who.part place core cores a.self.now call
     (record { sound = c.requires.sound; own = refl; demands = c.requires.lawful }) c.requires.leaves in
-    on_ok_weaker c.call.result
-    (λ become. rw (noted_goes_on call c.requires.leaves) (is_called config cores place core call a.self.now _ c.call.new.self (c.self.view_is ∙ sym leaves)
-    (become config a.self.now (sym c.first_core-first_core.ensures.value) (sym c.period-period.ensures.value) (sym (ap processes_of c.self.view_is))
-    (λ done. noted_transfer a.self.now call _ c.requires.leaves done))))
-    c.call.ensures.ok
+    let processes = c.in_ok-call.ensures.ok config a.self.now (sym c.first_core-first_core.ensures.value) (sym c.period-period.ensures.value)
+    (sym (ap processes_of c.self.view_is)) (λ done. noted_transfer a.self.now call _ c.requires.leaves done) in
+    rw (noted_goes_on call c.requires.leaves)
+    (c.note_read.ensures
+    ∙ noted_with c.call.new.self call call.request _
+    ∙ is_called config cores place core call a.self.now _ c.call.new.self (ap (objects_noted call call.request) c.self.view_is ∙ sym leaves) processes)

@@ -1,5 +1,5 @@
 -- Whom the call names leaves, and whom it stops or restarts with its partition.
-use Rattle.std.proofs.Common.{◌≡◌, None, is_some, refl, sym, ap, ◌∙◌}
+use Rattle.std.proofs.Common.{is_some, refl, sym, ap, ◌∙◌}
 use Rattle.apex_machine.specs.Waiting.{restart_of}
 use Rattle.piece_check.proofs.Through.{after_letting_go, elsewhere, is_none, is_there, left_alone, left_with_part, left_with_target}
 use Rattle.piece_check.proofs.channel_piece.ChannelPiece.let_go.Goals as goal
