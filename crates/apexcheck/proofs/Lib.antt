@@ -1,2 +1,3 @@
+mod Asked
 pub mod Behind
 pub mod Longest

@@ -2,10 +2,11 @@
 
 ghost use Rattle.std.specs.Prelude.{◌≡◌, ◌<◌, ◌≤◌, IfOk, None, Ok, Some, codes, false, length, map, option_and_then, option_map, string_bytes, true};
 ghost use Rattle.std.specs.Option.{ok_or};
-ghost use Rattle.clap.specs.Words.{first_value, found_of, one_text};
+ghost use Rattle.clap.specs.Words.{app_of, first_value, found_of, one_text, rule_of};
 ghost use Rattle.rule_options.specs.Options.{values_of};
+ghost use Rattle.apexcheck.specs.CommandLine.{command_line, flag_of, found_in, option_of, recordings};
 ghost use Rattle.apexcheck.specs.Settings.{settings_of};
-ghost use Rattle.apexcheck.specs.Words.{NamesFiles, asks_version};
+ghost use Rattle.apexcheck.specs.Words.{AreNamed, AsksFor, AsksForFiles, asks_version};
 
 use crate::settings::read_settings;
 use clap::error::ErrorKind;
@@ -112,17 +113,36 @@ pub fn tell_usage(rt: &(impl Env + Eprint + AllocGlobal), alloc: Global) {
 fn read_words(alloc: Global, words: &[String]) -> Result<Asked, UsageFault>
     ensures stored { length words.now ≤ 1 → result ≡ Ok Asked.StoredRun }
     ensures version { asks_version (map string_bytes words.now) ≡ true → result ≡ Ok Asked.Version }
-    ensures files { 1 < length words.now → asks_version (map string_bytes words.now) ≡ false → IfOk result NamesFiles }
+    ensures files { 1 < length words.now → asks_version (map string_bytes words.now) ≡ false → IfOk result (AsksForFiles (found_in (map string_bytes words.now))) }
 {
     match words {
         [] | [_] => Ok(Asked::StoredRun),
-        [_, word] if word.as_str() == "--version" => Ok(Asked::Version),
-        words => Ok(Asked::Files(files_asked(alloc, words)?)),
+        words if is_version(words) => Ok(Asked::Version),
+        words => run_over_files(alloc, words),
     }
 }
 
-// The run over files that the words ask for. The first word is the program's own name.
-fn files_asked(alloc: Global, words: &[String]) -> Result<FilesAsked, UsageFault> {
+// Whether the one word behind the program's own name asks for the version.
+fn is_version(words: &[String]) -> bool
+    ensures { result ≡ asks_version (map string_bytes words.now) }
+{
+    match words {
+        [_, word] => word.as_str() == "--version",
+        _ => false,
+    }
+}
+
+// A run over files, as the words ask for it. The first word is the program's own name.
+fn run_over_files(alloc: Global, words: &[String]) -> Result<Asked, UsageFault>
+    ensures { IfOk result (AsksForFiles (found_in (map string_bytes words.now))) }
+{
+    Ok(Asked::Files(files_asked(alloc, words)?))
+}
+
+// The files, the rules and the settings that the words ask for.
+fn files_asked(alloc: Global, words: &[String]) -> Result<FilesAsked, UsageFault>
+    ensures { IfOk result (AsksFor (found_in (map string_bytes words.now))) }
+{
     let matches = command(alloc)?.try_get_matches_from(words)?;
     Ok(FilesAsked {
         names: file_names(alloc, &matches)?,
@@ -180,7 +200,9 @@ fn text_of<'a>(matches: &ArgMatches<'a>, name: &str) -> Option<&'a [u8]>
 }
 
 // The files that a command line names.
-fn file_names(alloc: Global, matches: &ArgMatches<'_>) -> Result<FileNames, UsageFault> {
+fn file_names(alloc: Global, matches: &ArgMatches<'_>) -> Result<FileNames, UsageFault>
+    ensures { IfOk result (AreNamed (found_of matches.now)) }
+{
     let (Some(config), Some(order), Some(cores)) = (
         matches.get_str("config"),
         matches.get_str("order"),
@@ -192,11 +214,19 @@ fn file_names(alloc: Global, matches: &ArgMatches<'_>) -> Result<FileNames, Usag
         config: String::from_str(alloc, config)?,
         rules: rules_name(alloc, matches)?,
         order: String::from_str(alloc, order)?,
-        cores: cores
-            .iter()
-            .map(|core| String::from_str(alloc, core))
-            .try_collect(alloc)?,
+        cores: owned(alloc, cores)?,
     })
+}
+
+// Texts of their own, each as it stands.
+fn owned(alloc: Global, texts: &[&str]) -> Result<Vec<String>, AllocError>
+    ensures { IfOk result (λ owned. map string_bytes owned.items ≡ map (λ text. text.now) texts.now) }
+{
+    let mut owned = Vec::new(alloc);
+    for text in texts {
+        owned.push(String::from_str(alloc, text)?)?;
+    }
+    Ok(owned)
 }
 
 // The name of the file of rules, if one is named.
@@ -210,7 +240,9 @@ fn rules_name(alloc: Global, matches: &ArgMatches<'_>) -> Result<Option<String>,
 }
 
 // The words of a run over files: no option twice, and CORE once or more.
-fn command<'a>(alloc: Global) -> Result<Command<'a>, AllocError> {
+fn command<'a>(alloc: Global) -> Result<Command<'a>, AllocError>
+    ensures { IfOk result (λ command. app_of command ≡ command_line) }
+{
     Command::new(alloc, "apexcheck")
         .disable_help_flag(true)
         .arg(option(alloc, "config").required(true))?
@@ -222,21 +254,33 @@ fn command<'a>(alloc: Global) -> Result<Command<'a>, AllocError> {
         .arg(option(alloc, "rules"))?
         .arg(flag(alloc, "last"))?
         .arg(flag(alloc, "quiet"))?
-        .arg(
-            Arg::new(alloc, "core")
-                .required(true)
-                .num_args(1..)
-                .action(ArgAction::Append),
-        )
+        .arg(recordings(alloc))
+}
+
+// The recordings, of which there is one at least.
+fn recordings<'a>(alloc: Global) -> Arg<'a>
+    ensures rule { rule_of result ≡ recordings }
+    ensures local { result.global ≡ false }
+{
+    Arg::new(alloc, "core")
+        .required(true)
+        .num_args(1..)
+        .action(ArgAction::Append)
 }
 
 // The option of this name, which has a value.
-fn option<'a>(alloc: Global, name: &'static str) -> Arg<'a> {
+fn option<'a>(alloc: Global, name: &'static str) -> Arg<'a>
+    ensures rule { rule_of result ≡ option_of name.now }
+    ensures local { result.global ≡ false }
+{
     Arg::new(alloc, name).long(name).action(ArgAction::Set)
 }
 
 // The option of this name, which has none.
-fn flag<'a>(alloc: Global, name: &'static str) -> Arg<'a> {
+fn flag<'a>(alloc: Global, name: &'static str) -> Arg<'a>
+    ensures rule { rule_of result ≡ flag_of name.now }
+    ensures local { result.global ≡ false }
+{
     Arg::new(alloc, name).long(name).action(ArgAction::SetTrue)
 }
 

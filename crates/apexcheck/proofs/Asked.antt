@@ -1,0 +1,55 @@
+-- What is made of a command line that the parser takes is what the words of it give.
+use Rattle.std.proofs.Common.{◌≡◌, ◌∙◌, ℕ, List, Option, Some, None, Ok, true, ap, ap₂, codes, option_and_then, refl, subst}
+use Rattle.std.specs.Option.{ok_or}
+use Rattle.clap.proofs.OnLiterals.{clap_on_literals}
+use Rattle.clap.proofs.WalkLemmas.{first_value-rows, one_text-rows, raw_values-rows}
+use Rattle.clap.specs.Simple.{HasMatchesOf}
+use Rattle.clap.specs.Walk.{rows_of}
+use Rattle.clap.specs.Words.{Row, all_of, app_of, first_of, first_value, found_of, is_simple, matches_of, one_of, one_text}
+use Rattle.clap.specs.declared.builder.command.Command.{Command}
+use Rattle.clap.specs.declared.parser.matches.ArgMatches.{ArgMatches}
+use Rattle.rule_options.specs.Options.{values_of}
+use Rattle.apexcheck.specs.CommandLine.{command_line, found_in}
+use Rattle.apexcheck.specs.Settings.{settings_of}
+use Rattle.apexcheck.specs.Words.{AreNamed, AsksFor, Tells}
+use Rattle.apexcheck.specs.declared.usage.FilesAsked.{FilesAsked}
+use Rattle.apexcheck.specs.declared.usage.UsageFault.TheVariants as UsageFault
+
+-- the parser's own account of the matches is for command lines like this one
+is_simple_line : is_simple command_line ≡ true
+unfolding clap_on_literals
+is_simple_line = refl
+
+pub found_is : (command : Command) (words : List (List ℕ)) (matches : ArgMatches) → app_of command ≡ command_line
+    → HasMatchesOf (app_of command) words matches → rows_of (found_of matches) ≡ found_in words
+found_is command words matches is gives = (gives (ap is_simple is ∙ is_simple_line)).0 ∙ ap (λ app. matches_of app words) is
+
+value_of : {A E : Type 0} (given : Option A) (fault : E) (value : A) → Ok value ≡ ok_or given fault → Some value ≡ given
+value_of None fault value is = cc
+value_of (Some found) fault value is = cc
+
+-- what each part is found to be is what the rows of the command line give
+pub asks_for : (matches : ArgMatches) (given : List Row) (asked : FilesAsked) → rows_of (found_of matches) ≡ given
+    → AreNamed (found_of matches) asked.names
+    → Ok asked.options ≡ ok_or (values_of (first_value (found_of matches) (codes "max-elapsed")) (first_value (found_of matches) (codes "forbid"))) UsageFault.Usage
+    → Ok asked.settings
+    ≡ ok_or (option_and_then (λ workers. settings_of workers (first_value (found_of matches) (codes "depth"))) (first_value (found_of matches) (codes "workers"))) UsageFault.Usage
+    → Tells (one_text (found_of matches) (codes "last")) asked.last → Tells (one_text (found_of matches) (codes "quiet")) asked.quiet
+    → AsksFor given asked
+asks_for matches given asked is names options settings last quiet = record {
+  config = names.config ∙ first (codes "config");
+  rules = names.rules ∙ first (codes "rules");
+  order = names.order ∙ first (codes "order");
+  cores = names.cores ∙ raw_values-rows (found_of matches) (codes "core") ∙ ap (all_of (codes "core")) is;
+  options = value_of _ UsageFault.Usage asked.options options ∙ ap₂ values_of (first (codes "max-elapsed")) (first (codes "forbid"));
+  settings = value_of _ UsageFault.Usage asked.settings settings
+      ∙ ap₂ (λ depth text. option_and_then (λ workers. settings_of workers depth) text) (first (codes "depth")) (first (codes "workers"));
+  last = subst (λ text. Tells text asked.last) (one (codes "last")) last;
+  quiet = subst (λ text. Tells text asked.quiet) (one (codes "quiet")) quiet;
+}
+  where
+    first : (id : List ℕ) → first_value (found_of matches) id ≡ first_of id given
+    first id = first_value-rows (found_of matches) id ∙ ap (first_of id) is
+
+    one : (id : List ℕ) → one_text (found_of matches) id ≡ one_of id given
+    one id = one_text-rows (found_of matches) id ∙ ap (one_of id) is

@@ -1,0 +1,58 @@
+-- The words that the program takes behind its name, as its parser of command lines reads them.
+use Rattle.std.specs.Prelude.{ℕ, List, Some, true, codes}
+use Rattle.clap.specs.Lexer.{usize_max}
+use Rattle.clap.specs.Words.{App, Row, Rule, matches_of, new_app, new_rule, with_rule}
+use Rattle.clap.specs.declared.builder.action.ArgAction.TheVariants.{Append, Set, SetTrue}
+
+-- the option of this name, which has a value
+abbrev pub option_of : List ℕ → Rule
+option_of name = record (new_rule name) { long = Some name; action = Some Set }
+
+-- the option of this name, which has none
+abbrev pub flag_of : List ℕ → Rule
+flag_of name = record (new_rule name) { long = Some name; action = Some SetTrue }
+
+-- an option that has to be given
+abbrev pub wanted : Rule → Rule
+wanted rule = record rule { required = true }
+
+-- the recordings, of which there is one at least
+abbrev pub recordings : Rule
+recordings = record (new_rule (codes "core")) {
+  required = true;
+  range = Some (record { start_inclusive = 1; end_inclusive = usize_max });
+  action = Some Append;
+}
+
+-- no word for help is taken
+abbrev pub without_help : App → App
+without_help app = record app { top = record app.top { disable_help_flag = true } }
+
+-- no word is taken
+abbrev pub no_words : App
+no_words = without_help (new_app (codes "apexcheck"))
+
+-- the options for the texts of a run, and for how it is checked
+abbrev pub options_of_a_check : App
+options_of_a_check = with_rule (with_rule (with_rule (with_rule no_words
+    (wanted (option_of (codes "config"))))
+    (wanted (option_of (codes "order"))))
+    (wanted (option_of (codes "workers"))))
+    (option_of (codes "depth"))
+
+-- the options for rules, and for what is told
+abbrev pub options : App
+options = with_rule (with_rule (with_rule (with_rule (with_rule options_of_a_check
+    (option_of (codes "max-elapsed")))
+    (option_of (codes "forbid")))
+    (option_of (codes "rules")))
+    (flag_of (codes "last")))
+    (flag_of (codes "quiet"))
+
+-- the words of a run over files: each option once at most, and the recordings
+abbrev pub command_line : App
+command_line = with_rule options recordings
+
+-- what these words give each option and the recordings; the first word is the program's own name
+abbrev pub found_in : List (List ℕ) → List Row
+found_in words = matches_of command_line words
