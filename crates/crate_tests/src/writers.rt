@@ -30,6 +30,20 @@ impl<'a> Write for Narrow<'a> {
     }
 }
 
+// Takes all bytes, and can't hand them on.
+#[derive(Drop)]
+struct Stuck {}
+
+impl Write for Stuck {
+    fn write(&mut self, buf: &[u8]) -> io::Result<usize> {
+        Ok(buf.len())
+    }
+
+    fn flush(&mut self) -> io::Result<()> {
+        Err(io::Error::from(ErrorKind::StorageFull))
+    }
+}
+
 #[test]
 fn writers_fail(rt: HostRuntime) -> Result<(), Fail> {
     let alloc = rt.alloc();
@@ -71,5 +85,19 @@ fn writers_fail(rt: HostRuntime) -> Result<(), Fail> {
             assert!(rt; line.as_bytes().starts_with(&taken), "{line}");
         }
     }
+    Ok(())
+}
+
+#[test]
+fn a_flush_reaches_the_writer(rt: HostRuntime) -> Result<(), Fail> {
+    let alloc = rt.alloc();
+    let mut taken = Vec::new(alloc);
+    let mut narrow = WriterSink::new(Narrow {
+        taken: &mut taken,
+        room: 2,
+    });
+    assert_eq!(rt; narrow.flush(), Ok(()));
+    let mut stuck = WriterSink::new(Stuck {});
+    assert_eq!(rt; stuck.flush(), Err(WriteFault));
     Ok(())
 }
