@@ -1,11 +1,12 @@
 #!/usr/bin/env bash
-# All tests: the program on one example through real files; every proof, every wrong body that the prover must refuse,
-# every test and the program as two compilers build it; the program as its users run it, and on hostile texts and files;
-# and each of its allocations refused in turn, without rules, with options that ask for rules, with a text of rules, with a
-# message between partitions, and with several who wait at a blackboard. At the end stands what each crate cost. The last
-# line is `N passed, 0 failed`.
+# All tests, behind the line of the kit that runs them: the program on one example through real files; every proof, every wrong
+# body that the prover must refuse, every test and the program as two compilers build it; the program as its users run it, and
+# on hostile texts and files; and each of its allocations refused in turn, without rules, with options that ask for rules, with a
+# text of rules, with a message between partitions, and with several who wait at a blackboard. At the end stands what each crate
+# cost. The last line is `N passed, 0 failed`.
 set -euo pipefail
 cd "$(dirname "$0")"
+rt version
 report=$(bash examples/run timed_wait)
 echo "$report"
 if [ "$report" != "$(cat examples/timed_wait/expected.txt)" ]; then

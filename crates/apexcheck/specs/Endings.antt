@@ -62,7 +62,7 @@ text_of Unopened = codes "REFUSED open\n"
 text_of (BadRules which) = codes "REFUSED rules fault=" ++ (rule_fault_name which ++ codes "\n")
 text_of (BadRule number which) =
     codes "REFUSED rules rule=" ++ (decimal number ++ (codes " fault=" ++ (rule_fault_name which ++ codes "\n")))
-text_of Version = codes "apexcheck 0.1.0 (proved with rattle-kit-13f)\n"
+text_of Version = codes "apexcheck 0.1.0\n"
 
 -- the end by want of memory before the check, which is the check's own, and behind which nothing is told
 abbrev pub out_of_memory : Ending

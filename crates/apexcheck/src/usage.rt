@@ -33,7 +33,7 @@ return more than N ticks later, with --forbid no call may be of SERVICE, with --
 the rules of FILE may not be broken. With --last the last records before the place of a
 No, at most 8, follow its line. Why the answer is no Yes is told on standard error, unless
 --quiet is given. With no words it checks a run that stands in the program. With --version
-alone it prints its version, and the kit that it is proved with.";
+alone it prints its version.";
 
 /// What the command line asks for.
 #[derive(Debug, Drop)]
