@@ -26,7 +26,7 @@ pub fn first_broken<R: Threads + Sync>(rt: &R, rules: &[Rule], views: &[View]) -
     ensures { IsFirstBroken (relations_of rules.now) views.now result }
 {
     let view = first_view(rt, rules, views)?;
-    let rule = first_rule(rules, &views[view])?;
+    let rule = first_rule_broken(rules, &views[view])?;
     Some(Broken { view, rule })
 }
 
@@ -35,7 +35,7 @@ pub fn first_broken_in_turn(rules: &[Rule], views: &[View]) -> Option<Broken>
     ensures { IsFirstBroken (relations_of rules.now) views.now result }
 {
     for view in 0..views.len() {
-        if let Some(rule) = first_rule(rules, &views[view]) {
+        if let Some(rule) = first_rule_broken(rules, &views[view]) {
             return Some(Broken { view, rule });
         }
     }
@@ -60,11 +60,11 @@ fn first_view<R: Threads + Sync>(rt: &R, rules: &[Rule], views: &[View]) -> Opti
 fn breaks_one(rules: &[Rule], view: &View) -> bool
     ensures { result ≡ breaks_one (relations_of rules.now) view.now }
 {
-    first_rule(rules, view).is_some()
+    first_rule_broken(rules, view).is_some()
 }
 
-// The place of the first rule that a view breaks.
-fn first_rule(rules: &[Rule], view: &View) -> Option<usize>
+/// The first rule that a view breaks, counted from 0; None where the view meets every rule. Takes no memory.
+pub fn first_rule_broken(rules: &[Rule], view: &View) -> Option<usize>
     ensures { IsFirstRule (relations_of rules.now) view.now result }
 {
     for rule in 0..rules.len() {

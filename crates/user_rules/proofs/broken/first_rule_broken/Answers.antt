@@ -1,6 +1,6 @@
 use Rattle.std.proofs.Common.{◌∙◌, sym}
 use Rattle.user_rules.proofs.FirstBroken.{all_met, rule_at, rule_met}
-use Rattle.user_rules.proofs.broken.first_rule.Goals as goal
+use Rattle.user_rules.proofs.broken.first_rule_broken.Goals as goal
 
 pub returns-then-not-holds : goal.returns-then-not-holds
 returns-then-not-holds g c =

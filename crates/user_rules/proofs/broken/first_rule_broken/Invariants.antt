@@ -1,7 +1,7 @@
 use Rattle.std.proofs.Common.{take}
 use Rattle.user_rules.specs.FirstBroken.{MeetsAll}
 use Rattle.user_rules.specs.Rules.{relations_of}
-use Rattle.user_rules.proofs.broken.first_rule.Given as goal
+use Rattle.user_rules.proofs.broken.first_rule_broken.Given as goal
 
 -- the rules so far are met
 abbrev pub invariant-loop-rule : goal.invariant-loop-rule
