@@ -24,6 +24,8 @@ mod readers;
 #[cfg(test)]
 mod relations;
 #[cfg(test)]
+mod ruled;
+#[cfg(test)]
 mod texts;
 #[cfg(test)]
 mod texts_of_rules;

@@ -1,19 +1,10 @@
 // Which views meet a relation, and the first view that breaks a rule, found by several threads and by one.
 
+use crate::ruled::rule;
 use apex_types::{Field, View};
 use std::alloc::Global;
 use std::test::Fail;
-use user_rules::{Broken, Relation, Rule, Test, first_broken, first_broken_in_turn};
-
-// The rule of a relation, whose test is the relation itself, over a clone of it.
-macro_rules! rule {
-    ($heap:expr, $relation:expr) => {{
-        let relation: Relation = $relation;
-        let tested = relation.clone()?;
-        let test: Test = Box::new($heap, move |view: &View| tested.holds(view))?;
-        Rule::new(relation, test)
-    }};
-}
+use user_rules::{Broken, Relation, first_broken, first_broken_in_turn, first_rule_broken};
 
 fn view_of_kind(kind: i64) -> View {
     View {
@@ -63,6 +54,8 @@ fn finds_the_first_rule(rt: HostRuntime) -> Result<(), Fail> {
     let second = Some(Broken { view: 0, rule: 1 });
     assert_eq!(rt; first_broken(&rt, &rules, &views), second);
     assert_eq!(rt; first_broken_in_turn(&rules, &views), second);
+    assert_eq!(rt; first_rule_broken(&rules, &views[0]), Some(1));
+    assert_eq!(rt; first_rule_broken(&rules[..1], &views[0]), None);
     assert_eq!(rt; first_broken(&rt, &rules, &[]), None);
     assert_eq!(rt; first_broken_in_turn(&rules, &[]), None);
     assert_eq!(rt; first_broken(&rt, &[], &views), None);

@@ -1,13 +1,14 @@
 // What no clause says: that several threads claim pieces at one time, and how a board tells its refusals.
 
-ghost use Rattle.std.specs.Prelude.{◌≡◌, ◌<◌, ℕ, IfOk, IfSome, length};
+ghost use Rattle.std.specs.Prelude.{◌≡◌, ◌<◌, ℕ, [], IfOk, IfSome, length};
 ghost use Rattle.apex_machine.specs.Pieces.{pieces as all_pieces};
 ghost use Rattle.apex_machine.specs.Runs.{ArePlaced, AreOfCores};
 ghost use Rattle.piece_check.specs.Touching.{AreSortedOut, indices_of};
 ghost use Rattle.verdict_merge.specs.Rounds.{AreGoing, cold_parts, holding_at};
 ghost use Rattle.partition_workers.specs.Contents.{AreGoingFrom, IsOpen, content_of, parts_held};
 
-use apex_types::{Body, Cause, CoreId, Ordered, PartId, Place, ProcId, Record, Who, Woken};
+use crate::ruled::rule;
+use apex_types::{Body, Cause, CoreId, Field, Ordered, PartId, Place, ProcId, Record, Who, Woken};
 use module_config::Config;
 use partition_workers::{
     Board, Done, Gate, Naming, Open, PostRefusal, Round, RoundFault, judge_round,
@@ -20,6 +21,7 @@ use std::sync::atomic::{AtomicUsize, Ordering};
 use std::test::Fail;
 use std::thread;
 use std::thread::Threads;
+use user_rules::{Relation, Rule};
 use verdict_merge::{Judged, Lent, Memory, Refused};
 
 // Two cores, each of a partition of its own, and two channels: five pieces.
@@ -170,12 +172,7 @@ fn sort_out(alloc: Global, config: &Config, records: &[Ordered]) -> Option<Touch
 }
 
 // What is lent to each piece of the round.
-fn lend<'a>(
-    config: &'a Config,
-    records: &'a [Ordered],
-    touched: &'a Touched,
-    watched: bool,
-) -> Lent<'a>
+fn lend<'a>(config: &'a Config, records: &'a [Ordered], touched: &'a Touched) -> Lent<'a>
     requires { AreSortedOut config.now records.now (indices_of touched.now) }
     ensures config { result.config.now ≡ config.now }
     ensures first { result.first ≡ 0 }
@@ -186,15 +183,14 @@ fn lend<'a>(
         first: 0,
         records,
         touched,
-        watched,
     }
 }
 
-// What the round makes of each piece, by so many workers.
+// What the round makes of each piece under these rules, by so many workers.
 fn judge_all<G: Gate + Sync, R: Threads + Wait + Sync>(
     rt: &R,
     alloc: Global,
-    watched: bool,
+    rules: &[Rule],
     workers: usize,
     gate: &G,
 ) -> Result<Vec<Judged>, RoundFault> {
@@ -210,53 +206,60 @@ fn judge_all<G: Gate + Sync, R: Threads + Wait + Sync>(
     let Ok(pieces) = started(alloc, &config) else {
         return Err(RoundFault::Memory);
     };
-    let lent = lend(&config, &records, &touched, watched);
-    judge_round(rt, alloc, &lent, pieces, workers, gate)
+    let lent = lend(&config, &records, &touched);
+    judge_round(rt, alloc, &lent, rules, pieces, workers, gate)
 }
 
-// What has to come of the piece of this number: its refusal, and how many records it has seen. Only the module sees dispatches
-// and ticks.
-fn has_come(number: usize, watched: bool, one: &Judged) -> bool {
-    let (place, cause, seen) = match number {
-        0 => (8, Cause::Skew, 8),
-        2 => (1, Cause::Choice, 0),
-        _ => return one.gone.found.is_none() && one.gone.seen.is_empty(),
+// What has to come of the piece of this number: its refusal, and the index of the first record whose view breaks the rule, where
+// there is one. The module sees dispatches and ticks, of which the first tick stands at index 2; the other pieces see none of these.
+fn has_come(number: usize, ruled: bool, one: &Judged) -> bool {
+    let (place, cause) = match number {
+        0 => (8, Cause::Skew),
+        2 => (1, Cause::Choice),
+        _ => return one.gone.found.is_none() && one.gone.breach.is_none(),
     };
     let found = Refused {
         pos: Place::new(place),
         piece: number,
         cause,
     };
-    one.gone.found == Some(found) && one.gone.seen.len() == if watched { seen } else { 0 }
+    let index = one.gone.breach.map(|breach| breach.seen.index);
+    let first_tick = if ruled && number == 0 { Some(2) } else { None };
+    one.gone.found == Some(found) && index == first_tick
 }
 
 // Whether what has to come of all five pieces has come.
-fn have_come(watched: bool, all: &[Judged]) -> bool {
+fn have_come(ruled: bool, all: &[Judged]) -> bool {
     for (number, one) in all.iter().enumerate() {
-        if !has_come(number, watched, one) {
+        if !has_come(number, ruled, one) {
             return false;
         }
     }
     all.len() == 5
 }
 
+// With a rule that each tick breaks, and with none.
 #[test]
 fn any_number_of_workers_gives_the_same(rt: HostRuntime) -> Result<(), Fail> {
     let alloc = rt.alloc();
-    for watched in [false, true] {
-        for workers in [1, 2, 5] {
-            let Ok(all) = judge_all(&rt, alloc, watched, workers, &Open) else {
-                return Err(Fail::from("no round"));
-            };
-            assert!(rt; have_come(watched, &all), "{workers} workers");
-        }
+    let mut rules = Vec::new(alloc);
+    rules.push(rule!(alloc, Relation::Less(Field::Kind, 3)))?;
+    for workers in [1, 2, 5] {
+        let Ok(ruled) = judge_all(&rt, alloc, &rules, workers, &Open) else {
+            return Err(Fail::from("no round under a rule"));
+        };
+        assert!(rt; have_come(true, &ruled), "{workers} workers under a rule");
+        let Ok(all) = judge_all(&rt, alloc, &[], workers, &Open) else {
+            return Err(Fail::from("no round"));
+        };
+        assert!(rt; have_come(false, &all), "{workers} workers");
     }
     Ok(())
 }
 
 #[test]
 fn no_worker_is_refused(rt: HostRuntime) -> Result<(), Fail> {
-    let judged = judge_all(&rt, rt.alloc(), false, 0, &Open);
+    let judged = judge_all(&rt, rt.alloc(), &[], 0, &Open);
     assert!(rt; matches!(judged, Err(RoundFault::NoWorkers)));
     Ok(())
 }
@@ -294,7 +297,7 @@ fn two_claims_meet(rt: HostRuntime) -> Result<(), Fail> {
             claimed: AtomicUsize::new(0),
             met: AtomicUsize::new(0),
         };
-        let judged = judge_all(&rt, alloc, false, workers, &gate);
+        let judged = judge_all(&rt, alloc, &[], workers, &gate);
         assert!(rt; judged.is_ok());
         assert_eq!(rt; gate.met.load(Ordering::SeqCst), 5, "{workers} workers");
     }
@@ -335,19 +338,23 @@ fn told_by<J: Naming>(board: &mut Board<J>, done: Done<J>) -> Option<Told> {
 }
 
 // What becomes of the next piece of the board, claimed by this worker.
-fn finish_next<J: Naming>(alloc: Global, board: &mut Board<J>, worker: usize) -> Option<Done<J>> {
+fn finish_next<J: Naming>(board: &mut Board<J>, worker: usize) -> Option<Done<J>>
+    requires { J.round.relations ≡ [] }
+{
     let Some(job) = board.claim(worker) else {
         return None;
     };
-    match job.run(alloc) {
+    match job.run(&[]) {
         Ok(done) => Some(done),
         Err(_) => None,
     }
 }
 
 // Claims the next piece of the board by this worker, and posts what becomes of it.
-fn post_next<J: Naming>(alloc: Global, board: &mut Board<J>, worker: usize) -> bool {
-    match finish_next(alloc, board, worker) {
+fn post_next<J: Naming>(board: &mut Board<J>, worker: usize) -> bool
+    requires { J.round.relations ≡ [] }
+{
+    match finish_next(board, worker) {
         Some(done) => board.post(done).is_ok(),
         None => false,
     }
@@ -355,18 +362,16 @@ fn post_next<J: Naming>(alloc: Global, board: &mut Board<J>, worker: usize) -> b
 
 // Posts to a board what another board's worker 1 made of the first piece, before and after that piece is claimed and posted by a
 // worker 1 of its own.
-fn refuse_first<J: Naming>(
-    alloc: Global,
-    board: &mut Board<J>,
-    other: &mut Board<J>,
-) -> Option<[Told; 2]> {
-    let Some(done) = finish_next(alloc, other, 1) else {
+fn refuse_first<J: Naming>(board: &mut Board<J>, other: &mut Board<J>) -> Option<[Told; 2]>
+    requires { J.round.relations ≡ [] }
+{
+    let Some(done) = finish_next(other, 1) else {
         return None;
     };
     let Some((not_claimed, done)) = refuse(board, done) else {
         return None;
     };
-    if !post_next(alloc, board, 1) {
+    if !post_next(board, 1) {
         return None;
     }
     match told_by(board, done) {
@@ -376,29 +381,27 @@ fn refuse_first<J: Naming>(
 }
 
 // Posts to a board, where worker 3 has claimed the next piece, what another board's worker 2 made of it.
-fn refuse_next<J: Naming>(
-    alloc: Global,
-    board: &mut Board<J>,
-    other: &mut Board<J>,
-) -> Option<Told> {
+fn refuse_next<J: Naming>(board: &mut Board<J>, other: &mut Board<J>) -> Option<Told>
+    requires { J.round.relations ≡ [] }
+{
     if board.claim(3).is_none() {
         return None;
     }
-    match finish_next(alloc, other, 2) {
+    match finish_next(other, 2) {
         Some(done) => told_by(board, done),
         None => None,
     }
 }
 
-// The three refusals, by two boards of one round.
+// The three refusals, by two boards of one round under no rule.
 fn refuse_all<J: Naming>(
     alloc: Global,
     lent: &Lent,
     pieces: Vec<Piece>,
     others: Vec<Piece>,
 ) -> Option<[Told; 3]>
-    requires named { content_of lent.now (parts_held pieces.items) ≡ J.round }
-    requires other_named { content_of lent.now (parts_held others.items) ≡ J.round }
+    requires named { content_of lent.now [] (parts_held pieces.items) ≡ J.round }
+    requires other_named { content_of lent.now [] (parts_held others.items) ≡ J.round }
     requires open { IsOpen J.round }
     requires going { AreGoingFrom J.round.configuration J.round.first 0 pieces.items }
     requires other_going { AreGoingFrom J.round.configuration J.round.first 0 others.items }
@@ -409,10 +412,10 @@ fn refuse_all<J: Naming>(
     let Ok(mut other) = Board::new(alloc, Round::<J>::new(*lent, others)) else {
         return None;
     };
-    let Some(first) = refuse_first(alloc, &mut board, &mut other) else {
+    let Some(first) = refuse_first(&mut board, &mut other) else {
         return None;
     };
-    match refuse_next(alloc, &mut board, &mut other) {
+    match refuse_next(&mut board, &mut other) {
         Some(foreign) => Some([first[0], first[1], foreign]),
         None => None,
     }
@@ -435,7 +438,7 @@ fn refuse_in_round(alloc: Global) -> Option<[Told; 3]> {
     let Ok(others) = started(alloc, &config) else {
         return None;
     };
-    let lent = lend(&config, &records, &touched, false);
+    let lent = lend(&config, &records, &touched);
     refuse_all::<Brand>(alloc, &lent, pieces, others)
 }
 

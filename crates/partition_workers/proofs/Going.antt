@@ -1,14 +1,15 @@
 -- The pieces of a round, and what became of them.
-use Rattle.std.proofs.Common.{◌≡◌, ◌<◌, ◌+◌, ◌∙◌, ℕ, zero, suc, List, [], ◌∷◌, ◌++◌, Bool, Option, Some, length, get_or, refl, ap, sym, subst, arith, append_assoc}
+use Rattle.std.proofs.Common.{◌≡◌, ◌<◌, ◌+◌, ◌∙◌, ℕ, zero, suc, List, [], ◌∷◌, ◌++◌, Option, Some, length, get_or, refl, ap, sym, subst, arith, append_assoc}
 use Rattle.std.proofs.lemmas.List.{get_or_append_left, length-append, length-map}
 use Rattle.std.proofs.Math.Seq.{get_or-append_seam}
 use Rattle.apex_types.specs.declared.record.Ordered.{Ordered}
 use Rattle.apex_machine.specs.Configuration.{Configuration}
 use Rattle.apex_machine.specs.Pieces.{Part, pieces}
 use Rattle.piece_check.specs.Parts.{Holding, piece_at}
+use Rattle.user_rules.specs.declared.relation.Relation.{Relation}
 use Rattle.verdict_merge.specs.declared.gone.Lent.{Lent}
 use Rattle.verdict_merge.specs.Rounds.{AreGoneOver, AreGoing, HasGone, IsGoing, IsGoneOver, holding_at}
-use Rattle.verdict_merge.specs.Views.{HasSeen}
+use Rattle.verdict_merge.specs.Views.{AreSeen, up_to as up_to_refusal}
 use Rattle.verdict_merge.specs.declared.judged.Judged.{Judged}
 use Rattle.verdict_merge.proofs.Splits.{up_to}
 use Rattle.partition_workers.specs.declared.log.Event.{Event}
@@ -42,23 +43,25 @@ all_going configuration place holdings going =
     subst (λ n. IsGoing configuration n place (holding_at holdings one)) same (going.each one (omega (arith, within, going.whole))))
 
 -- what a piece makes of the records rests on its part alone
-pub judged_by_part : (configuration : Configuration) (number first : ℕ) (records : List Ordered) (watched : Bool) (old other : Holding) (judged : Judged) → old.part ≡ other.part
-    → IsGoneOver configuration number first records watched old judged.gone judged.piece → IsGoneOver configuration number first records watched other judged.gone judged.piece
-judged_by_part configuration number first records watched old other judged same over = record {
+pub judged_by_part : (configuration : Configuration) (number first : ℕ) (records : List Ordered) (relations : List Relation) (old other : Holding) (judged : Judged) → old.part ≡ other.part
+    → IsGoneOver configuration number first records relations old judged.gone judged.piece → IsGoneOver configuration number first records relations other judged.gone judged.piece
+judged_by_part configuration number first records relations old other judged same over = record {
   found = subst (λ part. HasGone configuration number part records judged.gone.found judged.piece.part) same over.found;
-  seen = subst (λ part. HasSeen watched configuration (piece_at configuration number) part records judged.gone.found judged.gone.seen.items) same over.seen;
+  seen = over.seen;
+  are = subst (λ part. AreSeen configuration (piece_at configuration number) part 0 (up_to_refusal judged.gone.found records) over.seen) same over.are;
+  breach = over.breach;
   going = over.going;
 }
 
 -- what became of the pieces of a round is what became of these
-pub all_gone_over : (lent : Lent) (holdings : List Holding) (judged : List Judged) → AreJudged (content_of lent (parts_held holdings)) judged
-    → AreGoneOver lent.config.now lent.first lent.records.now lent.watched holdings judged
-all_gone_over lent holdings judged all =
+pub all_gone_over : (lent : Lent) (relations : List Relation) (holdings : List Holding) (judged : List Judged) → AreJudged (content_of lent relations (parts_held holdings)) judged
+    → AreGoneOver lent.config.now lent.first lent.records.now relations holdings judged
+all_gone_over lent relations holdings judged all =
     let same : length (parts_held holdings) ≡ length holdings = length-map holdings (λ piece. piece.part) in
     record {
       whole = all.whole ∙ same;
       each = λ number within one is.
-          judged_by_part lent.config.now number lent.first lent.records.now lent.watched _ (holding_at holdings number) one (part_held holdings number)
+          judged_by_part lent.config.now number lent.first lent.records.now relations _ (holding_at holdings number) one (part_held holdings number)
           (all.each number (omega (arith, within, same)) one is);
     }
 

@@ -1,20 +1,21 @@
 -- What a round is, and what becomes of its pieces.
-use Rattle.std.specs.Prelude.{◌≡◌, ◌<◌, ℕ, zero, suc, List, [], ◌∷◌, Bool, false, None, length, map, slice_index_or}
+use Rattle.std.specs.Prelude.{◌≡◌, ◌<◌, ℕ, zero, suc, List, [], ◌∷◌, None, false, length, map, slice_index_or}
 use Rattle.apex_types.specs.declared.record.Ordered.{Ordered}
 use Rattle.apex_machine.specs.Configuration.{Configuration}
 use Rattle.apex_machine.specs.Pieces.{ModulePart, Part, pieces}
 use Rattle.apex_machine.specs.Runs.{ArePlaced, AreOfCores}
 use Rattle.piece_check.specs.Parts.{Holding}
+use Rattle.user_rules.specs.declared.relation.Relation.{Relation}
 use Rattle.verdict_merge.specs.declared.gone.Lent.{Lent}
 use Rattle.verdict_merge.specs.Rounds.{IsGoing, IsGoneOver}
 use Rattle.verdict_merge.specs.declared.judged.Judged.{Judged}
 
--- a round: the module, the place of its first record, its records, whether views are wanted, and the parts of the pieces before it
+-- a round: the module, the place of its first record, its records, what the rules say, and the parts of the pieces before it
 pub record Content : Type 0 where
   pub configuration : Configuration
   pub first : ℕ
   pub records : List Ordered
-  pub watched : Bool
+  pub relations : List Relation
   pub parts : List Part
 
 -- the parts that pieces hold
@@ -27,23 +28,23 @@ part_at [] number = ModulePart []
 part_at (part ∷ others) zero = part
 part_at (part ∷ others) (suc number) = part_at others number
 
--- the round of what is lent to pieces of these parts
-abbrev pub content_of : Lent → List Part → Content
-content_of lent parts = record {
+-- the round of what is lent to pieces of these parts, under rules that say this
+abbrev pub content_of : Lent → List Relation → List Part → Content
+content_of lent relations parts = record {
   configuration = lent.config.now;
   first = lent.first;
   records = lent.records.now;
-  watched = lent.watched;
+  relations = relations;
   parts = parts;
 }
 
--- the round of no records and no pieces
+-- the round of no records, no rules and no pieces
 abbrev pub no_content : Content
 no_content = record {
   configuration = record { cores = 0; frame = 0; skew = 0; partitions = []; windows = []; sampling = []; queuing = [] };
   first = 0;
   records = [];
-  watched = false;
+  relations = [];
   parts = [];
 }
 
@@ -65,7 +66,7 @@ holding_of part = record { part = part; settings = None; spent = false }
 -- the piece of this number went over the records of the round, and this became of it
 abbrev pub IsJudged : Content → ℕ → Judged → Type 0
 IsJudged content number judged =
-    IsGoneOver content.configuration number content.first content.records content.watched (holding_of (part_at content.parts number)) judged.gone judged.piece
+    IsGoneOver content.configuration number content.first content.records content.relations (holding_of (part_at content.parts number)) judged.gone judged.piece
 
 -- each piece of the round went over its records; one for each stands at its number
 pub record AreJudged (content : Content) (judged : List Judged) : Type 0 where

@@ -39,7 +39,7 @@ impl<'a, J: Naming> Model for Board<'a, J> {
 
     ghost view = { λ board. board.log.items };
 
-    ghost invariant = { λ board. (content_of board.lent J.round.parts ≡ J.round) × IsOpen J.round × (2 * length J.round.parts ≤ vec_capacity board.log) × AreGoingFrom J.round.configuration J.round.first board.claimed board.left.items × IsBoard J.round.parts (parts_held board.left.items) board.claimed board.log.items board.places.items };
+    ghost invariant = { λ board. (content_of board.lent J.round.relations J.round.parts ≡ J.round) × IsOpen J.round × (2 * length J.round.parts ≤ vec_capacity board.log) × AreGoingFrom J.round.configuration J.round.first board.claimed board.left.items × IsBoard J.round.parts (parts_held board.left.items) board.claimed board.log.items board.places.items };
 }
 
 impl<'a, J: Naming> Board<'a, J> {

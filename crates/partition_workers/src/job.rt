@@ -1,13 +1,14 @@
 // A piece that a worker has claimed.
 
 ghost use Rattle.std.specs.Prelude.{◌≡◌, IfOk};
+ghost use Rattle.user_rules.specs.Rules.{relations_of};
 ghost use Rattle.partition_workers.specs.Contents.{IsJudged};
 
 use crate::done::Done;
 use crate::round::Naming;
 use piece_check::Piece;
-use std::alloc::Global;
 use std::marker::{Model, PhantomData};
+use user_rules::Rule;
 use verdict_merge::{Lent, Memory, judge_piece};
 
 /// A piece of the round that a worker has claimed.
@@ -29,7 +30,7 @@ impl<'a, J: Naming> Model for Job<'a, J> {
 
     ghost view = { λ job. record { worker = job.worker; number = job.number; piece = job.piece } };
 
-    ghost invariant = { λ job. (job.number < length J.round.parts) × (job.piece.part ≡ part_at J.round.parts job.number) × IsGoing J.round.configuration job.number J.round.first job.piece × (content_of job.lent J.round.parts ≡ J.round) × IsOpen J.round };
+    ghost invariant = { λ job. (job.number < length J.round.parts) × (job.piece.part ≡ part_at J.round.parts job.number) × IsGoing J.round.configuration job.number J.round.first job.piece × (content_of job.lent J.round.relations J.round.parts ≡ J.round) × IsOpen J.round };
 }
 
 impl<'a, J: Naming> Job<'a, J> {
@@ -40,10 +41,11 @@ impl<'a, J: Naming> Job<'a, J> {
         self.number
     }
 
-    /// Lets the piece go over the records of the round.
+    /// Lets the piece go over the records of the round, and tests its views by the rules, which say what those of the round do.
     ///
     /// Memory where a growth was refused; the piece is then given up.
-    pub fn run(self, alloc: Global) -> Result<Done<J>, Memory>
+    pub fn run(self, rules: &[Rule]) -> Result<Done<J>, Memory>
+        requires { relations_of rules.now ≡ J.round.relations }
         ensures worker { IfOk result (λ done. done.worker ≡ self.entry.worker) }
         ensures number { IfOk result (λ done. done.number ≡ self.entry.number) }
         ensures judged { IfOk result (λ done. IsJudged J.round done.number done.judged) }
@@ -55,7 +57,7 @@ impl<'a, J: Naming> Job<'a, J> {
             lent,
             of: _,
         } = self;
-        match judge_piece(alloc, &lent, number, piece) {
+        match judge_piece(&lent, rules, number, piece) {
             Ok(judged) => Ok(Done {
                 worker,
                 number,

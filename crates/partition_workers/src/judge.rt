@@ -4,12 +4,12 @@ ghost use Rattle.std.specs.Prelude.{◌≡◌, ◌↔◌, ◌<◌, ◌+◌, ℕ,
 ghost use Rattle.std.specs.Option.{option_copied};
 ghost use Rattle.apex_machine.specs.Pieces.{pieces};
 ghost use Rattle.apex_machine.specs.Runs.{ArePlaced, AreOfCores};
-ghost use Rattle.verdict_merge.specs.Rounds.{IsReady, IsRound, cold_parts, parts_of};
-ghost use Rattle.verdict_merge.specs.Views.{AreWanted};
+ghost use Rattle.user_rules.specs.Rules.{relations_of};
+ghost use Rattle.verdict_merge.specs.Rounds.{IsReady, IsRound, IsTested, cold_parts, parts_of};
 
 use crate::fault::RoundFault;
 use crate::workers::{Gate, judge_round};
-use apex_types::{Ordered, View};
+use apex_types::Ordered;
 use module_config::Config;
 use piece_check::{Piece, Touched};
 use std::alloc::Global;
@@ -17,17 +17,17 @@ use std::marker::Model;
 use std::mem;
 use std::sync::Wait;
 use std::thread::Threads;
-use verdict_merge::{Lent, Memory, Refused, gather_round, start_pieces};
+use user_rules::Rule;
+use verdict_merge::{Breach, Lent, Memory, Refused, gather_round, start_pieces};
 
-/// All pieces of a module, how many records they have judged, and the views of the last round.
+/// All pieces of a module, how many records they have judged, and the breach of a rule in the last round.
 #[derive(Drop)]
 pub struct Judge {
     alloc: Global,
     count: u64,
     pieces: Vec<Piece>,
     touched: Touched,
-    watched: bool,
-    views: Vec<View>,
+    breach: Option<Breach>,
 }
 
 impl Model for Judge {
@@ -35,17 +35,16 @@ impl Model for Judge {
 
     ghost Value = { Judging };
 
-    ghost view = { λ judge. record { count = judge.count; pieces = judge.pieces.items; watched = judge.watched; views = judge.views.items } };
+    ghost view = { λ judge. record { count = judge.count; pieces = judge.pieces.items; breach = judge.breach } };
 }
 
 impl Judge {
-    /// All pieces as they stand before the first record. Whether views are wanted says whether `views` gives any.
+    /// All pieces as they stand before the first record.
     ///
     /// Memory where a growth is refused.
-    pub fn start(alloc: Global, config: &Config, watched: bool) -> Result<Judge, Memory>
+    pub fn start(alloc: Global, config: &Config) -> Result<Judge, Memory>
         ensures cold { IfOk result (λ judge. (number : ℕ) → number < length (pieces config.now) → parts_of judge number ≡ cold_parts config.now number) }
         ensures count { IfOk result (λ judge. judge.count ≡ 0) }
-        ensures watched { IfOk result (λ judge. judge.watched ≡ watched) }
         ensures ready { IfOk result (IsReady config.now) }
     {
         let pieces = start_pieces(alloc, config)?;
@@ -57,8 +56,7 @@ impl Judge {
             count: 0,
             pieces,
             touched,
-            watched,
-            views: Vec::new(alloc),
+            breach: None,
         })
     }
 
@@ -77,17 +75,18 @@ impl Judge {
         self.pieces.get(number)
     }
 
-    /// The views of the records of the last round, one for each in their order, up to the one that was refused; none where
-    /// no views are wanted.
-    pub fn views(&self) -> &[View]
-        ensures { result.now ≡ self.now.views }
+    /// The first view of the last round that breaks a rule, of the records up to the one that was refused, and the first rule that
+    /// it breaks.
+    pub fn breach(&self) -> Option<Breach>
+        ensures { result ≡ self.now.breach }
     {
-        &self.views
+        self.breach
     }
 
-    /// Judges the next records by so many workers: each piece goes over those that touch it, up to its first refusal. None where
-    /// no piece refuses one; else the least refusal, after which no further round is judged. The gate is told of each claim and
-    /// each post.
+    /// Judges the next records by so many workers: each piece goes over those that touch it, up to its first refusal, and the view
+    /// of each record is tested by the rules. None where no piece refuses a record; else the least refusal, after which no further
+    /// round is judged. The first view before it that breaks a rule is told by `breach`. The gate is told of each claim and each
+    /// post.
     ///
     /// NoWorkers where there is no worker; nothing is changed then. Memory where a growth or a thread was refused, after which no
     /// further round is judged.
@@ -96,6 +95,7 @@ impl Judge {
         rt: &R,
         config: &Config,
         records: &[Ordered],
+        rules: &[Rule],
         workers: usize,
         gate: &G,
     ) -> Result<Option<Refused>, RoundFault>
@@ -103,8 +103,7 @@ impl Judge {
         requires placed { ArePlaced self.old.count records.now }
         requires cores { AreOfCores config.now.cores records.now }
         ensures judged { IfOk result (λ found. IsRound config.now self.old records.now found self.new) }
-        ensures viewed { IfOk result (λ found. AreWanted self.old.watched config.now (parts_of self.old) records.now found self.new.views) }
-        ensures watched { self.new.watched ≡ self.old.watched }
+        ensures tested { IfOk result (λ found. IsTested config.now (relations_of rules.now) (parts_of self.old) records.now found self.new.breach) }
         ensures no_workers { result ≡ Err RoundFault.NoWorkers ↔ workers ≡ 0 }
         ensures unchanged { result ≡ Err RoundFault.NoWorkers → self.new ≡ self.old }
     {
@@ -114,16 +113,16 @@ impl Judge {
         if self.touched.sort_out(config, records).is_err() {
             return Err(RoundFault::Memory);
         }
-        let lent = Lent::new(config, self.count, records, &self.touched, self.watched);
+        let lent = Lent::new(config, self.count, records, &self.touched);
         let pieces = mem::replace(&mut self.pieces, Vec::new(self.alloc));
-        let Ok(judged) = judge_round(rt, self.alloc, &lent, pieces, workers, gate) else {
+        let Ok(judged) = judge_round(rt, self.alloc, &lent, rules, pieces, workers, gate) else {
             return Err(RoundFault::Memory);
         };
         let Ok(surveyed) = gather_round(self.alloc, &lent, judged) else {
             return Err(RoundFault::Memory);
         };
         self.pieces = surveyed.pieces;
-        self.views = surveyed.views;
+        self.breach = surveyed.breach;
         self.count = place_behind(self.count, records);
         Ok(surveyed.found)
     }

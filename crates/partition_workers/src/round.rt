@@ -30,23 +30,27 @@ pub struct Round<'a, J: Naming> {
 }
 
 impl<'a, J: Naming> Model for Round<'a, J> {
+    ghost use Rattle.std.specs.Coded.{codes};
     ghost use Rattle.std.specs.Prelude.{◌≡◌};
+    ghost use Rattle.user_rules.specs.contracts.relation.Relation as relation;
     ghost use Rattle.partition_workers.specs.Contents.{AreGoingFrom, Content, IsOpen, content_of, parts_held};
 
     ghost Value = { Content };
 
-    ghost view = { λ round. content_of round.lent (parts_held round.pieces.items) };
+    ghost coded = { Prim.hlevel (codes, relation.the_row.coded) };
 
-    ghost invariant = { λ round. (content_of round.lent (parts_held round.pieces.items) ≡ J.round) × IsOpen J.round × AreGoingFrom J.round.configuration J.round.first 0 round.pieces.items };
+    ghost view = { λ round. content_of round.lent J.round.relations (parts_held round.pieces.items) };
+
+    ghost invariant = { λ round. (content_of round.lent J.round.relations (parts_held round.pieces.items) ≡ J.round) × IsOpen J.round × AreGoingFrom J.round.configuration J.round.first 0 round.pieces.items };
 }
 
 impl<'a, J: Naming> Round<'a, J> {
     /// The round in which these pieces go over the records that are lent. Takes no memory.
     pub fn new(lent: Lent<'a>, pieces: Vec<Piece>) -> Round<'a, J>
-        requires named { content_of lent (parts_held pieces.items) ≡ J.round }
+        requires named { content_of lent J.round.relations (parts_held pieces.items) ≡ J.round }
         requires open { IsOpen J.round }
         requires going { AreGoingFrom J.round.configuration J.round.first 0 pieces.items }
-        ensures { result ≡ content_of lent.entry (parts_held pieces.items) }
+        ensures { result ≡ content_of lent.entry J.round.relations (parts_held pieces.items) }
     {
         Round {
             lent,

@@ -2,6 +2,7 @@
 
 ghost use Rattle.std.specs.Prelude.{◌≡◌, ◌↔◌, Err, IfOk};
 ghost use Rattle.apex_machine.specs.Runs.{ArePlaced, AreOfCores};
+ghost use Rattle.user_rules.specs.Rules.{relations_of};
 ghost use Rattle.verdict_merge.specs.Rounds.{AreGoing, AreGoneOver};
 ghost use Rattle.partition_workers.specs.Contents.{AreGoingFrom, AreJudged, IsOpen, content_of, parts_held};
 
@@ -14,6 +15,7 @@ use std::marker::Brand;
 use std::sync::{Mutex, Wait};
 use std::thread;
 use std::thread::Threads;
+use user_rules::Rule;
 use verdict_merge::{Judged, Lent, Memory};
 
 /// What stands between a worker and the board: it is told of each claim and each post, while the board is free for others.
@@ -36,13 +38,14 @@ impl Gate for Open {
 }
 
 /// Lets the pieces go over the records of a round, by so many workers, each in a thread of its own where there are several; one
-/// value for each piece, at its number.
+/// value for each piece, at its number. A worker tests the views of its pieces by the rules.
 ///
 /// NoWorkers where there is no worker. Memory where a growth or a thread was refused; all threads are joined before the answer.
 pub fn judge_round<G: Gate + Sync, R: Threads + Wait + Sync>(
     rt: &R,
     alloc: Global,
     lent: &Lent,
+    rules: &[Rule],
     pieces: Vec<Piece>,
     workers: usize,
     gate: &G,
@@ -50,13 +53,13 @@ pub fn judge_round<G: Gate + Sync, R: Threads + Wait + Sync>(
     requires going { AreGoing lent.now.config.now lent.now.first pieces.items }
     requires placed { ArePlaced lent.now.first lent.now.records.now }
     requires cores { AreOfCores lent.now.config.now.cores lent.now.records.now }
-    ensures judged { IfOk result (λ judged. AreGoneOver lent.now.config.now lent.now.first lent.now.records.now lent.now.watched pieces.items judged.items) }
+    ensures judged { IfOk result (λ judged. AreGoneOver lent.now.config.now lent.now.first lent.now.records.now (relations_of rules.now) pieces.items judged.items) }
     ensures no_workers { result ≡ Err RoundFault.NoWorkers ↔ workers ≡ 0 }
 {
     if workers == 0 {
         return Err(RoundFault::NoWorkers);
     }
-    match judge_named::<Brand, G, R>(rt, alloc, lent, pieces, workers, gate) {
+    match judge_named::<Brand, G, R>(rt, alloc, lent, rules, pieces, workers, gate) {
         Ok(judged) => Ok(judged),
         Err(_) => Err(RoundFault::Memory),
     }
@@ -67,11 +70,12 @@ fn judge_named<J: Naming + Send + Sync, G: Gate + Sync, R: Threads + Wait + Sync
     rt: &R,
     alloc: Global,
     lent: &Lent,
+    rules: &[Rule],
     pieces: Vec<Piece>,
     workers: usize,
     gate: &G,
 ) -> Result<Vec<Judged>, Memory>
-    requires named { content_of lent.now (parts_held pieces.items) ≡ J.round }
+    requires named { content_of lent.now (relations_of rules.now) (parts_held pieces.items) ≡ J.round }
     requires open { IsOpen J.round }
     requires going { AreGoingFrom J.round.configuration J.round.first 0 pieces.items }
     ensures { IfOk result (λ judged. AreJudged J.round judged.items) }
@@ -85,7 +89,9 @@ fn judge_named<J: Naming + Send + Sync, G: Gate + Sync, R: Threads + Wait + Sync
         rt,
         alloc,
         workers,
-        &|worker: usize| work(rt, alloc, shared, worker, gate),
+        &|worker: usize|
+            requires { relations_of rules.now ≡ J.round.relations }
+        { work(rt, shared, rules, worker, gate) },
     );
     if worked.is_err() {
         return Err(Memory);
@@ -93,15 +99,17 @@ fn judge_named<J: Naming + Send + Sync, G: Gate + Sync, R: Threads + Wait + Sync
     board.into_inner().finish(alloc)
 }
 
-// Claims a piece, lets it go over the records and posts what became of it, until no piece is left. Memory where a growth was
+// Claims a piece, lets it go over the records, its views tested by the rules, and posts what became of it, until no piece is left. Memory where a growth was
 // refused; the piece is then never posted.
 fn work<J: Naming, G: Gate, R: Wait>(
     rt: &R,
-    alloc: Global,
     board: &Mutex<Board<J>>,
+    rules: &[Rule],
     worker: usize,
     gate: &G,
-) -> Result<(), Memory> {
+) -> Result<(), Memory>
+    requires { relations_of rules.now ≡ J.round.relations }
+{
     for _ in rt.forever() {
         let claimed = board.lock(rt).claim(worker);
         let Some(job) = claimed else {
@@ -109,7 +117,7 @@ fn work<J: Naming, G: Gate, R: Wait>(
         };
         let number = job.number();
         gate.at_claim(worker, number);
-        let done = match job.run(alloc) {
+        let done = match job.run(rules) {
             Ok(done) => done,
             Err(memory) => return Err(memory),
         };

@@ -16,14 +16,14 @@ use Rattle.placement.specs.Scan.{Scan, led_by}
 use Rattle.placement.proofs.Ahead.{something_ahead}
 use Rattle.user_rules.specs.declared.broken.Broken.{Broken as BrokenView}
 use Rattle.user_rules.specs.declared.relation.Relation.{Relation}
-use Rattle.user_rules.specs.FirstBroken.{IsFirstBroken}
 use Rattle.circular_buffer.specs.Buffer.{keep_last}
+use Rattle.verdict_merge.specs.declared.breach.Breach.{Breach}
 use Rattle.verdict_merge.specs.declared.finding.Refused.{Refused}
 use Rattle.verdict_merge.specs.declared.verdict.Verdict.{Verdict}
 use Rattle.verdict_merge.specs.declared.verdict.Verdict.TheVariants.{Yes, Broken}
-use Rattle.verdict_merge.specs.Rounds.{AllRun, IsRound, Judging, cold_parts, parts_of}
-use Rattle.verdict_merge.specs.Verdicts.{IsVerdictFrom, IsWatched, ViewsMeet, against, no_of}
-use Rattle.verdict_merge.specs.Views.{AreWanted}
+use Rattle.verdict_merge.specs.Rounds.{AllRun, IsRound, IsTested, Judging, cold_parts, parts_of}
+use Rattle.verdict_merge.specs.Verdicts.{IsVerdictFrom, ViewsMeet, against, no_of}
+use Rattle.verdict_merge.specs.Views.{broken_of}
 use Rattle.verdict_merge.proofs.Rounds.{all_run_on}
 use Rattle.verdict_merge.proofs.Ruled.{ends_here, goes_on_here, meet_on, verdict_on}
 use Rattle.report.specs.declared.fault.CheckFault.{CheckFault}
@@ -63,17 +63,16 @@ decides_whatever first (Some found) None verdict end is =
     subst (λ one. Ok one ≡ answer_with one end) same refl
 decides_whatever first None None verdict end is = let none : ◌≡◌ {A = Option Verdict} None (Some verdict) = is in cc
 
-pub round_decides : (configuration : Configuration) (relations : List Relation) (judging judged : Judging) (records : List Ordered) (found : Option Refused) (broken : Option BrokenView)
-    → MayJudge configuration relations judging records → judged.watched ≡ judging.watched → IsRound configuration judging records found judged
-    → AreWanted judging.watched configuration (parts_of judging) records found judged.views → IsFirstBroken relations judged.views broken
-    → (decides : Option Verdict) → decides ≡ against judging.count found broken → IsDecided configuration relations judging records decides judged
-round_decides configuration relations judging judged records found broken may same round wanted first (Some verdict) is = (
-  (λ later. ends_here configuration relations judging judged records later found judged.views broken verdict may.placed may.watched round wanted first (sym is)),
-  λ end. decides_whatever judging.count found broken verdict end (sym is),
+pub round_decides : (configuration : Configuration) (relations : List Relation) (judging judged : Judging) (records : List Ordered) (found : Option Refused) (breach : Option Breach)
+    → MayJudge configuration judging records → IsRound configuration judging records found judged → IsTested configuration relations (parts_of judging) records found breach
+    → (decides : Option Verdict) → decides ≡ against judging.count found (broken_of breach) → IsDecided configuration relations judging records decides judged
+round_decides configuration relations judging judged records found breach may round tested (Some verdict) is = (
+  (λ later. ends_here configuration relations judging judged records later found breach verdict may.placed round tested (sym is)),
+  λ end. decides_whatever judging.count found (broken_of breach) verdict end (sym is),
 )
-round_decides configuration relations judging judged records found broken may same round wanted first None is =
-    let on = goes_on_here configuration relations judging judged records found judged.views broken may.watched round wanted first (sym is) in
-    (on.0.0, on.0.1, on.1, on.0.2, subst (IsWatched relations) (sym same) may.watched)
+round_decides configuration relations judging judged records found breach may round tested None is =
+    let on = goes_on_here configuration relations judging judged records found breach round tested (sym is) in
+    (on.0.0, on.0.1, on.1, on.0.2)
 
 -- the answer over the last records, by what they decide
 pub last_decided : (configuration : Configuration) (relations : List Relation) (judging judged : Judging) (records : List Ordered) (end : Result (Unit {0}) InputFault) (verdict : Verdict)
@@ -83,7 +82,7 @@ last_decided configuration relations judging judged records end verdict other (o
 
 pub last_undecided : (configuration : Configuration) (relations : List Relation) (judging judged : Judging) (records : List Ordered) (end : Result (Unit {0}) InputFault)
     → end ≢ Err input.Memory → IsDecided configuration relations judging records None judged → IsLastAnswer configuration relations judging records end (answer_with (Yes judged.count) end)
-last_undecided configuration relations judging judged records end other (run, counted, meet, ready, watched) = inr (other, (Yes judged.count, (omega (arith, counted), (parts_of judged, run), meet), refl))
+last_undecided configuration relations judging judged records end other (run, counted, meet, ready) = inr (other, (Yes judged.count, (omega (arith, counted), (parts_of judged, run), meet), refl))
 
 -- round behind round
 
@@ -154,7 +153,7 @@ decided_on configuration relations start now judging judged before records verdi
 -- what is behind once a round decided nothing
 pub behind_on : (configuration : Configuration) (relations : List Relation) (judging judged : Judging) (before records : List Ordered) → AreBehind configuration relations before judging
     → IsDecided configuration relations judging records None judged → AreBehind configuration relations (before ++ records) judged
-behind_on configuration relations judging judged before records (run, meet, count) (more, counted, also, ready, watched) = (
+behind_on configuration relations judging judged before records (run, meet, count) (more, counted, also, ready) = (
   all_run_on configuration (cold_parts configuration) (parts_of judging) (parts_of judged) before records run more,
   meet_on configuration relations (cold_parts configuration) (parts_of judging) before records run meet also,
   omega (arith, counted, count, length-append before records),

@@ -11,16 +11,15 @@ use Rattle.placement.specs.declared.placer.Filled.TheVariants.{Full}
 use Rattle.placement.specs.Lanes.{AreHonest, IsFilled, Placing}
 use Rattle.user_rules.specs.declared.relation.Relation.{Relation}
 use Rattle.verdict_merge.specs.declared.verdict.Verdict.{Verdict}
-use Rattle.verdict_merge.specs.Verdicts.{IsVerdictFrom, IsWatched, ViewsMeet}
+use Rattle.verdict_merge.specs.Verdicts.{IsVerdictFrom, ViewsMeet}
 use Rattle.verdict_merge.specs.Rounds.{AllRun, IsReady, Judging, parts_of}
 use Rattle.report.specs.declared.fault.CheckFault.{CheckFault}
 use Rattle.report.specs.declared.fault.CheckFault.TheVariants.{Memory}
 use Rattle.report.specs.Outcome.{answer_with}
 
--- all pieces may judge these records next: they have judged those before them, and views are wanted where there is a rule
-pub record MayJudge (configuration : Configuration) (relations : List Relation) (judging : Judging) (records : List Ordered) : Type 0 where
+-- all pieces may judge these records next: they have judged those before them
+pub record MayJudge (configuration : Configuration) (judging : Judging) (records : List Ordered) : Type 0 where
   pub ready : IsReady configuration judging
-  pub watched : IsWatched relations judging.watched
   pub placed : ArePlaced judging.count records
   pub cores : AreOfCores configuration.cores records
 
@@ -33,7 +32,7 @@ IsFinal verdict = (end : Result (Unit {0}) InputFault) → Ok verdict ≡ answer
 abbrev pub IsDecided : Configuration → List Relation → Judging → List Ordered → Option Verdict → Judging → Type 0
 IsDecided configuration relations old records None new =
     AllRun configuration (parts_of old) records (parts_of new) × (new.count ≡ old.count + length records)
-    × ViewsMeet configuration relations (parts_of old) records × IsReady configuration new × IsWatched relations new.watched
+    × ViewsMeet configuration relations (parts_of old) records × IsReady configuration new
 IsDecided configuration relations old records (Some verdict) new =
     ((later : List Ordered) → IsVerdictFrom configuration relations (parts_of old) old.count (records ++ later) verdict) × IsFinal verdict
 

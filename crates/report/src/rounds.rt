@@ -23,7 +23,7 @@ use std::io::Read;
 use std::mem;
 use std::sync::Wait;
 use std::thread::{Threads, join_mut};
-use user_rules::{Rule, first_broken};
+use user_rules::Rule;
 use verdict_merge::{Memory, Verdict};
 
 /// Judges all records that are ahead of the placer, in rounds of at most this many, each by so many workers. While a round is
@@ -50,7 +50,7 @@ pub fn judge_all<T: Threads + Wait + Sync, R: Read, C: Read, G: Gate + Sync, V: 
     ensures { AreHonest placer.new.lanes → (result ≡ Err CheckFault.Memory) ⊎ ((scanned : Scan) × IsAhead placer.old scanned × IsJudged config.now (relations_of rules.now) scanned result × (last.new ≡ last_of result scanned.placed)) }
 {
     last.clear();
-    let Ok(mut judge) = Judge::start(alloc, config, !rules.is_empty()) else {
+    let Ok(mut judge) = Judge::start(alloc, config) else {
         return Err(CheckFault::Memory);
     };
     let Ok(mut round) = Vec::with_capacity(alloc, size) else {
@@ -105,7 +105,7 @@ fn judge_and_fill<T: Threads + Wait + Sync, R: Read, C: Read, G: Gate + Sync>(
     next: &mut Vec<Ordered>,
     size: usize,
 ) -> (Result<Option<Verdict>, Memory>, Filled)
-    requires may { MayJudge config.now (relations_of rules.now) judge.old round.now }
+    requires may { MayJudge config.now judge.old round.now }
     requires going { placer.old.ended ≡ false }
     requires empty { next.old.items ≡ [] }
     ensures decided { IfOk result.0 (λ decided. IsDecided config.now (relations_of rules.now) judge.old round.now decided judge.new) }
@@ -118,7 +118,7 @@ fn judge_and_fill<T: Threads + Wait + Sync, R: Read, C: Read, G: Gate + Sync>(
     join_mut(
         rt,
         &mut ||
-            requires { IsSync T.row × IsSync G.row × MayJudge config.now (relations_of rules.now) judge.now round.now }
+            requires { IsSync T.row × IsSync G.row × MayJudge config.now judge.now round.now }
             ensures { IfOk result (λ decided. IsDecided config.entry.now (relations_of rules.entry.now) judge.entry.now round.entry.now decided judge.exit.now) }
         { judge_round(rt, config, judge, round, rules, workers, gate) },
         &mut ||
@@ -153,7 +153,7 @@ fn judge_last<T: Threads + Wait + Sync, G: Gate + Sync>(
     gate: &G,
     end: Result<(), InputFault>,
 ) -> Result<Verdict, CheckFault>
-    requires may { MayJudge config.now (relations_of rules.now) judge.old round.now }
+    requires may { MayJudge config.now judge.old round.now }
     ensures { IsLastAnswer config.now (relations_of rules.now) judge.old round.now end result }
 {
     if is_memory(end) {
@@ -198,12 +198,11 @@ fn judge_round<T: Threads + Wait + Sync, G: Gate + Sync>(
     workers: usize,
     gate: &G,
 ) -> Result<Option<Verdict>, Memory>
-    requires may { MayJudge config.now (relations_of rules.now) judge.old round.now }
+    requires may { MayJudge config.now judge.old round.now }
     ensures { IfOk result (λ decided. IsDecided config.now (relations_of rules.now) judge.old round.now decided judge.new) }
 {
-    let Ok(found) = judge.round(rt, config, round, workers, gate) else {
-        return Err(Memory);
-    };
-    let broken = first_broken(rt, rules, judge.views());
-    Ok(Verdict::against(round, found, broken))
+    match judge.round(rt, config, round, rules, workers, gate) {
+        Ok(found) => Ok(Verdict::against(round, found, judge.breach())),
+        Err(_) => Err(Memory),
+    }
 }

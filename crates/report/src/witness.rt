@@ -43,9 +43,9 @@ pub(crate) fn tell<V: Witness>(
             }
         }
         Ok(Verdict::Broken { pos, rule }) => {
-            let index = index_of(*pos, first);
-            if let (Some(ordered), Some(view)) = (records.get(index), judge.views().get(index)) {
-                witness.broken(ordered, view, *rule);
+            let found = records.get(index_of(*pos, first));
+            if let (Some(ordered), Some(breach)) = (found, judge.breach()) {
+                witness.broken(ordered, &breach.seen.view, *rule);
             }
         }
         _ => {}

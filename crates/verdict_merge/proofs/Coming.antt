@@ -1,5 +1,5 @@
 -- How far a piece has come among the records of a round, and what it has seen on the way.
-use Rattle.std.proofs.Common.{◌≡◌, ◌<◌, ◌+◌, ◌∙◌, ℕ, suc, List, [], ◌∷◌, ◌++◌, Bool, true, false, Some, None, length, take, drop, get_or, refl, sym, ap, subst, arith, add-one}
+use Rattle.std.proofs.Common.{◌≡◌, ◌<◌, ◌+◌, ◌∙◌, ℕ, suc, List, [], ◌∷◌, ◌++◌, true, Some, None, length, take, drop, get_or, refl, sym, ap, subst, arith, add-one}
 use Rattle.std.proofs.lemmas.List.{append-nil, length-take, take-append-drop, take_more}
 use Rattle.std.proofs.Math.Seq.{drop-cons, take-length}
 use Rattle.apex_types.specs.declared.record.Ordered.{Ordered}
@@ -13,20 +13,21 @@ use Rattle.piece_check.proofs.Reaching.{of_core_at, placed_at, reached_at, reach
 use Rattle.piece_check.proofs.Viewing.{view_of_untouched}
 use Rattle.piece_check.specs.Parts.{Holding, IsBehind, IsOf, IsPartOf, piece_at}
 use Rattle.piece_check.specs.Touching.{reached, touching}
+use Rattle.user_rules.specs.declared.relation.Relation.{Relation}
+use Rattle.verdict_merge.specs.declared.breach.Seen.{Seen}
 use Rattle.verdict_merge.specs.declared.finding.Refused.{Refused}
 use Rattle.verdict_merge.specs.declared.gone.Gone.{Gone}
-use Rattle.verdict_merge.specs.declared.gone.Seen.{Seen}
 use Rattle.verdict_merge.specs.Rounds.{HasGone, IsGoneOver}
-use Rattle.verdict_merge.specs.Views.{AreSeen, HasSeen, seen_of, wanted_of}
+use Rattle.verdict_merge.specs.Views.{AreSeen, IsFirstBreach, before_place, seen_of, up_to}
 use Rattle.verdict_merge.proofs.Between.{Keeps}
 use Rattle.verdict_merge.proofs.Going.{passes_by, steps_over}
 use Rattle.verdict_merge.proofs.Seeing.{sees_on}
 use Rattle.verdict_merge.proofs.Viewing.{before_of}
 
 -- the piece of this number has come to an index: it ran over the records before it, and has seen those of them that it judges
-pub record HasCome (configuration : Configuration) (number : ℕ) (old : Holding) (records : List Ordered) (watched : Bool) (now : Holding) (kept : List Seen) (index : ℕ) : Type 0 where
+pub record HasCome (configuration : Configuration) (number : ℕ) (old : Holding) (records : List Ordered) (now : Holding) (kept : List Seen) (index : ℕ) : Type 0 where
   pub run : PieceRun configuration (piece_at configuration number) old.part (take index records) now.part
-  pub seen : HasSeen watched configuration (piece_at configuration number) old.part (take index records) None kept
+  pub seen : AreSeen configuration (piece_at configuration number) old.part 0 (take index records) kept
   pub of_module : IsOf configuration now
   pub whose : IsPartOf (piece_at configuration number) now.part
   pub behind : (place : ℕ) → ArePlaced place records → IsBehind place old.part → IsBehind (place + index) now.part
@@ -37,77 +38,68 @@ take_on records index ordered within is =
     ap (λ n. take n records) (sym (add-one index)) ∙ take_more records index ordered within ∙ ap (λ one. take index records ++ one ∷ []) is
 
 -- what is seen where one more record is gone over
-seen_more : (watched : Bool) (configuration : Configuration) (piece : Piece) (old now next : Part) (records : List Ordered) (index : ℕ) (ordered : Ordered) (seen : List Seen)
+seen_more : (configuration : Configuration) (piece : Piece) (old now next : Part) (records : List Ordered) (index : ℕ) (ordered : Ordered) (seen : List Seen)
     → index < length records → take (suc index) records ≡ take index records ++ ordered ∷ []
     → PieceRun configuration piece old (take index records) now → Goes (touches configuration piece ordered) configuration now ordered next
-    → HasSeen watched configuration piece old (take index records) None seen
-    → HasSeen watched configuration piece old (take (suc index) records) None (seen ++ seen_of (wanted_of watched (view_in now ordered)) index)
-seen_more false configuration piece old now next records index ordered seen within more run goes none = append-nil seen ∙ none
-seen_more true configuration piece old now next records index ordered seen within more run goes are =
+    → AreSeen configuration piece old 0 (take index records) seen
+    → AreSeen configuration piece old 0 (take (suc index) records) (seen ++ seen_of (view_in now ordered) index)
+seen_more configuration piece old now next records index ordered seen within more run goes are =
     let many : 0 + length (take index records) ≡ index = omega (arith, length-take index records, within) in
     subst (λ list. AreSeen configuration piece old 0 list (seen ++ seen_of (view_in now ordered) index)) (sym more)
     (subst (λ n. AreSeen configuration piece old 0 (take index records ++ ordered ∷ []) (seen ++ seen_of (view_in now ordered) n)) many
     (sees_on configuration piece old now next 0 (take index records) ordered seen are run goes))
 
 -- a record that does not touch the piece leaves it as it is
-pub come_past : (configuration : Configuration) (number : ℕ) (old : Holding) (records : List Ordered) (watched : Bool) (now : Holding) (seen : List Seen)
-    → Keeps configuration (piece_at configuration number) 0 records (HasCome configuration number old records watched now seen)
-come_past configuration number old records watched now seen index ordered within is untouched come =
+pub come_past : (configuration : Configuration) (number : ℕ) (old : Holding) (records : List Ordered) (now : Holding) (seen : List Seen)
+    → Keeps configuration (piece_at configuration number) 0 records (HasCome configuration number old records now seen)
+come_past configuration number old records now seen index ordered within is untouched come =
     let piece = piece_at configuration number in
     let more = take_on records index ordered within is in
     let at : 0 + index ≡ index = omega arith in
-    let here : HasCome configuration number old records watched now seen index = subst (HasCome configuration number old records watched now seen) at come in
-    let none : wanted_of watched (view_in now.part ordered) ≡ None = ap (wanted_of watched) (view_of_untouched configuration piece now.part ordered here.whose untouched) ∙ none_of watched in
+    let here : HasCome configuration number old records now seen index = subst (HasCome configuration number old records now seen) at come in
+    let none : view_in now.part ordered ≡ None = view_of_untouched configuration piece now.part ordered here.whose untouched in
     let goes : Goes (touches configuration piece ordered) configuration now.part ordered now.part =
     subst (λ touched. Goes touched configuration now.part ordered now.part) (sym untouched) refl in
-    subst (HasCome configuration number old records watched now seen) (let e : suc index ≡ 0 + suc index = omega arith in e)
+    subst (HasCome configuration number old records now seen) (let e : suc index ≡ 0 + suc index = omega arith in e)
     (record {
       run = subst (λ list. PieceRun configuration piece old.part list now.part) (sym more) (passes_by configuration piece old.part now.part (take index records) ordered here.run untouched);
-      seen = subst (HasSeen watched configuration piece old.part (take (suc index) records) None) (ap (λ view. seen ++ seen_of view index) none ∙ append-nil seen)
-          (seen_more watched configuration piece old.part now.part now.part records index ordered seen within more here.run goes here.seen);
+      seen = subst (AreSeen configuration piece old.part 0 (take (suc index) records)) (ap (λ view. seen ++ seen_of view index) none ∙ append-nil seen)
+          (seen_more configuration piece old.part now.part now.part records index ordered seen within more here.run goes here.seen);
       of_module = here.of_module;
       whose = here.whose;
       behind = λ place placed above. IsBehind_later (place + index) (place + suc index) now.part (omega arith) (here.behind place placed above);
     })
-  where
-    none_of : (watched : Bool) → wanted_of watched None ≡ None
-    none_of true = refl
-    none_of false = refl
 
 -- a record that it accepts
-pub come_over : (configuration : Configuration) (number : ℕ) (old : Holding) (records : List Ordered) (watched : Bool) (now next : Holding) (seen : List Seen) (index : ℕ) (ordered : Ordered)
-    → HasCome configuration number old records watched now seen index → index < length records → get_or records index ordered ≡ ordered
+pub come_over : (configuration : Configuration) (number : ℕ) (old : Holding) (records : List Ordered) (now next : Holding) (seen : List Seen) (index : ℕ) (ordered : Ordered)
+    → HasCome configuration number old records now seen index → index < length records → get_or records index ordered ≡ ordered
     → touches configuration (piece_at configuration number) ordered ≡ true → LocalStep configuration now.part ordered next.part
     → IsOf configuration next → IsPartOf (piece_at configuration number) next.part
     → ((place : ℕ) → ArePlaced place records → IsBehind (place + suc index) next.part)
-    → HasCome configuration number old records watched next (seen ++ seen_of (wanted_of watched (view_in now.part ordered)) index) (suc index)
-come_over configuration number old records watched now next seen index ordered come within is touched step of_module whose behind =
+    → HasCome configuration number old records next (seen ++ seen_of (view_in now.part ordered) index) (suc index)
+come_over configuration number old records now next seen index ordered come within is touched step of_module whose behind =
     let piece = piece_at configuration number in
     let more = take_on records index ordered within is in
     let goes : Goes (touches configuration piece ordered) configuration now.part ordered next.part =
     subst (λ touched. Goes touched configuration now.part ordered next.part) (sym touched) step in
     record {
       run = subst (λ list. PieceRun configuration piece old.part list next.part) (sym more) (steps_over configuration piece old.part now.part next.part (take index records) ordered come.run touched step);
-      seen = seen_more watched configuration piece old.part now.part next.part records index ordered seen within more come.run goes come.seen;
+      seen = seen_more configuration piece old.part now.part next.part records index ordered seen within more come.run goes come.seen;
       of_module = of_module;
       whose = whose;
       behind = λ place placed above. behind place placed;
     }
 
 -- before the first record
-pub come_nowhere : (configuration : Configuration) (number : ℕ) (old : Holding) (records : List Ordered) (watched : Bool) → IsOf configuration old
-    → IsPartOf (piece_at configuration number) old.part → HasCome configuration number old records watched old [] 0
-come_nowhere configuration number old records watched of_module whose = record {
+pub come_nowhere : (configuration : Configuration) (number : ℕ) (old : Holding) (records : List Ordered) → IsOf configuration old
+    → IsPartOf (piece_at configuration number) old.part → HasCome configuration number old records old [] 0
+come_nowhere configuration number old records of_module whose = record {
   run = refl;
-  seen = none watched;
+  seen = refl;
   of_module = of_module;
   whose = whose;
   behind = λ place placed above. IsBehind_later place (place + 0) old.part (omega arith) above;
 }
-  where
-    none : (watched : Bool) → HasSeen watched configuration (piece_at configuration number) old.part [] None []
-    none true = refl
-    none false = refl
 
 -- where the record of a place of a piece's list stands: it is the next that touches the piece
 pub record Stands (configuration : Configuration) (number first : ℕ) (records : List Ordered) (list : List ℕ) (gone : ℕ) (ordered : Ordered) : Type 0 where
@@ -138,31 +130,25 @@ stands configuration number first records list gone ordered same one is placed c
       core = rw here (of_core_at configuration.cores index ordered records cores found.0);
     }
 
--- what was seen before a record that is refused
-seen_before : (watched : Bool) (configuration : Configuration) (piece : Piece) (old : Part) (first : ℕ) (before : List Ordered) (ordered : Ordered) (after : List Ordered) (found : Refused) (seen : List Seen)
-    → ArePlaced first (before ++ ordered ∷ after) → found.pos ≡ ordered.pos → HasSeen watched configuration piece old before None seen
-    → HasSeen watched configuration piece old (before ++ ordered ∷ after) (Some found) seen
-seen_before false configuration piece old first before ordered after found seen placed place none = none
-seen_before true configuration piece old first before ordered after found seen placed place are =
-    subst (λ list. AreSeen configuration piece old 0 list seen) (sym (before_of first before ordered after found.pos placed place)) are
-
 -- the piece refuses the record that it has come to
-pub refuses_there : (configuration : Configuration) (number first : ℕ) (records : List Ordered) (watched : Bool) (old now next : Holding) (gone : Gone) (refused : Refused) (index : ℕ) (ordered : Ordered)
-    → gone.found ≡ Some refused → HasCome configuration number old records watched now gone.seen.items index → ArePlaced first records → IsBehind first old.part
-    → index < length records → get_or records index ordered ≡ ordered → touches configuration (piece_at configuration number) ordered ≡ true
+pub refuses_there : (configuration : Configuration) (number first : ℕ) (records : List Ordered) (relations : List Relation) (old now next : Holding) (gone : Gone) (seen : List Seen) (refused : Refused) (index : ℕ)
+    (ordered : Ordered) → gone.found ≡ Some refused → HasCome configuration number old records now seen index → IsFirstBreach relations seen gone.breach → ArePlaced first records
+    → IsBehind first old.part → index < length records → get_or records index ordered ≡ ordered → touches configuration (piece_at configuration number) ordered ≡ true
     → (refused.pos ≡ ordered.pos) × (refused.piece ≡ number) × FirstFails (demands configuration now.part ordered) refused.cause × (next.part ≡ now.part)
-    → IsOf configuration next → IsGoneOver configuration number first records watched old gone next
-refuses_there configuration number first records watched old now next gone refused index ordered found come placed behind within is touched (place, whose, fails, same) of_module =
+    → IsOf configuration next → IsGoneOver configuration number first records relations old gone next
+refuses_there configuration number first records relations old now next gone seen refused index ordered found come breach placed behind within is touched (place, whose, fails, same) of_module =
     let piece = piece_at configuration number in
     let cut : drop index records ≡ ordered ∷ drop (suc index) records = subst (λ one. drop index records ≡ one ∷ drop (suc index) records) is (drop-cons records index ordered within) in
     let split : records ≡ take index records ++ ordered ∷ drop (suc index) records = sym (take-append-drop index records) ∙ ap (λ rest. take index records ++ rest) cut in
-    let seen : HasSeen watched configuration piece old.part records (Some refused) gone.seen.items =
-    subst (λ list. HasSeen watched configuration piece old.part list (Some refused) gone.seen.items) (sym split)
-    (seen_before watched configuration piece old.part first (take index records) ordered (drop (suc index) records) refused gone.seen.items (subst (ArePlaced first) split placed) place come.seen) in
+    let before : up_to gone.found records ≡ take index records =
+    ap (λ one. up_to one records) found ∙ ap (before_place refused.pos) split
+    ∙ before_of first (take index records) ordered (drop (suc index) records) refused.pos (subst (ArePlaced first) split placed) place in
     record {
       found = subst (λ one. HasGone configuration number old.part records one next.part) (sym found)
           (whose, (take index records, ordered, drop (suc index) records, split, place, (now.part, come.run, touched, fails)));
-      seen = subst (λ one. HasSeen watched configuration piece old.part records one gone.seen.items) (sym found) seen;
+      seen = seen;
+      are = subst (λ list. AreSeen configuration piece old.part 0 list seen) (sym before) come.seen;
+      breach = breach;
       going = record {
         of_module = of_module;
         whose = subst (IsPartOf piece) (sym same) come.whose;
@@ -171,22 +157,20 @@ refuses_there configuration number first records watched old now next gone refus
     }
 
 -- the piece has come behind the last record
-pub goes_through : (configuration : Configuration) (number first : ℕ) (records : List Ordered) (watched : Bool) (old now : Holding) (gone : Gone) (index : ℕ)
-    → gone.found ≡ None → HasCome configuration number old records watched now gone.seen.items index → index ≡ length records → ArePlaced first records → IsBehind first old.part
-    → IsGoneOver configuration number first records watched old gone now
-goes_through configuration number first records watched old now gone index none come all placed behind =
+pub goes_through : (configuration : Configuration) (number first : ℕ) (records : List Ordered) (relations : List Relation) (old now : Holding) (gone : Gone) (seen : List Seen) (index : ℕ)
+    → gone.found ≡ None → HasCome configuration number old records now seen index → IsFirstBreach relations seen gone.breach → index ≡ length records → ArePlaced first records
+    → IsBehind first old.part → IsGoneOver configuration number first records relations old gone now
+goes_through configuration number first records relations old now gone seen index none come breach all placed behind =
     let piece = piece_at configuration number in
     let whole : take index records ≡ records = ap (λ n. take n records) all ∙ take-length records in
     record {
       found = subst (λ one. HasGone configuration number old.part records one now.part) (sym none) (subst (λ list. PieceRun configuration piece old.part list now.part) whole come.run);
-      seen = subst (λ one. HasSeen watched configuration piece old.part records one gone.seen.items) (sym none) (seen_all watched gone.seen.items whole come.seen);
+      seen = seen;
+      are = subst (λ list. AreSeen configuration piece old.part 0 list seen) (whole ∙ sym (ap (λ one. up_to one records) none)) come.seen;
+      breach = breach;
       going = record {
         of_module = come.of_module;
         whose = come.whose;
         behind = subst (λ n. IsBehind (first + n) now.part) all (come.behind first placed behind);
       };
     }
-  where
-    seen_all : (watched : Bool) (seen : List Seen) → take index records ≡ records → HasSeen watched configuration (piece_at configuration number) old.part (take index records) None seen
-        → HasSeen watched configuration (piece_at configuration number) old.part records None seen
-    seen_all watched seen whole are = subst (λ list. HasSeen watched configuration (piece_at configuration number) old.part list None seen) whole are

@@ -17,9 +17,10 @@ use Rattle.piece_check.proofs.Viewing.{IsPartOf_step, view_is_of_judge, view_of_
 use Rattle.piece_check.specs.Parts.{IsPartOf, piece_at}
 use Rattle.verdict_merge.specs.declared.finding.Refused.{Refused}
 use Rattle.verdict_merge.specs.Rounds.{IsNo, Runs}
-use Rattle.verdict_merge.specs.Views.{slot_at, up_to}
+use Rattle.verdict_merge.specs.Views.{up_to}
 use Rattle.verdict_merge.proofs.Rounds.{runs_front}
 use Rattle.verdict_merge.proofs.Silence.{is_one, numbered}
+use Rattle.verdict_merge.proofs.Slotted.{slot_at}
 use Rattle.verdict_merge.proofs.Splits.{begins_with}
 use Rattle.verdict_merge.proofs.Verdicts.{no_at, runs_up_to}
 use Rattle.verdict_merge.proofs.Viewing.{Gives, HasFilled, before_of}

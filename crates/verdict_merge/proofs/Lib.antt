@@ -17,4 +17,5 @@ pub mod Watching
 pub mod Between
 pub mod Coming
 pub mod Working
+pub mod Breaking
 pub mod Gathered

@@ -1,8 +1,7 @@
 -- The verdict with the user's rules: there is one, what a Yes means, and how rounds follow one another.
-use Rattle.std.proofs.Common.{◌≡◌, ◌⊎◌, ◌<◌, ◌≤◌, ◌+◌, ◌∙◌, ℕ, zero, suc, List, [], ◌∷◌, ◌++◌, append_assoc, Bool, true, false, Option, Some, None, length, map, not, refl, sym, ap, subst, inl, inr, arith}
+use Rattle.std.proofs.Common.{◌≡◌, ◌⊎◌, ◌<◌, ◌≤◌, ◌+◌, ◌∙◌, ℕ, zero, suc, List, [], ◌∷◌, ◌++◌, append_assoc, Option, Some, None, length, refl, sym, ap, subst, inl, inr, arith}
 use Rattle.std.specs.List.{All}
-use Rattle.std.specs.Prelude.{IfSome, ◌==◌}
-use Rattle.std.proofs.lemmas.Bool.Decides.{nat_tests}
+use Rattle.std.specs.Prelude.{IfSome}
 use Rattle.std.proofs.lemmas.List.{append-nil, get_or_append_left, length-append}
 use Rattle.std.proofs.lemmas.List.Elements.{All-append}
 use Rattle.apex_types.specs.declared.record.Ordered.{Ordered}
@@ -24,9 +23,10 @@ use Rattle.verdict_merge.specs.declared.finding.Refused.{Refused}
 use Rattle.verdict_merge.specs.declared.survey.Survey.{Survey}
 use Rattle.verdict_merge.specs.declared.verdict.Verdict.{Verdict}
 use Rattle.verdict_merge.specs.declared.verdict.Verdict.TheVariants.{Yes, No, Broken}
-use Rattle.verdict_merge.specs.Rounds.{AllRun, AreGoing, HaveGone, IsNo, IsRound, IsSurveyed, Judging, Runs, cold_parts, parts_of}
-use Rattle.verdict_merge.specs.Verdicts.{IsBroken, IsRunWhereYes, IsVerdict, IsVerdictFrom, IsWatched, OneVerdict, ViewsMeet, against, no_of}
-use Rattle.verdict_merge.specs.Views.{AreViews, AreViewsBehind, AreWanted, before_place, up_to}
+use Rattle.verdict_merge.specs.declared.breach.Breach.{Breach}
+use Rattle.verdict_merge.specs.Rounds.{AllRun, AreGoing, HaveGone, IsNo, IsRound, IsSurveyed, IsTested, Judging, Runs, cold_parts, parts_of}
+use Rattle.verdict_merge.specs.Verdicts.{IsBroken, IsRunWhereYes, IsVerdict, IsVerdictFrom, OneVerdict, ViewsMeet, against, no_of}
+use Rattle.verdict_merge.specs.Views.{AreViews, AreViewsBehind, before_place, broken_of, up_to}
 use Rattle.verdict_merge.proofs.Giving.{HaveRun}
 use Rattle.verdict_merge.proofs.Rounds.{all_run_from, all_run_on, no_behind, no_from, no_on, runs_front, runs_on}
 use Rattle.verdict_merge.proofs.Silence.{machine_runs}
@@ -169,9 +169,9 @@ run_where_yes configuration relations records (Yes count) windows ends placed (c
 -- rounds
 
 -- a round from what all pieces made of it
-pub round_is : (configuration : Configuration) (old new : Judging) (records : List Ordered) (watched : Bool) (survey : Survey) → new.count ≡ old.count + length records
-    → IsSurveyed configuration old.count records watched old.pieces survey → survey.pieces.items ≡ new.pieces → IsRound configuration old records survey.found new
-round_is configuration old new records watched survey counted surveyed left =
+pub round_is : (configuration : Configuration) (old new : Judging) (records : List Ordered) (relations : List Relation) (survey : Survey) → new.count ≡ old.count + length records
+    → IsSurveyed configuration old.count records relations old.pieces survey → survey.pieces.items ≡ new.pieces → IsRound configuration old records survey.found new
+round_is configuration old new records relations survey counted surveyed left =
     by survey.found (subst (HaveGone configuration old.pieces records survey.found) left surveyed.gone)
   where
     by : (found : Option Refused) → HaveGone configuration old.pieces records found new.pieces → IsRound configuration old records found new
@@ -290,38 +290,21 @@ broken_here configuration relations parts count records more found views broken 
 
 -- the verdict of a round
 
--- views are wanted where there is a rule
-pub is_watched : {X : Type 0} (relation : X → Relation) (rules : List X) → IsWatched (map relation rules) (not (length rules == 0))
-is_watched relation [] = tt
-is_watched relation (rule ∷ rules) = grind (arith, nat_tests)
-
-wanted_true : (watched : Bool) (configuration : Configuration) (parts : ℕ → Part) (records : List Ordered) (found : Option Refused) (views : List View) → watched ≡ true
-    → AreWanted watched configuration parts records found views → AreViews configuration parts (up_to found records) views
-wanted_true true configuration parts records found views is wanted = wanted
-wanted_true false configuration parts records found views is wanted = absurd cc
-
--- where no view that was wanted breaks a rule, all meet every relation
-pub meet_wanted : (configuration : Configuration) (relations : List Relation) (parts : ℕ → Part) (records : List Ordered) (watched : Bool) (found : Option Refused) (views : List View)
-    → IsWatched relations watched → AreWanted watched configuration parts records found views → IsFirstBroken relations views None
-    → ViewsMeet configuration relations parts (up_to found records)
-meet_wanted configuration [] parts records watched found views is wanted meet = tt
-meet_wanted configuration (relation ∷ relations) parts records watched found views is wanted meet =
-    (views, wanted_true watched configuration parts records found views is wanted, meet)
+-- where no view breaks a rule, all meet every relation
+pub meet_tested : (configuration : Configuration) (relations : List Relation) (parts : ℕ → Part) (records : List Ordered) (found : Option Refused)
+    → IsTested configuration relations parts records found None → ViewsMeet configuration relations parts (up_to found records)
+meet_tested configuration [] parts records found tested = tt
+meet_tested configuration (relation ∷ relations) parts records found tested = (tested.views, tested.viewed, tested.first)
 
 -- the view that breaks a rule is one of the records'
-pub broken_within : (configuration : Configuration) (relations : List Relation) (parts : ℕ → Part) (records : List Ordered) (watched : Bool) (found : Option Refused) (views : List View) (broken : Option BrokenView)
-    → AreWanted watched configuration parts records found views → IsFirstBroken relations views broken → IfSome broken (λ one. one.view < length records)
-broken_within configuration relations parts records watched found views None wanted first = tt
-broken_within configuration relations parts records watched found views (Some broken) wanted first = by watched wanted
-  where
-    inside : broken.view < length views
-    inside = omega (arith, ap length first.split, length-append first.before (first.view ∷ first.after), first.counted)
-
-    by : (watched : Bool) → AreWanted watched configuration parts records found views → broken.view < length records
-    by false none = absurd (omega (arith, ap length none, inside))
-    by true viewed =
-        let front = up_to_front records found in
-        omega (arith, inside, length_viewed configuration parts [] (up_to found records) views viewed, ap length front.1, length-append (up_to found records) front.0)
+pub breach_within : (configuration : Configuration) (relations : List Relation) (parts : ℕ → Part) (records : List Ordered) (found : Option Refused) (breach : Option Breach)
+    → IsTested configuration relations parts records found breach → IfSome breach (λ one. one.seen.index < length records)
+breach_within configuration relations parts records found None tested = tt
+breach_within configuration relations parts records found (Some breach) tested =
+    let front = up_to_front records found in
+    let first = tested.first in
+    let inside : breach.seen.index < length tested.views = omega (arith, ap length first.split, length-append first.before (first.view ∷ first.after), first.counted) in
+    omega (arith, inside, length_viewed configuration parts [] (up_to found records) tested.views tested.viewed, ap length front.1, length-append (up_to found records) front.0)
 
 -- what became of all pieces in a round
 run_of_round : (configuration : Configuration) (old new : Judging) (records : List Ordered) (found : Option Refused) → IsRound configuration old records found new
@@ -330,30 +313,27 @@ run_of_round configuration old new records None is = λ number within. (parts_of
 run_of_round configuration old new records (Some found) is = is
 
 -- the verdict that ends a round stands, whatever comes behind
-pub ends_here : (configuration : Configuration) (relations : List Relation) (old new : Judging) (records more : List Ordered) (found : Option Refused) (views : List View) (broken : Option BrokenView) (verdict : Verdict)
-    → ArePlaced old.count records → IsWatched relations old.watched → IsRound configuration old records found new → AreWanted old.watched configuration (parts_of old) records found views
-    → IsFirstBroken relations views broken → against old.count found broken ≡ Some verdict → IsVerdictFrom configuration relations (parts_of old) old.count (records ++ more) verdict
-ends_here configuration [] old new records more found views (Some broken) verdict placed watched round wanted first is = absurd (no_rule_broken views broken first)
-ends_here configuration (relation ∷ relations) old new records more found views (Some broken) verdict placed watched round wanted first is =
-    let same : Broken (old.count + broken.view) broken.rule ≡ verdict = cc in
-    subst (IsVerdictFrom configuration (relation ∷ relations) (parts_of old) old.count (records ++ more)) same
-    (broken_here configuration (relation ∷ relations) (parts_of old) old.count records more found views broken placed (run_of_round configuration old new records found round)
-    (wanted_true old.watched configuration (parts_of old) records found views watched wanted) first)
-ends_here configuration relations old new records more (Some found) views None verdict placed watched round wanted first is =
+pub ends_here : (configuration : Configuration) (relations : List Relation) (old new : Judging) (records more : List Ordered) (found : Option Refused) (breach : Option Breach) (verdict : Verdict)
+    → ArePlaced old.count records → IsRound configuration old records found new → IsTested configuration relations (parts_of old) records found breach
+    → against old.count found (broken_of breach) ≡ Some verdict → IsVerdictFrom configuration relations (parts_of old) old.count (records ++ more) verdict
+ends_here configuration relations old new records more found (Some breach) verdict placed round tested is =
+    let same : Broken (old.count + breach.seen.index) breach.rule ≡ verdict = cc in
+    subst (IsVerdictFrom configuration relations (parts_of old) old.count (records ++ more)) same
+    (broken_here configuration relations (parts_of old) old.count records more found tested.views (record { view = breach.seen.index; rule = breach.rule }) placed
+    (run_of_round configuration old new records found round) tested.viewed tested.first)
+ends_here configuration relations old new records more (Some found) None verdict placed round tested is =
     let same : no_of found ≡ verdict = cc in
     subst (IsVerdictFrom configuration relations (parts_of old) old.count (records ++ more)) same
-    (no_here configuration relations (parts_of old) old.count records more found placed round (meet_wanted configuration relations (parts_of old) records old.watched (Some found) views watched wanted first))
-ends_here configuration relations old new records more None views None verdict placed watched round wanted first is = let none : ◌≡◌ {A = Option Verdict} None (Some verdict) = is in cc
+    (no_here configuration relations (parts_of old) old.count records more found placed round (meet_tested configuration relations (parts_of old) records (Some found) tested))
+ends_here configuration relations old new records more None None verdict placed round tested is = let none : ◌≡◌ {A = Option Verdict} None (Some verdict) = is in cc
 
 -- where nothing decides against a round, all pieces ran over it, and its views meet every relation
-pub goes_on_here : (configuration : Configuration) (relations : List Relation) (old new : Judging) (records : List Ordered) (found : Option Refused) (views : List View) (broken : Option BrokenView)
-    → IsWatched relations old.watched → IsRound configuration old records found new → AreWanted old.watched configuration (parts_of old) records found views
-    → IsFirstBroken relations views broken → against old.count found broken ≡ None
+pub goes_on_here : (configuration : Configuration) (relations : List Relation) (old new : Judging) (records : List Ordered) (found : Option Refused) (breach : Option Breach)
+    → IsRound configuration old records found new → IsTested configuration relations (parts_of old) records found breach → against old.count found (broken_of breach) ≡ None
     → IsRound configuration old records None new × ViewsMeet configuration relations (parts_of old) records
-goes_on_here configuration relations old new records found views (Some broken) watched round wanted first is = let some : ◌≡◌ {A = Option Verdict} (Some (Broken (old.count + broken.view) broken.rule)) None = is in cc
-goes_on_here configuration relations old new records (Some found) views None watched round wanted first is = let some : ◌≡◌ {A = Option Verdict} (Some (no_of found)) None = is in cc
-goes_on_here configuration relations old new records None views None watched round wanted first is =
-    (round, meet_wanted configuration relations (parts_of old) records old.watched None views watched wanted first)
+goes_on_here configuration relations old new records found (Some breach) round tested is = let some : ◌≡◌ {A = Option Verdict} (Some (Broken (old.count + breach.seen.index) breach.rule)) None = is in cc
+goes_on_here configuration relations old new records (Some found) None round tested is = let some : ◌≡◌ {A = Option Verdict} (Some (no_of found)) None = is in cc
+goes_on_here configuration relations old new records None None round tested is = (round, meet_tested configuration relations (parts_of old) records None tested)
 
 meet_from : (configuration : Configuration) (relations : List Relation) (one other : ℕ → Part) (records : List Ordered)
     → ((number : ℕ) → number < length (pieces configuration) → one number ≡ other number) → ViewsMeet configuration relations one records → ViewsMeet configuration relations other records

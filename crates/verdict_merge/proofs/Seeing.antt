@@ -1,13 +1,14 @@
 -- What one piece sees of the records that it runs over.
-use Rattle.std.proofs.Common.{◌≡◌, ◌+◌, ◌∙◌, ℕ, suc, List, [], ◌∷◌, ◌++◌, Bool, true, false, Option, Some, None, length, refl, sym, ap, subst, inl, inr, arith}
+use Rattle.std.proofs.Common.{◌≡◌, ◌<◌, ◌+◌, ◌∙◌, ℕ, suc, List, [], ◌∷◌, ◌++◌, Bool, true, false, Option, Some, None, length, refl, sym, ap, subst, inl, inr, arith}
 use Rattle.std.specs.Prelude.{Contains}
+use Rattle.std.proofs.lemmas.List.{length-append}
 use Rattle.apex_types.specs.declared.record.Ordered.{Ordered}
 use Rattle.apex_types.specs.declared.view.View.{View}
 use Rattle.apex_machine.specs.Configuration.{Configuration}
 use Rattle.apex_machine.specs.Pieces.{Part, Piece, touches}
 use Rattle.apex_machine.specs.Runs.{Goes, PieceRun}
 use Rattle.apex_machine.specs.Views.{view_in}
-use Rattle.verdict_merge.specs.declared.gone.Seen.{Seen}
+use Rattle.verdict_merge.specs.declared.breach.Seen.{Seen}
 use Rattle.verdict_merge.specs.Views.{AreSeen, SeesNext, seen_of}
 use Rattle.verdict_merge.proofs.Among.{contains_behind, contains_cases, contains_here, contains_none}
 
@@ -161,3 +162,10 @@ is_seen configuration piece old index (first ∷ others) seen (next, goes, sees)
       (next, subst (λ record_. Goes (touches configuration piece record_) configuration old record_ next) same goes, rest.1),
       λ view is. subst (λ n. Contains seen (record { index = n; view = view })) (let e : suc index + length before ≡ index + suc (length before) = omega arith in e) (rest.2 view is),
     )
+
+-- those that are seen are of the records that were run over
+pub seen_less : (configuration : Configuration) (piece : Piece) (old : Part) (records : List Ordered) (seen : List Seen)
+    → AreSeen configuration piece old 0 records seen → (one : Seen) → Contains seen one → one.index < length records
+seen_less configuration piece old records seen are one there =
+    let at = seen_is configuration piece old 0 records seen are one there in
+    omega (arith, at.at, ap length at.split, length-append at.before (at.ordered ∷ at.after))

@@ -1,6 +1,6 @@
 -- What all pieces together see of a round.
 use Rattle.std.proofs.Common.{◌≡◌, ◌⊎◌, ◌<◌, ◌≤◌, ◌+◌, ◌∙◌, ℕ, suc, List, [], ◌∷◌, ◌++◌, Bool, true, false, Option, Some, None, length, nat_lt, if◌then◌else◌, refl, sym, ap, subst, inl, inr, arith, append_assoc}
-use Rattle.std.specs.Prelude.{slice_get}
+use Rattle.std.specs.Prelude.{Contains, slice_get}
 use Rattle.std.proofs.lemmas.Bool.Decides.{nat_tests}
 use Rattle.std.proofs.lemmas.List.{append-nil, length-append}
 use Rattle.apex_types.specs.declared.record.Ordered.{Ordered}
@@ -11,12 +11,12 @@ use Rattle.apex_machine.specs.Runs.{ArePlaced, PieceRun}
 use Rattle.apex_machine.specs.Views.{judge, view_in}
 use Rattle.piece_check.specs.Parts.{piece_at}
 use Rattle.verdict_merge.specs.declared.finding.Refused.{Refused}
-use Rattle.verdict_merge.specs.declared.gone.Seen.{Seen}
+use Rattle.verdict_merge.specs.declared.breach.Seen.{Seen}
 use Rattle.verdict_merge.specs.Rounds.{HasGone, Runs}
-use Rattle.verdict_merge.specs.Views.{AreSeen, AreViewsBehind, HaveSlots, IsViewOf, before_place, put_in, slot_at, up_to}
+use Rattle.verdict_merge.specs.Views.{AreSeen, AreViewsBehind, IsViewOf, before_place, up_to}
 use Rattle.verdict_merge.proofs.Rounds.{runs_front}
 use Rattle.verdict_merge.proofs.Seeing.{is_seen, seen_is}
-use Rattle.verdict_merge.proofs.Slotted.{put_in_from, put_in_stays, put_in_there}
+use Rattle.verdict_merge.proofs.Slotted.{HaveSlots, put_in, put_in_from, put_in_stays, put_in_there, slot_at}
 use Rattle.verdict_merge.proofs.Splits.{begins, begins_with, place_behind}
 use Rattle.verdict_merge.proofs.Verdicts.{order_of, runs_and_refuses}
 
@@ -100,6 +100,30 @@ seen_have_slots configuration parts number records found seen slots whole are = 
       length-append at.before (at.ordered ∷ at.after),
     )
 
+-- what a piece has seen is the view of the record that stands there
+pub view_there : (configuration : Configuration) (parts : ℕ → Part) (number : ℕ) (records : List Ordered) (found : Option Refused) (seen : List Seen) (one : Seen)
+    → number < length (pieces configuration) → Gives configuration parts number
+    → AreSeen configuration (piece_at configuration number) (parts number) 0 (up_to found records) seen → Contains seen one
+    → (before : List Ordered) (ordered : Ordered) (after : List Ordered) → records ≡ before ++ ordered ∷ after → one.index ≡ length before
+    → IsViewOf configuration parts before ordered one.view
+view_there configuration parts number records found seen one within gives are among before ordered after split at =
+    let stands = seen_is configuration (piece_at configuration number) (parts number) 0 (up_to found records) seen are one among in
+    let front = up_to_front records found in
+    let also : records ≡ stands.before ++ stands.ordered ∷ (stands.after ++ front.0) =
+    front.1 ∙ ap (λ list. list ++ front.0) stands.split ∙ append_assoc stands.before (stands.ordered ∷ stands.after) front.0 in
+    let alike = one_split stands.before stands.ordered (stands.after ++ front.0) before ordered after (sym also ∙ split) (omega (arith, at, stands.at)) in
+    let seen_here : view_in stands.reached ordered ≡ Some one.view = ap (view_in stands.reached) (sym alike.1) ∙ stands.view in
+    let run_here : PieceRun configuration (piece_at configuration number) (parts number) before stands.reached =
+    subst (λ list. PieceRun configuration (piece_at configuration number) (parts number) list stands.reached) alike.0 stands.run in
+    record {
+      number = number;
+      within = within;
+      judges = gives.only before ordered stands.reached one.view run_here seen_here;
+      reached = stands.reached;
+      run = run_here;
+      seen = seen_here;
+    }
+
 -- what one more piece has seen is put in
 pub sound_more : (configuration : Configuration) (parts : ℕ → Part) (number : ℕ) (records : List Ordered) (found : Option Refused) (seen : List Seen) (slots : List (Option View))
     → number < length (pieces configuration) → Gives configuration parts number → length slots ≡ length records
@@ -109,22 +133,7 @@ sound_more configuration parts number records found seen slots within gives whol
     elim (put_in_from seen slots (length before) view (seen_have_slots configuration parts number records found seen slots whole are) held) [
       | inl there ↦ sound view before ordered after split there
       | inr (one, among, at, same) ↦
-          let stands = seen_is configuration (piece_at configuration number) (parts number) 0 (up_to found records) seen are one among in
-          let front = up_to_front records found in
-          let also : records ≡ stands.before ++ stands.ordered ∷ (stands.after ++ front.0) =
-          front.1 ∙ ap (λ list. list ++ front.0) stands.split ∙ append_assoc stands.before (stands.ordered ∷ stands.after) front.0 in
-          let alike = one_split stands.before stands.ordered (stands.after ++ front.0) before ordered after (sym also ∙ split) (omega (arith, at, stands.at)) in
-          let seen_here : view_in stands.reached ordered ≡ Some view = ap (view_in stands.reached) (sym alike.1) ∙ stands.view ∙ ap Some same in
-          let run_here : PieceRun configuration (piece_at configuration number) (parts number) before stands.reached =
-          subst (λ list. PieceRun configuration (piece_at configuration number) (parts number) list stands.reached) alike.0 stands.run in
-          record {
-            number = number;
-            within = within;
-            judges = gives.only before ordered stands.reached view run_here seen_here;
-            reached = stands.reached;
-            run = run_here;
-            seen = seen_here;
-          }
+          subst (IsViewOf configuration parts before ordered) same (view_there configuration parts number records found seen one within gives are among before ordered after split at)
     ]
 
 -- slots that were filled stay so

@@ -1,5 +1,5 @@
 -- What all pieces make of the next records.
-use Rattle.std.specs.Prelude.{◌≡◌, ◌<◌, ◌+◌, Bool, false, ℕ, zero, suc, List, [], ◌∷◌, ◌++◌, Option, Some, None, length, map, slice_index_or}
+use Rattle.std.specs.Prelude.{◌≡◌, ◌<◌, ◌+◌, false, ℕ, zero, suc, List, [], ◌∷◌, ◌++◌, Option, Some, None, length, map, slice_index_or}
 use Rattle.apex_types.specs.declared.cause.Cause.{Cause}
 use Rattle.apex_types.specs.declared.record.Ordered.{Ordered}
 use Rattle.apex_machine.specs.Configuration.{Configuration}
@@ -7,19 +7,19 @@ use Rattle.apex_machine.specs.Demands.{FirstFails, LocalStep, demands}
 use Rattle.apex_machine.specs.Pieces.{ModulePart, Part, Piece, part, pieces}
 use Rattle.apex_machine.specs.Runs.{PieceRun, Refuses}
 use Rattle.apex_machine.specs.State.{cold_state}
-use Rattle.apex_machine.specs.Views.{view_in}
 use Rattle.piece_check.specs.declared.fault.PieceFault.{PieceFault}
 use Rattle.piece_check.specs.Parts.{Holding, IsBehind, IsOf, IsPartOf, piece_at}
 use Rattle.apex_types.specs.declared.view.View.{View}
+use Rattle.user_rules.specs.declared.relation.Relation.{Relation}
+use Rattle.user_rules.specs.FirstBroken.{IsFirstBroken}
+use Rattle.verdict_merge.specs.declared.breach.Breach.{Breach}
+use Rattle.verdict_merge.specs.declared.breach.Seen.{Seen}
 use Rattle.verdict_merge.specs.declared.finding.Refused.{Refused}
 use Rattle.verdict_merge.specs.declared.gone.Gone.{Gone}
-use Rattle.verdict_merge.specs.declared.gone.Judgement.{Judgement}
-use Rattle.verdict_merge.specs.declared.gone.Judgement.TheVariants.{Accepted}
-use Rattle.verdict_merge.specs.declared.gone.Judgement.TheVariants as judgement
 use Rattle.verdict_merge.specs.Findings.{refusal_of}
 use Rattle.verdict_merge.specs.declared.survey.Survey.{Survey}
 use Rattle.verdict_merge.specs.declared.judged.Judged.{Judged}
-use Rattle.verdict_merge.specs.Views.{AreWanted, HasSeen, wanted_of}
+use Rattle.verdict_merge.specs.Views.{AreSeen, AreViews, IsFirstBreach, broken_of, up_to}
 
 -- the parts of all pieces by their numbers, as they are before the first record
 abbrev pub cold_parts : Configuration → ℕ → Part
@@ -67,35 +67,35 @@ pub record IsGoing (configuration : Configuration) (number place : ℕ) (holding
   pub whose : IsPartOf (piece_at configuration number) holding.part
   pub behind : IsBehind place holding.part
 
--- what the piece of this number made of a record that touches it: its step, with the view that was wanted; or the first demand that
--- fails, which leaves its part
-abbrev pub HasJudged : Configuration → ℕ → Bool → Ordered → Holding → Judgement → Holding → Type 0
-HasJudged configuration number watched ordered old (Accepted view) new =
-    LocalStep configuration old.part ordered new.part × (view ≡ wanted_of watched (view_in old.part ordered)) × IsBehind (ordered.pos + 1) new.part
-HasJudged configuration number watched ordered old (judgement.Refused refused) new =
+-- what the piece of this number made of a record that touches it: its step; or a refusal with the first demand that fails, which leaves
+-- its part
+abbrev pub HasJudged : Configuration → ℕ → Ordered → Holding → Option Refused → Holding → Type 0
+HasJudged configuration number ordered old None new = LocalStep configuration old.part ordered new.part × IsBehind (ordered.pos + 1) new.part
+HasJudged configuration number ordered old (Some refused) new =
     (refused.pos ≡ ordered.pos) × (refused.piece ≡ number) × FirstFails (demands configuration old.part ordered) refused.cause × (new.part ≡ old.part)
 
 -- the refusal that a fault of the piece of this number is
-abbrev pub IsRefusal : PieceFault → ℕ → Judgement → Type 0
-IsRefusal fault number (Accepted view) = ⊥
-IsRefusal fault number (judgement.Refused refused) = refusal_of fault number ≡ Some refused
+abbrev pub IsRefusal : PieceFault → ℕ → Option Refused → Type 0
+IsRefusal fault number None = ⊥
+IsRefusal fault number (Some refused) = refusal_of fault number ≡ Some refused
 
--- the piece of this number went over records from this place on: what became of it, and what it has seen; it may go over those behind
--- them
-pub record IsGoneOver (configuration : Configuration) (number first : ℕ) (records : List Ordered) (watched : Bool) (old : Holding) (gone : Gone) (new : Holding) : Type 0 where
+-- the piece of this number went over records from this place on: what became of it, what it has seen up to its refusal, and the first
+-- of that which breaks a rule; it may go over those behind them
+pub record IsGoneOver (configuration : Configuration) (number first : ℕ) (records : List Ordered) (relations : List Relation) (old : Holding) (gone : Gone) (new : Holding) : Type 0 where
   pub found : HasGone configuration number old.part records gone.found new.part
-  pub seen : HasSeen watched configuration (piece_at configuration number) old.part records gone.found gone.seen.items
+  pub seen : List Seen
+  pub are : AreSeen configuration (piece_at configuration number) old.part 0 (up_to gone.found records) seen
+  pub breach : IsFirstBreach relations seen gone.breach
   pub going : IsGoing configuration number (first + length records) new
 
 -- all pieces together
 
--- what callers see of the pieces: how many records they have judged, each piece by its number, whether views are wanted, and those
--- of the last round
+-- what callers see of the pieces: how many records they have judged, each piece by its number, and the breach of a rule in the last
+-- round
 pub record Judging : Type 0 where
   pub count : ℕ
   pub pieces : List Holding
-  pub watched : Bool
-  pub views : List View
+  pub breach : Option Breach
 
 -- a piece by its number
 abbrev pub holding_at : List Holding → ℕ → Holding
@@ -122,20 +122,26 @@ HaveGone configuration old records None new = AllRun configuration (parts_in old
 HaveGone configuration old records (Some found) new = IsNo configuration (parts_in old) records found
 
 -- each of these pieces went over records from this place on; one for each stands at its number
-pub record AreGoneOver (configuration : Configuration) (first : ℕ) (records : List Ordered) (watched : Bool) (old : List Holding) (judged : List Judged) : Type 0 where
+pub record AreGoneOver (configuration : Configuration) (first : ℕ) (records : List Ordered) (relations : List Relation) (old : List Holding) (judged : List Judged) : Type 0 where
   pub whole : length judged ≡ length old
   pub each : (number : ℕ) → number < length old → (one : Judged) → one ≡ slice_index_or judged number one
-      → IsGoneOver configuration number first records watched (holding_at old number) one.gone one.piece
+      → IsGoneOver configuration number first records relations (holding_at old number) one.gone one.piece
 
 -- the pieces, as they were left
 abbrev pub pieces_in : List Judged → List Holding
 pieces_in judged = map (λ one. one.piece) judged
 
--- all pieces went over records from this place on: what became of them, and the views that were wanted; they may go over those
+-- the views of the records before the one that is refused, of which this one is the first that breaks a rule
+pub record IsTested (configuration : Configuration) (relations : List Relation) (parts : ℕ → Part) (records : List Ordered) (found : Option Refused) (breach : Option Breach) : Type 0 where
+  pub views : List View
+  pub viewed : AreViews configuration parts (up_to found records) views
+  pub first : IsFirstBroken relations views (broken_of breach)
+
+-- all pieces went over records from this place on: what became of them, and the first view that breaks a rule; they may go over those
 -- behind them
-pub record IsSurveyed (configuration : Configuration) (first : ℕ) (records : List Ordered) (watched : Bool) (old : List Holding) (survey : Survey) : Type 0 where
+pub record IsSurveyed (configuration : Configuration) (first : ℕ) (records : List Ordered) (relations : List Relation) (old : List Holding) (survey : Survey) : Type 0 where
   pub gone : HaveGone configuration old records survey.found survey.pieces.items
-  pub viewed : AreWanted watched configuration (parts_in old) records survey.found survey.views.items
+  pub tested : IsTested configuration relations (parts_in old) records survey.found survey.breach
   pub going : AreGoing configuration (first + length records) survey.pieces.items
 
 -- all pieces are there, and may go over the records behind those that they have judged

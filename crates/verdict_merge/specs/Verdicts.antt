@@ -1,5 +1,5 @@
 -- The verdict over one order of records.
-use Rattle.std.specs.Prelude.{◌≡◌, ◌↔◌, ◌<◌, ◌+◌, ℕ, suc, List, [], ◌∷◌, ◌++◌, Bool, true, Option, Some, None, length}
+use Rattle.std.specs.Prelude.{◌≡◌, ◌↔◌, ◌<◌, ◌+◌, ℕ, suc, List, [], ◌∷◌, ◌++◌, Option, Some, None, length}
 use Rattle.std.specs.List.{All}
 use Rattle.apex_types.specs.declared.record.Ordered.{Ordered}
 use Rattle.apex_types.specs.declared.view.View.{View}
@@ -22,11 +22,6 @@ use Rattle.verdict_merge.specs.Views.{AreViews}
 -- the No of a refusal
 abbrev pub no_of : Refused → Verdict
 no_of found = No found.pos found.piece found.cause
-
--- views are wanted where there is a rule
-abbrev pub IsWatched : List Relation → Bool → Type 0
-IsWatched [] watched = Unit {0}
-IsWatched (relation ∷ relations) watched = watched ≡ true
 
 -- each view of these records meets every relation; where there is no relation nothing is said
 abbrev pub ViewsMeet : Configuration → List Relation → (ℕ → Part) → List Ordered → Type 0

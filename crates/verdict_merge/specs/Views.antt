@@ -1,5 +1,6 @@
--- The views of the records that the pieces go over.
-use Rattle.std.specs.Prelude.{◌≡◌, ◌<◌, ◌-◌, ℕ, suc, List, [], ◌∷◌, ◌++◌, Bool, Contains, true, false, Option, Some, None, length, nat_lt, if◌then◌else◌, slice_index_or, slice_set}
+-- The views of the records that the pieces go over, and the first that breaks a rule.
+use Rattle.std.specs.Prelude.{◌≡◌, ◌<◌, ◌-◌, ℕ, suc, List, [], ◌∷◌, ◌++◌, Contains, Option, Some, None, length, nat_lt, if◌then◌else◌}
+use Rattle.std.specs.Option.{option_map}
 use Rattle.apex_types.specs.declared.record.Ordered.{Ordered}
 use Rattle.apex_types.specs.declared.view.View.{View}
 use Rattle.apex_machine.specs.Configuration.{Configuration}
@@ -7,14 +8,14 @@ use Rattle.apex_machine.specs.Pieces.{Part, Piece, pieces, touches}
 use Rattle.apex_machine.specs.Runs.{Goes, PieceRun}
 use Rattle.apex_machine.specs.Views.{judge, view_in}
 use Rattle.piece_check.specs.Parts.{piece_at}
+use Rattle.user_rules.specs.declared.broken.Broken.{Broken}
+use Rattle.user_rules.specs.declared.relation.Relation.{Relation}
+use Rattle.user_rules.specs.FirstBroken.{IsFirstRuleBroken, MeetsAll}
+use Rattle.verdict_merge.specs.declared.breach.Breach.{Breach}
+use Rattle.verdict_merge.specs.declared.breach.Seen.{Seen}
 use Rattle.verdict_merge.specs.declared.finding.Refused.{Refused}
-use Rattle.verdict_merge.specs.declared.gone.Seen.{Seen}
 
 -- what a piece sees
-
--- a view, where views are wanted
-abbrev pub wanted_of : Bool → Option View → Option View
-wanted_of watched view = if watched then view else None
 
 -- what is seen of one record, whose index this is
 abbrev pub seen_of : Option View → ℕ → List Seen
@@ -43,27 +44,46 @@ abbrev pub up_to : Option Refused → List Ordered → List Ordered
 up_to None records = records
 up_to (Some found) records = before_place found.pos records
 
--- what a piece has seen of records among which it may have refused one; nothing where no views are wanted
-abbrev pub HasSeen : Bool → Configuration → Piece → Part → List Ordered → Option Refused → List Seen → Type 0
-HasSeen false configuration piece old records found seen = seen ≡ []
-HasSeen true configuration piece old records found seen = AreSeen configuration piece old 0 (up_to found records) seen
+-- how many records, of which the first stands at this place, come before the one that is refused
+abbrev pub count_before : ℕ → List Ordered → Option Refused → ℕ
+count_before first records None = length records
+count_before first records (Some found) = found.pos - first
 
--- the views of a round in the slots of their records, once these have been put there
-abbrev pub put_in : List Seen → List (Option View) → List (Option View)
-put_in [] slots = slots
-put_in (one ∷ others) slots = put_in others (slice_set slots one.index (Some one.view))
+-- what breaks a rule
 
--- a slot for each of so many records; none where no views are wanted
-abbrev pub slot_count : Bool → ℕ → ℕ
-slot_count watched count = if watched then count else 0
+-- the first of those seen that breaks a rule, and the first rule that it breaks; none where each meets every rule
+abbrev pub IsFirstBreach : List Relation → List Seen → Option Breach → Type 0
+IsFirstBreach relations seen None = (one : Seen) → Contains seen one → MeetsAll relations one.view
+IsFirstBreach relations seen (Some breach) =
+    Contains seen breach.seen
+    × ((one : Seen) → Contains seen one → one.index < breach.seen.index → MeetsAll relations one.view)
+    × IsFirstRuleBroken relations breach.seen.view breach.rule
 
--- each of those seen has a slot
-abbrev pub HaveSlots : List Seen → List (Option View) → Type 0
-HaveSlots seen slots = (one : Seen) → Contains seen one → one.index < length slots
+-- the breach so far, or else the next one
+abbrev pub first_some : Option Breach → Option Breach → Option Breach
+first_some None next = next
+first_some (Some breach) next = Some breach
 
--- the view in the slot of this index, if there is one
-abbrev pub slot_at : List (Option View) → ℕ → Option View
-slot_at slots index = slice_index_or slots index None
+-- the breach once a record is judged, whose index this is: that so far, or else that of the view that is given of it; where the record is
+-- refused it is as it was
+abbrev pub HasTested : List Relation → Option View → ℕ → Option Refused → Option Breach → Option Breach → Type 0
+HasTested relations given index None old new = (next : Option Breach) × IsFirstBreach relations (seen_of given index) next × (new ≡ first_some old next)
+HasTested relations given index (Some refused) old new = new ≡ old
+
+-- of two breaches the one of the record that comes first
+abbrev pub earlier : Option Breach → Option Breach → Option Breach
+earlier None other = other
+earlier (Some one) None = Some one
+earlier (Some one) (Some other) = if nat_lt other.seen.index one.seen.index then Some other else Some one
+
+-- the breach where it is among so many of the first records
+abbrev pub breach_before : ℕ → Option Breach → Option Breach
+breach_before count None = None
+breach_before count (Some breach) = if nat_lt breach.seen.index count then Some breach else None
+
+-- which view of the records is broken, and which rule
+abbrev pub broken_of : Option Breach → Option Broken
+broken_of breach = option_map (λ one. record { view = one.seen.index; rule = one.rule }) breach
 
 -- the views of all records
 
@@ -86,14 +106,3 @@ AreViewsBehind configuration parts before (ordered ∷ others) views =
 -- these are the views of the next records, one for each in their order
 abbrev pub AreViews : Configuration → (ℕ → Part) → List Ordered → List View → Type 0
 AreViews configuration parts records views = AreViewsBehind configuration parts [] records views
-
--- how many views are wanted of records of which the first stands at this place
-abbrev pub wanted_count : Bool → ℕ → List Ordered → Option Refused → ℕ
-wanted_count false first records found = 0
-wanted_count true first records None = length records
-wanted_count true first records (Some found) = found.pos - first
-
--- the views that were wanted of records among which one may have been refused: those of the records before it
-abbrev pub AreWanted : Bool → Configuration → (ℕ → Part) → List Ordered → Option Refused → List View → Type 0
-AreWanted false configuration parts records found views = views ≡ []
-AreWanted true configuration parts records found views = AreViews configuration parts (up_to found records) views

@@ -3,12 +3,14 @@
 ghost use Rattle.std.specs.Prelude.{◌<◌, IfOk, length};
 ghost use Rattle.apex_machine.specs.Pieces.{pieces};
 ghost use Rattle.apex_machine.specs.Runs.{ArePlaced, AreOfCores};
+ghost use Rattle.user_rules.specs.Rules.{relations_of};
 ghost use Rattle.verdict_merge.specs.Rounds.{AreGoing, AreGoneOver, IsGoing, IsGoneOver};
 
 use crate::fault::Memory;
 use crate::gone::{Gone, Lent, go_over};
 use piece_check::Piece;
 use std::alloc::Global;
+use user_rules::Rule;
 
 /// A piece that went over the records of a round: as it was left, and what became of it.
 #[derive(Drop)]
@@ -17,12 +19,13 @@ pub struct Judged {
     pub gone: Gone,
 }
 
-/// The piece of this number goes over the records of the round that touch it, up to its first refusal.
+/// The piece of this number goes over the records of the round that touch it, up to its first refusal, and its views are tested
+/// by the rules.
 ///
 /// Memory where a growth was refused; the piece is then given up.
 pub fn judge_piece(
-    alloc: Global,
     lent: &Lent,
+    rules: &[Rule],
     number: usize,
     mut piece: Piece,
 ) -> Result<Judged, Memory>
@@ -30,28 +33,34 @@ pub fn judge_piece(
     requires going { IsGoing lent.now.config.now number lent.now.first piece }
     requires placed { ArePlaced lent.now.first lent.now.records.now }
     requires cores { AreOfCores lent.now.config.now.cores lent.now.records.now }
-    ensures { IfOk result (λ one. IsGoneOver lent.now.config.now number lent.now.first lent.now.records.now lent.now.watched piece one.gone one.piece) }
+    ensures { IfOk result (λ one. IsGoneOver lent.now.config.now number lent.now.first lent.now.records.now (relations_of rules.now) piece one.gone one.piece) }
 {
-    match go_over(alloc, lent, number, &mut piece) {
+    match go_over(lent, rules, number, &mut piece) {
         Ok(gone) => Ok(Judged { piece, gone }),
         Err(memory) => Err(memory),
     }
 }
 
-/// Each piece goes over the records that touch it, one after another; one answer for each, in order of number.
+/// Each piece goes over the records that touch it, one after another, and its views are tested by the rules; one answer for each,
+/// in order of number.
 ///
 /// Memory where a growth was refused; the pieces are then given up.
-pub fn judge_in_turn(alloc: Global, lent: &Lent, pieces: Vec<Piece>) -> Result<Vec<Judged>, Memory>
+pub fn judge_in_turn(
+    alloc: Global,
+    lent: &Lent,
+    rules: &[Rule],
+    pieces: Vec<Piece>,
+) -> Result<Vec<Judged>, Memory>
     requires going { AreGoing lent.now.config.now lent.now.first pieces.items }
     requires placed { ArePlaced lent.now.first lent.now.records.now }
     requires cores { AreOfCores lent.now.config.now.cores lent.now.records.now }
-    ensures { IfOk result (λ judged. AreGoneOver lent.now.config.now lent.now.first lent.now.records.now lent.now.watched pieces.items judged.items) }
+    ensures { IfOk result (λ judged. AreGoneOver lent.now.config.now lent.now.first lent.now.records.now (relations_of rules.now) pieces.items judged.items) }
 {
     let Ok(mut judged) = Vec::with_capacity(alloc, pieces.len()) else {
         return Err(Memory);
     };
     'pieces: for piece in pieces {
-        match judge_piece(alloc, lent, judged.len(), piece) {
+        match judge_piece(lent, rules, judged.len(), piece) {
             Ok(one) => judged.push_reserved(one),
             Err(memory) => return Err(memory),
         }

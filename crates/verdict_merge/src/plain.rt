@@ -19,7 +19,7 @@ use apex_types::Ordered;
 use module_config::Config;
 use piece_check::Touched;
 use std::alloc::Global;
-use user_rules::{Rule, first_broken_in_turn};
+use user_rules::Rule;
 
 /// The verdict over the records in this order. It is Yes where each piece makes its local steps over all of them and each view
 /// meets every rule; else what comes first, the least refusal of the pieces or a view before it that breaks a rule. The
@@ -43,9 +43,8 @@ pub fn check_plain(
     ensures no { IfOk result (IsRunUpToNo config.now (relations_of rules.now) records.now) }
 {
     config.keeps_limits();
-    let surveyed = survey_all(alloc, config, records, !rules.is_empty())?;
-    let broken = first_broken_in_turn(rules, &surveyed.views);
-    match Verdict::against(records, surveyed.found, broken) {
+    let surveyed = survey_all(alloc, config, records, rules)?;
+    match Verdict::against(records, surveyed.found, surveyed.breach) {
         Some(verdict) => Ok(verdict),
         None => Ok(Verdict::Yes {
             records: records.len() as u64,
@@ -58,11 +57,11 @@ fn survey_all(
     alloc: Global,
     config: &Config,
     records: &[Ordered],
-    watched: bool,
+    rules: &[Rule],
 ) -> Result<Survey, Memory>
     requires placed { ArePlaced 0 records.now }
     requires cores { AreOfCores config.now.cores records.now }
-    ensures { IfOk result (λ survey. (cold : List Holding) × ((number : ℕ) → number < length (pieces config.now) → parts_in cold number ≡ cold_parts config.now number) × IsSurveyed config.now 0 records.now watched cold survey) }
+    ensures { IfOk result (λ survey. (cold : List Holding) × ((number : ℕ) → number < length (pieces config.now) → parts_in cold number ≡ cold_parts config.now number) × IsSurveyed config.now 0 records.now (relations_of rules.now) cold survey) }
 {
     let pieces = start_pieces(alloc, config)?;
     let Ok(mut touched) = Touched::new(alloc) else {
@@ -71,7 +70,7 @@ fn survey_all(
     if touched.sort_out(config, records).is_err() {
         return Err(Memory);
     }
-    let lent = Lent::new(config, 0, records, &touched, watched);
-    let judged = judge_in_turn(alloc, &lent, pieces)?;
+    let lent = Lent::new(config, 0, records, &touched);
+    let judged = judge_in_turn(alloc, &lent, rules, pieces)?;
     gather_round(alloc, &lent, judged)
 }

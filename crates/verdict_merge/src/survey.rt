@@ -3,14 +3,15 @@
 ghost use Rattle.std.specs.Prelude.{◌≡◌, List, IfOk};
 ghost use Rattle.apex_machine.specs.Runs.{ArePlaced, AreOfCores};
 ghost use Rattle.piece_check.specs.Parts.{Holding};
+ghost use Rattle.user_rules.specs.declared.relation.Relation.{Relation};
 ghost use Rattle.verdict_merge.specs.Rounds.{AreGoing, AreGoneOver, IsSurveyed, pieces_in};
 
+use crate::breach::Breach;
 use crate::fault::Memory;
 use crate::finding::Refused;
 use crate::gathering::Gathering;
 use crate::gone::Lent;
 use crate::judged::Judged;
-use apex_types::View;
 use piece_check::Piece;
 use std::alloc::Global;
 
@@ -19,8 +20,8 @@ use std::alloc::Global;
 pub struct Survey {
     /// The least refusal, if a piece refused a record.
     pub found: Option<Refused>,
-    /// The views of the records, one for each in their order, up to the one that was refused; none where none are wanted.
-    pub views: Vec<View>,
+    /// The first view that breaks a rule, of the records up to the one that was refused.
+    pub breach: Option<Breach>,
     /// The pieces, as they were left.
     pub pieces: Vec<Piece>,
 }
@@ -29,25 +30,21 @@ pub struct Survey {
 ///
 /// Memory where a growth was refused.
 pub fn gather_round(alloc: Global, lent: &Lent, judged: Vec<Judged>) -> Result<Survey, Memory>
-    requires gone { (old : List Holding) × AreGoing lent.now.config.now lent.now.first old × AreGoneOver lent.now.config.now lent.now.first lent.now.records.now lent.now.watched old judged.items }
+    requires gone { (relations : List Relation) × (old : List Holding) × AreGoing lent.now.config.now lent.now.first old × AreGoneOver lent.now.config.now lent.now.first lent.now.records.now relations old judged.items }
     requires placed { ArePlaced lent.now.first lent.now.records.now }
     requires cores { AreOfCores lent.now.config.now.cores lent.now.records.now }
-    ensures { (old : List Holding) → AreGoing lent.now.config.now lent.now.first old → AreGoneOver lent.now.config.now lent.now.first lent.now.records.now lent.now.watched old judged.items → IfOk result (IsSurveyed lent.now.config.now lent.now.first lent.now.records.now lent.now.watched old) }
+    ensures { (relations : List Relation) (old : List Holding) → AreGoing lent.now.config.now lent.now.first old → AreGoneOver lent.now.config.now lent.now.first lent.now.records.now relations old judged.items → IfOk result (IsSurveyed lent.now.config.now lent.now.first lent.now.records.now relations old) }
 {
-    let Ok(mut gathering) = Gathering::new(alloc, lent.watched, lent.records.len()) else {
-        return Err(Memory);
-    };
+    let mut gathering = Gathering::new();
     'pieces: for number in 0..judged.len() {
         gathering.take_in(&judged[number].gone);
     }
-    let Ok(views) = gathering.views(alloc, lent.watched, lent.first, lent.records) else {
-        return Err(Memory);
-    };
+    let breach = gathering.breach_in(lent.first, lent.records);
     let found = gathering.found;
     match pieces_left(alloc, judged) {
         Ok(pieces) => Ok(Survey {
             found,
-            views,
+            breach,
             pieces,
         }),
         Err(memory) => Err(memory),

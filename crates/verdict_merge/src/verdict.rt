@@ -3,10 +3,11 @@
 ghost use Rattle.std.specs.Prelude.{◌≡◌, ◌<◌, ℕ, IfSome, length};
 ghost use Rattle.apex_machine.specs.Runs.{ArePlaced};
 ghost use Rattle.verdict_merge.specs.Verdicts.{against, no_of};
+ghost use Rattle.verdict_merge.specs.Views.{broken_of};
 
+use crate::breach::Breach;
 use crate::finding::Refused;
 use apex_types::{Cause, Ordered, Place};
-use user_rules::Broken;
 
 /// The verdict over a recording.
 #[derive(Clone, Copy, Debug, PartialEq, Eq)]
@@ -40,19 +41,19 @@ impl Verdict {
         }
     }
 
-    /// What decides against a recording in a round: the rule that a view breaks, since a view is looked at only where it stands
-    /// before the record that is refused; else the refusal, if there is one.
+    /// What decides against a recording in a round: the rule that a view breaks, since only a view before the record that is refused
+    /// counts; else the refusal, if there is one.
     pub fn against(
         records: &[Ordered],
         found: Option<Refused>,
-        broken: Option<Broken>,
+        breach: Option<Breach>,
     ) -> Option<Verdict>
-        requires { IfSome broken (λ one. one.view < length records.now) }
-        ensures { (first : ℕ) → ArePlaced first records.now → result ≡ against first found broken }
+        requires { IfSome breach (λ one. one.seen.index < length records.now) }
+        ensures { (first : ℕ) → ArePlaced first records.now → result ≡ against first found (broken_of breach) }
     {
-        if let Some(one) = broken {
+        if let Some(one) = breach {
             return Some(Verdict::Broken {
-                pos: records[one.view].pos,
+                pos: records[one.seen.index].pos,
                 rule: one.rule,
             });
         }

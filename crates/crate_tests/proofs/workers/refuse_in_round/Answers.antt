@@ -1,4 +1,4 @@
-use Rattle.std.proofs.Common.{◌∙◌, sym, ap, arith}
+use Rattle.std.proofs.Common.{◌∙◌, [], sym, ap, arith}
 use Rattle.partition_workers.specs.Contents.{content_of}
 use Rattle.partition_workers.proofs.Going.{all_going, same_parts}
 use Rattle.crate_tests.proofs.workers.refuse_in_round.Goals as goal
@@ -7,7 +7,7 @@ pub refuse_all-requires-clause-other_named : goal.refuse_all-requires-clause-oth
 refuse_all-requires-clause-other_named c =
     let one = c.in-Ok-started.ensures in
     let other = c.in-Ok-started-2.ensures in
-    ap (content_of c.lend-lent.result)
+    ap (content_of c.lend-lent.result [])
     (same_parts c.in-Ok-started-2.others.items c.in-Ok-started.pieces.items (other.going.whole ∙ sym one.going.whole)
     (λ number within. other.cold number (omega (arith, within, other.going.whole)) ∙ sym (one.cold number (omega (arith, within, other.going.whole)))))
 

@@ -70,7 +70,6 @@ rounds-preserved g c =
     rw c.swap.ensures.x_after record {
       may = record {
         ready = decided.3;
-        watched = decided.4;
         placed = subst (λ place. ArePlaced place next) (sym count) placed.placed;
         cores = subst (λ cores. AreOfCores cores next) is.lanes placed.cores;
       };

@@ -1,26 +1,19 @@
-use Rattle.std.proofs.Common.{◌≡◌, ◌∙◌, [], Some, None, length, not, refl, sym, ap, subst, arith}
+use Rattle.std.proofs.Common.{◌≡◌, ◌∙◌, [], Some, None, length, refl, sym, subst, arith}
 use Rattle.std.proofs.lemmas.List.{append-nil}
-use Rattle.user_rules.specs.FirstBroken.{IsFirstBroken}
 use Rattle.user_rules.specs.Rules.{relations_of}
 use Rattle.verdict_merge.specs.declared.verdict.Verdict.TheVariants.{Yes}
 use Rattle.verdict_merge.specs.Rounds.{IsRound, Judging, cold_parts, parts_in}
-use Rattle.verdict_merge.specs.Verdicts.{IsVerdictFrom, IsWatched, against}
-use Rattle.verdict_merge.proofs.Ruled.{broken_within, ends_here, goes_on_here, is_watched, round_is, run_where_yes, verdict_from}
+use Rattle.verdict_merge.specs.Verdicts.{IsVerdictFrom, against}
+use Rattle.verdict_merge.specs.Views.{broken_of}
+use Rattle.verdict_merge.proofs.Ruled.{breach_within, ends_here, goes_on_here, round_is, run_where_yes, verdict_from}
 use Rattle.verdict_merge.proofs.Refusing.{run_up_to_no}
 use Rattle.verdict_merge.proofs.plain.check_plain.Goals as goal
 
 pub against-requires : goal.against-requires
 against-requires g c =
-    let config = c.args.config.now in
-    let relations = relations_of c.args.rules.now in
-    let records = c.args.records.now in
-    let surveyed = c.in_ok-surveyed.surveyed in
     let is = c.in_ok-surveyed.ensures in
-    let broken = c.first_broken_in_turn-broken.result in
-    let views = surveyed.views.items in
-    let watched = not c.is_empty.result in
-    let first : IsFirstBroken relations views broken = subst (λ list. IsFirstBroken relations list broken) c.deref.ensures.value c.first_broken_in_turn-broken.ensures in
-    broken_within config relations (parts_in is.0) records watched surveyed.found views broken is.2.viewed first
+    let surveyed = c.in_ok-surveyed.surveyed in
+    breach_within c.args.config.now (relations_of c.args.rules.now) (parts_in is.0) c.args.records.now surveyed.found surveyed.breach is.2.tested
 
 pub returns-in-Some-clause-verdict : goal.returns-in-Some-clause-verdict
 returns-in-Some-clause-verdict g c =
@@ -29,16 +22,11 @@ returns-in-Some-clause-verdict g c =
     let records = c.args.records.now in
     let surveyed = c.in_ok-surveyed.surveyed in
     let is = c.in_ok-surveyed.ensures in
-    let broken = c.first_broken_in_turn-broken.result in
-    let views = surveyed.views.items in
-    let watched = not c.is_empty.result in
-    let first : IsFirstBroken relations views broken = subst (λ list. IsFirstBroken relations list broken) c.deref.ensures.value c.first_broken_in_turn-broken.ensures in
-    let start : Judging = record { count = 0; pieces = is.0; watched = watched; views = [] } in
-    let end : Judging = record { count = length records; pieces = surveyed.pieces.items; watched = watched; views = views } in
-    let round : IsRound config start records surveyed.found end = round_is config start end records watched surveyed (omega arith) is.2 refl in
-    let wanted : IsWatched relations watched = subst (IsWatched relations) (sym (ap not c.is_empty.ensures)) (is_watched (λ rule. rule.relation) c.args.rules.now) in
-    let decides : against 0 surveyed.found broken ≡ Some c.in-Some.verdict = sym (c.in-Some.ensures 0 c.requires.placed) in
-    let ends = ends_here config relations start end records [] surveyed.found views broken c.in-Some.verdict c.requires.placed wanted round is.2.viewed first decides in
+    let start : Judging = record { count = 0; pieces = is.0; breach = None } in
+    let end : Judging = record { count = length records; pieces = surveyed.pieces.items; breach = surveyed.breach } in
+    let round : IsRound config start records surveyed.found end = round_is config start end records relations surveyed (omega arith) is.2 refl in
+    let decides : against 0 surveyed.found (broken_of surveyed.breach) ≡ Some c.in-Some.verdict = sym (c.in-Some.ensures 0 c.requires.placed) in
+    let ends = ends_here config relations start end records [] surveyed.found surveyed.breach c.in-Some.verdict c.requires.placed round is.2.tested decides in
     verdict_from config relations (parts_in is.0) (cold_parts config) 0 records c.in-Some.verdict is.1
     (subst (λ list. IsVerdictFrom config relations (parts_in is.0) 0 list c.in-Some.verdict) (append-nil records) ends)
 
@@ -59,16 +47,11 @@ returns-clause-verdict g c =
     let records = c.args.records.now in
     let surveyed = c.in_ok-surveyed.surveyed in
     let is = c.in_ok-surveyed.ensures in
-    let broken = c.first_broken_in_turn-broken.result in
-    let views = surveyed.views.items in
-    let watched = not c.is_empty.result in
-    let first : IsFirstBroken relations views broken = subst (λ list. IsFirstBroken relations list broken) c.deref.ensures.value c.first_broken_in_turn-broken.ensures in
-    let start : Judging = record { count = 0; pieces = is.0; watched = watched; views = [] } in
-    let end : Judging = record { count = length records; pieces = surveyed.pieces.items; watched = watched; views = views } in
-    let round : IsRound config start records surveyed.found end = round_is config start end records watched surveyed (omega arith) is.2 refl in
-    let wanted : IsWatched relations watched = subst (IsWatched relations) (sym (ap not c.is_empty.ensures)) (is_watched (λ rule. rule.relation) c.args.rules.now) in
-    let decides : against 0 surveyed.found broken ≡ None = sym (c.against.ensures 0 c.requires.placed) ∙ c.in-None.is in
-    let on = goes_on_here config relations start end records surveyed.found views broken wanted round is.2.viewed first decides in
+    let start : Judging = record { count = 0; pieces = is.0; breach = None } in
+    let end : Judging = record { count = length records; pieces = surveyed.pieces.items; breach = surveyed.breach } in
+    let round : IsRound config start records surveyed.found end = round_is config start end records relations surveyed (omega arith) is.2 refl in
+    let decides : against 0 surveyed.found (broken_of surveyed.breach) ≡ None = sym (c.against.ensures 0 c.requires.placed) ∙ c.in-None.is in
+    let on = goes_on_here config relations start end records surveyed.found surveyed.breach round is.2.tested decides in
     verdict_from config relations (parts_in is.0) (cold_parts config) 0 records (Yes (length records)) is.1
     (omega (arith, on.0.1), (parts_in surveyed.pieces.items, on.0.0), on.1)
 

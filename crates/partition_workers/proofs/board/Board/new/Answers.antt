@@ -12,7 +12,7 @@ invariant_of-result g c =
     let parts : parts_held held ≡ round.parts = ap (λ content. content.parts) c.round.invariant.0 in
     let same = ap length parts in
     let k = c.round.inside.pieces.ok in (
-      subst (λ all. content_of c.round.inside.lent all ≡ round) parts c.round.invariant.0,
+      subst (λ all. content_of c.round.inside.lent g.J.Naming.round.relations all ≡ round) parts c.round.invariant.0,
       c.round.invariant.1,
       (let room = c.in-Ok.ensures.room in let n = c.len.ensures in grind arith),
       rw c.from_vec.ensures.items c.round.invariant.2,

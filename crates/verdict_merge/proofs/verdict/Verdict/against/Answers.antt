@@ -6,4 +6,4 @@ use Rattle.verdict_merge.proofs.verdict.Verdict.against.Goals as goal
 pub returns-in-Some : goal.returns-in-Some
 returns-in-Some c first placed =
     let one = c.in-Some.one in
-    rw c.in-Some.is (ap (λ pos. Some (Broken pos one.rule)) (place_at first c.args.records.now one.view c.index-records-one.result placed (rw c.in-Some.is at c.requires)))
+    rw c.in-Some.is (ap (λ pos. Some (Broken pos one.rule)) (place_at first c.args.records.now one.seen.index c.index-records-one.result placed (rw c.in-Some.is at c.requires)))

@@ -1,0 +1,15 @@
+// Rules for the tests of whoever judges by them.
+
+// The rule of a relation, whose test is the relation itself, over a clone of it. A function may not hand out a box that it made of
+// a closure.
+macro_rules! rule {
+    ($heap:expr, $relation:expr) => {{
+        let relation: user_rules::Relation = $relation;
+        let tested = relation.clone()?;
+        let test: user_rules::Test =
+            Box::new($heap, move |view: &apex_types::View| tested.holds(view))?;
+        user_rules::Rule::new(relation, test)
+    }};
+}
+
+pub(crate) use rule;
