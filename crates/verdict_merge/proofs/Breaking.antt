@@ -20,7 +20,7 @@ use Rattle.verdict_merge.specs.declared.breach.Seen.{Seen}
 use Rattle.verdict_merge.specs.declared.finding.Refused.{Refused}
 use Rattle.verdict_merge.specs.Rounds.{IsTested}
 use Rattle.verdict_merge.specs.Views.{AreSeen, IsFirstBreach, AreViews, IsViewOf, breach_before, count_before, earlier, first_some, seen_of, up_to}
-use Rattle.verdict_merge.proofs.Among.{contains_cases, contains_none}
+use Rattle.verdict_merge.proofs.Among.{contains_cases, contains_here, contains_none}
 use Rattle.verdict_merge.proofs.Giving.{HaveRun}
 use Rattle.verdict_merge.proofs.Slotted.{HaveSlots, put_in, put_in_from, slot_at, views_in}
 use Rattle.verdict_merge.proofs.Splits.{same_or}
@@ -61,6 +61,16 @@ breach_on relations seen given index (Some breach) next less (there, before, fir
   ]),
   first,
 )
+
+-- the view of one record that breaks a rule
+pub one_breach : (relations : List Relation) (given : Option View) (index rule : ℕ) (view : View) → given ≡ Some view → IsFirstRuleBroken relations view rule
+    → IsFirstBreach relations (seen_of given index) (Some (record { seen = record { index = index; view = view }; rule = rule }))
+one_breach relations given index rule view is first =
+    subst (λ one. IsFirstBreach relations (seen_of one index) (Some (record { seen = record { index = index; view = view }; rule = rule }))) (sym is) (
+      contains_here (record { index = index; view = view }) [],
+      (λ one there smaller. absurd (omega (arith, smaller, seen_at (Some view) index one there))),
+      first,
+    )
 
 -- the views of all pieces
 
