@@ -1,7 +1,6 @@
 -- A piece that goes over the records that touch it has gone over all.
-use Rattle.std.proofs.Common.{◌≡◌, ◌∙◌, ◌<◌, ◌≤◌, ◌+◌, ℕ, zero, suc, List, [], ◌∷◌, ◌++◌, Bool, true, false, if◌then◌else◌, length, take, get_or, refl, ap, sym, subst, arith, add-one}
-use Rattle.std.proofs.lemmas.Bool.Decides.{nat_tests}
-use Rattle.std.proofs.lemmas.List.{get_or_default, get_or_past, take_more}
+use Rattle.std.proofs.Common.{◌≡◌, ◌∙◌, ◌<◌, ◌≤◌, ◌+◌, ℕ, zero, suc, List, [], ◌∷◌, Bool, true, false, if◌then◌else◌, length, take, get_or, refl, ap, sym, subst, arith, add-one}
+use Rattle.std.proofs.lemmas.List.{get_or_default, get_or_past}
 use Rattle.std.proofs.Math.Seq.{take-length}
 use Rattle.apex_types.specs.declared.record.Ordered.{Ordered}
 use Rattle.apex_machine.specs.Configuration.{Configuration}
@@ -9,73 +8,7 @@ use Rattle.apex_machine.specs.Demands.{LocalStep}
 use Rattle.apex_machine.specs.Pieces.{Part, Piece, pieces, touches}
 use Rattle.apex_machine.specs.Runs.{AreOfCores, ArePlaced, Goes, PieceRun}
 use Rattle.piece_check.specs.Parts.{piece_at}
-use Rattle.piece_check.specs.Touching.{AreSortedOut, HasList, IsEntered, ends_with, reached, touching, with_last}
-
--- one more record
-
--- each index of a list is below this one
-abbrev AreBelow : ℕ → List ℕ → Type 0
-AreBelow most [] = Unit {0}
-AreBelow most (index ∷ others) = (index < most) × AreBelow most others
-
-below_open : (index : ℕ) (list : List ℕ) → AreBelow index list → ends_with index list ≡ false
-below_open index [] below = refl
-below_open index (last ∷ []) below = let less : last < index = below.0 in grind (arith, nat_tests)
-below_open index (first ∷ second ∷ others) below = below_open index (second ∷ others) below.1
-
-touching_below : (configuration : Configuration) (piece : Piece) (first most : ℕ) (records : List Ordered) → first + length records ≤ most → AreBelow most (touching configuration piece first records)
-touching_below configuration piece first most [] above = tt
-touching_below configuration piece first most (ordered ∷ others) above =
-    by (touches configuration piece ordered) (touching_below configuration piece (suc first) most others (omega arith))
-  where
-    by : (touched : Bool) → AreBelow most (touching configuration piece (suc first) others)
-        → AreBelow most (if touched then first ∷ touching configuration piece (suc first) others else touching configuration piece (suc first) others)
-    by true rest = (omega arith, rest)
-    by false rest = rest
-
-touching_more : (configuration : Configuration) (piece : Piece) (first index : ℕ) (records : List Ordered) (last : Ordered) → first + length records ≡ index
-    → touching configuration piece first (records ++ last ∷ [])
-    ≡ (if touches configuration piece last then touching configuration piece first records ++ index ∷ [] else touching configuration piece first records)
-touching_more configuration piece first index [] last at =
-    ap (λ n. if touches configuration piece last then n ∷ [] else []) (omega arith)
-touching_more configuration piece first index (ordered ∷ others) last at =
-    by (touches configuration piece ordered) (touches configuration piece last) (touching_more configuration piece (suc first) index others last (omega arith))
-  where
-    rest : List ℕ
-    rest = touching configuration piece (suc first) others
-
-    by : (touched at_last : Bool) → touching configuration piece (suc first) (others ++ last ∷ []) ≡ (if at_last then rest ++ index ∷ [] else rest)
-        → (if touched then first ∷ touching configuration piece (suc first) (others ++ last ∷ []) else touching configuration piece (suc first) (others ++ last ∷ []))
-        ≡ (if at_last then (if touched then first ∷ rest else rest) ++ index ∷ [] else (if touched then first ∷ rest else rest))
-    by true true more = ap (λ (list : List ℕ). first ∷ list) more
-    by true false more = ap (λ (list : List ℕ). first ∷ list) more
-    by false true more = more
-    by false false more = more
-
--- the lists with the index of one more record
-pub sorted_more : (configuration : Configuration) (records : List Ordered) (index : ℕ) (ordered : Ordered) (old new : Piece → List ℕ) → index < length records
-    → ordered ≡ get_or records index ordered → length (take index records) ≡ index
-    → AreSortedOut configuration (take index records) old → IsEntered configuration index ordered old new → AreSortedOut configuration (take (index + 1) records) new
-sorted_more configuration records index ordered old new within is many sorted entered number there has =
-    entered number there has ∙ grown ∙ sym (ap (touching configuration piece 0) more)
-  where
-    piece : Piece
-    piece = piece_at configuration number
-
-    before : List Ordered
-    before = take index records
-
-    more : take (index + 1) records ≡ before ++ ordered ∷ []
-    more = take_more records index ordered within ∙ ap (λ one. before ++ one ∷ []) (sym is)
-
-    not_yet : ends_with index (touching configuration piece 0 before) ≡ false
-    not_yet = below_open index (touching configuration piece 0 before) (touching_below configuration piece 0 index before (omega (arith, many)))
-
-    grown : (if touches configuration piece ordered then with_last index (old piece) else old piece) ≡ touching configuration piece 0 (before ++ ordered ∷ [])
-    grown =
-        ap (λ list. if touches configuration piece ordered then with_last index list else list) (sorted number there has)
-        ∙ ap (λ ends. if touches configuration piece ordered then (if ends then touching configuration piece 0 before else touching configuration piece 0 before ++ index ∷ []) else touching configuration piece 0 before) not_yet
-        ∙ sym (touching_more configuration piece 0 index before ordered (omega (arith, many)))
+use Rattle.piece_check.specs.Touching.{AreSortedOut, HasList, reached, touching}
 
 -- the records that touch a piece, by their places in its list
 
