@@ -184,6 +184,7 @@ module _ (configuration : Configuration) (parts : ℕ → Part) (relations : Lis
         views = are.0;
         viewed = are.1;
         first = λ index one less. met index (get_or are.0 index one) (omega (arith, less, are.2)) (are.3 index one (omega (arith, less, are.2)));
+        told = tt;
       }
 
   -- where one of them breaks a rule: its view is put into its slot
@@ -219,6 +220,7 @@ module _ (configuration : Configuration) (parts : ℕ → Part) (relations : Lis
         viewed = are.1;
         first = view_here relations are.0 at breach.rule breach.seen.view (omega (arith, less, are.2)) before
             (subst (λ one. IsFirstRuleBroken relations one breach.rule) (sym view) is.first);
+        told = slice_get-get_or are.0 at breach.seen.view (omega (arith, less, are.2)) ∙ ap (λ one. Some one) view;
       }
     where
       some_is : (one other : View) → ◌≡◌ {A = Option View} (Some one) (Some other) → one ≡ other

@@ -1,7 +1,7 @@
 -- How far a piece has come among the records of a round, and what it has seen on the way.
 use Rattle.std.proofs.Common.{◌≡◌, ◌<◌, ◌+◌, ◌∙◌, ℕ, suc, List, [], ◌∷◌, ◌++◌, true, Some, None, length, take, drop, get_or, refl, sym, ap, subst, arith, add-one}
-use Rattle.std.proofs.lemmas.List.{append-nil, length-take, take-append-drop, take_more}
-use Rattle.std.proofs.Math.Seq.{drop-cons, take-length}
+use Rattle.std.proofs.lemmas.List.{append-nil, length-append, length-take, take-append-drop, take_more}
+use Rattle.std.proofs.Math.Seq.{drop-cons, get_or-append_seam, take-length}
 use Rattle.apex_types.specs.declared.record.Ordered.{Ordered}
 use Rattle.apex_machine.specs.Configuration.{Configuration}
 use Rattle.apex_machine.specs.Demands.{FirstFails, LocalStep, demands}
@@ -101,33 +101,43 @@ come_nowhere configuration number old records of_module whose = record {
   behind = λ place placed above. IsBehind_later place (place + 0) old.part (omega arith) above;
 }
 
--- where the record of a place of a piece's list stands: it is the next that touches the piece
-pub record Stands (configuration : Configuration) (number first : ℕ) (records : List Ordered) (list : List ℕ) (gone : ℕ) (ordered : Ordered) : Type 0 where
+-- where the record stands that comes behind so many of a piece's list: it is the next that touches the piece
+pub record Stands (configuration : Configuration) (number first : ℕ) (records : List Ordered) (gone index : ℕ) (ordered : Ordered) : Type 0 where
   pub listed : gone < length (touching configuration (piece_at configuration number) 0 records)
-  pub index : get_or list gone 0 ≡ reached configuration (piece_at configuration number) records gone
+  pub reaches : index ≡ reached configuration (piece_at configuration number) records gone
   pub within : reached configuration (piece_at configuration number) records gone < length records
   pub is : get_or records (reached configuration (piece_at configuration number) records gone) ordered ≡ ordered
   pub touched : touches configuration (piece_at configuration number) ordered ≡ true
   pub place : ordered.pos ≡ first + reached configuration (piece_at configuration number) records gone
   pub core : ordered.core < configuration.cores
 
-pub stands : (configuration : Configuration) (number first : ℕ) (records : List Ordered) (list : List ℕ) (gone : ℕ) (ordered : Ordered)
-    → list ≡ touching configuration (piece_at configuration number) 0 records → gone < length list → ordered ≡ get_or records (get_or list gone 0) ordered
-    → ArePlaced first records → AreOfCores configuration.cores records → Stands configuration number first records list gone ordered
-stands configuration number first records list gone ordered same one is placed cores =
+-- the next index of a list is that of a record
+pub next_within : (configuration : Configuration) (number : ℕ) (records : List Ordered) (gone : List ℕ) (index : ℕ) (left : List ℕ)
+    → touching configuration (piece_at configuration number) 0 records ≡ gone ++ index ∷ left
+    → (length gone < length (touching configuration (piece_at configuration number) 0 records)) × (index ≡ reached configuration (piece_at configuration number) records (length gone))
+next_within configuration number records gone index left split =
+    let list = gone ++ index ∷ left in
+    let one : length gone < length list = omega (arith, length-append gone (index ∷ left)) in
+    let at = reached_at configuration (piece_at configuration number) records list (length gone) (sym split) one in
+    (at.0, sym (get_or-append_seam gone index left 0) ∙ at.1)
+
+pub stands : (configuration : Configuration) (number first : ℕ) (records : List Ordered) (gone : List ℕ) (index : ℕ) (left : List ℕ) (ordered : Ordered)
+    → touching configuration (piece_at configuration number) 0 records ≡ gone ++ index ∷ left → ordered ≡ get_or records index ordered
+    → ArePlaced first records → AreOfCores configuration.cores records → Stands configuration number first records (length gone) index ordered
+stands configuration number first records gone index left ordered split is placed cores =
     let piece = piece_at configuration number in
-    let at = reached_at configuration piece records list gone same one in
-    let index = reached configuration piece records gone in
-    let here : ordered ≡ get_or records index ordered = is ∙ ap (λ n. get_or records n ordered) at.1 in
-    let found = reached_is_touched configuration piece records gone ordered at.0 in
+    let at = next_within configuration number records gone index left split in
+    let place = reached configuration piece records (length gone) in
+    let here : ordered ≡ get_or records place ordered = is ∙ ap (λ n. get_or records n ordered) at.1 in
+    let found = reached_is_touched configuration piece records (length gone) ordered at.0 in
     record {
       listed = at.0;
-      index = at.1;
+      reaches = at.1;
       within = found.0;
       is = sym here;
       touched = ap (touches configuration piece) here ∙ found.1;
-      place = ap (λ one. one.pos) here ∙ placed_at first index ordered records placed found.0;
-      core = rw here (of_core_at configuration.cores index ordered records cores found.0);
+      place = ap (λ one. one.pos) here ∙ placed_at first place ordered records placed found.0;
+      core = rw here (of_core_at configuration.cores place ordered records cores found.0);
     }
 
 -- the piece refuses the record that it has come to

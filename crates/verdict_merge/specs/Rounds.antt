@@ -1,5 +1,5 @@
 -- What all pieces make of the next records.
-use Rattle.std.specs.Prelude.{◌≡◌, ◌<◌, ◌+◌, false, ℕ, zero, suc, List, [], ◌∷◌, ◌++◌, Option, Some, None, length, map, slice_index_or}
+use Rattle.std.specs.Prelude.{◌≡◌, ◌<◌, ◌+◌, false, ℕ, zero, suc, List, [], ◌∷◌, ◌++◌, IfSome, Option, Some, None, length, map, slice_get, slice_index_or}
 use Rattle.apex_types.specs.declared.cause.Cause.{Cause}
 use Rattle.apex_types.specs.declared.record.Ordered.{Ordered}
 use Rattle.apex_machine.specs.Configuration.{Configuration}
@@ -131,11 +131,12 @@ pub record AreGoneOver (configuration : Configuration) (first : ℕ) (records : 
 abbrev pub pieces_in : List Judged → List Holding
 pieces_in judged = map (λ one. one.piece) judged
 
--- the views of the records before the one that is refused, of which this one is the first that breaks a rule
+-- the views of the records before the one that is refused, of which this one is the first that breaks a rule, and the breach tells it
 pub record IsTested (configuration : Configuration) (relations : List Relation) (parts : ℕ → Part) (records : List Ordered) (found : Option Refused) (breach : Option Breach) : Type 0 where
   pub views : List View
   pub viewed : AreViews configuration parts (up_to found records) views
   pub first : IsFirstBroken relations views (broken_of breach)
+  pub told : IfSome breach (λ one. slice_get views one.seen.index ≡ Some one.seen.view)
 
 -- all pieces went over records from this place on: what became of them, and the first view that breaks a rule; they may go over those
 -- behind them

@@ -83,7 +83,6 @@ pub fn go_over(
     let records = lent.records;
     let mut breach = None;
     for index in lent.touched.of(&subject) {
-        let index = *index;
         match judge_one(
             lent,
             rules,

@@ -1,8 +1,8 @@
-use Rattle.std.proofs.Common.{rules, ◌≡◌, ◌<◌, ◌+◌, ◌++◌, ◌∙◌, ℕ, [], suc, length, take, refl, sym, ap, subst, arith, add-one}
+use Rattle.std.proofs.Common.{rules, ◌≡◌, ◌<◌, ◌+◌, ◌++◌, ◌∷◌, ◌∙◌, ℕ, [], suc, length, take, refl, sym, ap, subst, arith}
 use Rattle.std.specs.Prelude.{Contains}
-use Rattle.std.proofs.lemmas.List.{get_or_past, length-take-le}
+use Rattle.std.proofs.lemmas.List.{append_assoc, append-nil, get_or_past, length-append, length-take-le}
 use Rattle.piece_check.proofs.Parting.{IsBehind_later}
-use Rattle.piece_check.proofs.Reaching.{placed_at, reached_at, reached_within, sorted_at}
+use Rattle.piece_check.proofs.Reaching.{placed_at, reached_within, sorted_at}
 use Rattle.piece_check.specs.Parts.{IsBehind, IsPartOf, piece_at}
 use Rattle.piece_check.specs.Subjects.{piece_of}
 use Rattle.piece_check.specs.Touching.{indices_of, reached, touching}
@@ -14,7 +14,7 @@ use Rattle.verdict_merge.specs.Views.{IsFirstBreach, seen_of}
 use Rattle.verdict_merge.proofs.Among.{contains_none}
 use Rattle.verdict_merge.proofs.Between.{holds_at_first, holds_at_next}
 use Rattle.verdict_merge.proofs.Breaking.{breach_on}
-use Rattle.verdict_merge.proofs.Coming.{HasCome, come_nowhere, come_over, come_past, goes_through, refuses_there, stands}
+use Rattle.verdict_merge.proofs.Coming.{HasCome, come_nowhere, come_over, come_past, goes_through, next_within, refuses_there, stands}
 use Rattle.verdict_merge.proofs.Seeing.{seen_less}
 use Rattle.verdict_merge.proofs.gone.go_over.Goals as goal
 
@@ -24,8 +24,12 @@ loop-index-init g c =
     let config = lent.config.now in
     let records = lent.records.now in
     let number = c.args.number in
-    let old = c.args.piece.now in (
+    let old = c.args.piece.now in
+    let list : c.of-index-items.result ≡ touching config (piece_at config number) 0 records =
+    c.of-index-items.ensures ∙ sorted_at config records (indices_of lent.touched.now) number (piece_of c.subject_of-subject.result) lent.sorted c.requires.piece c.subject_of-subject.ensures.value c.subject_of-subject.ensures.listed in (
       [],
+      [],
+      sym (c.into_iter-index-iterator.ensures.into_iter_gives ∙ list),
       holds_at_first config (piece_at config number) records (HasCome config number old records old []) (come_past config number old records old [])
           (come_nowhere config number old records c.requires.going.of_module c.requires.going.whose),
       λ one there. absurd (contains_none one there),
@@ -36,12 +40,10 @@ bounds-records-index g c =
     let lent = c.args.lent.now in
     let config = lent.config.now in
     let records = lent.records.now in
-    let number = c.args.number in
-    let piece = piece_at config number in
-    let list : c.of-index-items.result.now ≡ touching config piece 0 records =
-    c.of-index-items.ensures ∙ sorted_at config records (indices_of lent.touched.now) number (piece_of c.subject_of-subject.result) lent.sorted c.requires.piece c.subject_of-subject.ensures.value c.subject_of-subject.ensures.listed in
-    let at = reached_at config piece records c.of-index-items.result.now c.loop-index.index-index list c.loop-index-test.true in
-    rw at.1 (reached_within config piece records c.loop-index.index-index at.0)
+    let gone = c.loop-index.invariant.1 in
+    let split = c.loop-index.invariant.2 ∙ ap (λ left. gone ++ left) c.in-Some.ensures.steps in
+    let at = next_within config c.args.number records gone c.in-Some.index c.next.new.self split in
+    rw at.1 (reached_within config (piece_at config c.args.number) records (length gone) at.0)
 
 pub offset_bounds-records-index : goal.offset_bounds-records-index
 offset_bounds-records-index g c = let within = bounds-records-index g c in search rules
@@ -53,13 +55,11 @@ judge_one-requires-clause-core g c =
     let records = lent.records.now in
     let number = c.args.number in
     let piece = piece_at config number in
-    let list : c.of-index-items.result.now ≡ touching config piece 0 records =
-    c.of-index-items.ensures ∙ sorted_at config records (indices_of lent.touched.now) number (piece_of c.subject_of-subject.result) lent.sorted c.requires.piece c.subject_of-subject.ensures.value c.subject_of-subject.ensures.listed in
     let ordered = c.index-records-index.result in
-    let gone = c.loop-index.index-index in
-    let at = stands config number lent.first records c.of-index-items.result.now gone ordered list c.loop-index-test.true c.index-records-index.is c.requires.placed c.requires.cores in
-    let come = c.loop-index.invariant.1 in
-    let index = reached config piece records gone in
+    let gone = c.loop-index.invariant.1 in
+    let come = c.loop-index.invariant.3 in
+    let split = c.loop-index.invariant.2 ∙ ap (λ left. gone ++ left) c.in-Some.ensures.steps in
+    let at = stands config number lent.first records gone c.in-Some.index c.next.new.self ordered split c.index-records-index.is c.requires.placed c.requires.cores in
     at.core
 
 pub judge_one-requires-clause-behind : goal.judge_one-requires-clause-behind
@@ -69,13 +69,11 @@ judge_one-requires-clause-behind g c =
     let records = lent.records.now in
     let number = c.args.number in
     let piece = piece_at config number in
-    let list : c.of-index-items.result.now ≡ touching config piece 0 records =
-    c.of-index-items.ensures ∙ sorted_at config records (indices_of lent.touched.now) number (piece_of c.subject_of-subject.result) lent.sorted c.requires.piece c.subject_of-subject.ensures.value c.subject_of-subject.ensures.listed in
     let ordered = c.index-records-index.result in
-    let gone = c.loop-index.index-index in
-    let at = stands config number lent.first records c.of-index-items.result.now gone ordered list c.loop-index-test.true c.index-records-index.is c.requires.placed c.requires.cores in
-    let come = c.loop-index.invariant.1 in
-    let index = reached config piece records gone in
+    let gone = c.loop-index.invariant.1 in
+    let come = c.loop-index.invariant.3 in
+    let split = c.loop-index.invariant.2 ∙ ap (λ left. gone ++ left) c.in-Some.ensures.steps in
+    let at = stands config number lent.first records gone c.in-Some.index c.next.new.self ordered split c.index-records-index.is c.requires.placed c.requires.cores in
     (subst (λ place. IsBehind place c.loop-index.piece.part) (sym at.place) (come.behind lent.first c.requires.placed c.requires.going.behind))
 
 pub returns-in-Ok-Some-clause-gone : goal.returns-in-Ok-Some-clause-gone
@@ -85,15 +83,14 @@ returns-in-Ok-Some-clause-gone g c =
     let records = lent.records.now in
     let number = c.args.number in
     let piece = piece_at config number in
-    let list : c.of-index-items.result.now ≡ touching config piece 0 records =
-    c.of-index-items.ensures ∙ sorted_at config records (indices_of lent.touched.now) number (piece_of c.subject_of-subject.result) lent.sorted c.requires.piece c.subject_of-subject.ensures.value c.subject_of-subject.ensures.listed in
     let ordered = c.index-records-index.result in
-    let gone = c.loop-index.index-index in
-    let at = stands config number lent.first records c.of-index-items.result.now gone ordered list c.loop-index-test.true c.index-records-index.is c.requires.placed c.requires.cores in
-    let come = c.loop-index.invariant.1 in
-    let index = reached config piece records gone in
+    let gone = c.loop-index.invariant.1 in
+    let come = c.loop-index.invariant.3 in
+    let split = c.loop-index.invariant.2 ∙ ap (λ left. gone ++ left) c.in-Some.ensures.steps in
+    let at = stands config number lent.first records gone c.in-Some.index c.next.new.self ordered split c.index-records-index.is c.requires.placed c.requires.cores in
+    let index = reached config piece records (length gone) in
     refuses_there config number lent.first records (relations_of c.args.rules.now) c.args.piece.now c.loop-index.piece c.judge_one.new.piece _ c.loop-index.invariant.0 c.in-Ok-Some.refused index ordered
-    refl come (subst (IsFirstBreach (relations_of c.args.rules.now) c.loop-index.invariant.0) (sym (rw c.in-Ok-Some.field-0-is at c.in-Ok-Some.ensures.tested)) c.loop-index.invariant.2) c.requires.placed c.requires.going.behind at.within at.is at.touched (rw c.in-Ok-Some.field-0-is at c.in-Ok-Some.ensures.judged) c.in-Ok-Some.ensures.of_module
+    refl come (subst (IsFirstBreach (relations_of c.args.rules.now) c.loop-index.invariant.0) (sym (rw c.in-Ok-Some.field-0-is at c.in-Ok-Some.ensures.tested)) c.loop-index.invariant.4) c.requires.placed c.requires.going.behind at.within at.is at.touched (rw c.in-Ok-Some.field-0-is at c.in-Ok-Some.ensures.judged) c.in-Ok-Some.ensures.of_module
 
 pub loop-index-preserved : goal.loop-index-preserved
 loop-index-preserved g c =
@@ -102,13 +99,12 @@ loop-index-preserved g c =
     let records = lent.records.now in
     let number = c.args.number in
     let piece = piece_at config number in
-    let list : c.of-index-items.result.now ≡ touching config piece 0 records =
-    c.of-index-items.ensures ∙ sorted_at config records (indices_of lent.touched.now) number (piece_of c.subject_of-subject.result) lent.sorted c.requires.piece c.subject_of-subject.ensures.value c.subject_of-subject.ensures.listed in
     let ordered = c.index-records-index.result in
-    let gone = c.loop-index.index-index in
-    let at = stands config number lent.first records c.of-index-items.result.now gone ordered list c.loop-index-test.true c.index-records-index.is c.requires.placed c.requires.cores in
-    let come = c.loop-index.invariant.1 in
-    let index = reached config piece records gone in
+    let gone = c.loop-index.invariant.1 in
+    let come = c.loop-index.invariant.3 in
+    let split = c.loop-index.invariant.2 ∙ ap (λ left. gone ++ left) c.in-Some.ensures.steps in
+    let at = stands config number lent.first records gone c.in-Some.index c.next.new.self ordered split c.index-records-index.is c.requires.placed c.requires.cores in
+    let index = reached config piece records (length gone) in
     let judged = rw c.in-Ok-None.field-0-is at c.in-Ok-None.ensures.judged in
     let old = c.args.piece.now in
     let next = c.judge_one.new.piece in
@@ -121,14 +117,17 @@ loop-index-preserved g c =
     c.in-Ok-None.ensures.of_module whose behind in
     let tested = rw c.in-Ok-None.field-0-is at c.in-Ok-None.ensures.tested in
     let first : IsFirstBreach (relations_of c.args.rules.now) (seen_of given index) tested.0 =
-    subst (λ n. IsFirstBreach (relations_of c.args.rules.now) (seen_of given n) tested.0) at.index tested.1 in
+    subst (λ n. IsFirstBreach (relations_of c.args.rules.now) (seen_of given n) tested.0) at.reaches tested.1 in
     let less : (one : Seen) → Contains seen one → one.index < index =
-    λ one there. let below = seen_less config piece old.part (take index records) seen come.seen one there in omega (arith, below, length-take-le index records (omega (arith, at.within))) in (
+    λ one there. let below = seen_less config piece old.part (take index records) seen come.seen one there in omega (arith, below, length-take-le index records (omega (arith, at.within))) in
+    let longer : suc (length gone) ≡ length (gone ++ c.in-Some.index ∷ []) = omega (arith, length-append gone (c.in-Some.index ∷ [])) in (
       seen ++ seen_of given index,
-      subst (λ n. HasCome config number old records next (seen ++ seen_of given index) (reached config piece records n)) (sym (add-one gone))
-          (holds_at_next config piece records (HasCome config number old records next (seen ++ seen_of given index)) gone at.listed
+      gone ++ c.in-Some.index ∷ [],
+      split ∙ sym (append_assoc gone (c.in-Some.index ∷ []) c.next.new.self),
+      subst (λ n. HasCome config number old records next (seen ++ seen_of given index) (reached config piece records n)) longer
+          (holds_at_next config piece records (HasCome config number old records next (seen ++ seen_of given index)) (length gone) at.listed
           (come_past config number old records next (seen ++ seen_of given index)) over),
-      rw tested.2 (breach_on (relations_of c.args.rules.now) seen given index c.loop-index.breach tested.0 less c.loop-index.invariant.2 first),
+      rw tested.2 (breach_on (relations_of c.args.rules.now) seen given index c.loop-index.breach tested.0 less c.loop-index.invariant.4 first),
     )
 
 pub returns-clause-gone : goal.returns-clause-gone
@@ -138,9 +137,9 @@ returns-clause-gone g c =
     let records = lent.records.now in
     let number = c.args.number in
     let piece = piece_at config number in
-    let list : c.of-index-items.result.now ≡ touching config piece 0 records =
-    c.of-index-items.ensures ∙ sorted_at config records (indices_of lent.touched.now) number (piece_of c.subject_of-subject.result) lent.sorted c.requires.piece c.subject_of-subject.ensures.value c.subject_of-subject.ensures.listed in
-    let end : reached config piece records c.loop-index.index-index ≡ length records =
-    get_or_past (touching config piece 0 records) c.loop-index.index-index (length records) (omega (arith, c.loop-index-test.false, ap length list)) in
-    goes_through config number lent.first records (relations_of c.args.rules.now) c.args.piece.now c.loop-index.piece _ c.loop-index.invariant.0 (reached config piece records c.loop-index.index-index) refl
-    c.loop-index.invariant.1 c.loop-index.invariant.2 end c.requires.placed c.requires.going.behind
+    let gone = c.loop-index.invariant.1 in
+    let all : touching config piece 0 records ≡ gone = c.loop-index.invariant.2 ∙ ap (λ left. gone ++ left) c.in-None.ensures.steps.0 ∙ append-nil gone in
+    let end : reached config piece records (length gone) ≡ length records =
+    get_or_past (touching config piece 0 records) (length gone) (length records) (omega (arith, ap length all)) in
+    goes_through config number lent.first records (relations_of c.args.rules.now) c.args.piece.now c.loop-index.piece _ c.loop-index.invariant.0 (reached config piece records (length gone)) refl
+    c.loop-index.invariant.3 c.loop-index.invariant.4 end c.requires.placed c.requires.going.behind

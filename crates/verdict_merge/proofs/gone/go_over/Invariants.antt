@@ -1,6 +1,6 @@
-use Rattle.std.proofs.Common.{List}
+use Rattle.std.proofs.Common.{◌≡◌, ◌++◌, ℕ, List, length}
 use Rattle.piece_check.specs.Parts.{piece_at}
-use Rattle.piece_check.specs.Touching.{reached}
+use Rattle.piece_check.specs.Touching.{reached, touching}
 use Rattle.user_rules.specs.Rules.{relations_of}
 use Rattle.verdict_merge.specs.declared.breach.Seen.{Seen}
 use Rattle.verdict_merge.specs.Views.{IsFirstBreach}
@@ -10,6 +10,8 @@ use Rattle.verdict_merge.proofs.gone.go_over.Given as goal
 abbrev pub invariant-loop-index : goal.invariant-loop-index
 invariant-loop-index g l =
     (seen : List Seen)
+    × (gone : List ℕ)
+    × (touching l.lent.config.now (piece_at l.lent.config.now l.number) 0 l.lent.records.now ≡ gone ++ l.index-iterator)
     × HasCome l.lent.config.now l.number l.fn.piece l.lent.records.now l.piece seen
-    (reached l.lent.config.now (piece_at l.lent.config.now l.number) l.lent.records.now l.index-index)
+    (reached l.lent.config.now (piece_at l.lent.config.now l.number) l.lent.records.now (length gone))
     × IsFirstBreach (relations_of l.rules) seen l.breach
