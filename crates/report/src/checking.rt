@@ -207,10 +207,14 @@ where
     if readers.len() != config.cores() as usize {
         return Err(CheckFault::Arguments(ArgumentFault::ReaderCount));
     }
+    config.keeps_limits();
+    // Workers read it while the placer is written to: apart from it, no line of the cache has both.
+    let Ok(config) = Box::new(alloc, config) else {
+        return Err(CheckFault::Memory);
+    };
     let Ok(intake) = Intake::open(rt, alloc, readers, settings.depth) else {
         return Err(CheckFault::Memory);
     };
-    config.keeps_limits();
     let mut placer = Placer::new(intake, CertSource::new(alloc, cert));
     let workers = settings.workers;
     let answer = judge_all(

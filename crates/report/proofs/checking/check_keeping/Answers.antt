@@ -37,17 +37,18 @@ returns-then-len-cores-clause-outcome g c = λ texts certificate e is.
 pub returns-clause-outcome : goal.returns-clause-outcome
 returns-clause-outcome g c = λ texts certificate e is.
     let config = c.in-Ok.config in
+    let same : c.deref.result.now ≡ config = c.deref.ensures ∙ c.in-Ok-new.ensures.ok in
     let lanes = known_lanes (λ reader. g.R.Read.remaining reader) c.args.readers.items texts e in
     let readers : length c.args.readers.items ≡ config.cores = omega arith in
     let count : length texts ≡ config.cores = sym lanes.0 ∙ readers in
     let none : argument_fault_of c.args.settings ≡ None = sym c.fault.ensures ∙ c.in_default.is in
     with_settings c.args.settings c.args.config.now texts certificate (relations_of c.args.rules.now) c.judge_all-answer.result none
-    (elim (c.judge_all-answer.ensures c.close.ensures.honest) [
+    (elim (rw same at (c.judge_all-answer.ensures c.close.ensures.honest)) [
       | inl memory ↦ inl memory
       | inr (scanned, ahead, judged, told) ↦
           let scan : IsScanOf (length texts) none_taken 0 (items_at texts) (pairs_of certificate) scanned =
           scanned_texts (λ reader. g.R.Read.remaining reader) c.args.readers.items texts certificate (g.C.Read.remaining c.args.cert) c.new-placer.result scanned
-          e is (c.new-placer.ensures.lanes ∙ c.in-Ok-open.ensures.open) (c.new-placer.ensures.pairs ∙ c.new.ensures.left) c.new-placer.ensures.taken c.new-placer.ensures.place ahead in
+          e is (c.new-placer.ensures.lanes ∙ c.in-Ok-open.ensures.open) (c.new-placer.ensures.pairs ∙ c.new-2.ensures.left) c.new-placer.ensures.taken c.new-placer.ensures.place ahead in
           inr (subst (λ read. IsOutcomeBy read texts certificate (relations_of c.args.rules.now) c.judge_all-answer.result) (sym c.in-Ok.ensures.value)
           (outcome_under config texts certificate (relations_of c.args.rules.now) c.judge_all-answer.result scanned count scan judged))
     ])
@@ -55,15 +56,16 @@ returns-clause-outcome g c = λ texts certificate e is.
 pub returns-clause-yes : goal.returns-clause-yes
 returns-clause-yes g c = λ texts certificate e is.
     let config = c.in-Ok.config in
+    let same : c.deref.result.now ≡ config = c.deref.ensures ∙ c.in-Ok-new.ensures.ok in
     let lanes = known_lanes (λ reader. g.R.Read.remaining reader) c.args.readers.items texts e in
     let readers : length c.args.readers.items ≡ config.cores = omega arith in
     let count : length texts ≡ config.cores = sym lanes.0 ∙ readers in
-    elim (c.judge_all-answer.ensures c.close.ensures.honest) [
+    elim (rw same at (c.judge_all-answer.ensures c.close.ensures.honest)) [
       | inl memory ↦ (memory_means c.args.config.now texts certificate (relations_of c.args.rules.now) c.judge_all-answer.result memory).0
       | inr (scanned, ahead, (verdict, found, answer), told) ↦
           let scan : IsScanOf (length texts) none_taken 0 (items_at texts) (pairs_of certificate) scanned =
           scanned_texts (λ reader. g.R.Read.remaining reader) c.args.readers.items texts certificate (g.C.Read.remaining c.args.cert) c.new-placer.result scanned
-          e is (c.new-placer.ensures.lanes ∙ c.in-Ok-open.ensures.open) (c.new-placer.ensures.pairs ∙ c.new.ensures.left) c.new-placer.ensures.taken c.new-placer.ensures.place ahead in
+          e is (c.new-placer.ensures.lanes ∙ c.in-Ok-open.ensures.open) (c.new-placer.ensures.pairs ∙ c.new-2.ensures.left) c.new-placer.ensures.taken c.new-placer.ensures.place ahead in
           yes_means c.args.config.now texts certificate (relations_of c.args.rules.now) config scanned verdict c.judge_all-answer.result c.in-Ok.ensures.value count scan
           (run_where_yes config (relations_of c.args.rules.now) scanned.placed verdict c.keeps_limits.ensures.windows c.keeps_limits.ensures.ends (scan_placed (length texts) (items_at texts) (pairs_of certificate) scanned scan) found) answer
     ]
@@ -71,15 +73,16 @@ returns-clause-yes g c = λ texts certificate e is.
 pub returns-clause-no : goal.returns-clause-no
 returns-clause-no g c = λ texts certificate e is.
     let config = c.in-Ok.config in
+    let same : c.deref.result.now ≡ config = c.deref.ensures ∙ c.in-Ok-new.ensures.ok in
     let lanes = known_lanes (λ reader. g.R.Read.remaining reader) c.args.readers.items texts e in
     let readers : length c.args.readers.items ≡ config.cores = omega arith in
     let count : length texts ≡ config.cores = sym lanes.0 ∙ readers in
-    elim (c.judge_all-answer.ensures c.close.ensures.honest) [
+    elim (rw same at (c.judge_all-answer.ensures c.close.ensures.honest)) [
       | inl memory ↦ (memory_means c.args.config.now texts certificate (relations_of c.args.rules.now) c.judge_all-answer.result memory).1
       | inr (scanned, ahead, (verdict, found, answer), told) ↦
           let scan : IsScanOf (length texts) none_taken 0 (items_at texts) (pairs_of certificate) scanned =
           scanned_texts (λ reader. g.R.Read.remaining reader) c.args.readers.items texts certificate (g.C.Read.remaining c.args.cert) c.new-placer.result scanned
-          e is (c.new-placer.ensures.lanes ∙ c.in-Ok-open.ensures.open) (c.new-placer.ensures.pairs ∙ c.new.ensures.left) c.new-placer.ensures.taken c.new-placer.ensures.place ahead in
+          e is (c.new-placer.ensures.lanes ∙ c.in-Ok-open.ensures.open) (c.new-placer.ensures.pairs ∙ c.new-2.ensures.left) c.new-placer.ensures.taken c.new-placer.ensures.place ahead in
           no_means c.args.config.now texts certificate (relations_of c.args.rules.now) config scanned verdict c.judge_all-answer.result c.in-Ok.ensures.value count scan
           (run_up_to_no config (relations_of c.args.rules.now) scanned.placed verdict c.keeps_limits.ensures.windows c.keeps_limits.ensures.ends (scan_placed (length texts) (items_at texts) (pairs_of certificate) scanned scan) found) answer
     ]
@@ -87,17 +90,18 @@ returns-clause-no g c = λ texts certificate e is.
 pub returns-clause-last : goal.returns-clause-last
 returns-clause-last g c = λ texts certificate e is.
     let config = c.in-Ok.config in
+    let same : c.deref.result.now ≡ config = c.deref.ensures ∙ c.in-Ok-new.ensures.ok in
     let relations = relations_of c.args.rules.now in
     let lanes = known_lanes (λ reader. g.R.Read.remaining reader) c.args.readers.items texts e in
     let readers : length c.args.readers.items ≡ config.cores = omega arith in
     let count : length texts ≡ config.cores = sym lanes.0 ∙ readers in
     subst (IsLastOf c.args.config.now texts certificate relations c.judge_all-answer.result) (sym c.settle.ensures)
-    (elim (c.judge_all-answer.ensures c.close.ensures.honest) [
+    (elim (rw same at (c.judge_all-answer.ensures c.close.ensures.honest)) [
       | inl memory ↦ none_behind_memory c.args.config.now texts certificate relations c.judge_all-answer.result c.judge_all-answer.new.last memory
       | inr (scanned, ahead, (verdict, found, answer), told) ↦
           let scan : IsScanOf (length texts) none_taken 0 (items_at texts) (pairs_of certificate) scanned =
           scanned_texts (λ reader. g.R.Read.remaining reader) c.args.readers.items texts certificate (g.C.Read.remaining c.args.cert) c.new-placer.result scanned
-          e is (c.new-placer.ensures.lanes ∙ c.in-Ok-open.ensures.open) (c.new-placer.ensures.pairs ∙ c.new.ensures.left) c.new-placer.ensures.taken c.new-placer.ensures.place ahead in
+          e is (c.new-placer.ensures.lanes ∙ c.in-Ok-open.ensures.open) (c.new-placer.ensures.pairs ∙ c.new-2.ensures.left) c.new-placer.ensures.taken c.new-placer.ensures.place ahead in
           last_means c.args.config.now texts certificate relations config scanned verdict c.judge_all-answer.result c.judge_all-answer.new.last c.in-Ok.ensures.value count scan
           (run_up_to_no config relations scanned.placed verdict c.keeps_limits.ensures.windows c.keeps_limits.ensures.ends (scan_placed (length texts) (items_at texts) (pairs_of certificate) scanned scan) found) answer told
     ])
