@@ -62,6 +62,7 @@ fn only(alloc: Global, number: u32) -> Result<Woken, AllocError>
 #[test]
 fn a_semaphore_by_itself(rt: HostRuntime) -> Result<(), Fail> {
     let alloc = rt.alloc();
+    let second = only(alloc, 2)?;
     let name = Name::new(Vec::from_slice(alloc, b"LOCK")?);
     let mut semaphore = Semaphore::new(alloc, name, 1, 1, Discipline::Fifo);
     let wait = Request::WaitSemaphore {
@@ -81,7 +82,7 @@ fn a_semaphore_by_itself(rt: HostRuntime) -> Result<(), Fail> {
     // A signal that wakes nobody is refused, and one that wakes process 2 is what the rule gives.
     let refused = semaphore.apply(caller(1, 2), &signal, &done);
     assert!(rt; refused == Err(ObjFault::Unlawful(Cause::Woken)));
-    let wakes = claim(alloc, Out::Answer(Code::NoError), only(alloc, 2)?);
+    let wakes = claim(alloc, Out::Answer(Code::NoError), second);
     let woken = semaphore.apply(caller(1, 2), &signal, &wakes);
     assert!(rt; woken == Ok(Effect { waits: false }));
     assert!(rt; semaphore.value() == 0);

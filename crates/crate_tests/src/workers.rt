@@ -1,10 +1,8 @@
 // What no clause says: that several threads claim pieces at one time, and how a board tells its refusals.
 
-ghost use Rattle.std.specs.Prelude.{◌≡◌, ◌<◌, ℕ, [], IfOk, IfSome, length};
-ghost use Rattle.apex_machine.specs.Pieces.{pieces as all_pieces};
+ghost use Rattle.std.specs.Prelude.{◌≡◌, [], IfOk, IfSome};
 ghost use Rattle.apex_machine.specs.Runs.{ArePlaced, AreOfCores};
 ghost use Rattle.piece_check.specs.Touching.{AreSortedOut, indices_of};
-ghost use Rattle.verdict_merge.specs.Rounds.{AreGoing, cold_parts, holding_at};
 ghost use Rattle.partition_workers.specs.Contents.{AreGoingFrom, IsOpen, content_of, parts_held};
 
 use crate::ruled::rule;
@@ -13,7 +11,7 @@ use module_config::Config;
 use partition_workers::{
     Board, Done, Gate, Naming, Open, PostRefusal, Round, RoundFault, judge_round,
 };
-use piece_check::{Piece, Touched, count};
+use piece_check::{Piece, Touched};
 use std::alloc::{AllocError, Global};
 use std::marker::Brand;
 use std::sync::Wait;
@@ -22,7 +20,7 @@ use std::test::Fail;
 use std::thread;
 use std::thread::Threads;
 use user_rules::{Relation, Rule};
-use verdict_merge::{Judged, Lent, Memory, Refused};
+use verdict_merge::{Judged, Lent, Refused, start_pieces};
 
 // Two cores, each of a partition of its own, and two channels: five pieces.
 const CONFIG: &str = "\
@@ -127,23 +125,6 @@ fn records(alloc: Global) -> Result<Vec<Ordered>, AllocError>
     Ok(records)
 }
 
-// All pieces as they stand before the first record.
-fn started(alloc: Global, config: &Config) -> Result<Vec<Piece>, Memory>
-    ensures going { IfOk result (λ pieces. AreGoing config.now 0 pieces.items) }
-    ensures cold { IfOk result (λ pieces. (number : ℕ) → number < length (all_pieces config.now) → (holding_at pieces.items number).part ≡ cold_parts config.now number) }
-{
-    let mut pieces = Vec::new(alloc);
-    'pieces: for number in 0..count(config) {
-        let Ok(piece) = Piece::start(alloc, config, number) else {
-            return Err(Memory);
-        };
-        if pieces.push(piece).is_err() {
-            return Err(Memory);
-        }
-    }
-    Ok(pieces)
-}
-
 // The module that the text configures.
 fn read_config(alloc: Global) -> Option<Config>
     ensures { IfSome result (λ config. config.cores ≡ 2) }
@@ -171,21 +152,6 @@ fn sort_out(alloc: Global, config: &Config, records: &[Ordered]) -> Option<Touch
     Some(touched)
 }
 
-// What is lent to each piece of the round.
-fn lend<'a>(config: &'a Config, records: &'a [Ordered], touched: &'a Touched) -> Lent<'a>
-    requires { AreSortedOut config.now records.now (indices_of touched.now) }
-    ensures config { result.config.now ≡ config.now }
-    ensures first { result.first ≡ 0 }
-    ensures records { result.records.now ≡ records.now }
-{
-    Lent {
-        config,
-        first: 0,
-        records,
-        touched,
-    }
-}
-
 // What the round makes of each piece under these rules, by so many workers.
 fn judge_all<G: Gate + Sync, R: Threads + Wait + Sync>(
     rt: &R,
@@ -203,10 +169,10 @@ fn judge_all<G: Gate + Sync, R: Threads + Wait + Sync>(
     let Some(touched) = sort_out(alloc, &config, &records) else {
         return Err(RoundFault::Memory);
     };
-    let Ok(pieces) = started(alloc, &config) else {
+    let Ok(pieces) = start_pieces(alloc, &config) else {
         return Err(RoundFault::Memory);
     };
-    let lent = lend(&config, &records, &touched);
+    let lent = Lent::new(&config, 0, &records, &touched);
     judge_round(rt, alloc, &lent, rules, pieces, workers, gate)
 }
 
@@ -332,7 +298,10 @@ fn refuse<J: Naming>(board: &mut Board<J>, done: Done<J>) -> Option<(Told, Done<
 // What a board tells of what it refuses.
 fn told_by<J: Naming>(board: &mut Board<J>, done: Done<J>) -> Option<Told> {
     match refuse(board, done) {
-        Some((told, _done)) => Some(told),
+        Some((told, done)) => {
+            drop(done);
+            Some(told)
+        }
         None => None,
     }
 }
@@ -355,7 +324,7 @@ fn post_next<J: Naming>(board: &mut Board<J>, worker: usize) -> bool
     requires { J.round.relations ≡ [] }
 {
     match finish_next(board, worker) {
-        Some(done) => board.post(done).is_ok(),
+        Some(done) => told_by(board, done).is_none(),
         None => false,
     }
 }
@@ -371,12 +340,10 @@ fn refuse_first<J: Naming>(board: &mut Board<J>, other: &mut Board<J>) -> Option
     let Some((not_claimed, done)) = refuse(board, done) else {
         return None;
     };
-    if !post_next(board, 1) {
-        return None;
-    }
+    let posted = post_next(board, 1);
     match told_by(board, done) {
-        Some(repeated) => Some([not_claimed, repeated]),
-        None => None,
+        Some(repeated) if posted => Some([not_claimed, repeated]),
+        _ => None,
     }
 }
 
@@ -384,8 +351,9 @@ fn refuse_first<J: Naming>(board: &mut Board<J>, other: &mut Board<J>) -> Option
 fn refuse_next<J: Naming>(board: &mut Board<J>, other: &mut Board<J>) -> Option<Told>
     requires { J.round.relations ≡ [] }
 {
-    if board.claim(3).is_none() {
-        return None;
+    match board.claim(3) {
+        Some(job) => drop(job),
+        None => return None,
     }
     match finish_next(other, 2) {
         Some(done) => told_by(board, done),
@@ -432,13 +400,13 @@ fn refuse_in_round(alloc: Global) -> Option<[Told; 3]> {
     let Some(touched) = sort_out(alloc, &config, &records) else {
         return None;
     };
-    let Ok(pieces) = started(alloc, &config) else {
+    let Ok(pieces) = start_pieces(alloc, &config) else {
         return None;
     };
-    let Ok(others) = started(alloc, &config) else {
+    let Ok(others) = start_pieces(alloc, &config) else {
         return None;
     };
-    let lent = lend(&config, &records, &touched);
+    let lent = Lent::new(&config, 0, &records, &touched);
     refuse_all::<Brand>(alloc, &lent, pieces, others)
 }
 

@@ -7,6 +7,7 @@ ghost use Rattle.verdict_merge.specs.Rounds.{AreGoing, AreGoneOver};
 ghost use Rattle.partition_workers.specs.Contents.{AreGoingFrom, AreJudged, IsOpen, content_of, parts_held};
 
 use crate::board::Board;
+use crate::done::Done;
 use crate::fault::RoundFault;
 use crate::round::{Naming, Round};
 use piece_check::Piece;
@@ -121,10 +122,20 @@ fn work<J: Naming, G: Gate, R: Wait>(
             Ok(done) => done,
             Err(memory) => return Err(memory),
         };
-        if board.lock(rt).post(done).is_err() {
-            return Err(Memory);
-        }
+        post(rt, board, done)?;
         gate.at_post(worker, number);
     }
     unreachable!()
+}
+
+// Posts what became of a piece that its worker has claimed.
+fn post<J: Naming, R: Wait>(rt: &R, board: &Mutex<Board<J>>, done: Done<J>) -> Result<(), Memory> {
+    let posted = board.lock(rt).post(done);
+    match posted {
+        Ok(()) => Ok(()),
+        Err(fault) => {
+            drop(fault);
+            Err(Memory)
+        }
+    }
 }
