@@ -1,12 +1,20 @@
 #!/usr/bin/env bash
-# All tests, behind the line of the kit that runs them: the program on one example through real files; every proof, every wrong
-# body that the prover must refuse, every test and the program as two compilers build it; the program as its users run it, and
-# on hostile texts and files; and each of its allocations refused in turn, without rules, with options that ask for rules, with a
-# text of rules, with a message between partitions, and with several who wait at a blackboard. At the end stands what each crate
-# cost. The last line is `N passed, 0 failed`.
+# All tests, after the line of the kit that runs them: that each wrong body applies; the program on one example through real
+# files; every proof, every wrong body of the gate's set, every test and the program as two compilers build it; the program as
+# its users run it, and on hostile texts and files; and each of its allocations refused in turn, without rules, with options
+# that ask for rules, with a rules file, with a message between partitions, and with several who wait at a blackboard. At the
+# end come the costs of each crate. The last line is `N passed, 0 failed`.
+#
+# `bash test.sh quick` shows without a proof, in minutes, that everything works. `bash audit.sh` tries all wrong bodies.
 set -euo pipefail
 cd "$(dirname "$0")"
+case "${*:-}" in
+    "") ;;
+    quick) exec .ci/quick ;;
+    *) echo "usage: test.sh [quick]" >&2; exit 2 ;;
+esac
 rt version
+.ci/wrong_bodies_apply
 report=$(bash examples/run timed_wait)
 echo "$report"
 if [ "$report" != "$(cat examples/timed_wait/expected.txt)" ]; then
