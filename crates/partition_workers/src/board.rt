@@ -132,7 +132,7 @@ impl<'a, J: Naming> Board<'a, J> {
             worker: done.worker(),
             piece: number,
         });
-        self.places[number] = Some(done);
+        drop(self.places[number].replace(done));
     }
 
     /// What became of all pieces, each at its number.

@@ -37,7 +37,10 @@ pub fn judge_piece(
 {
     match go_over(lent, rules, number, &mut piece) {
         Ok(gone) => Ok(Judged { piece, gone }),
-        Err(memory) => Err(memory),
+        Err(memory) => {
+            drop(piece);
+            Err(memory)
+        }
     }
 }
 

@@ -16,13 +16,14 @@ pub fn start_pieces(alloc: Global, config: &Config) -> Result<Vec<Piece>, Memory
     ensures cold { IfOk result (λ started. (number : ℕ) → number < length (pieces config.now) → parts_in started.items number ≡ cold_parts config.now number) }
     ensures going { IfOk result (λ started. AreGoing config.now 0 started.items) }
 {
-    let mut pieces = Vec::new(alloc);
-    'pieces: for number in 0..count(config) {
-        let Ok(piece) = Piece::start(alloc, config, number) else {
-            return Err(Memory);
-        };
-        if pieces.push(piece).is_err() {
-            return Err(Memory);
+    let total = count(config);
+    let Ok(mut pieces) = Vec::with_capacity(alloc, total) else {
+        return Err(Memory);
+    };
+    'pieces: for number in 0..total {
+        match Piece::start(alloc, config, number) {
+            Ok(piece) => pieces.push_reserved(piece),
+            Err(_) => return Err(Memory),
         }
     }
     Ok(pieces)

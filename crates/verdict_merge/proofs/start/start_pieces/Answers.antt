@@ -1,5 +1,4 @@
-use Rattle.std.proofs.Common.{◌≡◌, ◌<◌, ◌+◌, ◌++◌, ◌∷◌, ◌∙◌, [], ℕ, length, true, refl, sym, ap, subst, rules, arith}
-use Rattle.std.specs.Result.{is_ok}
+use Rattle.std.proofs.Common.{◌≡◌, ◌<◌, ◌+◌, ◌++◌, ◌∷◌, ◌∙◌, [], ℕ, length, sym, ap, subst, rules, arith}
 use Rattle.std.proofs.lemmas.List.{length-append}
 use Rattle.apex_machine.specs.Pieces.{pieces}
 use Rattle.apex_machine.specs.State.{cold_state}
@@ -12,24 +11,24 @@ use Rattle.verdict_merge.proofs.start.start_pieces.Goals as goal
 
 pub pieces-preserved : goal.pieces-preserved
 pieces-preserved c =
-    let good : is_ok c.push.result ≡ true = search rules in
     let config = c.args.config.now in
     let items = c.pieces.pieces.items in
     let number = c.pieces.number in
-    let piece = c.in-Ok.piece in
-    let grown : c.push.new.self.items ≡ items ++ piece ∷ [] = rw (c.push.ensures.items, good) refl in
+    let piece = c.in-Ok-start.piece in
+    let grown : c.push_reserved.new.self.items ≡ items ++ piece ∷ [] = c.push_reserved.ensures.items in
     let last : holding_at (items ++ piece ∷ []) number ≡ piece = subst (λ n. holding_at (items ++ piece ∷ []) n ≡ piece) c.pieces.invariant.count (holding_at-last items piece) in
     record {
       count = ap length grown ∙ length-append items (piece ∷ []) ∙ omega (arith, c.pieces.invariant.count);
+      room = omega (arith, c.push_reserved.ensures.capacity, c.pieces.invariant.room);
       cold = subst (λ all. (one : ℕ) → one < number + 1 → (holding_at all one).part ≡ cold_parts config one) (sym grown)
           (up_to (λ one. (holding_at (items ++ piece ∷ []) one).part ≡ cold_parts config one) number
           (λ one less. ap (λ holding. holding.part) (holding_at-front items piece one (omega (arith, less, c.pieces.invariant.count))) ∙ c.pieces.invariant.cold one less)
-          (ap (λ holding. holding.part) last ∙ c.in-Ok.ensures.part));
+          (ap (λ holding. holding.part) last ∙ c.in-Ok-start.ensures.part));
       of_module = subst (λ all. (one : ℕ) → one < number + 1 → IsOf config (holding_at all one)) (sym grown)
           (up_to (λ one. IsOf config (holding_at (items ++ piece ∷ []) one)) number
           (λ one less. subst (IsOf config) (sym (holding_at-front items piece one (omega (arith, less, c.pieces.invariant.count)))) (c.pieces.invariant.of_module one less))
-          (subst (IsOf config) (sym last) c.in-Ok.ensures.of_module));
-      behind = up_to (λ one. IsBehind 0 (cold_parts config one)) number c.pieces.invariant.behind (subst (IsBehind 0) c.in-Ok.ensures.part c.in-Ok.ensures.behind);
+          (subst (IsOf config) (sym last) c.in-Ok-start.ensures.of_module));
+      behind = up_to (λ one. IsBehind 0 (cold_parts config one)) number c.pieces.invariant.behind (subst (IsBehind 0) c.in-Ok-start.ensures.part c.in-Ok-start.ensures.behind);
     }
 
 pub returns-clause-going : goal.returns-clause-going

@@ -15,6 +15,6 @@ invariant_of-self g c =
       c.self.invariant.1,
       rw c.push_reserved.ensures.capacity c.self.invariant.2,
       c.self.invariant.3,
-      rw (c.push_reserved.ensures.items, c.worker.ensures, c.number-number.ensures.number)
+      rw (c.replace.ensures.after, c.push_reserved.ensures.items, c.worker.ensures, c.number-number.ensures.number)
           (posts _ _ _ _ _ c.args.done.number c.args.done.worker c.args.done c.self.invariant.4 (rw c.self.view_is c.requires.claimed) (rw c.self.view_is c.requires.first) refl within),
     )
