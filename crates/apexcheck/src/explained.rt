@@ -4,17 +4,18 @@ use crate::ending::Ending;
 use crate::files::open_text;
 use crate::usage::FileNames;
 use csv_rows::read_decimal;
-use explanation::{
-    Explanation, FoundRow, RecordNumber, Words, find_row, tell_arguments, tell_certificate,
-    tell_configuration, tell_order, tell_row_fault,
+use explanation::{Explanation, RecordNumber};
+use input_explanation::{
+    FoundRow, find_row, tell_certificate, tell_configuration, tell_order, tell_row_fault,
 };
 use module_config::ConfigFault;
 use order_cert::{CertFault, OrderFault};
 use record_read::RowFault;
-use report::{CheckFault, Verdict};
+use report::{ArgumentFault, CheckFault, Verdict};
 use std::alloc::Global;
 use std::fs;
 use std::fs::{File, Files};
+use wording::{Count, Words};
 
 /// Tells a person why the answer is no Yes: where the record, the row or the key is, what was found and what is wanted.
 pub fn explain<R: Files<File = File> + Eprint>(
@@ -192,4 +193,22 @@ fn explain_configuration<R: Files<File = File> + Eprint>(
     };
     tell_configuration(&mut words, alloc, fault, text.as_deref());
     tell(rt, &words);
+}
+
+// Tells what is wrong with the arguments of a check.
+fn tell_arguments(words: &mut Words, fault: ArgumentFault, recordings: usize) {
+    words.say(fault);
+    words.next_line();
+    match fault {
+        ArgumentFault::NoWorkers | ArgumentFault::TooManyWorkers => {
+            words.say("--workers wants a number from 1 to 64");
+        }
+        ArgumentFault::NoDepth | ArgumentFault::TooDeep => {
+            words.say("--depth wants a number from 1 to 4,096");
+        }
+        ArgumentFault::ReaderCount => words.say(format_args!(
+            "there are {}, and wanted is one for each core that the key cores of the configuration gives",
+            Count(recordings, "recording")
+        )),
+    }
 }

@@ -9,9 +9,9 @@ ghost use Rattle.apexcheck.specs.Ruled.{IsRuledEnding, where_asked};
 
 use crate::ending::{Ending, out_of_memory, refused_by};
 use crate::explained::explain;
+use crate::explainer::Explainer;
 use crate::ruled::{check_ruled, read_rules, tell_broken, tell_fields};
 use crate::usage::{FileNames, FilesAsked};
-use explanation::Explanation;
 use report::Last;
 use rule_options::RuleOption;
 use rules_file::RulesFault;
@@ -42,10 +42,10 @@ where
     };
     match Opened::open(rt, alloc, &asked.names) {
         Ok(opened) => {
-            let mut explanation = Explanation::new(alloc);
-            let ending = opened.check(rt, alloc, &options, asked, &mut explanation);
+            let mut explainer = Explainer::new(alloc);
+            let ending = opened.check(rt, alloc, &options, asked, &mut explainer);
             if !asked.quiet {
-                explain(rt, alloc, &asked.names, &ending, &explanation);
+                explain(rt, alloc, &asked.names, &ending, explainer.explanation());
             }
             ending
         }
@@ -104,7 +104,7 @@ impl<F: Read + Drop + Send + 'static> Opened<F> {
         alloc: Global,
         options: &[RuleOption],
         asked: &FilesAsked,
-        explanation: &mut Explanation,
+        explainer: &mut Explainer,
     ) -> Ending
     where
         R: Eprint + Threads + Wait + Sync + Copy + Send + 'static,
@@ -137,10 +137,10 @@ impl<F: Read + Drop + Send + 'static> Opened<F> {
             &rules,
             asked.settings,
             &mut last,
-            explanation,
+            explainer,
         );
         tell_broken(rt, options, &rules, &outcome);
-        tell_fields(alloc, explanation, options, &rules, &outcome);
+        tell_fields(alloc, explainer, options, &rules, &outcome);
         Ending::Checked {
             outcome,
             last: where_asked(asked.last, last),

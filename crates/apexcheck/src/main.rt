@@ -9,6 +9,7 @@
 
 mod ending;
 mod explained;
+mod explainer;
 mod files;
 mod ruled;
 mod settings;

@@ -6,7 +6,7 @@ ghost use Rattle.rules_file.specs.Keys.{Gives};
 ghost use Rattle.rules_file.specs.Reading.{said};
 ghost use Rattle.apexcheck.specs.Ruled.{HoldInTurn, IsRuledOutcome, SayBoth, rules_given};
 
-use explanation::Explanation;
+use crate::explainer::Explainer;
 use report::{CheckFault, Last, MOST_RECORDS, Open, Settings, Verdict, Witness, check_relations};
 use rule_options::{RuleOption, relations_of};
 use rules_file::{NamedRule, RulesFault};
@@ -96,7 +96,7 @@ fn relations_in(alloc: Global, rules: &[NamedRule]) -> Result<Vec<Relation>, All
 /// Adds the fields of the view to what is told of a broken rule. Where memory is refused nothing is added.
 pub fn tell_fields(
     alloc: Global,
-    explanation: &mut Explanation,
+    explainer: &mut Explainer,
     options: &[RuleOption],
     rules: &[NamedRule],
     outcome: &Result<Verdict, CheckFault>,
@@ -106,10 +106,10 @@ pub fn tell_fields(
     };
     if let Some(option) = options.get(*rule) {
         if let Ok(relation) = option.relation(alloc) {
-            explanation.tell_fields(&relation);
+            explainer.tell_fields(&relation);
         }
     } else if let Some(named) = rules.get(*rule - options.len()) {
-        explanation.tell_fields(&named.relation);
+        explainer.tell_fields(&named.relation);
     }
 }
 

@@ -11,12 +11,13 @@ ghost use Rattle.apexcheck.specs.Words.{AreNamed, AsksFor, AsksForFiles, asks_ve
 use crate::settings::read_settings;
 use clap::error::ErrorKind;
 use clap::{Arg, ArgAction, ArgMatches, Command, Error};
-use explanation::{Words, tell_command_line};
+use input_explanation::tell_command_line;
 use report::Settings;
 use rule_options::RuleOptions;
 use std::alloc::{AllocError, Global};
 use std::rt::Env;
 use std::{env, io};
+use wording::Words;
 
 /// What a person is told whose command line is refused.
 pub const USAGE: &str = "usage: apexcheck --config FILE --order FILE --workers N [--depth N]

@@ -1,8 +1,8 @@
 // The view of a record that breaks a rule, in words.
 
-use crate::words::Words;
 use apex_types::{Field, View};
 use user_rules::Relation;
+use wording::Words;
 
 const FIELDS: [(Field, &str); 11] = [
     (Field::Kind, "kind"),

@@ -2,13 +2,12 @@
 
 use crate::claim::tell_difference;
 use crate::held::tell_channel_held;
-use crate::rules::answer_rule;
 use crate::wanted::wanted_through;
-use crate::words::Words;
 use apex_types::{Body, Cause, Ordered, Request};
 use channel::Channel;
 use dispatch_rule::Times;
 use module_config::Config;
+use wording::{Words, answer_rule};
 
 /// Tells why a channel refuses a record.
 pub fn tell_channel(

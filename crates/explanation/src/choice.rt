@@ -1,12 +1,11 @@
 // Windows and choices that are not kept.
 
 use crate::module::tell_time;
-use crate::naming::{Numbered, Occupant};
 use crate::partition::Refusing;
 use crate::processes::{tell_choice, tell_numbered};
-use crate::words::Words;
 use apex_types::{Body, Call, CoreId, Ordered, Who};
 use module_config::Config;
+use wording::{Numbered, Occupant, Words};
 
 /// Tells whose window a core is in, where a call or a return is of another partition.
 pub fn tell_window(words: &mut Words, config: &Config, refusing: &Refusing<'_>, ordered: &Ordered) {

@@ -2,16 +2,13 @@
 
 use crate::conditions::{tell_codes, tell_conditions};
 use crate::held::tell_held;
-use crate::naming::{Bytes, Numbered, out_name};
 use crate::processes::tell_numbered;
-use crate::rules::answer_rule;
-use crate::said::{tell_further, tell_processes};
 use crate::wanted::{Value, Waking, Wanted, wanted_of};
-use crate::words::Words;
 use apex_types::{Call, Cause, ChanId, Claim, Out, Request, Who};
 use module_config::Config;
 use partition_state::PartitionState;
 use wait_set::{Conditions, WaitSet};
+use wording::{Bytes, Numbered, Words, answer_rule, out_name, tell_further, tell_processes};
 
 /// Tells the outcomes of a call on which error conditions hold, where its claim is none of them.
 pub fn tell_refused_outcome(

@@ -3,9 +3,6 @@
 mod port_services;
 mod processes;
 
-use crate::naming::code_name;
-use crate::rules::codes_rule;
-use crate::words::Words;
 use apex_machine::Mode;
 use apex_types::{Call, Code, Name, ObjectKind, Request, Who};
 use module_config::Config;
@@ -13,6 +10,7 @@ use partition_state::PartitionState;
 use port_services::tell_port_conditions;
 use processes::tell_process_conditions;
 use wait_set::Conditions;
+use wording::{Words, code_name, codes_rule};
 
 /// Tells which error conditions hold, and where their rule stands.
 pub fn tell_conditions(words: &mut Words, config: &Config, state: &PartitionState, call: &Call) {

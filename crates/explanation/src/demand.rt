@@ -1,8 +1,8 @@
 // What a piece demands of a record, by the cause that is told where it does not hold.
 
-use crate::words::Words;
 use apex_types::{Body, Cause};
 use piece_check::Subject;
+use wording::Words;
 
 /// Tells the demand that fails.
 pub fn tell_demand(words: &mut Words, subject: Subject, body: &Body, cause: Cause) {

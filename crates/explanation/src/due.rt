@@ -1,11 +1,10 @@
 // Waits that end at a tick, or by a call of another partition.
 
-use crate::naming::Numbered;
 use crate::partition::Refusing;
 use crate::processes::{tell_numbered, tell_standing, time_due};
-use crate::words::Words;
 use apex_machine::{Process, Wait, WaitingSet};
 use apex_types::{Call, CoreId, Request, Who};
+use wording::{Numbered, Words};
 
 /// Tells whose waits fall due at a tick and are not named, and who is named and does not fall due.
 pub fn tell_due_at_tick(words: &mut Words, refusing: &Refusing<'_>, core: CoreId, named: &[Who]) {

@@ -4,16 +4,13 @@ use crate::broken::tell_view;
 use crate::channels::tell_channel;
 use crate::demand::tell_demand;
 use crate::module::tell_module;
-use crate::naming::{Ascii, Numbered};
 use crate::partition::{Refusing, tell_partition};
-use crate::said::tell_record;
-use crate::words::Words;
 use apex_types::{Body, Cause, CoreId, Ordered, PartId, View};
 use module_config::Config;
 use piece_check::{Piece, Subject};
-use report::Witness;
 use std::alloc::Global;
 use user_rules::Relation;
+use wording::{Ascii, Numbered, Words, tell_record};
 
 /// A record by its core and its number there.
 #[derive(Clone, Copy, Debug, PartialEq, Eq)]
@@ -22,7 +19,7 @@ pub struct RecordNumber {
     pub seq: u32,
 }
 
-/// What is told of a No: the record at its place, and why it is refused, in words. It is a witness of a check.
+/// What is told of a No: the record at its place, and why it is refused, in words.
 #[derive(Drop)]
 pub struct Explanation {
     record: Option<RecordNumber>,
@@ -57,6 +54,24 @@ impl Explanation {
         &self.words
     }
 
+    /// Takes in the record that this piece refuses for this cause. The piece is as it was before the record.
+    pub fn tell_refused(
+        &mut self,
+        config: &Config,
+        piece: &Piece,
+        ordered: &Ordered,
+        cause: Cause,
+    ) {
+        self.begin(ordered);
+        tell_refusal(&mut self.words, config, piece, ordered, cause);
+    }
+
+    /// Takes in the record whose view breaks a rule.
+    pub fn tell_broken(&mut self, ordered: &Ordered, view: &View) {
+        self.begin(ordered);
+        self.view = Some(*view);
+    }
+
     // Takes in the record that is told.
     fn begin(&mut self, ordered: &Ordered) {
         self.record = Some(RecordNumber {
@@ -64,18 +79,6 @@ impl Explanation {
             seq: ordered.rec.seq,
         });
         tell_record(&mut self.words, ordered);
-    }
-}
-
-impl Witness for Explanation {
-    fn refused(&mut self, config: &Config, piece: &Piece, ordered: &Ordered, cause: Cause) {
-        self.begin(ordered);
-        tell_refusal(&mut self.words, config, piece, ordered, cause);
-    }
-
-    fn broken(&mut self, ordered: &Ordered, view: &View, _rule: usize) {
-        self.begin(ordered);
-        self.view = Some(*view);
     }
 }
 

@@ -1,7 +1,5 @@
 // What objects and channels hold, in words.
 
-use crate::naming::{Ascii, Bytes, Count, Numbered, kind_name};
-use crate::words::Words;
 use apex_types::{Name, ObjectKind, Request};
 use channel::Channel;
 use message_queue::MessageQueue;
@@ -9,6 +7,7 @@ use module_config::ChannelKind;
 use partition_state::PartitionState;
 use ports::Port;
 use wait_set::{Named, WaitSet};
+use wording::{Ascii, Bytes, Count, Numbered, Words, kind_name};
 
 /// Tells what the object holds that a call uses, if it uses one.
 pub fn tell_held(words: &mut Words, state: &PartitionState, request: &Request) {

@@ -1,10 +1,9 @@
 // What the module refuses.
 
-use crate::naming::Occupant;
-use crate::words::Words;
 use apex_types::{Body, Cause, ChanId, CoreId, Ordered, PartId, Who};
 use dispatch_rule::Clock;
 use module_config::Config;
+use wording::{Occupant, Words};
 
 /// Tells why the module refuses a record.
 pub fn tell_module(

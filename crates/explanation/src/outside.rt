@@ -1,8 +1,8 @@
 // Calls that the program does not judge.
 
-use crate::words::Words;
 use apex_types::{Call, Request};
 use partition_state::PartitionState;
+use wording::Words;
 
 /// Tells why a call stands outside the profile.
 pub fn tell_outside(words: &mut Words, state: &PartitionState, call: &Call) {

@@ -3,17 +3,15 @@
 use crate::choice::{tell_refused_choice, tell_window};
 use crate::claim::{tell_answer, tell_refused_outcome, tell_through};
 use crate::due::{tell_due_at_tick, tell_foreign_waits};
-use crate::naming::Ascii;
 use crate::outside::tell_outside;
 use crate::processes::tell_numbered;
-use crate::said::{tell_further, tell_message, tell_value};
-use crate::words::Words;
 use apex_machine::Outcome;
 use apex_types::{Body, Call, Cause, Ordered, PartId, Return, Who};
 use dispatch_rule::Clock;
 use module_config::Config;
 use partition_state::PartitionState;
 use piece_check::Piece;
+use wording::{Ascii, Words, code_name, tell_further, tell_message, tell_value};
 
 /// A partition that refuses a record: its number, the clock, its state, and its piece.
 #[derive(Drop)]
@@ -101,7 +99,7 @@ fn due_to<'a>(state: &'a PartitionState, who: Who) -> Option<&'a Outcome> {
 // Tells an outcome that is due.
 fn tell_outcome(words: &mut Words, outcome: &Outcome) {
     words.say(Ascii(outcome.service.name()));
-    words.say(format_args!(" with {}", crate::naming::code_name(outcome.code)));
+    words.say(format_args!(" with {}", code_name(outcome.code)));
     tell_value(words, outcome.val);
     tell_further(words, outcome.val2, outcome.val3);
     tell_message(words, outcome.bytes.as_bytes());

@@ -1,10 +1,9 @@
 // Processes in words: what one waits for, and why it is not ready or not the choice.
 
-use crate::naming::{Ascii, Numbered, Set};
-use crate::words::Words;
 use apex_machine::{Process, Wait};
 use apex_types::{CoreId, PartId, ProcId, Who};
 use partition_state::PartitionState;
+use wording::{Ascii, Numbered, Set, Words};
 
 /// Tells a process with its name and how it stands: ready, or why it is not.
 pub fn tell_process(words: &mut Words, who: Who, process: &Process) {

@@ -1,12 +1,12 @@
 // The error conditions of ports.
 
 use super::{holds, tell_port_name, tell_wait};
-use crate::words::Words;
 use apex_machine::Direction;
 use apex_types::{Call, Code, Discipline, PartId, Request};
 use module_config::Config;
 use partition_state::PartitionState;
 use ports::Port;
+use wording::Words;
 
 /// Tells the conditions that hold of a service of ports.
 pub fn tell_port_conditions(

@@ -2,11 +2,11 @@
 
 use super::{holds, tell_each_creation, tell_full, tell_may_not_wait, tell_priority};
 use crate::wanted::suspended_itself;
-use crate::words::Words;
 use apex_machine::{Mode, Process};
 use apex_types::{Call, Code, Name, Request};
 use module_config::Config;
 use partition_state::PartitionState;
+use wording::Words;
 
 const WARM_START: i64 = 2;
 

@@ -1,8 +1,8 @@
 // The refusals of a configuration as a whole in words: which of its tables don't go together.
 
-use crate::words::Words;
 use module_config::ConfigFault;
 use toml::{Table, Value};
+use wording::Words;
 
 /// Tells which tables of a configuration don't go together. Each of its keys is right by itself.
 pub fn tell_whole(words: &mut Words, keys: &Table, fault: ConfigFault) {

@@ -1,13 +1,12 @@
 // The refusals of a configuration in words: its first key that is missing or wrong, what stands there, and what is wanted. The text
 // is gone over once more, key by key in the order of docs/FORMATS.md.
 
-use crate::naming::{Count, Found};
 use crate::whole::tell_whole;
-use crate::words::Words;
 use module_config::ConfigFault;
 use std::alloc::Global;
 use std::fmt;
 use toml::{Table, Value};
+use wording::{Count, Found, Words};
 
 /// How many bytes a text has at most that is gone over once more.
 const LONGEST: usize = 65_536;

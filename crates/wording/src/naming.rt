@@ -1,6 +1,6 @@
 // How things are named: processes, names, messages, outcomes and waiting sets.
 
-use apex_machine::{Mode, WaitingSet};
+use apex_machine::WaitingSet;
 use apex_types::{Code, ObjectKind, Out, Who};
 use std::fmt::Write;
 use std::{fmt, str};
@@ -120,16 +120,6 @@ pub fn out_name(out: Out) -> &'static str {
         Out::Waits => "wait",
         Out::Never => "none",
         Out::Answer(code) => code_name(code),
-    }
-}
-
-/// The name of a mode.
-pub fn mode_name(mode: Mode) -> &'static str {
-    match mode {
-        Mode::Idle => "IDLE",
-        Mode::ColdStart => "COLD_START",
-        Mode::WarmStart => "WARM_START",
-        Mode::Normal => "NORMAL",
     }
 }
 

@@ -1,9 +1,8 @@
 // A command line that is refused, in words. Its words are gone over once more.
 
-use crate::naming::Found;
-use crate::words::Words;
 use csv_rows::read_decimal;
 use record_read::find_service;
+use wording::{Found, Words};
 
 /// How many options have a value. In `OPTIONS` they stand before the flags.
 const VALUED: usize = 7;

@@ -1,17 +1,15 @@
-// The refusals of a certificate, an order and the arguments in words.
+// The refusals of a certificate and of an order in words.
 
-use crate::naming::Found;
-use crate::words::Words;
 use csv::ByteRecord;
 use order_cert::{CertFault, OrderFault};
-use report::ArgumentFault;
+use wording::{Count, Found, Words};
 
 /// Tells the fault of a row of the certificate.
 pub fn tell_certificate(words: &mut Words, fault: CertFault, fields: Option<&ByteRecord>) {
     words.say(fault);
     if let Some(fields) = fields {
         words.next_line();
-        words.say(format_args!("it has {}", crate::naming::Count(fields.len(), "field")));
+        words.say(format_args!("it has {}", Count(fields.len(), "field")));
         for field in [0, 1] {
             if let Some(text) = fields.get(field) {
                 words.say(format_args!(", {}", Found(text)));
@@ -57,22 +55,4 @@ pub fn tell_order(words: &mut Words, fault: OrderFault, core: u32, named: Option
     }
     words.next_line();
     words.say("lawful orders: docs/SPECIFICATION.md, part 15 (IsLawfulOrder)");
-}
-
-/// Tells what is wrong with the arguments of a check.
-pub fn tell_arguments(words: &mut Words, fault: ArgumentFault, recordings: usize) {
-    words.say(fault);
-    words.next_line();
-    match fault {
-        ArgumentFault::NoWorkers | ArgumentFault::TooManyWorkers => {
-            words.say("--workers wants a number from 1 to 64");
-        }
-        ArgumentFault::NoDepth | ArgumentFault::TooDeep => {
-            words.say("--depth wants a number from 1 to 4,096");
-        }
-        ArgumentFault::ReaderCount => words.say(format_args!(
-            "there are {}, and wanted is one for each core that the key cores of the configuration gives",
-            crate::naming::Count(recordings, "recording")
-        )),
-    }
 }

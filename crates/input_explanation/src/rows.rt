@@ -1,11 +1,10 @@
 // The faults of rows in words: which field, what stands there, and what is wanted.
 
-use crate::naming::Found;
-use crate::words::Words;
 use apex_types::Service;
 use csv::ByteRecord;
 use csv_rows::{read_decimal, read_signed};
 use record_read::{Kind, RowFault, find_kind, find_service};
+use wording::{Count, Found, Words};
 
 /// How many fields a row of a recording has at most.
 const FIELDS: usize = 18;
@@ -25,7 +24,7 @@ pub fn tell_row_fault(words: &mut Words, fault: RowFault, seq: u64, fields: Opti
     match fault {
         RowFault::FieldCount => words.say(format_args!(
             "it has {}, and wanted are 16, or 18 where the first row has 18",
-            crate::naming::Count(fields.len(), "field")
+            Count(fields.len(), "field")
         )),
         RowFault::SeqGap => {
             tell_field(words, fields, 0);

@@ -1,0 +1,18 @@
+//! A refusal in words, for the person who reads it: of a command line, a configuration, a row of a recording or of the certificate,
+//! or an order, what was found and what is wanted.
+//!
+//! Promises nothing but that its functions end and take no memory beyond their texts: it decides nothing.
+#![tactic(auto)]
+
+mod command_line;
+mod configuration;
+mod found_row;
+mod refusals;
+mod rows;
+mod whole;
+
+pub use command_line::tell_command_line;
+pub use configuration::tell_configuration;
+pub use found_row::{FoundRow, find_row};
+pub use refusals::{tell_certificate, tell_order};
+pub use rows::tell_row_fault;
