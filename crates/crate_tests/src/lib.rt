@@ -1,24 +1,13 @@
-//! What no clause says: what comes of readers and writers that fail in mid-stream, that workers and readers work beside
-//! one another, how far recordings are read ahead, what a board of workers gives back, where records are placed, what a check
-//! leaves of the last records, the verdict at once, which rules options and texts ask for and which views break them, what comes
-//! of waiting sets in ample memory and under a refusal, and of a semaphore by itself.
+//! What no clause says of whole checks: what comes of readers and writers that fail in mid-stream, that workers and readers work
+//! beside one another, what a board of workers gives back, what a check leaves of the last records, the verdict at once, and which
+//! views break rules.
 //!
-//! Promises: nothing; the crate is tests alone. They stand here, and not in the crates that they test, so that those
-//! are proved once. Whole recordings are the data of `case_runner`.
+//! Promises nothing; the crate is tests alone. The tests are not in the crates that they test, so that those are proved once. The
+//! tests of the intake and of single parts have crates of their own; whole recordings are the data of `case_runner`.
 #![tactic(auto)]
 
 #[cfg(test)]
-mod intake_readers;
-#[cfg(test)]
-mod intakes;
-#[cfg(test)]
 mod memory;
-#[cfg(test)]
-mod options_of_rules;
-#[cfg(test)]
-mod placing;
-#[cfg(test)]
-mod queuing;
 #[cfg(test)]
 mod readers;
 #[cfg(test)]
@@ -28,13 +17,9 @@ mod ruled;
 #[cfg(test)]
 mod texts;
 #[cfg(test)]
-mod texts_of_rules;
-#[cfg(test)]
 mod threads;
 #[cfg(test)]
 mod verdicts;
-#[cfg(test)]
-mod waiting;
 #[cfg(test)]
 mod workers;
 #[cfg(test)]

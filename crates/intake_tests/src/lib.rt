@@ -1,0 +1,12 @@
+//! What no clause says of the intake of recordings: that several cores are read at once, how far each reads ahead of what is
+//! answered, that a failed read comes after the rows before it, and where records are placed in ample memory.
+//!
+//! Promises nothing; the crate is tests alone.
+#![tactic(auto)]
+
+#[cfg(test)]
+mod intake_readers;
+#[cfg(test)]
+mod intakes;
+#[cfg(test)]
+mod placing;
