@@ -19,7 +19,7 @@ pub struct RecordNumber {
     pub seq: u32,
 }
 
-/// What is told of a No: the record at its place, and why it is refused, in words.
+/// A No in words: the record at its place, and why a piece rejects it.
 #[derive(Drop)]
 pub struct Explanation {
     record: Option<RecordNumber>,

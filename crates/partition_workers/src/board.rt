@@ -132,6 +132,7 @@ impl<'a, J: Naming> Board<'a, J> {
             worker: done.worker(),
             piece: number,
         });
+        // An assignment would drop what was there part by part, each a step of this proof.
         drop(self.places[number].replace(done));
     }
 
