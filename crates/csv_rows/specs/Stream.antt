@@ -14,7 +14,7 @@ abbrev pub rows_of : List ℕ → List Fields
 rows_of text = records default_config (strip_bom text)
 
 -- what callers see of a stream: whether it has stopped, for a failed read or because `csv` gave up, whether its end was
--- told, whether the reader of the text has failed, and the rows that are left where the bytes are known
+-- told, whether the source of the text has failed, and the rows that are left where the bytes are known
 pub record Stream : Type 0 where
   pub stopped : Bool
   pub ended : Bool

@@ -5,8 +5,12 @@
 #![tactic(auto)]
 
 mod decimal;
+mod source_reader;
 mod stream;
+mod text_source;
 mod watched;
 
 pub use decimal::{read_decimal, read_signed};
 pub use stream::{CsvRows, StreamFault};
+pub use text_source::TextSource;
+pub use watched::Watched;

@@ -1,13 +1,12 @@
 // A reader that remembers whether a read of it failed.
 
-ghost use Rattle.std.specs.Prelude.{◌≡◌, false, true, OnOk, OnErr};
-ghost use Rattle.std.specs.Io.{ReadsAtMost};
-ghost use Rattle.std.specs.Io.KnownBytes.{ReadConsumes};
+ghost use Rattle.std.specs.Prelude.{◌≡◌, false, true};
 
+use crate::text_source::TextSource;
 use std::io;
 use std::io::Read;
 
-/// A reader, and whether one of its reads has failed.
+/// Any reader as the source of a text: it remembers whether one of its reads has failed.
 #[derive(Drop)]
 pub struct Watched<R> {
     inner: R,
@@ -25,29 +24,29 @@ impl<R: Read> Watched<R> {
             failed: false,
         }
     }
-
-    /// Whether a read has failed.
-    pub fn has_failed(&self) -> bool
-        ensures { result ≡ self.now.failed }
-    {
-        self.failed
-    }
 }
 
-impl<R: Read> Read for Watched<R> {
+impl<R: Read> TextSource for Watched<R> {
+    ghost use Rattle.std.specs.Prelude.{true, refl};
+
     ghost remaining = { λ watched. R.remaining watched.inner };
 
+    ghost failed = { λ watched. watched.failed };
+
+    ghost can_fail = { true };
+
+    ghost fails_where_it_can = { λ watched failed. refl };
+
     /// Reads from the reader underneath, and remembers an error.
-    fn read(&mut self, buf: &mut [u8]) -> io::Result<usize>
-        ensures bound { ReadsAtMost result buf.new }
-        ensures bytes { ReadConsumes (R.remaining self.old.inner) (R.remaining self.new.inner) result buf.new }
-        ensures failed { OnErr result (self.new.failed ≡ true) }
-        ensures kept { OnOk result (self.new.failed ≡ self.old.failed) }
-    {
+    fn read_some(&mut self, buf: &mut [u8]) -> io::Result<usize> {
         let outcome = self.inner.read(buf);
         if outcome.is_err() {
             self.failed = true;
         }
         outcome
+    }
+
+    fn has_failed(&self) -> bool {
+        self.failed
     }
 }

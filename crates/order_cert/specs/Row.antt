@@ -1,5 +1,5 @@
 -- The rows of a certificate, each read as a pair of a core and a number.
-use Rattle.std.specs.Prelude.{◌≡◌, ◌⊎◌, ℕ, List, Result, Ok, Err, length, nat_lt, ◌==◌, if◌then◌else◌, option_and_then}
+use Rattle.std.specs.Prelude.{◌≡◌, ◌⊎◌, ℕ, Bool, true, List, Result, Ok, Err, length, nat_lt, ◌==◌, if◌then◌else◌, option_and_then}
 use Rattle.std.specs.Option.{ok_or}
 use Rattle.csv.specs.Records.{field_at}
 use Rattle.csv_rows.specs.Decimal.{decimal}
@@ -14,9 +14,9 @@ use Rattle.order_cert.specs.declared.fault.CertFault.TheVariants.{Read, Memory, 
 abbrev pub Item : Type 0
 Item = Result Pair CertFault
 
--- a fault of which the text says nothing
-abbrev pub IsOutside : CertFault → Type 0
-IsOutside fault = (fault ≡ Read) ⊎ (fault ≡ Memory)
+-- a fault of which the text says nothing: the failure of a source that can fail, or want of memory
+abbrev pub IsOutside : Bool → CertFault → Type 0
+IsOutside can_fail fault = ((fault ≡ Read) × (can_fail ≡ true)) ⊎ (fault ≡ Memory)
 
 -- a fault that the text itself has
 abbrev pub IsOfRow : CertFault → Type 0

@@ -8,21 +8,20 @@ use crate::fault::CertFault;
 use crate::pair::read_item;
 use apex_types::Pair;
 use csv::ByteRecord;
-use csv_rows::{CsvRows, StreamFault};
+use csv_rows::{CsvRows, StreamFault, TextSource};
 use std::alloc::Global;
-use std::io::Read;
 use std::marker::Model;
 
 /// The pairs that the rows of a certificate are, one for each call of `next`.
 #[derive(Drop)]
-pub struct CertSource<R: Read> {
+pub struct CertSource<R: TextSource> {
     rows: CsvRows<R>,
     fields: ByteRecord,
     count: u64,
     stopped: bool,
 }
 
-impl<R: Read> Model for CertSource<R> {
+impl<R: TextSource> Model for CertSource<R> {
     ghost use Rattle.std.specs.Prelude.{◌≡◌, ◌&&◌, not, option_map, false};
     ghost use Rattle.csv_rows.specs.Source.{Source, items_from};
     ghost use Rattle.order_cert.specs.Row.{Item, item_of};
@@ -40,17 +39,17 @@ impl<R: Read> Model for CertSource<R> {
     ghost invariant = { λ source. source.stopped ≡ false → source.rows.stopped ≡ false };
 }
 
-impl<R: Read> CertSource<R> {
-    /// The certificate that `reader` gives. Takes no memory.
-    pub fn new(alloc: Global, reader: R) -> CertSource<R>
+impl<R: TextSource> CertSource<R> {
+    /// The certificate whose text this source gives. Takes no memory.
+    pub fn new(alloc: Global, source: R) -> CertSource<R>
         ensures stopped { result.stopped ≡ false }
         ensures ended { result.ended ≡ false }
-        ensures failed { result.failed ≡ false }
+        ensures failed { result.failed ≡ R.failed source }
         ensures starved { result.starved ≡ false }
-        ensures left { result.left ≡ option_map pairs_of (R.remaining reader) }
+        ensures left { result.left ≡ option_map pairs_of (R.remaining source) }
     {
         CertSource {
-            rows: CsvRows::new(alloc, reader),
+            rows: CsvRows::new(alloc, source),
             fields: ByteRecord::new(alloc),
             count: 0,
             stopped: false,
@@ -59,7 +58,7 @@ impl<R: Read> CertSource<R> {
 
     /// The next pair, or None behind the last, then and from then on. After a fault every call answers Ended.
     ///
-    /// Read where the reader failed, Memory where `csv` gave up with no failed read; else the row's own fault.
+    /// Read where the source has failed, Memory where `csv` gave up with no failed read; else the row's own fault.
     pub fn next(&mut self) -> Result<Option<Pair>, CertFault>
         ensures ended { self.old.stopped ≡ true → result ≡ Err CertFault.Ended }
         ensures fresh { self.old.stopped ≡ false → result ≢ Err CertFault.Ended }
@@ -69,7 +68,7 @@ impl<R: Read> CertSource<R> {
         ensures failed { self.old.stopped ≡ false → result ≡ Err CertFault.Read → self.new.failed ≡ true }
         ensures told { self.old.stopped ≡ false → self.new.failed ≡ true → result ≡ Err CertFault.Read }
         ensures starved { self.old.stopped ≡ false → (result ≡ Err CertFault.Memory) ↔ (self.new.starved ≡ true) }
-        ensures gives { self.old.stopped ≡ false → IfSome self.old.left (λ items. Gives IsOutside items result self.new.left) }
+        ensures gives { self.old.stopped ≡ false → IfSome self.old.left (λ items. Gives (IsOutside R.can_fail) items result self.new.left) }
     {
         if self.stopped {
             return Err(CertFault::Ended);

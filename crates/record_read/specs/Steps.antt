@@ -1,5 +1,5 @@
 -- Steps of reading a row, the first fault of which decides.
-use Rattle.std.specs.Prelude.{◌≡◌, ◌⊎◌, Result, Ok, Err, IsOkAnd}
+use Rattle.std.specs.Prelude.{◌≡◌, ◌⊎◌, Bool, true, Result, Ok, Err, IsOkAnd}
 use Rattle.record_read.specs.declared.fault.RowFault.{RowFault}
 use Rattle.record_read.specs.declared.fault.RowFault.TheVariants.{Read, Memory, Ended}
 
@@ -9,9 +9,9 @@ abbrev pub ◌>>=◌ : {A B : Type 0} → Result A RowFault → (A → Result B 
 (Ok x) >>= f = f x
 (Err e) >>= f = Err e
 
--- a fault of which the text says nothing
-abbrev pub IsOutside : RowFault → Type 0
-IsOutside fault = (fault ≡ Read) ⊎ (fault ≡ Memory)
+-- a fault of which the text says nothing: the failure of a source that can fail, or want of memory
+abbrev pub IsOutside : Bool → RowFault → Type 0
+IsOutside can_fail fault = ((fault ≡ Read) × (can_fail ≡ true)) ⊎ (fault ≡ Memory)
 
 -- a fault that the text of a row can have
 abbrev pub IsOfRow : RowFault → Type 0

@@ -11,14 +11,13 @@ use crate::format::{Format, format_by};
 use crate::row::read_record;
 use apex_types::Record;
 use csv::ByteRecord;
-use csv_rows::{CsvRows, StreamFault};
+use csv_rows::{CsvRows, StreamFault, TextSource};
 use std::alloc::Global;
-use std::io::Read;
 use std::marker::Model;
 
 /// The records that the rows of a recording are, one for each call of `next`. The first row tells the recording's format.
 #[derive(Drop)]
-pub struct RowSource<R: Read> {
+pub struct RowSource<R: TextSource> {
     rows: CsvRows<R>,
     fields: ByteRecord,
     // The format of the recording, once its first row was read.
@@ -28,7 +27,7 @@ pub struct RowSource<R: Read> {
     alloc: Global,
 }
 
-impl<R: Read> Model for RowSource<R> {
+impl<R: TextSource> Model for RowSource<R> {
     ghost use Rattle.std.specs.Prelude.{◌≡◌, ◌&&◌, not, option_map, false};
     ghost use Rattle.csv_rows.specs.Source.{Source};
     ghost use Rattle.record_read.specs.Row.{Item, records_left};
@@ -46,17 +45,17 @@ impl<R: Read> Model for RowSource<R> {
     ghost invariant = { λ source. source.stopped ≡ false → source.rows.stopped ≡ false };
 }
 
-impl<R: Read> RowSource<R> {
-    /// The recording that `reader` gives. Takes no memory.
-    pub fn new(alloc: Global, reader: R) -> RowSource<R>
+impl<R: TextSource> RowSource<R> {
+    /// The recording whose text this source gives. Takes no memory.
+    pub fn new(alloc: Global, source: R) -> RowSource<R>
         ensures stopped { result.stopped ≡ false }
         ensures ended { result.ended ≡ false }
-        ensures failed { result.failed ≡ false }
+        ensures failed { result.failed ≡ R.failed source }
         ensures starved { result.starved ≡ false }
-        ensures left { result.left ≡ option_map records_of (R.remaining reader) }
+        ensures left { result.left ≡ option_map records_of (R.remaining source) }
     {
         RowSource {
-            rows: CsvRows::new(alloc, reader),
+            rows: CsvRows::new(alloc, source),
             fields: ByteRecord::new(alloc),
             format: None,
             count: 0,
@@ -65,9 +64,16 @@ impl<R: Read> RowSource<R> {
         }
     }
 
+    /// Where the recording comes from.
+    pub fn source(&self) -> &R
+        ensures failed { R.failed result.now ≡ self.now.failed }
+    {
+        self.rows.source()
+    }
+
     /// The next record, or None behind the last, then and from then on. After a fault every call answers Ended.
     ///
-    /// Read where the reader failed, and else the row's first fault. Memory where `csv` gave up, and for a sound row with a
+    /// Read where the source has failed, and else the row's first fault. Memory where `csv` gave up, and for a sound row with a
     /// name, a message or a list of processes.
     pub fn next(&mut self) -> Result<Option<Record>, RowFault>
         ensures ended { self.old.stopped ≡ true → result ≡ Err RowFault.Ended }
@@ -79,7 +85,7 @@ impl<R: Read> RowSource<R> {
         ensures told { self.old.stopped ≡ false → self.new.failed ≡ true → result ≡ Err RowFault.Read }
         ensures starved { self.old.stopped ≡ false → self.new.starved ≡ true → result ≡ Err RowFault.Memory }
         ensures memory { self.old.stopped ≡ false → result ≡ Err RowFault.Memory → (self.new.starved ≡ true) ⊎ IfSome self.old.left NextNeedsMemory }
-        ensures gives { self.old.stopped ≡ false → IfSome self.old.left (λ items. Gives IsOutside items result self.new.left) }
+        ensures gives { self.old.stopped ≡ false → IfSome self.old.left (λ items. Gives (IsOutside R.can_fail) items result self.new.left) }
     {
         if self.stopped {
             return Err(RowFault::Ended);

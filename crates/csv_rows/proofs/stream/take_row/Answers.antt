@@ -17,7 +17,7 @@ holds_of P (Err x) found e h = let e : ◌≡◌ {A = Option Bool} None (Some fo
 
 pub returns-in-Some-clause-takes : goal.returns-in-Some-clause-takes
 returns-in-Some-clause-takes g c =
-    read_takes (λ watched. g.R.Read.remaining watched.inner) c.args.reader.now c.read_byte_record.new.self c.in-Some.found
+    read_takes (λ reader. g.R.TextSource.remaining reader.source) c.args.reader.now c.read_byte_record.new.self c.in-Some.found
     (fields_of c.read_byte_record.new.row) c.requires
-    (holds_of (λ found. (reader_trim c.args.reader.now ≡ trim.None) → Ready c.args.reader.now → ReadRecord (λ watched. g.R.Read.remaining watched.inner) c.args.reader.now c.read_byte_record.new.self found (fields_of c.read_byte_record.new.row))
+    (holds_of (λ found. (reader_trim c.args.reader.now ≡ trim.None) → Ready c.args.reader.now → ReadRecord (λ reader. g.R.TextSource.remaining reader.source) c.args.reader.now c.read_byte_record.new.self found (fields_of c.read_byte_record.new.row))
     c.read_byte_record.result c.in-Some.found (sym c.ok-found.ensures.value ∙ c.in-Some.is) c.read_byte_record.ensures.reads c.requires.trim c.requires.ready)

@@ -1,0 +1,24 @@
+// The reader that `csv` is given.
+
+ghost use Rattle.std.specs.Prelude.{◌≡◌, true, OnOk, OnErr};
+ghost use Rattle.std.specs.Io.{ReadsAtMost};
+ghost use Rattle.std.specs.Io.KnownBytes.{ReadConsumes};
+
+use crate::text_source::TextSource;
+use std::io;
+use std::io::Read;
+
+/// The source of a text as a reader of std.
+#[derive(Drop)]
+pub struct SourceReader<R> {
+    pub source: R,
+}
+
+impl<R: TextSource> Read for SourceReader<R> {
+    ghost remaining = { λ reader. R.remaining reader.source };
+
+    /// Reads from the source.
+    fn read(&mut self, buf: &mut [u8]) -> io::Result<usize> {
+        self.source.read_some(buf)
+    }
+}
