@@ -7,7 +7,7 @@ use Rattle.std.proofs.lemmas.List.{append-nil, length-append, map-append}
 use Rattle.apex_types.specs.declared.record.Record.{Record}
 use Rattle.csv_rows.specs.Source.{Gives, Source}
 use Rattle.record_read.specs.declared.fault.RowFault.{RowFault}
-use Rattle.record_read.specs.declared.fault.RowFault.TheVariants.{Memory}
+use Rattle.record_read.specs.declared.fault.RowFault.TheVariants.{Memory, Read}
 use Rattle.record_read.specs.Row.{Item}
 use Rattle.record_read.specs.Steps.{IsOutside}
 use Rattle.core_intake.specs.Told.{Answer, AreAnswers, has_ended, is_last}
@@ -22,9 +22,9 @@ nothing_before [] later e = refl
 nothing_before (answer ∷ first) later e = absurd (cc e)
 
 -- the first of some answers are answers too
-pub first_answers : (left : Option (List Item)) (first later : List Answer) → AreAnswers left (first ++ later) → AreAnswers left first
-first_answers left [] later are = tt
-first_answers left (answer ∷ first) later are = (are.0, are.1, (λ last. nothing_before first later (are.2 last)), first_answers are.0 first later are.3)
+pub first_answers : (can_fail : Bool) (left : Option (List Item)) (first later : List Answer) → AreAnswers can_fail left (first ++ later) → AreAnswers can_fail left first
+first_answers can_fail left [] later are = tt
+first_answers can_fail left (answer ∷ first) later are = (are.0, are.1, (λ last. nothing_before first later (are.2 last)), first_answers can_fail are.0 first later are.3)
 
 -- what stands before the last of two parts is the first
 pub before_is : (given last all : List Answer) → given ++ last ≡ all → before last all ≡ given
@@ -43,62 +43,71 @@ ended_after [] answer = or_false (is_last answer)
 ended_after (first ∷ given) answer = ap (λ ended. is_last first || ended) (ended_after given answer) ∙ sym (or_assoc (is_last first) (has_ended given) (is_last answer))
 
 -- what was given of what was received, of what was sent
-pub given_answers : (left : Option (List Item)) (sent received held : List Batch) (hand : List Answer) → sent ≡ received ++ held
-    → before hand (all_answers received) ++ hand ≡ all_answers received → AreAnswers left (all_answers sent) → AreAnswers left (before hand (all_answers received))
-given_answers left sent received held hand all split are =
+pub given_answers : (can_fail : Bool) (left : Option (List Item)) (sent received held : List Batch) (hand : List Answer) → sent ≡ received ++ held
+    → before hand (all_answers received) ++ hand ≡ all_answers received → AreAnswers can_fail left (all_answers sent) → AreAnswers can_fail left (before hand (all_answers received))
+given_answers can_fail left sent received held hand all split are =
     let given : List Answer = before hand (all_answers received) in
     let whole : all_answers sent ≡ given ++ (hand ++ all_answers held) =
     ap all_answers all ∙ flat_map-append answers_in received held ∙ ap (λ w. w ++ all_answers held) (sym split) ∙ append_assoc given hand (all_answers held) in
-    first_answers left given (hand ++ all_answers held) (subst (AreAnswers left) whole are)
+    first_answers can_fail left given (hand ++ all_answers held) (subst (AreAnswers can_fail left) whole are)
 
 -- a source came by these answers from what it had left to what it has left
-abbrev pub Leads : Option (List Item) → List Answer → Option (List Item) → Type 0
-Leads old answers new = (later : List Answer) → AreAnswers new later → AreAnswers old (answers ++ later)
+abbrev pub Leads : Bool → Option (List Item) → List Answer → Option (List Item) → Type 0
+Leads can_fail old answers new = (later : List Answer) → AreAnswers can_fail new later → AreAnswers can_fail old (answers ++ later)
 
 -- a last answer
-pub one_answer : (left next : Option (List Item)) (answer : Answer) → IfSome left (λ items. Gives IsOutside items answer next) → AreAnswers left (answer ∷ [])
-one_answer left next answer gives = (next, gives, (λ last. refl), tt)
+pub one_answer : (can_fail : Bool) (left next : Option (List Item)) (answer : Answer) → IfSome left (λ items. Gives (IsOutside can_fail) items answer next) → AreAnswers can_fail left (answer ∷ [])
+one_answer can_fail left next answer gives = (next, gives, (λ last. refl), tt)
 
 -- want of memory is an answer of any source
-pub any_memory : (left : Option (List Item)) → AreAnswers left (Err Memory ∷ [])
-any_memory None = one_answer None None (Err Memory) tt
-any_memory (Some items) = one_answer (Some items) None (Err Memory) (inl (inr refl))
+pub any_memory : (can_fail : Bool) (left : Option (List Item)) → AreAnswers can_fail left (Err Memory ∷ [])
+any_memory can_fail None = one_answer can_fail None None (Err Memory) tt
+any_memory can_fail (Some items) = one_answer can_fail (Some items) None (Err Memory) (inl (inr refl))
 
 -- an answer of a source, where it is this one
-abbrev pub Told : Option (List Item) → Answer → Option (List Item) → Type 0
-Told left answer next = IfSome left (λ items. Gives IsOutside items answer next)
+abbrev pub Told : Bool → Option (List Item) → Answer → Option (List Item) → Type 0
+Told can_fail left answer next = IfSome left (λ items. Gives (IsOutside can_fail) items answer next)
+
+-- what a source gave is what one gives that can fail only if this one told no failure in vain
+pub told_of : (can_fail : Bool) (left next : Option (List Item)) (answer : Answer) → (answer ≡ Err Read → can_fail ≡ true) → Told true left answer next → Told can_fail left answer next
+told_of can_fail None next answer fails gives = tt
+told_of can_fail (Some items) next (Ok None) fails gives = gives
+told_of can_fail (Some items) next (Ok (Some rec)) fails gives = gives
+told_of can_fail (Some items) next (Err fault) fails (inl (inl is)) = inl (inl (is.0, fails (ap Err is.0)))
+told_of can_fail (Some items) next (Err fault) fails (inl (inr memory)) = inl (inr memory)
+told_of can_fail (Some items) next (Err fault) fails (inr row) = inr row
 
 -- one record more was read
-pub reads_more : (old now new : Option (List Item)) (records after : List Record) (rec : Record) (answer : Answer) → Leads old (records_told records) now
-    → Told now answer new → answer ≡ Ok (Some rec) → after ≡ records ++ rec ∷ [] → Leads old (records_told after) new
-reads_more old now new records after rec answer leads gives is more later are =
+pub reads_more : (can_fail : Bool) (old now new : Option (List Item)) (records after : List Record) (rec : Record) (answer : Answer) → Leads can_fail old (records_told records) now
+    → Told can_fail now answer new → answer ≡ Ok (Some rec) → after ≡ records ++ rec ∷ [] → Leads can_fail old (records_told after) new
+reads_more can_fail old now new records after rec answer leads gives is more later are =
     let whole : (records_told after ++ later) ≡ records_told records ++ (Ok (Some rec) ∷ later) =
     ap (λ all. records_told all ++ later) more ∙ ap (λ all. all ++ later) (map-append _ records (rec ∷ [])) ∙ append_assoc (records_told records) (Ok (Some rec) ∷ []) later in
-    subst (AreAnswers old) (sym whole) (leads (Ok (Some rec) ∷ later) (new, subst (λ told. Told now told new) is gives, (λ last. absurd (true≢false (sym last))), are))
+    subst (AreAnswers can_fail old) (sym whole) (leads (Ok (Some rec) ∷ later) (new, subst (λ told. Told can_fail now told new) is gives, (λ last. absurd (true≢false (sym last))), are))
 
 -- the recording ends behind these records
-pub reads_last : (old now next : Option (List Item)) (records : List Record) (end : Result (Unit {0}) RowFault) (answer : Answer) → Leads old (records_told records) now
-    → Told now answer next → end_of (Some end) ≡ answer ∷ [] → (later : List Answer) → later ≡ [] → AreAnswers old (answers_of records (Some end) ++ later)
-reads_last old now next records end answer leads gives is later none =
-    subst (λ behind. AreAnswers old (answers_of records (Some end) ++ behind)) (sym none)
-    (subst (AreAnswers old) (sym (append-nil (answers_of records (Some end))))
-    (subst (λ last. AreAnswers old (records_told records ++ last)) (sym is) (leads (answer ∷ []) (one_answer now next answer gives))))
+pub reads_last : (can_fail : Bool) (old now next : Option (List Item)) (records : List Record) (end : Result (Unit {0}) RowFault) (answer : Answer) → Leads can_fail old (records_told records) now
+    → Told can_fail now answer next → end_of (Some end) ≡ answer ∷ [] → (later : List Answer) → later ≡ [] → AreAnswers can_fail old (answers_of records (Some end) ++ later)
+reads_last can_fail old now next records end answer leads gives is later none =
+    subst (λ behind. AreAnswers can_fail old (answers_of records (Some end) ++ behind)) (sym none)
+    (subst (AreAnswers can_fail old) (sym (append-nil (answers_of records (Some end))))
+    (subst (λ last. AreAnswers can_fail old (records_told records ++ last)) (sym is) (leads (answer ∷ []) (one_answer can_fail now next answer gives))))
 
 -- the recording ended at this answer
-pub ends_read : (old new : Source Item) (now next : Option (List Item)) (records : List Record) (batch : Batch) (end : Result (Unit {0}) RowFault) (answer : Answer)
-    → batch.records.items ≡ records → batch.end ≡ Some end → Leads old.left (records_told records) now → Told now answer next → end_of (Some end) ≡ answer ∷ [] → IsRead old batch new
-ends_read old new now next records batch end answer held ended leads gives is = record {
+pub ends_read : (can_fail : Bool) (old new : Source Item) (now next : Option (List Item)) (records : List Record) (batch : Batch) (end : Result (Unit {0}) RowFault) (answer : Answer)
+    → batch.records.items ≡ records → batch.end ≡ Some end → Leads can_fail old.left (records_told records) now → Told can_fail now answer next → end_of (Some end) ≡ answer ∷ [] → IsRead can_fail old batch new
+ends_read can_fail old new now next records batch end answer held ended leads gives is = record {
   answers = λ later goes.
-      let none : later ≡ [] = subst (λ (e : Option (Result (Unit {0}) RowFault)). GoesOn e new.left later) ended goes in
-      let all = reads_last old.left now next records end answer leads gives is later none in
-      subst (λ (rows : List Record). AreAnswers old.left (answers_of rows batch.end ++ later)) (sym held)
-      (subst (λ (e : Option (Result (Unit {0}) RowFault)). AreAnswers old.left (answers_of records e ++ later)) (sym ended) all);
+      let none : later ≡ [] = subst (λ (e : Option (Result (Unit {0}) RowFault)). GoesOn can_fail e new.left later) ended goes in
+      let all = reads_last can_fail old.left now next records end answer leads gives is later none in
+      subst (λ (rows : List Record). AreAnswers can_fail old.left (answers_of rows batch.end ++ later)) (sym held)
+      (subst (λ (e : Option (Result (Unit {0}) RowFault)). AreAnswers can_fail old.left (answers_of records e ++ later)) (sym ended) all);
   going = λ none. absurd (some_is_none (sym ended ∙ none));
 }
 
 -- a batch that was not sent leaves what was sent
-pub sent_so_far : (old now : Option (List Item)) (sent : List Batch) → Leads old (all_answers sent) now → AreAnswers old (all_answers sent)
-sent_so_far old now sent leads = subst (AreAnswers old) (append-nil (all_answers sent)) (leads [] tt)
+pub sent_so_far : (can_fail : Bool) (old now : Option (List Item)) (sent : List Batch) → Leads can_fail old (all_answers sent) now → AreAnswers can_fail old (all_answers sent)
+sent_so_far can_fail old now sent leads = subst (AreAnswers can_fail old) (append-nil (all_answers sent)) (leads [] tt)
 
 one_more : (sent : List Batch) (batch : Batch) (later : List Answer) → (all_answers (sent ++ batch ∷ []) ++ later) ≡ all_answers sent ++ (answers_in batch ++ later)
 one_more sent batch later =
@@ -106,22 +115,22 @@ one_more sent batch later =
     ∙ ap (λ all. all_answers sent ++ (all ++ later)) (append-nil (answers_in batch))
 
 -- a batch without an end was sent
-pub sends_more : (old : Option (List Item)) (now new : Source Item) (sent after : List Batch) (batch : Batch) → Leads old (all_answers sent) now.left → IsRead now batch new
-    → after ≡ sent ++ batch ∷ [] → batch.end ≡ None → Leads old (all_answers after) new.left
-sends_more old now new sent after batch leads read is goes later are =
-    subst (AreAnswers old) (sym (ap (λ all. all_answers all ++ later) is ∙ one_more sent batch later))
-    (leads (answers_in batch ++ later) (read.answers later (subst (λ end. GoesOn end new.left later) (sym goes) are)))
+pub sends_more : (can_fail : Bool) (old : Option (List Item)) (now new : Source Item) (sent after : List Batch) (batch : Batch) → Leads can_fail old (all_answers sent) now.left → IsRead can_fail now batch new
+    → after ≡ sent ++ batch ∷ [] → batch.end ≡ None → Leads can_fail old (all_answers after) new.left
+sends_more can_fail old now new sent after batch leads read is goes later are =
+    subst (AreAnswers can_fail old) (sym (ap (λ all. all_answers all ++ later) is ∙ one_more sent batch later))
+    (leads (answers_in batch ++ later) (read.answers later (subst (λ end. GoesOn can_fail end new.left later) (sym goes) are)))
 
-behind_an_end : (end : Option (Result (Unit {0}) RowFault)) (left : Option (List Item)) → is_some end ≡ true → GoesOn end left []
-behind_an_end None left some = absurd (true≢false (sym some))
-behind_an_end (Some end) left some = refl
+behind_an_end : (can_fail : Bool) (end : Option (Result (Unit {0}) RowFault)) (left : Option (List Item)) → is_some end ≡ true → GoesOn can_fail end left []
+behind_an_end can_fail None left some = absurd (true≢false (sym some))
+behind_an_end can_fail (Some end) left some = refl
 
 -- the last batch was sent
-pub sends_last : (old : Option (List Item)) (now new : Source Item) (sent after : List Batch) (batch : Batch) → Leads old (all_answers sent) now.left → IsRead now batch new
-    → after ≡ sent ++ batch ∷ [] → is_some batch.end ≡ true → AreAnswers old (all_answers after)
-sends_last old now new sent after batch leads read is some =
-    subst (AreAnswers old) (sym (ap all_answers is ∙ sym (append-nil (all_answers (sent ++ batch ∷ []))) ∙ one_more sent batch []))
-    (leads (answers_in batch ++ []) (read.answers [] (behind_an_end batch.end new.left some)))
+pub sends_last : (can_fail : Bool) (old : Option (List Item)) (now new : Source Item) (sent after : List Batch) (batch : Batch) → Leads can_fail old (all_answers sent) now.left → IsRead can_fail now batch new
+    → after ≡ sent ++ batch ∷ [] → is_some batch.end ≡ true → AreAnswers can_fail old (all_answers after)
+sends_last can_fail old now new sent after batch leads read is some =
+    subst (AreAnswers can_fail old) (sym (ap all_answers is ∙ sym (append-nil (all_answers (sent ++ batch ∷ []))) ∙ one_more sent batch []))
+    (leads (answers_in batch ++ []) (read.answers [] (behind_an_end can_fail batch.end new.left some)))
 
 pub no_end : (end : Option (Result (Unit {0}) RowFault)) → is_some end ≡ false → ◌≡◌ {A = Option (Result (Unit {0}) RowFault)} end None
 no_end None some = refl

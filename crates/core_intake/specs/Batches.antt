@@ -1,5 +1,5 @@
 -- Answers in batches.
-use Rattle.std.specs.Prelude.{◌≡◌, ◌-◌, true, false, List, [], ◌∷◌, ◌++◌, Option, Some, None, Result, Ok, Err, length, map, take}
+use Rattle.std.specs.Prelude.{◌≡◌, ◌-◌, Bool, true, false, List, [], ◌∷◌, ◌++◌, Option, Some, None, Result, Ok, Err, length, map, take}
 use Rattle.std.specs.List.{flat_map}
 use Rattle.apex_types.specs.declared.record.Record.{Record}
 use Rattle.csv_rows.specs.Source.{Source}
@@ -44,13 +44,13 @@ abbrev pub before : List Answer → List Answer → List Answer
 before last all = take (length all - length last) all
 
 -- what may come behind a batch: nothing where it has an end, and else the answers of what is left
-abbrev pub GoesOn : Option (Result (Unit {0}) RowFault) → Option (List Item) → List Answer → Type 0
-GoesOn None left later = AreAnswers left later
-GoesOn (Some end) left later = later ≡ []
+abbrev pub GoesOn : Bool → Option (Result (Unit {0}) RowFault) → Option (List Item) → List Answer → Type 0
+GoesOn can_fail None left later = AreAnswers can_fail left later
+GoesOn can_fail (Some end) left later = later ≡ []
 
 -- a batch was read of a source: its answers, and then those of what it left, are answers of the source; without an end it goes on
-pub record IsRead (old : Source Item) (batch : Batch) (new : Source Item) : Type 0 where
-  pub answers : (later : List Answer) → GoesOn batch.end new.left later → AreAnswers old.left (answers_in batch ++ later)
+pub record IsRead (can_fail : Bool) (old : Source Item) (batch : Batch) (new : Source Item) : Type 0 where
+  pub answers : (later : List Answer) → GoesOn can_fail batch.end new.left later → AreAnswers can_fail old.left (answers_in batch ++ later)
   pub going : batch.end ≡ None → new.stopped ≡ false
 
 -- an answer was taken of those that stood behind the ones given, of what was received and what was at hand
@@ -63,6 +63,7 @@ abbrev pub log_of : Pass Batch Log → Log
 log_of side = view side
 
 module _ {Q M L A B : Type 0} where
-  -- by the end of the channel that a thread was given, answers of a source with these items were sent, and no others
-  abbrev pub WasFed : Sending (Rows (Badge (Key Batch)) (Doing Batch Log) Q M (Key Batch) L A) B → Option (List Item) → Sending (Rows (Badge (Key Batch)) (Doing Batch Log) Q M (Key Batch) L A) B → Pass Batch Log → Type 0
-  WasFed was items sender side = (sends_on sender ≡ sends_on was) × IsSeatAt (sends_on sender) side × AreAnswers items (all_answers (view side).sent) × (view side ≡ log true false (view side).sent [])
+  -- by the end of the channel that a thread was given, answers of a source with these items, which can fail or cannot, were sent,
+  -- and no others
+  abbrev pub WasFed : Bool → Sending (Rows (Badge (Key Batch)) (Doing Batch Log) Q M (Key Batch) L A) B → Option (List Item) → Sending (Rows (Badge (Key Batch)) (Doing Batch Log) Q M (Key Batch) L A) B → Pass Batch Log → Type 0
+  WasFed can_fail was items sender side = (sends_on sender ≡ sends_on was) × IsSeatAt (sends_on sender) side × AreAnswers can_fail items (all_answers (view side).sent) × (view side ≡ log true false (view side).sent [])

@@ -37,13 +37,14 @@ abbrev pub has_ended : List Answer → Bool
 has_ended [] = false
 has_ended (answer ∷ later) = is_last answer || has_ended later
 
--- the answers of a source that has these items left, where they are known: each is one of what those before it left, and none
--- is behind the end or a fault
-abbrev pub AreAnswers : Option (List Item) → List Answer → Type 0
-AreAnswers left [] = Unit {0}
-AreAnswers left (answer ∷ later) =
-    (next : Option (List Item)) × IfSome left (λ items. Gives IsOutside items answer next) × (is_last answer ≡ true → later ≡ []) × AreAnswers next later
+-- the answers of a source that can fail, or cannot, and has these items left, where they are known: each is one of what those
+-- before it left, and none is behind the end or a fault
+abbrev pub AreAnswers : Bool → Option (List Item) → List Answer → Type 0
+AreAnswers can_fail left [] = Unit {0}
+AreAnswers can_fail left (answer ∷ later) =
+    (next : Option (List Item)) × IfSome left (λ items. Gives (IsOutside can_fail) items answer next) × (is_last answer ≡ true → later ≡ [])
+    × AreAnswers can_fail next later
 
--- what was answered of a core are answers of a source of its recording
-abbrev pub IsHonest : Told → Type 0
-IsHonest core = AreAnswers core.items core.given
+-- what was answered of a core are answers of a source of its recording, which can fail or cannot
+abbrev pub IsHonest : Bool → Told → Type 0
+IsHonest can_fail core = AreAnswers can_fail core.items core.given

@@ -1,14 +1,18 @@
 // What passes in one send.
 
-ghost use Rattle.std.specs.Prelude.{◌≡◌, false};
+ghost use Rattle.std.specs.Prelude.{◌≡◌, ◌≤◌, IfSome, false, is_err};
+ghost use Rattle.std.specs.VecDeque.{deque_len};
+ghost use Rattle.csv_rows.specs.Source.{Gives};
+ghost use Rattle.record_read.specs.Steps.{IsOutside};
 ghost use Rattle.core_intake.specs.Batches.{IsRead};
 
 use crate::room::{Rooms, room_for};
+use crate::stoppable::Stoppable;
 use apex_types::Record;
+use csv_rows::TextSource;
 use record_read::{RowFault, RowSource};
 use std::alloc::Global;
 use std::collections::VecDeque;
-use std::io::Read;
 use std::sync::Wait;
 use std::sync::atomic::{AtomicBool, Ordering};
 
@@ -20,45 +24,62 @@ pub struct Batch {
 }
 
 impl Batch {
-    /// The next records of a recording, at most `length`, and fewer where it ends or the flag says to stop. They stand in a room
-    /// that came back, where one did.
-    pub fn read<R: Read, T: Wait>(
+    /// The next records of a recording, at most `length`, and fewer where it ends. They stand in a room that came back, where one
+    /// did. None where the flag says to stop, between two rows or in a read that gave up for it.
+    pub fn read<R: TextSource, T: Wait>(
         rt: &T,
         alloc: Global,
-        source: &mut RowSource<R>,
+        source: &mut RowSource<Stoppable<'_, R>>,
         length: usize,
         stop: &AtomicBool,
         rooms: &Rooms,
-    ) -> Batch
+    ) -> Option<Batch>
         requires going { source.old.stopped ≡ false }
-        ensures { IsRead source.old result source.new }
+        ensures read { IfSome result (λ batch. IsRead R.can_fail source.old batch source.new) }
+        ensures short { IfSome result (λ batch. deque_len batch.records ≤ length) }
     {
         let Ok(mut records) = room_for(rt, alloc, rooms, length) else {
-            return Batch {
+            return Some(Batch {
                 records: VecDeque::new(alloc),
                 end: Some(Err(RowFault::Memory)),
-            };
+            });
         };
         for _ in 0..length {
             if stop.load(Ordering::SeqCst) {
-                break;
+                return None;
             }
-            match source.next() {
+            match next_answer(source)? {
                 Ok(Some(record)) => records.push_back_reserved(record),
                 Ok(None) => {
-                    return Batch {
+                    return Some(Batch {
                         records,
                         end: Some(Ok(())),
-                    };
+                    });
                 }
                 Err(fault) => {
-                    return Batch {
+                    return Some(Batch {
                         records,
                         end: Some(Err(fault)),
-                    };
+                    });
                 }
             }
         }
-        Batch { records, end: None }
+        Some(Batch { records, end: None })
+    }
+}
+
+// The next answer of a recording. None where a read of it gave up: that is no failure of the reader, and it is told to nobody.
+fn next_answer<R: TextSource>(
+    source: &mut RowSource<Stoppable<'_, R>>,
+) -> Option<Result<Option<Record>, RowFault>>
+    requires going { source.old.stopped ≡ false }
+    ensures stops { IfSome result (λ answer. source.new.stopped ≡ is_err answer) }
+    ensures gives { IfSome result (λ answer. IfSome source.old.left (λ items. Gives (IsOutside R.can_fail) items answer source.new.left)) }
+{
+    let answer = source.next();
+    if source.source().gave_up() {
+        None
+    } else {
+        Some(answer)
     }
 }

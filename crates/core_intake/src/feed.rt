@@ -12,9 +12,9 @@ use crate::batch::Batch;
 use crate::room::Rooms;
 use crate::rule::{Sender, Sends, Side};
 use crate::stoppable::Stoppable;
+use csv_rows::TextSource;
 use record_read::RowSource;
 use std::alloc::Global;
-use std::io::Read;
 use std::snapshot::Snapshot;
 use std::sync::Wait;
 use std::sync::atomic::AtomicBool;
@@ -29,22 +29,22 @@ pub struct Fed {
 
 /// The reader whose recording a thread sends, and the channel that it sends it on.
 #[derive(Drop)]
-pub struct FedBy<R: Read> {
+pub struct FedBy<R: TextSource> {
     pub sender: Snapshot<Sender>,
     pub reader: Snapshot<R>,
 }
 
-impl<R: Read> Promise<Fed> for FedBy<R> {
+impl<R: TextSource> Promise<Fed> for FedBy<R> {
     ghost use Rattle.std.specs.Prelude.{option_map};
     ghost use Rattle.record_read.specs.Row.{records_of};
     ghost use Rattle.core_intake.specs.Batches.{WasFed};
 
-    ghost kept_by = { λ promise fed. WasFed promise.sender.value (option_map records_of (R.remaining promise.reader.value)) fed.sender fed.side };
+    ghost kept_by = { λ promise fed. WasFed R.can_fail promise.sender.value (option_map records_of (R.remaining promise.reader.value)) fed.sender fed.side };
 }
 
 /// Sends the recording, batch after batch, until it has ended, the flag says to stop or nobody receives any more. Each read fails
-/// once the flag says to stop.
-pub fn feed<R: Read + Drop, T: Wait>(
+/// once the flag says to stop, and that failure is not sent.
+pub fn feed<R: TextSource + Drop, T: Wait>(
     rt: &T,
     alloc: Global,
     reader: R,
@@ -56,7 +56,7 @@ pub fn feed<R: Read + Drop, T: Wait>(
 ) -> Fed
     requires seat { IsSeatAt (sends_on sender) side }
     requires fresh { view side ≡ log true false [] [] }
-    ensures { WasFed sender (option_map records_of (R.remaining reader)) result.sender result.side }
+    ensures { WasFed R.can_fail sender (option_map records_of (R.remaining reader)) result.sender result.side }
 {
     let mut source = RowSource::new(alloc, Stoppable::new(reader, stop));
     send_all(
@@ -72,11 +72,12 @@ pub fn feed<R: Read + Drop, T: Wait>(
     Fed { sender, side }
 }
 
-// Sends what the source has left.
-fn send_all<R: Read, T: Wait>(
+// Sends what the source has left. Where the flag says to stop, the thread ends and sends no more: the flag is set only by the
+// `close` that consumes the lane, so nobody is left who waits for it.
+fn send_all<R: TextSource, T: Wait>(
     rt: &T,
     alloc: Global,
-    source: &mut RowSource<R>,
+    source: &mut RowSource<Stoppable<'_, R>>,
     length: usize,
     stop: &AtomicBool,
     rooms: &Rooms,
@@ -88,10 +89,12 @@ fn send_all<R: Read, T: Wait>(
     requires fresh { view side.old ≡ log true false [] [] }
     ensures seat { IsSeatAt (sends_on sender.now) side.new }
     ensures sender { view side.new ≡ log true false (view side.new).sent [] }
-    ensures sent { AreAnswers source.old.left (all_answers (view side.new).sent) }
+    ensures sent { AreAnswers R.can_fail source.old.left (all_answers (view side.new).sent) }
 {
     for _ in rt.forever() {
-        let batch = Batch::read(rt, alloc, source, length, stop, rooms);
+        let Some(batch) = Batch::read(rt, alloc, source, length, stop, rooms) else {
+            return;
+        };
         let is_last = batch.end.is_some();
         if !send(rt, sender, side, batch) {
             return;

@@ -7,22 +7,21 @@ ghost use Rattle.core_intake.specs.Told.{IsHonest, after, has_ended, told, told_
 use crate::fault::IntakeFault;
 use crate::lane::Lane;
 use apex_types::Record;
+use csv_rows::TextSource;
 use record_read::RowFault;
 use std::alloc::Global;
-use std::io::Read;
 use std::marker::Model;
 use std::sync::Wait;
 use std::thread::Threads;
 
 /// The recordings of all cores, each read by a thread of its own. Contracts see what is told of each core, in order.
 ///
-/// It is to be closed: one that is dropped leaves its threads to end by themselves, and nothing is then known of what they told.
-#[derive(Drop)]
-pub struct Intake<R: Read> {
+/// It can only be given up by `close`, so that no thread is left behind, and what they told is known in the end.
+pub struct Intake<R: TextSource> {
     lanes: Vec<Lane<R>>,
 }
 
-impl<R: Read> Model for Intake<R> {
+impl<R: TextSource> Model for Intake<R> {
     ghost use Rattle.std.specs.Prelude.{List};
     ghost use Rattle.core_intake.specs.Told.{Told};
 
@@ -31,7 +30,7 @@ impl<R: Read> Model for Intake<R> {
     ghost view = { λ intake. intake.lanes.items };
 }
 
-impl<R: Read + Drop + Send + 'static> Intake<R> {
+impl<R: TextSource + Drop + Send + 'static> Intake<R> {
     /// Starts a thread for each reader, in the order of the cores. At most `depth` records of a core wait in its channel, in
     /// batches of `depth` and at most 256; one batch more stands at either end of it.
     ///
@@ -64,7 +63,7 @@ impl<R: Read + Drop + Send + 'static> Intake<R> {
     }
 }
 
-impl<R: Read> Intake<R> {
+impl<R: TextSource> Intake<R> {
     /// How many cores there are.
     pub fn count(&self) -> usize
         ensures { result ≡ length self.now }
@@ -86,7 +85,7 @@ impl<R: Read> Intake<R> {
 
     /// Stops the threads and waits for their ends. A thread ends once the read that it is in returns.
     pub fn close<T: Threads + Wait>(self, rt: &T)
-        ensures honest { All IsHonest self }
+        ensures honest { All (IsHonest R.can_fail) self }
     {
         let Intake { lanes } = self;
         close_all(rt, lanes);
@@ -94,10 +93,11 @@ impl<R: Read> Intake<R> {
 }
 
 // Stops the threads and waits for their ends.
-fn close_all<R: Read, T: Threads + Wait>(rt: &T, lanes: Vec<Lane<R>>)
-    ensures { All IsHonest lanes.items }
+fn close_all<R: TextSource, T: Threads + Wait>(rt: &T, mut lanes: Vec<Lane<R>>)
+    ensures { All (IsHonest R.can_fail) lanes.items }
 {
-    for lane in lanes {
+    'lanes: while let Some(lane) = lanes.pop() {
         lane.close(rt);
     }
+    lanes.destroy_empty();
 }

@@ -9,15 +9,15 @@ ghost use Rattle.core_intake.specs.Batches.{WasFed, all_answers, IsTaken};
 ghost use Rattle.core_intake.specs.Relay.{log};
 
 use crate::batch::Batch;
-use crate::cut::cut_of;
+use crate::channel::{Channel, channel_of};
 use crate::feed::{Fed, FedBy, feed};
 use crate::hand::Hand;
 use crate::room::{Spent, give_back};
-use crate::rule::{InOrder, Log, Receiver, Receives, Roles, Side, Total};
+use crate::rule::{Receiver, Receives, Roles, Side, Total};
 use apex_types::Record;
+use csv_rows::TextSource;
 use record_read::RowFault;
 use std::alloc::{AllocError, Global};
-use std::io::Read;
 use std::marker::Model;
 use std::snapshot::Snapshot;
 use std::sync::atomic::{AtomicBool, Ordering};
@@ -26,9 +26,8 @@ use std::thread::{PromisedHandle, Threads};
 use std::{mem, thread};
 
 /// A reader in a thread of its own, the channel on which its records come, what is left of the last batch, and the channel on which
-/// the rooms of batches go back.
-#[derive(Drop)]
-pub struct Lane<R: Read> {
+/// the rooms of batches go back. It can only be given up by `close`.
+pub struct Lane<R: TextSource> {
     receiver: Receiver,
     side: Side,
     hand: Hand,
@@ -38,7 +37,7 @@ pub struct Lane<R: Read> {
     reader: PromisedHandle<Fed, FedBy<R>>,
 }
 
-impl<R: Read> Model for Lane<R> {
+impl<R: TextSource> Model for Lane<R> {
     ghost use Rattle.std.specs.Prelude.{◌≡◌, ◌++◌, [], true, false, option_map};
     ghost use Rattle.crossbeam_channel.specs.Claims.{IsSeatAt};
     ghost use Rattle.crossbeam_channel.specs.Ends.{sends_on, receives_on};
@@ -58,7 +57,7 @@ impl<R: Read> Model for Lane<R> {
         × (lane.ended ≡ has_ended (before lane.hand (all_answers (log_of lane.side).received))) };
 }
 
-impl<R: Read + Drop + Send + 'static> Lane<R> {
+impl<R: TextSource + Drop + Send + 'static> Lane<R> {
     /// Starts the reader's thread, which sends through a channel of this depth. The only error is Memory.
     pub fn open<T: Threads + Wait + Copy + Send + 'static>(
         rt: T,
@@ -69,16 +68,15 @@ impl<R: Read + Drop + Send + 'static> Lane<R> {
         requires { 0 < depth }
         ensures { IfOk result (λ lane. lane ≡ told (option_map records_of (R.remaining reader)) []) }
     {
-        let cut = cut_of(depth);
-        let length = cut.length;
         let stop = Arc::new(alloc, AtomicBool::new(false))?;
         let theirs = Arc::try_clone(&stop)?;
-        let (sender, receiver, mut sending) = crossbeam_channel::bounded_with::<
-            Batch,
-            Log,
-            InOrder,
-            Global,
-        >(alloc, cut.slots)?;
+        let Channel {
+            sender,
+            receiver,
+            side: mut sending,
+            cut,
+        } = channel_of(alloc, depth)?;
+        let length = cut.length;
         let side = sender.another::<Roles>(&mut sending);
         let (spent, rooms) = crossbeam_channel::bounded(alloc, cut.slots)?;
         let promise = FedBy {
@@ -90,7 +88,7 @@ impl<R: Read + Drop + Send + 'static> Lane<R> {
             promise,
             move || -> Fed
                 requires { IsSeatAt (sends_on sender) sending × (view sending ≡ log true false [] []) }
-                ensures { WasFed sender (option_map records_of (R.remaining reader)) result.sender result.side }
+                ensures { WasFed R.can_fail sender (option_map records_of (R.remaining reader)) result.sender result.side }
             { feed(&rt, alloc, reader, length, &theirs, &rooms, sender, sending) },
         )?;
         Ok(Lane {
@@ -105,7 +103,7 @@ impl<R: Read + Drop + Send + 'static> Lane<R> {
     }
 }
 
-impl<R: Read> Lane<R> {
+impl<R: TextSource> Lane<R> {
     /// The next answer; behind an end or a fault, the end.
     pub fn next<T: Wait>(&mut self, rt: &T) -> Result<Option<Record>, RowFault>
         ensures ended { has_ended self.old.given ≡ true → result ≡ Ok None }
@@ -128,7 +126,7 @@ impl<R: Read> Lane<R> {
 
     /// Stops the thread and waits for its end.
     pub fn close<T: Threads + Wait>(self, rt: &T)
-        ensures honest { IsHonest self }
+        ensures honest { IsHonest R.can_fail self }
     {
         let Lane {
             receiver,

@@ -1,41 +1,63 @@
-// A reader that gives up where a flag says to stop.
+// A source that gives up where a flag says to stop.
 
-ghost use Rattle.std.specs.Prelude.{◌≡◌};
-ghost use Rattle.std.specs.Io.{ReadsAtMost};
-ghost use Rattle.std.specs.Io.KnownBytes.{ReadConsumes};
+ghost use Rattle.std.specs.Prelude.{◌≡◌, false};
 
+use csv_rows::TextSource;
 use std::io;
-use std::io::{ErrorKind, Read};
+use std::io::ErrorKind;
 use std::sync::atomic::{AtomicBool, Ordering};
 
-/// A reader of which each read fails once the flag says to stop. A row, or a run of empty lines, may have no end: a thread that
+/// A source of which each read fails once the flag says to stop. A row, or a run of empty lines, may have no end: a thread that
 /// reads one comes back by this.
 #[derive(Drop)]
 pub struct Stoppable<'a, R> {
     inner: R,
     stop: &'a AtomicBool,
+    gave_up: bool,
 }
 
-impl<'a, R: Read> Stoppable<'a, R> {
-    /// The reader, under this flag.
+impl<'a, R: TextSource> Stoppable<'a, R> {
+    /// The source, under this flag.
     pub fn new(inner: R, stop: &'a AtomicBool) -> Stoppable<'a, R>
-        ensures { result.inner ≡ inner }
+        ensures inner { result.inner ≡ inner }
+        ensures gave_up { result.gave_up ≡ false }
     {
-        Stoppable { inner, stop }
+        Stoppable {
+            inner,
+            stop,
+            gave_up: false,
+        }
+    }
+
+    /// Whether a read has failed because the flag says to stop.
+    pub fn gave_up(&self) -> bool
+        ensures { result ≡ self.now.gave_up }
+    {
+        self.gave_up
     }
 }
 
-impl<'a, R: Read> Read for Stoppable<'a, R> {
+impl<'a, R: TextSource> TextSource for Stoppable<'a, R> {
+    ghost use Rattle.std.specs.Prelude.{◌||◌, true, refl};
+
     ghost remaining = { λ stoppable. R.remaining stoppable.inner };
 
-    /// Reads from the reader underneath, or fails where the flag says to stop.
-    fn read(&mut self, buf: &mut [u8]) -> io::Result<usize>
-        ensures bound { ReadsAtMost result buf.new }
-        ensures bytes { ReadConsumes (R.remaining self.old.inner) (R.remaining self.new.inner) result buf.new }
-    {
+    ghost failed = { λ stoppable. stoppable.gave_up || R.failed stoppable.inner };
+
+    ghost can_fail = { true };
+
+    ghost fails_where_it_can = { λ stoppable failed. refl };
+
+    /// Reads from the source underneath, or fails where the flag says to stop.
+    fn read_some(&mut self, buf: &mut [u8]) -> io::Result<usize> {
         if self.stop.load(Ordering::SeqCst) {
+            self.gave_up = true;
             return Err(io::Error::from(ErrorKind::Other));
         }
-        self.inner.read(buf)
+        self.inner.read_some(buf)
+    }
+
+    fn has_failed(&self) -> bool {
+        self.gave_up || self.inner.has_failed()
     }
 }

@@ -8,4 +8,4 @@ use Rattle.core_intake.proofs.feed.send_all.Given as goal
 
 abbrev pub invariant-loop : goal.invariant-loop
 invariant-loop g l = IsSeatAt (sends_on l.sender) l.side × (view l.side ≡ log true false (view l.side).sent []) × (l.source.stopped ≡ false)
-    × Leads l.initial.source.left (all_answers (view l.side).sent) l.source.left
+    × Leads g.R.TextSource.can_fail l.initial.source.left (all_answers (view l.side).sent) l.source.left

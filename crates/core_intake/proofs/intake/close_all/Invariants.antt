@@ -1,6 +1,10 @@
-use Rattle.std.proofs.Common.{◌≡◌, ◌++◌, All}
-use Rattle.core_intake.specs.Told.{IsHonest}
+use Rattle.std.proofs.Common.{◌≡◌, ◌++◌, All, List, vec_len}
+use Rattle.core_intake.specs.Told.{IsHonest, Told}
 use Rattle.core_intake.proofs.intake.close_all.Given as goal
 
-abbrev pub invariant-loop-lane : goal.invariant-loop-lane
-invariant-loop-lane g l = All IsHonest l.yielded × (l.yielded ++ l.lane-iterator.rest.items ≡ l.fn.lanes.items)
+-- the lanes that are closed stood behind those that are left
+abbrev pub invariant-lanes : goal.invariant-lanes
+invariant-lanes g l = (closed : List Told) × (l.lanes.items ++ closed ≡ l.fn.lanes.items) × All (IsHonest g.R.TextSource.can_fail) closed
+
+abbrev pub decreases-lanes : goal.decreases-lanes
+decreases-lanes g l = vec_len l.lanes

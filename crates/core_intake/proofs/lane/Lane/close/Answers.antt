@@ -14,7 +14,7 @@ returns g c =
     let held = c.learn_as.ensures.rule.0 in
     let sent : (view c.join-sender.result.side).sent ≡ (view c.self.inside.side).received ++ held =
     sym (ap (λ pass. pass.sent) both) ∙ c.learn_as.ensures.rule.1 ∙ ap (λ pass. pass.received ++ held) both in
-    let left = option_map records_of (g.R.Read.remaining c.self.inside.reader.promise.reader.value) in
+    let left = option_map records_of (g.R.TextSource.remaining c.self.inside.reader.promise.reader.value) in
     record {
-      honest = rw (← c.self.view_is) (given_answers left (view c.join-sender.result.side).sent (view c.self.inside.side).received held c.self.inside.hand sent c.self.invariant.3 c.join-sender.ensures.2);
+      honest = rw (← c.self.view_is) (given_answers g.R.TextSource.can_fail left (view c.join-sender.result.side).sent (view c.self.inside.side).received held c.self.inside.hand sent c.self.invariant.3 c.join-sender.ensures.2);
     }

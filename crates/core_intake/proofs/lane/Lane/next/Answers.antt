@@ -17,4 +17,4 @@ invariant_of-self g c =
 pub returns-clause-gives : goal.returns-clause-gives
 returns-clause-gives g c going =
     let taken = c.take_answer-answer.ensures.taken _ c.self.invariant.3 in
-    rw (← c.self.view_is) (ap (told (option_map records_of (g.R.Read.remaining c.self.inside.reader.promise.reader.value))) (takes_one _ _ _ _ taken))
+    rw (← c.self.view_is) (ap (told (option_map records_of (g.R.TextSource.remaining c.self.inside.reader.promise.reader.value))) (takes_one _ _ _ _ taken))
