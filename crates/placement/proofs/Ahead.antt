@@ -22,94 +22,94 @@ use Rattle.core_intake.specs.Told.{Told}
 use Rattle.placement.specs.declared.fault.InputFault.{InputFault}
 use Rattle.placement.specs.declared.fault.InputFault.TheVariants as input
 use Rattle.placement.specs.Lanes.{AreLeft, IsAhead, IsEnded, IsNext, IsScanOf, IsTheEnd, Lead, Placing, left_at}
-use Rattle.placement.specs.Reading.{Reads}
+use Rattle.placement.specs.Reading.{CanFail, Reads}
 use Rattle.placement.specs.Scan.{Scan, cert_fault, ends_so, led_by, no_more, placed_at, row_fault, scan}
 use Rattle.placement.proofs.Readings.{reads_all, reads_more, fault_read, put-here, put-other, put-back, put_reads, same_or}
 
 -- what is ahead where these are left, so many cores are there, so many records of each were taken, and this place is next
-abbrev pub AreAhead : ℕ → List Told → Option (List CertItem) → (ℕ → ℕ) → ℕ → Scan → Type 0
-AreAhead cores lanes left taken place scanned =
-    (items : ℕ → List Item) (certificate : List CertItem) → AreLeft lanes items → left ≡ Some certificate → IsScanOf cores taken place items certificate scanned
+abbrev pub AreAhead : CanFail → ℕ → List Told → Option (List CertItem) → (ℕ → ℕ) → ℕ → Scan → Type 0
+AreAhead can_fail cores lanes left taken place scanned =
+    (items : ℕ → List Item) (certificate : List CertItem) → AreLeft lanes items → left ≡ Some certificate → IsScanOf can_fail cores taken place items certificate scanned
 
 -- the certificate's next row has a fault
-pub cert_stops : (cores : ℕ) (lanes : List Told) (left new : Option (List CertItem)) (taken : ℕ → ℕ) (place : ℕ) (fault : CertFault)
-    → fault ≢ cert.Memory → IfSome left (λ items. Gives IsCertOutside items (Err fault) new)
-    → AreAhead cores lanes left taken place (ends_so (Err (input.Cert place fault)))
+pub cert_stops : (can_fail : CanFail) (cores : ℕ) (lanes : List Told) (left new : Option (List CertItem)) (taken : ℕ → ℕ) (place : ℕ) (fault : CertFault)
+    → fault ≢ cert.Memory → IfSome left (λ items. Gives (IsCertOutside can_fail.certificate) items (Err fault) new)
+    → AreAhead can_fail cores lanes left taken place (ends_so (Err (input.Cert place fault)))
 unfolding scan
-cert_stops cores lanes left new taken place fault other gives items certificate known is =
-    let now : Gives IsCertOutside certificate (Err fault) new = rw is at gives in
-    let read = fault_read cert.Read cert.Memory fault certificate new other now in
-    (items, Err fault ∷ read.0, (λ core. reads_all row.Read (items core)), read.1, refl)
+cert_stops can_fail cores lanes left new taken place fault other gives items certificate known is =
+    let now : Gives (IsCertOutside can_fail.certificate) certificate (Err fault) new = rw is at gives in
+    let read = fault_read can_fail.certificate cert.Read cert.Memory fault certificate new other now in
+    (items, Err fault ∷ read.0, (λ core. reads_all can_fail.recordings row.Read (items core)), read.1, refl)
 
 -- a pair that may not stand
-pub pair_refused : (cores : ℕ) (lanes : List Told) (left new : Option (List CertItem)) (taken : ℕ → ℕ) (place : ℕ) (pair : Pair) (fault : OrderFault)
-    → IfSome left (λ items. Gives IsCertOutside items (Ok (Some pair)) new) → misplaced cores taken pair ≡ Some fault
-    → AreAhead cores lanes left taken place (ends_so (Err (input.Order place pair.core fault)))
+pub pair_refused : (can_fail : CanFail) (cores : ℕ) (lanes : List Told) (left new : Option (List CertItem)) (taken : ℕ → ℕ) (place : ℕ) (pair : Pair) (fault : OrderFault)
+    → IfSome left (λ items. Gives (IsCertOutside can_fail.certificate) items (Ok (Some pair)) new) → misplaced cores taken pair ≡ Some fault
+    → AreAhead can_fail cores lanes left taken place (ends_so (Err (input.Order place pair.core fault)))
 unfolding scan
-pair_refused cores lanes left new taken place pair fault gives wrong items certificate known is =
-    let now : Gives IsCertOutside certificate (Ok (Some pair)) new = rw is at gives in
-    (items, Ok pair ∷ now.0, (λ core. reads_all row.Read (items core)), inl (sym now.1), rw wrong refl)
+pair_refused can_fail cores lanes left new taken place pair fault gives wrong items certificate known is =
+    let now : Gives (IsCertOutside can_fail.certificate) certificate (Ok (Some pair)) new = rw is at gives in
+    (items, Ok pair ∷ now.0, (λ core. reads_all can_fail.recordings row.Read (items core)), inl (sym now.1), rw wrong refl)
 
 -- the recording has ended before the pair's record
-pub record_absent : (cores : ℕ) (lanes : List Told) (left new : Option (List CertItem)) (taken : ℕ → ℕ) (place : ℕ) (pair : Pair) (more : Option (List Item))
-    → IfSome left (λ items. Gives IsCertOutside items (Ok (Some pair)) new) → misplaced cores taken pair ≡ None
-    → IfSome (left_at lanes pair.core) (λ items. Gives IsOutside items (Ok None) more)
-    → AreAhead cores lanes left taken place (ends_so (Err (input.Order place pair.core Absent)))
+pub record_absent : (can_fail : CanFail) (cores : ℕ) (lanes : List Told) (left new : Option (List CertItem)) (taken : ℕ → ℕ) (place : ℕ) (pair : Pair) (more : Option (List Item))
+    → IfSome left (λ items. Gives (IsCertOutside can_fail.certificate) items (Ok (Some pair)) new) → misplaced cores taken pair ≡ None
+    → IfSome (left_at lanes pair.core) (λ items. Gives (IsOutside can_fail.recordings) items (Ok None) more)
+    → AreAhead can_fail cores lanes left taken place (ends_so (Err (input.Order place pair.core Absent)))
 unfolding scan
-record_absent cores lanes left new taken place pair more gives fits lane items certificate known is =
-    let now : Gives IsCertOutside certificate (Ok (Some pair)) new = rw is at gives in
-    let item : Gives IsOutside (items pair.core) (Ok None) more = rw (known pair.core) at lane in
-    (items, Ok pair ∷ now.0, (λ core. reads_all row.Read (items core)), inl (sym now.1), rw (fits, item.0) refl)
+record_absent can_fail cores lanes left new taken place pair more gives fits lane items certificate known is =
+    let now : Gives (IsCertOutside can_fail.certificate) certificate (Ok (Some pair)) new = rw is at gives in
+    let item : Gives (IsOutside can_fail.recordings) (items pair.core) (Ok None) more = rw (known pair.core) at lane in
+    (items, Ok pair ∷ now.0, (λ core. reads_all can_fail.recordings row.Read (items core)), inl (sym now.1), rw (fits, item.0) refl)
 
 -- the pair's row has a fault
-pub record_stops : (cores : ℕ) (lanes : List Told) (left new : Option (List CertItem)) (taken : ℕ → ℕ) (place : ℕ) (pair : Pair) (more : Option (List Item)) (fault : RowFault)
-    → fault ≢ row.Memory → IfSome left (λ items. Gives IsCertOutside items (Ok (Some pair)) new) → misplaced cores taken pair ≡ None
-    → IfSome (left_at lanes pair.core) (λ items. Gives IsOutside items (Err fault) more)
-    → AreAhead cores lanes left taken place (ends_so (Err (input.Row pair.core pair.seq fault)))
+pub record_stops : (can_fail : CanFail) (cores : ℕ) (lanes : List Told) (left new : Option (List CertItem)) (taken : ℕ → ℕ) (place : ℕ) (pair : Pair) (more : Option (List Item)) (fault : RowFault)
+    → fault ≢ row.Memory → IfSome left (λ items. Gives (IsCertOutside can_fail.certificate) items (Ok (Some pair)) new) → misplaced cores taken pair ≡ None
+    → IfSome (left_at lanes pair.core) (λ items. Gives (IsOutside can_fail.recordings) items (Err fault) more)
+    → AreAhead can_fail cores lanes left taken place (ends_so (Err (input.Row pair.core pair.seq fault)))
 unfolding scan
-record_stops cores lanes left new taken place pair more fault other gives fits lane items certificate known is =
-    let now : Gives IsCertOutside certificate (Ok (Some pair)) new = rw is at gives in
-    let item : Gives IsOutside (items pair.core) (Err fault) more = rw (known pair.core) at lane in
-    let read = fault_read row.Read row.Memory fault (items pair.core) more other item in
+record_stops can_fail cores lanes left new taken place pair more fault other gives fits lane items certificate known is =
+    let now : Gives (IsCertOutside can_fail.certificate) certificate (Ok (Some pair)) new = rw is at gives in
+    let item : Gives (IsOutside can_fail.recordings) (items pair.core) (Err fault) more = rw (known pair.core) at lane in
+    let read = fault_read can_fail.recordings row.Read row.Memory fault (items pair.core) more other item in
     let given : ℕ → List Item = put items pair.core (Err fault ∷ read.0) in (
       given,
       Ok pair ∷ now.0,
-      put_reads row.Read items items pair.core (Err fault ∷ read.0) (λ core apart. reads_all row.Read (items core)) read.1,
+      put_reads can_fail.recordings row.Read items items pair.core (Err fault ∷ read.0) (λ core apart. reads_all can_fail.recordings row.Read (items core)) read.1,
       inl (sym now.1),
       rw (fits, put-here items pair.core (Err fault ∷ read.0)) refl,
     )
 
 -- a record that was taken leads all that is ahead behind it
-pub record_leads : (cores : ℕ) (lanes lanes' : List Told) (left new : Option (List CertItem)) (taken : ℕ → ℕ) (place : ℕ) (pair : Pair) (rec : Record) (scanned : Scan)
-    → IfSome left (λ items. Gives IsCertOutside items (Ok (Some pair)) new) → misplaced cores taken pair ≡ None
-    → IfSome (left_at lanes pair.core) (λ items. Gives IsOutside items (Ok (Some rec)) (left_at lanes' pair.core))
+pub record_leads : (can_fail : CanFail) (cores : ℕ) (lanes lanes' : List Told) (left new : Option (List CertItem)) (taken : ℕ → ℕ) (place : ℕ) (pair : Pair) (rec : Record) (scanned : Scan)
+    → IfSome left (λ items. Gives (IsCertOutside can_fail.certificate) items (Ok (Some pair)) new) → misplaced cores taken pair ≡ None
+    → IfSome (left_at lanes pair.core) (λ items. Gives (IsOutside can_fail.recordings) items (Ok (Some rec)) (left_at lanes' pair.core))
     → ((other : ℕ) → other ≢ pair.core → left_at lanes' other ≡ left_at lanes other)
-    → AreAhead cores lanes' new (put taken pair.core (suc (taken pair.core))) (suc place) scanned
-    → AreAhead cores lanes left taken place (led_by (placed_at place pair.core rec ∷ []) scanned)
+    → AreAhead can_fail cores lanes' new (put taken pair.core (suc (taken pair.core))) (suc place) scanned
+    → AreAhead can_fail cores lanes left taken place (led_by (placed_at place pair.core rec ∷ []) scanned)
 unfolding scan
-record_leads cores lanes lanes' left new taken place pair rec scanned gives fits lane others ahead items certificate known is =
-    let now : Gives IsCertOutside certificate (Ok (Some pair)) new = rw is at gives in
-    let item : Gives IsOutside (items pair.core) (Ok (Some rec)) (left_at lanes' pair.core) = rw (known pair.core) at lane in
+record_leads can_fail cores lanes lanes' left new taken place pair rec scanned gives fits lane others ahead items certificate known is =
+    let now : Gives (IsCertOutside can_fail.certificate) certificate (Ok (Some pair)) new = rw is at gives in
+    let item : Gives (IsOutside can_fail.recordings) (items pair.core) (Ok (Some rec)) (left_at lanes' pair.core) = rw (known pair.core) at lane in
     let more = ahead (put items pair.core item.0) now.0 (λ core. elim (same_or core pair.core) [
       | inl e ↦ rw (e, put-here items pair.core item.0) item.2
       | inr apart ↦ others core apart ∙ known core ∙ ap (λ l. Some l) (sym (put-other items pair.core core item.0 apart))
     ]) now.2 in
-    let here : Reads row.Read item.0 (more.0 pair.core) = rw (put-here items pair.core item.0) at (more.2 pair.core) in (
+    let here : Reads can_fail.recordings row.Read item.0 (more.0 pair.core) = rw (put-here items pair.core item.0) at (more.2 pair.core) in (
       put more.0 pair.core (Ok rec ∷ more.0 pair.core),
       Ok pair ∷ more.1,
-      put_reads row.Read items more.0 pair.core (Ok rec ∷ more.0 pair.core) (λ core apart. rw (put-other items pair.core core item.0 apart) at (more.2 core))
-          (rw item.1 (reads_more row.Read rec item.0 (more.0 pair.core) here)),
-      rw now.1 (reads_more cert.Read pair now.0 more.1 more.3),
+      put_reads can_fail.recordings row.Read items more.0 pair.core (Ok rec ∷ more.0 pair.core) (λ core apart. rw (put-other items pair.core core item.0 apart) at (more.2 core))
+          (rw item.1 (reads_more can_fail.recordings row.Read rec item.0 (more.0 pair.core) here)),
+      rw now.1 (reads_more can_fail.certificate cert.Read pair now.0 more.1 more.3),
       rw (fits, put-here more.0 pair.core (Ok rec ∷ more.0 pair.core), put-back more.0 pair.core (Ok rec ∷ more.0 pair.core)) (ap (led_by (placed_at place pair.core rec ∷ [])) more.4),
     )
 
 -- the certificate has ended, and then the recordings end so
-pub all_placed : (lanes : List Told) (left new : Option (List CertItem)) (taken : ℕ → ℕ) (place : ℕ) (result : Result (Unit {0}) InputFault)
-    → IfSome left (λ items. Gives IsCertOutside items (Ok None) new) → IsEnded lanes place taken result
-    → AreAhead (length lanes) lanes left taken place (ends_so result)
+pub all_placed : (can_fail : CanFail) (lanes : List Told) (left new : Option (List CertItem)) (taken : ℕ → ℕ) (place : ℕ) (result : Result (Unit {0}) InputFault)
+    → IfSome left (λ items. Gives (IsCertOutside can_fail.certificate) items (Ok None) new) → IsEnded can_fail.recordings lanes place taken result
+    → AreAhead can_fail (length lanes) lanes left taken place (ends_so result)
 unfolding scan
-all_placed lanes left new taken place result gives ended items certificate known is =
-    let now : Gives IsCertOutside certificate (Ok None) new = rw is at gives in
+all_placed can_fail lanes left new taken place result gives ended items certificate known is =
+    let now : Gives (IsCertOutside can_fail.certificate) certificate (Ok None) new = rw is at gives in
     let e = ended items known in
     (e.0, [], e.1, inl (sym now.0), ap ends_so e.2)
 
@@ -125,50 +125,50 @@ row_told core seq fault = inr ((λ e. cc), refl)
 
 -- the ends of the input as a placer answers them
 
-pub cert_ends : (placing : Placing) (new : Option (List CertItem)) (place : ℕ) (fault : CertFault) (result : InputFault) → place ≡ place_of placing.kept → result ≡ cert_fault place fault
-    → IfSome placing.pairs (λ items. Gives IsCertOutside items (Err fault) new) → IsTheEnd placing [] (Err result)
-cert_ends placing new place fault result here told gives = elim (cert_told place fault) [
-  | inl memory ↦ subst (λ one. IsTheEnd placing [] (Err one)) (sym (told ∙ ap (cert_fault place) memory)) tt
-  | inr (other, is) ↦ subst (λ one. IsTheEnd placing [] (Err one)) (sym (told ∙ is ∙ ap (λ n. input.Cert n fault) here))
-      (cert_stops (length placing.lanes) placing.lanes placing.pairs new (taken_of placing.kept) (place_of placing.kept) fault other gives)
+pub cert_ends : (can_fail : CanFail) (placing : Placing) (new : Option (List CertItem)) (place : ℕ) (fault : CertFault) (result : InputFault) → place ≡ place_of placing.kept → result ≡ cert_fault place fault
+    → IfSome placing.pairs (λ items. Gives (IsCertOutside can_fail.certificate) items (Err fault) new) → IsTheEnd can_fail placing [] (Err result)
+cert_ends can_fail placing new place fault result here told gives = elim (cert_told place fault) [
+  | inl memory ↦ subst (λ one. IsTheEnd can_fail placing [] (Err one)) (sym (told ∙ ap (cert_fault place) memory)) tt
+  | inr (other, is) ↦ subst (λ one. IsTheEnd can_fail placing [] (Err one)) (sym (told ∙ is ∙ ap (λ n. input.Cert n fault) here))
+      (cert_stops can_fail (length placing.lanes) placing.lanes placing.pairs new (taken_of placing.kept) (place_of placing.kept) fault other gives)
 ]
 
-pub row_ends : (placing : Placing) (new : Option (List CertItem)) (pair : Pair) (more : Option (List Item)) (fault : RowFault) (result : InputFault) → result ≡ row_fault pair.core pair.seq fault
-    → IfSome placing.pairs (λ items. Gives IsCertOutside items (Ok (Some pair)) new) → misplaced (length placing.lanes) (taken_of placing.kept) pair ≡ None
-    → IfSome (left_at placing.lanes pair.core) (λ items. Gives IsOutside items (Err fault) more) → IsTheEnd placing [] (Err result)
-row_ends placing new pair more fault result told gives fits lane = elim (row_told pair.core pair.seq fault) [
-  | inl memory ↦ subst (λ one. IsTheEnd placing [] (Err one)) (sym (told ∙ ap (row_fault pair.core pair.seq) memory)) tt
-  | inr (other, is) ↦ subst (λ one. IsTheEnd placing [] (Err one)) (sym (told ∙ is))
-      (record_stops (length placing.lanes) placing.lanes placing.pairs new (taken_of placing.kept) (place_of placing.kept) pair more fault other gives fits lane)
+pub row_ends : (can_fail : CanFail) (placing : Placing) (new : Option (List CertItem)) (pair : Pair) (more : Option (List Item)) (fault : RowFault) (result : InputFault) → result ≡ row_fault pair.core pair.seq fault
+    → IfSome placing.pairs (λ items. Gives (IsCertOutside can_fail.certificate) items (Ok (Some pair)) new) → misplaced (length placing.lanes) (taken_of placing.kept) pair ≡ None
+    → IfSome (left_at placing.lanes pair.core) (λ items. Gives (IsOutside can_fail.recordings) items (Err fault) more) → IsTheEnd can_fail placing [] (Err result)
+row_ends can_fail placing new pair more fault result told gives fits lane = elim (row_told pair.core pair.seq fault) [
+  | inl memory ↦ subst (λ one. IsTheEnd can_fail placing [] (Err one)) (sym (told ∙ ap (row_fault pair.core pair.seq) memory)) tt
+  | inr (other, is) ↦ subst (λ one. IsTheEnd can_fail placing [] (Err one)) (sym (told ∙ is))
+      (record_stops can_fail (length placing.lanes) placing.lanes placing.pairs new (taken_of placing.kept) (place_of placing.kept) pair more fault other gives fits lane)
 ]
 
 -- no record is ahead
-pub none_next : (old new : Placing) (end : Result (Unit {0}) InputFault) → (end ≡ Err input.Memory) ⊎ IsAhead old (ends_so end) → IsNext old (no_more end) new
-none_next old new (Ok ended) (inl memory) = let impossible : ◌≡◌ {A = Result (Unit {0}) InputFault} (Ok ended) (Err input.Memory) = memory in cc
-none_next old new (Ok ended) (inr ahead) = ahead
-none_next old new (Err fault) (inl memory) = subst (λ end. IsNext old (no_more end) new) (sym memory) tt
-none_next old new (Err input.Memory) (inr ahead) = tt
-none_next old new (Err (input.Cert place fault)) (inr ahead) = ahead
-none_next old new (Err (input.Order place core fault)) (inr ahead) = ahead
-none_next old new (Err (input.Row core seq fault)) (inr ahead) = ahead
+pub none_next : (can_fail : CanFail) (old new : Placing) (end : Result (Unit {0}) InputFault) → (end ≡ Err input.Memory) ⊎ IsAhead can_fail old (ends_so end) → IsNext can_fail old (no_more end) new
+none_next can_fail old new (Ok ended) (inl memory) = let impossible : ◌≡◌ {A = Result (Unit {0}) InputFault} (Ok ended) (Err input.Memory) = memory in cc
+none_next can_fail old new (Ok ended) (inr ahead) = ahead
+none_next can_fail old new (Err fault) (inl memory) = subst (λ end. IsNext can_fail old (no_more end) new) (sym memory) tt
+none_next can_fail old new (Err input.Memory) (inr ahead) = tt
+none_next can_fail old new (Err (input.Cert place fault)) (inr ahead) = ahead
+none_next can_fail old new (Err (input.Order place core fault)) (inr ahead) = ahead
+none_next can_fail old new (Err (input.Row core seq fault)) (inr ahead) = ahead
 
 -- rounds
 
-pub lead_on : (start now next : Placing) (front : List Ordered) (one : Ordered) → Lead start front now → Lead now (one ∷ []) next → Lead start (front ++ one ∷ []) next
-lead_on start now next front one before after scanned ahead =
-    subst (λ placed. IsAhead start (record { placed = placed; end = scanned.end })) (sym (append_assoc front (one ∷ []) scanned.placed))
+pub lead_on : (can_fail : CanFail) (start now next : Placing) (front : List Ordered) (one : Ordered) → Lead can_fail start front now → Lead can_fail now (one ∷ []) next → Lead can_fail start (front ++ one ∷ []) next
+lead_on can_fail start now next front one before after scanned ahead =
+    subst (λ placed. IsAhead can_fail start (record { placed = placed; end = scanned.end })) (sym (append_assoc front (one ∷ []) scanned.placed))
     (before (led_by (one ∷ []) scanned) (after scanned ahead))
 
-pub end_on : (start now : Placing) (front : List Ordered) (end : Result (Unit {0}) InputFault) → Lead start front now → IsTheEnd now [] end → IsTheEnd start front end
-end_on start now front (Err input.Memory) before is = tt
-end_on start now front (Err (input.Cert place fault)) before is =
-    subst (λ placed. IsAhead start (record { placed = placed; end = Err (input.Cert place fault) })) (append-nil front) (before _ is)
-end_on start now front (Err (input.Order place core fault)) before is =
-    subst (λ placed. IsAhead start (record { placed = placed; end = Err (input.Order place core fault) })) (append-nil front) (before _ is)
-end_on start now front (Err (input.Row core seq fault)) before is =
-    subst (λ placed. IsAhead start (record { placed = placed; end = Err (input.Row core seq fault) })) (append-nil front) (before _ is)
-end_on start now front (Ok ended) before is =
-    subst (λ placed. IsAhead start (record { placed = placed; end = Ok ended })) (append-nil front) (before _ is)
+pub end_on : (can_fail : CanFail) (start now : Placing) (front : List Ordered) (end : Result (Unit {0}) InputFault) → Lead can_fail start front now → IsTheEnd can_fail now [] end → IsTheEnd can_fail start front end
+end_on can_fail start now front (Err input.Memory) before is = tt
+end_on can_fail start now front (Err (input.Cert place fault)) before is =
+    subst (λ placed. IsAhead can_fail start (record { placed = placed; end = Err (input.Cert place fault) })) (append-nil front) (before _ is)
+end_on can_fail start now front (Err (input.Order place core fault)) before is =
+    subst (λ placed. IsAhead can_fail start (record { placed = placed; end = Err (input.Order place core fault) })) (append-nil front) (before _ is)
+end_on can_fail start now front (Err (input.Row core seq fault)) before is =
+    subst (λ placed. IsAhead can_fail start (record { placed = placed; end = Err (input.Row core seq fault) })) (append-nil front) (before _ is)
+end_on can_fail start now front (Ok ended) before is =
+    subst (λ placed. IsAhead can_fail start (record { placed = placed; end = Ok ended })) (append-nil front) (before _ is)
 
 -- something is ahead of every placer
 
@@ -176,15 +176,15 @@ or_none : {A : Type 0} → Option (List A) → List A
 or_none None = []
 or_none (Some items) = items
 
-pub something_ahead : (placing : Placing) → (scanned : Scan) × IsAhead placing scanned
+pub something_ahead : (can_fail : CanFail) (placing : Placing) → (scanned : Scan) × IsAhead can_fail placing scanned
 unfolding scan or_none
-something_ahead placing = (
+something_ahead can_fail placing = (
   scan (length placing.lanes) (taken_of placing.kept) (place_of placing.kept) (λ core. or_none (left_at placing.lanes core)) (or_none placing.pairs),
   λ items certificate known is. (
     items,
     certificate,
-    (λ core. reads_all row.Read (items core)),
-    reads_all cert.Read certificate,
+    (λ core. reads_all can_fail.recordings row.Read (items core)),
+    reads_all can_fail.certificate cert.Read certificate,
     rw is (ap (λ (left : ℕ → List Item). scan (length placing.lanes) (taken_of placing.kept) (place_of placing.kept) left certificate)
         (fun_ext (λ core. sym (ap or_none (known core))))),
   ),

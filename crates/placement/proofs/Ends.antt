@@ -1,5 +1,5 @@
 -- How the recordings end behind the last pair: the least core that has not ended decides.
-use Rattle.std.proofs.Common.{◌≡◌, ◌≢◌, ◌+◌, ◌<◌, ◌≤◌, ◌∙◌, ℕ, zero, suc, List, [], ◌∷◌, Option, Some, None, Ok, Err, length, refl, sym, subst, inl, inr, arith}
+use Rattle.std.proofs.Common.{◌≡◌, ◌≢◌, ◌+◌, ◌<◌, ◌≤◌, ◌∙◌, ℕ, zero, suc, List, [], ◌∷◌, Bool, Option, Some, None, Ok, Err, length, refl, sym, subst, inl, inr, arith}
 use Rattle.std.specs.Prelude.{IfSome}
 use Rattle.apex_types.specs.declared.record.Record.{Record}
 use Rattle.csv_rows.specs.Source.{Gives}
@@ -45,38 +45,38 @@ ends_of-first cores core place taken left fault within empty e =
 pub ended_first : (lanes : List Told) → HaveEnded lanes 0 lanes
 ended_first lanes items known = ((λ below within. absurd (omega arith)), λ above within. known above)
 
-pub ended_more : (lanes0 lanes lanes' : List Told) (core : ℕ) → HaveEnded lanes0 core lanes
-    → IfSome (left_at lanes core) (λ items. Gives IsOutside items (Ok None) (left_at lanes' core))
+pub ended_more : (can_fail : Bool) (lanes0 lanes lanes' : List Told) (core : ℕ) → HaveEnded lanes0 core lanes
+    → IfSome (left_at lanes core) (λ items. Gives (IsOutside can_fail) items (Ok None) (left_at lanes' core))
     → ((other : ℕ) → other ≢ core → left_at lanes' other ≡ left_at lanes other) → HaveEnded lanes0 (core + 1) lanes'
-ended_more lanes0 lanes lanes' core ended gives others items known =
+ended_more can_fail lanes0 lanes lanes' core ended gives others items known =
     let h = ended items known in
-    let item : Gives IsOutside (items core) (Ok None) (left_at lanes' core) = rw (h.1 core (omega arith)) at gives in (
+    let item : Gives (IsOutside can_fail) (items core) (Ok None) (left_at lanes' core) = rw (h.1 core (omega arith)) at gives in (
       (λ below within. elim (same_or below core) [ inl e ↦ rw e item.0 | inr apart ↦ h.0 below (omega arith) ]),
       λ above within. others above (λ e. absurd (omega arith)) ∙ h.1 above (omega arith),
     )
 
-pub end_fault : (lanes0 lanes : List Told) (core place : ℕ) (taken : ℕ → ℕ) (fault : RowFault) (more : Option (List Item)) → core < length lanes0
-    → fault ≢ row.Memory → HaveEnded lanes0 core lanes → IfSome (left_at lanes core) (λ items. Gives IsOutside items (Err fault) more)
-    → IsEnded lanes0 place taken (Err (input.Row core (taken core) fault))
-end_fault lanes0 lanes core place taken fault more within other ended gives items known =
+pub end_fault : (can_fail : Bool) (lanes0 lanes : List Told) (core place : ℕ) (taken : ℕ → ℕ) (fault : RowFault) (more : Option (List Item)) → core < length lanes0
+    → fault ≢ row.Memory → HaveEnded lanes0 core lanes → IfSome (left_at lanes core) (λ items. Gives (IsOutside can_fail) items (Err fault) more)
+    → IsEnded can_fail lanes0 place taken (Err (input.Row core (taken core) fault))
+end_fault can_fail lanes0 lanes core place taken fault more within other ended gives items known =
     let h = ended items known in
-    let item : Gives IsOutside (items core) (Err fault) more = rw (h.1 core (omega arith)) at gives in
-    let read = fault_read row.Read row.Memory fault (items core) more other item in
+    let item : Gives (IsOutside can_fail) (items core) (Err fault) more = rw (h.1 core (omega arith)) at gives in
+    let read = fault_read can_fail row.Read row.Memory fault (items core) more other item in
     let left : ℕ → List Item = put items core (Err fault ∷ read.0) in (
       left,
-      put_reads row.Read items items core (Err fault ∷ read.0) (λ core apart. reads_all row.Read (items core)) read.1,
+      put_reads can_fail row.Read items items core (Err fault ∷ read.0) (λ core apart. reads_all can_fail row.Read (items core)) read.1,
       ends_of-first (length lanes0) core place taken left (input.Row core (taken core) fault) within
           (λ below low. put-other items core below (Err fault ∷ read.0) (λ e. absurd (omega arith)) ∙ h.0 below low)
           (rw (put-here items core (Err fault ∷ read.0)) refl),
     )
 
-pub end_missing : (lanes0 lanes : List Told) (core place : ℕ) (taken : ℕ → ℕ) (rec : Record) (more : Option (List Item)) → core < length lanes0
-    → HaveEnded lanes0 core lanes → IfSome (left_at lanes core) (λ items. Gives IsOutside items (Ok (Some rec)) more)
-    → IsEnded lanes0 place taken (Err (input.Order place core Missing))
-end_missing lanes0 lanes core place taken rec more within ended gives items known =
+pub end_missing : (can_fail : Bool) (lanes0 lanes : List Told) (core place : ℕ) (taken : ℕ → ℕ) (rec : Record) (more : Option (List Item)) → core < length lanes0
+    → HaveEnded lanes0 core lanes → IfSome (left_at lanes core) (λ items. Gives (IsOutside can_fail) items (Ok (Some rec)) more)
+    → IsEnded can_fail lanes0 place taken (Err (input.Order place core Missing))
+end_missing can_fail lanes0 lanes core place taken rec more within ended gives items known =
     let h = ended items known in
-    let item : Gives IsOutside (items core) (Ok (Some rec)) more = rw (h.1 core (omega arith)) at gives in
-    (items, (λ other. reads_all row.Read (items other)), ends_of-first (length lanes0) core place taken items (input.Order place core Missing) within h.0 (rw item.1 refl))
+    let item : Gives (IsOutside can_fail) (items core) (Ok (Some rec)) more = rw (h.1 core (omega arith)) at gives in
+    (items, (λ other. reads_all can_fail row.Read (items other)), ends_of-first (length lanes0) core place taken items (input.Order place core Missing) within h.0 (rw item.1 refl))
 
-pub end_all : (lanes0 lanes : List Told) (place : ℕ) (taken : ℕ → ℕ) → HaveEnded lanes0 (length lanes0) lanes → IsEnded lanes0 place taken (Ok tt)
-end_all lanes0 lanes place taken ended items known = (items, (λ core. reads_all row.Read (items core)), ends_of-none (length lanes0) place taken items (ended items known).0)
+pub end_all : (can_fail : Bool) (lanes0 lanes : List Told) (place : ℕ) (taken : ℕ → ℕ) → HaveEnded lanes0 (length lanes0) lanes → IsEnded can_fail lanes0 place taken (Ok tt)
+end_all can_fail lanes0 lanes place taken ended items known = (items, (λ core. reads_all can_fail row.Read (items core)), ends_of-none (length lanes0) place taken items (ended items known).0)

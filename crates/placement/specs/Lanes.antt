@@ -11,7 +11,7 @@ use Rattle.placement.specs.declared.fault.InputFault.{InputFault}
 use Rattle.placement.specs.declared.fault.InputFault.TheVariants as input
 use Rattle.placement.specs.declared.placer.Filled.{Filled}
 use Rattle.placement.specs.declared.placer.Filled.TheVariants.{Full, Ended}
-use Rattle.placement.specs.Reading.{Reads}
+use Rattle.placement.specs.Reading.{CanFail, Reads}
 use Rattle.placement.specs.Scan.{Scan, ends_of, led_by, scan}
 
 -- what an answer leaves of these items, where they are known: a record is the first of them; behind a fault nothing is known
@@ -36,26 +36,26 @@ left_at [] core = Some []
 left_at (lane ∷ others) zero = standing lane
 left_at (lane ∷ others) (suc core) = left_at others core
 
--- what was answered of each core are answers of a source of its recording
-abbrev pub AreHonest : List Told → Type 0
-AreHonest lanes = All IsHonest lanes
+-- what was answered of each core are answers of a source of its recording, which can fail or cannot
+abbrev pub AreHonest : Bool → List Told → Type 0
+AreHonest can_fail lanes = All (IsHonest can_fail) lanes
 
 -- these items are left of the recordings
 abbrev pub AreLeft : List Told → (ℕ → List Item) → Type 0
 AreLeft lanes items = (core : ℕ) → left_at lanes core ≡ Some (items core)
 
 -- some readings of these items are scanned so, from this place on
-abbrev pub IsScanOf : ℕ → (ℕ → ℕ) → ℕ → (ℕ → List Item) → List CertItem → Scan → Type 0
-IsScanOf cores taken place items certificate scanned =
+abbrev pub IsScanOf : CanFail → ℕ → (ℕ → ℕ) → ℕ → (ℕ → List Item) → List CertItem → Scan → Type 0
+IsScanOf can_fail cores taken place items certificate scanned =
     (left : ℕ → List Item) × (pairs : List CertItem)
-    × ((core : ℕ) → Reads row.Read (items core) (left core)) × Reads cert.Read certificate pairs
+    × ((core : ℕ) → Reads can_fail.recordings row.Read (items core) (left core)) × Reads can_fail.certificate cert.Read certificate pairs
     × (scan cores taken place left pairs ≡ scanned)
 
 -- some readings of what is left end so
-abbrev pub IsEnded : List Told → ℕ → (ℕ → ℕ) → Result (Unit {0}) InputFault → Type 0
-IsEnded lanes place taken result =
+abbrev pub IsEnded : Bool → List Told → ℕ → (ℕ → ℕ) → Result (Unit {0}) InputFault → Type 0
+IsEnded can_fail lanes place taken result =
     (items : ℕ → List Item) → AreLeft lanes items
-    → (left : ℕ → List Item) × ((core : ℕ) → Reads row.Read (items core) (left core)) × (ends_of (length lanes) place taken left ≡ result)
+    → (left : ℕ → List Item) × ((core : ℕ) → Reads can_fail row.Read (items core) (left core)) × (ends_of (length lanes) place taken left ≡ result)
 
 -- what callers see of a placer: what was told of the recordings; what the certificate has left, where that is known; how many
 -- numbers of each core were taken; and whether the input has ended
@@ -66,27 +66,27 @@ pub record Placing : Type 0 where
   pub ended : Bool
 
 -- these records are ahead, and the input ends so behind them, for some readings of what is left, where that is known
-abbrev pub IsAhead : Placing → Scan → Type 0
-IsAhead placing scanned =
+abbrev pub IsAhead : CanFail → Placing → Scan → Type 0
+IsAhead can_fail placing scanned =
     (items : ℕ → List Item) (certificate : List CertItem) → AreLeft placing.lanes items → placing.pairs ≡ Some certificate
-    → IsScanOf (length placing.lanes) (taken_of placing.kept) (place_of placing.kept) items certificate scanned
+    → IsScanOf can_fail (length placing.lanes) (taken_of placing.kept) (place_of placing.kept) items certificate scanned
 
 -- how the input ends, where it is no want of memory, of which the texts say nothing
-abbrev pub IsTheEnd : Placing → List Ordered → Result (Unit {0}) InputFault → Type 0
-IsTheEnd placing records (Err input.Memory) = Unit {0}
-IsTheEnd placing records end = IsAhead placing (record { placed = records; end = end })
+abbrev pub IsTheEnd : CanFail → Placing → List Ordered → Result (Unit {0}) InputFault → Type 0
+IsTheEnd can_fail placing records (Err input.Memory) = Unit {0}
+IsTheEnd can_fail placing records end = IsAhead can_fail placing (record { placed = records; end = end })
 
 -- these records stood before all that is still ahead
-abbrev pub Lead : Placing → List Ordered → Placing → Type 0
-Lead old records new = (scanned : Scan) → IsAhead new scanned → IsAhead old (led_by records scanned)
+abbrev pub Lead : CanFail → Placing → List Ordered → Placing → Type 0
+Lead can_fail old records new = (scanned : Scan) → IsAhead can_fail new scanned → IsAhead can_fail old (led_by records scanned)
 
 -- one answer of a placer: the first record that was ahead; or none was, and the input ends
-abbrev pub IsNext : Placing → Result (Option Ordered) InputFault → Placing → Type 0
-IsNext old (Ok (Some ordered)) new = Lead old (ordered ∷ []) new
-IsNext old (Ok None) new = IsTheEnd old [] (Ok tt)
-IsNext old (Err fault) new = IsTheEnd old [] (Err fault)
+abbrev pub IsNext : CanFail → Placing → Result (Option Ordered) InputFault → Placing → Type 0
+IsNext can_fail old (Ok (Some ordered)) new = Lead can_fail old (ordered ∷ []) new
+IsNext can_fail old (Ok None) new = IsTheEnd can_fail old [] (Ok tt)
+IsNext can_fail old (Err fault) new = IsTheEnd can_fail old [] (Err fault)
 
 -- one round of a placer: records that stood before all that is still ahead; or all that were ahead, and the input ends
-abbrev pub IsFilled : Placing → List Ordered → Filled → Placing → Type 0
-IsFilled old records Full new = Lead old records new
-IsFilled old records (Ended end) new = IsTheEnd old records end
+abbrev pub IsFilled : CanFail → Placing → List Ordered → Filled → Placing → Type 0
+IsFilled can_fail old records Full new = Lead can_fail old records new
+IsFilled can_fail old records (Ended end) new = IsTheEnd can_fail old records end

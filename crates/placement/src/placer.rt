@@ -11,9 +11,9 @@ ghost use Rattle.placement.specs.Scan as scan;
 use crate::fault::InputFault;
 use apex_types::{CoreId, Ordered, Record};
 use core_intake::Intake;
+use csv_rows::TextSource;
 use order_cert::{CertFault, CertSource, Keeper, OrderFault};
 use record_read::RowFault;
-use std::io::Read;
 use std::marker::Model;
 use std::sync::Wait;
 use std::thread::Threads;
@@ -29,16 +29,15 @@ pub enum Filled {
 
 /// The records of all cores, one after another in the order of the certificate.
 ///
-/// It is to be closed, as the intake is from which it takes them.
-#[derive(Drop)]
-pub struct Placer<R: Read, C: Read> {
+/// It can only be given up by `close`, as the intake from which it takes them.
+pub struct Placer<R: TextSource, C: TextSource> {
     intake: Intake<R>,
     pairs: CertSource<C>,
     keeper: Keeper,
     ended: bool,
 }
 
-impl<R: Read, C: Read> Model for Placer<R, C> {
+impl<R: TextSource, C: TextSource> Model for Placer<R, C> {
     ghost use Rattle.std.specs.Prelude.{◌≡◌, ◌≤◌, length, false};
     ghost use Rattle.placement.specs.Lanes.{Placing};
 
@@ -54,7 +53,7 @@ impl<R: Read, C: Read> Model for Placer<R, C> {
     ghost invariant = { λ placer. (placer.keeper.cores ≡ length placer.intake) × (length placer.intake ≤ 16) × (placer.ended ≡ false → placer.pairs.stopped ≡ false) };
 }
 
-impl<R: Read, C: Read> Placer<R, C> {
+impl<R: TextSource, C: TextSource> Placer<R, C> {
     /// A placer before the first pair of the certificate. Takes no memory.
     pub fn new(intake: Intake<R>, pairs: CertSource<C>) -> Placer<R, C>
         requires some { 1 ≤ length intake }
@@ -81,8 +80,8 @@ impl<R: Read, C: Read> Placer<R, C> {
     /// Memory where a growth was refused; else the fault with which the input ends.
     pub fn next<T: Wait>(&mut self, rt: &T) -> Result<Option<Ordered>, InputFault>
         requires going { self.old.ended ≡ false }
-        ensures next { AreHonest self.new.lanes → IsNext self.old result self.new }
-        ensures honest { AreHonest self.new.lanes → AreHonest self.old.lanes }
+        ensures next { AreHonest R.can_fail self.new.lanes → IsNext (record { recordings = R.can_fail; certificate = C.can_fail }) self.old result self.new }
+        ensures honest { AreHonest R.can_fail self.new.lanes → AreHonest R.can_fail self.old.lanes }
         ensures going { IfOk result (λ ordered. IfSome ordered (λ _. self.new.ended ≡ false)) }
         ensures place { IfOk result (λ ordered. IfSome ordered (λ found. (found.pos ≡ place_of self.old.kept) × (place_of self.new.kept ≡ suc (place_of self.old.kept)))) }
         ensures core { IfOk result (λ ordered. IfSome ordered (λ found. found.core < length self.old.lanes)) }
@@ -124,8 +123,8 @@ impl<R: Read, C: Read> Placer<R, C> {
     pub fn fill<T: Wait>(&mut self, rt: &T, round: &mut Vec<Ordered>, size: usize) -> Filled
         requires going { self.old.ended ≡ false }
         requires empty { round.old.items ≡ [] }
-        ensures filled { AreHonest self.new.lanes → IsFilled self.old round.new.items result self.new }
-        ensures honest { AreHonest self.new.lanes → AreHonest self.old.lanes }
+        ensures filled { AreHonest R.can_fail self.new.lanes → IsFilled (record { recordings = R.can_fail; certificate = C.can_fail }) self.old round.new.items result self.new }
+        ensures honest { AreHonest R.can_fail self.new.lanes → AreHonest R.can_fail self.old.lanes }
         ensures placed { ArePlaced (place_of self.old.kept) round.new.items }
         ensures cores { AreOfCores (length self.old.lanes) round.new.items }
         ensures few { length round.new.items ≤ size }
@@ -148,10 +147,10 @@ impl<R: Read, C: Read> Placer<R, C> {
     }
 }
 
-impl<R: Read, C: Read + Drop> Placer<R, C> {
+impl<R: TextSource, C: TextSource + Drop> Placer<R, C> {
     /// Stops the threads that read the recordings and waits for their ends. A thread ends once the read that it is in returns.
     pub fn close<T: Threads + Wait>(self, rt: &T)
-        ensures honest { AreHonest self.lanes }
+        ensures honest { AreHonest R.can_fail self.lanes }
     {
         let Placer {
             intake,
@@ -194,14 +193,14 @@ fn row_fault(core: u32, seq: u64, fault: RowFault) -> InputFault
 }
 
 // The next record of a core, told by what is left of its recording before and behind it.
-fn next_of<R: Read, T: Wait>(
+fn next_of<R: TextSource, T: Wait>(
     rt: &T,
     intake: &mut Intake<R>,
     core: usize,
 ) -> Result<Option<Record>, RowFault>
     requires { core < length intake.old }
-    ensures gives { AreHonest intake.new → IfSome (left_at intake.old core) (λ items. Gives IsOutside items result (left_at intake.new core)) }
-    ensures honest { AreHonest intake.new → AreHonest intake.old }
+    ensures gives { AreHonest R.can_fail intake.new → IfSome (left_at intake.old core) (λ items. Gives (IsOutside R.can_fail) items result (left_at intake.new core)) }
+    ensures honest { AreHonest R.can_fail intake.new → AreHonest R.can_fail intake.old }
     ensures others { (other : ℕ) → other ≢ core → left_at intake.new other ≡ left_at intake.old other }
     ensures count { length intake.new ≡ length intake.old }
 {
@@ -209,15 +208,15 @@ fn next_of<R: Read, T: Wait>(
 }
 
 // Whether each recording has ended behind the last pair; the least core that has not decides.
-fn finish<R: Read, T: Wait>(
+fn finish<R: TextSource, T: Wait>(
     rt: &T,
     intake: &mut Intake<R>,
     keeper: &Keeper,
     place: u64,
 ) -> Result<(), InputFault>
     requires { length intake.old ≤ 16 }
-    ensures ended { AreHonest intake.new → (result ≡ Err InputFault.Memory) ⊎ IsEnded intake.old place (taken_of keeper.now) result }
-    ensures honest { AreHonest intake.new → AreHonest intake.old }
+    ensures ended { AreHonest R.can_fail intake.new → (result ≡ Err InputFault.Memory) ⊎ IsEnded R.can_fail intake.old place (taken_of keeper.now) result }
+    ensures honest { AreHonest R.can_fail intake.new → AreHonest R.can_fail intake.old }
     ensures count { length intake.new ≡ length intake.old }
 {
     'cores: for core in 0..intake.count() {

@@ -9,7 +9,7 @@ use Rattle.placement.proofs.placer.finish.Goals as goal
 pub returns-in-Ok-Some-clause-ended : goal.returns-in-Ok-Some-clause-ended
 returns-in-Ok-Some-clause-ended g c =
     let within : c.cores.core < length c.args.intake.now = omega arith in
-    λ honest. inr (end_missing c.args.intake.now c.cores.intake c.cores.core c.args.place (taken_of c.args.keeper.now) c.in-Ok-Some.field-0-0 (left_at c.next_of.new.intake c.cores.core) within
+    λ honest. inr (end_missing g.R.TextSource.can_fail c.args.intake.now c.cores.intake c.cores.core c.args.place (taken_of c.args.keeper.now) c.in-Ok-Some.field-0-0 (left_at c.next_of.new.intake c.cores.core) within
     (c.cores.invariant.below (c.next_of.ensures.honest honest)) (rw c.in-Ok-Some.field-0-is at (c.in-Ok-Some.ensures.gives honest)))
 
 pub returns-in-Err-clause-ended : goal.returns-in-Err-clause-ended
@@ -18,8 +18,8 @@ returns-in-Err-clause-ended g c =
     let told = c.row_fault.ensures ∙ ap (λ seq. row_fault c.cores.core seq c.in-Err.fault) c.taken.ensures in
     λ honest. elim (row_told c.cores.core (taken_of c.args.keeper.now c.cores.core) c.in-Err.fault) [
       | inl memory ↦ inl (ap Err (told ∙ ap (row_fault c.cores.core (taken_of c.args.keeper.now c.cores.core)) memory))
-      | inr (other, is) ↦ inr (subst (λ fault. IsEnded c.args.intake.now c.args.place (taken_of c.args.keeper.now) (Err fault)) (sym (told ∙ is))
-          (end_fault c.args.intake.now c.cores.intake c.cores.core c.args.place (taken_of c.args.keeper.now) c.in-Err.fault
+      | inr (other, is) ↦ inr (subst (λ fault. IsEnded g.R.TextSource.can_fail c.args.intake.now c.args.place (taken_of c.args.keeper.now) (Err fault)) (sym (told ∙ is))
+          (end_fault g.R.TextSource.can_fail c.args.intake.now c.cores.intake c.cores.core c.args.place (taken_of c.args.keeper.now) c.in-Err.fault
           (left_at c.next_of.new.intake c.cores.core) within other
           (c.cores.invariant.below (c.next_of.ensures.honest honest)) (c.in-Err.ensures.gives honest)))
     ]
@@ -27,5 +27,5 @@ returns-in-Err-clause-ended g c =
 pub returns-clause-ended : goal.returns-clause-ended
 returns-clause-ended g c =
     let all : c.cores.core ≡ length c.args.intake.now = omega arith in
-    λ honest. inr (end_all c.args.intake.now c.cores.intake c.args.place (taken_of c.args.keeper.now)
+    λ honest. inr (end_all g.R.TextSource.can_fail c.args.intake.now c.cores.intake c.args.place (taken_of c.args.keeper.now)
     (subst (λ n. HaveEnded c.args.intake.now n c.cores.intake) all (c.cores.invariant.below honest)))

@@ -6,6 +6,6 @@ use Rattle.placement.proofs.placer.finish.Given as goal
 abbrev pub invariant-cores : goal.invariant-cores
 invariant-cores g l = record {
   count : length l.intake ≡ length l.fn.intake;
-  below : AreHonest l.intake → HaveEnded l.fn.intake l.core l.intake;
-  honest : AreHonest l.intake → AreHonest l.fn.intake;
+  below : AreHonest g.R.TextSource.can_fail l.intake → HaveEnded l.fn.intake l.core l.intake;
+  honest : AreHonest g.R.TextSource.can_fail l.intake → AreHonest g.R.TextSource.can_fail l.fn.intake;
 }

@@ -4,32 +4,38 @@ use Rattle.std.proofs.lemmas.List.{length-append}
 use Rattle.apex_machine.specs.Runs.{ArePlaced, AreOfCores}
 use Rattle.order_cert.specs.Kept.{place_of}
 use Rattle.placement.specs.Lanes.{Lead}
+use Rattle.placement.specs.Reading.{CanFail}
 use Rattle.placement.proofs.Ahead.{end_on, lead_on}
 use Rattle.placement.proofs.Places.{placed_more, of_cores_more}
 use Rattle.placement.proofs.placer.Placer.fill.Goals as goal
 
 pub records-init : goal.records-init
-records-init g c = record {
-  lead = λ honest. subst (λ items. Lead c.args.self.now items c.args.self.now) (sym c.requires.empty) (λ scanned ahead. ahead);
-  honest = λ honest. honest;
-  placed = rw c.requires.empty tt;
-  of_cores = rw c.requires.empty tt;
-  place = rw c.requires.empty (omega arith);
-  few = rw c.requires.empty (omega arith);
-  going = c.requires.going;
-  lanes = refl;
-}
+records-init g c =
+    let can : CanFail = record { recordings = g.R.TextSource.can_fail; certificate = g.C.TextSource.can_fail } in
+    record {
+      lead = λ honest. subst (λ items. Lead can c.args.self.now items c.args.self.now) (sym c.requires.empty) (λ scanned ahead. ahead);
+      honest = λ honest. honest;
+      placed = rw c.requires.empty tt;
+      of_cores = rw c.requires.empty tt;
+      place = rw c.requires.empty (omega arith);
+      few = rw c.requires.empty (omega arith);
+      going = c.requires.going;
+      lanes = refl;
+    }
 
 pub returns-in-Ok-None-clause-filled : goal.returns-in-Ok-None-clause-filled
-returns-in-Ok-None-clause-filled g c = λ honest.
-    end_on c.args.self.now c.records.self c.records.round.items (Ok tt) (c.records.invariant.lead (c.in-Ok-None.ensures.honest honest)) (rw c.in-Ok-None.field-0-is at (c.in-Ok-None.ensures.next honest))
+returns-in-Ok-None-clause-filled g c =
+    let can : CanFail = record { recordings = g.R.TextSource.can_fail; certificate = g.C.TextSource.can_fail } in
+    λ honest. end_on can c.args.self.now c.records.self c.records.round.items (Ok tt) (c.records.invariant.lead (c.in-Ok-None.ensures.honest honest)) (rw c.in-Ok-None.field-0-is at (c.in-Ok-None.ensures.next honest))
 
 pub returns-in-Err-clause-filled : goal.returns-in-Err-clause-filled
-returns-in-Err-clause-filled g c = λ honest.
-    end_on c.args.self.now c.records.self c.records.round.items (Err c.in-Err.fault) (c.records.invariant.lead (c.in-Err.ensures.honest honest)) (c.in-Err.ensures.next honest)
+returns-in-Err-clause-filled g c =
+    let can : CanFail = record { recordings = g.R.TextSource.can_fail; certificate = g.C.TextSource.can_fail } in
+    λ honest. end_on can c.args.self.now c.records.self c.records.round.items (Err c.in-Err.fault) (c.records.invariant.lead (c.in-Err.ensures.honest honest)) (c.in-Err.ensures.next honest)
 
 pub records-preserved : goal.records-preserved
 records-preserved g c =
+    let can : CanFail = record { recordings = g.R.TextSource.can_fail; certificate = g.C.TextSource.can_fail } in
     let good : is_ok c.push.result ≡ true = search rules in
     let front = c.records.round.items in
     let one = c.in-Ok-Some.ordered in
@@ -38,8 +44,8 @@ records-preserved g c =
     let at = rw c.in-Ok-Some.field-0-is at c.in-Ok-Some.ensures.place in
     let long : length (front ++ one ∷ []) ≡ length front + 1 = length-append front (one ∷ []) in
     record {
-      lead = λ honest. subst (λ items. Lead c.args.self.now items c.next.new.self) (sym grown)
-          (lead_on c.args.self.now c.records.self c.next.new.self front one (before.lead (c.next.ensures.honest honest)) (rw c.in-Ok-Some.field-0-is at (c.in-Ok-Some.ensures.next honest)));
+      lead = λ honest. subst (λ items. Lead can c.args.self.now items c.next.new.self) (sym grown)
+          (lead_on can c.args.self.now c.records.self c.next.new.self front one (before.lead (c.next.ensures.honest honest)) (rw c.in-Ok-Some.field-0-is at (c.in-Ok-Some.ensures.next honest)));
       honest = λ honest. before.honest (c.next.ensures.honest honest);
       placed = subst (ArePlaced (place_of c.args.self.now.kept)) (sym grown) (placed_more (place_of c.args.self.now.kept) front one before.placed (at.0 ∙ before.place));
       of_cores = subst (AreOfCores (length c.args.self.now.lanes)) (sym grown)

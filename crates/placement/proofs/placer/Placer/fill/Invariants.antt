@@ -6,8 +6,8 @@ use Rattle.placement.proofs.placer.Placer.fill.Given as goal
 
 abbrev pub invariant-records : goal.invariant-records
 invariant-records g l = record {
-  lead : AreHonest l.self.lanes → Lead l.fn.self l.round.items l.self;
-  honest : AreHonest l.self.lanes → AreHonest l.fn.self.lanes;
+  lead : AreHonest g.R.TextSource.can_fail l.self.lanes → Lead (record { recordings = g.R.TextSource.can_fail; certificate = g.C.TextSource.can_fail }) l.fn.self l.round.items l.self;
+  honest : AreHonest g.R.TextSource.can_fail l.self.lanes → AreHonest g.R.TextSource.can_fail l.fn.self.lanes;
   placed : ArePlaced (place_of l.fn.self.kept) l.round.items;
   of_cores : AreOfCores (length l.fn.self.lanes) l.round.items;
   place : place_of l.self.kept ≡ place_of l.fn.self.kept + length l.round.items;
