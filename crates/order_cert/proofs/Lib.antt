@@ -1,3 +1,4 @@
 pub mod Cores
 pub mod Counts
 pub mod Lawful
+pub mod RowFaults

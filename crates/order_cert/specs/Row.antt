@@ -46,3 +46,9 @@ item_of number fields = if nat_lt number place_count then pair_of fields else Er
 -- the items of a certificate's text
 abbrev pub pairs_of : List ℕ → List Item
 pairs_of text = items_of item_of text
+
+-- the law
+
+-- a row that is no pair has a fault that the text itself has: neither the failure of a source nor want of memory
+abbrev pub FaultsAreOfRows : Type 0
+FaultsAreOfRows = (number : ℕ) (fields : Fields) (fault : CertFault) → item_of number fields ≡ Err fault → IsOfRow fault

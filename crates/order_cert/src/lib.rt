@@ -7,9 +7,11 @@
 
 mod fault;
 mod keeper;
+mod laws;
 mod pair;
 mod source;
 
 pub use fault::{CertFault, OrderFault};
 pub use keeper::Keeper;
+pub use laws::faults_are_of_rows;
 pub use source::CertSource;

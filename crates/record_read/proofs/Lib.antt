@@ -9,3 +9,4 @@ pub mod Hexadecimal
 pub mod Lengths
 pub mod Memory
 pub mod Pieces
+pub mod RowFaults

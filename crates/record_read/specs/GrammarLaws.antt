@@ -1,10 +1,12 @@
 -- The row grammar is what the reader's steps from left to right read.
-use Rattle.std.specs.Prelude.{◌≡◌, ◌↔◌, ℕ, Ok}
+use Rattle.std.specs.Prelude.{◌≡◌, ◌↔◌, ℕ, Ok, Err}
 use Rattle.csv_rows.specs.Stream.{Fields}
 use Rattle.apex_types.specs.declared.record.Record.{Record}
+use Rattle.record_read.specs.declared.fault.RowFault.{RowFault}
 use Rattle.record_read.specs.declared.format.Format.{Format}
 use Rattle.record_read.specs.Grammar.{IsRow}
 use Rattle.record_read.specs.Row.{record_of}
+use Rattle.record_read.specs.Steps.{IsOfRow}
 
 -- a row is read as a record exactly where it is the record's row
 abbrev pub RowsAreTheGrammar : Type 0
@@ -13,3 +15,7 @@ RowsAreTheGrammar = (format : Format) (next : ℕ) (fields : Fields) (rec : Reco
 -- a row is the row of at most one record
 abbrev pub OneRecordOfARow : Type 0
 OneRecordOfARow = (format : Format) (next : ℕ) (fields : Fields) (rec other : Record) → IsRow format next fields rec → IsRow format next fields other → rec ≡ other
+
+-- a row that is none has a fault that the text of a row can have: neither the failure of a source nor want of memory
+abbrev pub FaultsAreOfRows : Type 0
+FaultsAreOfRows = (format : Format) (next : ℕ) (fields : Fields) (fault : RowFault) → record_of format next fields ≡ Err fault → IsOfRow fault

@@ -1,6 +1,6 @@
 // The laws of the row grammar. Each is the contract of a function without code.
 
-ghost use Rattle.record_read.specs.GrammarLaws.{OneRecordOfARow, RowsAreTheGrammar};
+ghost use Rattle.record_read.specs.GrammarLaws.{FaultsAreOfRows, OneRecordOfARow, RowsAreTheGrammar};
 
 /// A row is read as a record exactly where the grammar says that it is the record's row.
 pub fn rows_are_the_grammar()
@@ -10,4 +10,9 @@ pub fn rows_are_the_grammar()
 /// A row is the row of at most one record.
 pub fn one_record_of_a_row()
     ensures { OneRecordOfARow }
+{}
+
+/// A row that is no record has a fault that the text of a row can have: neither the failure of a source nor want of memory.
+pub fn faults_are_of_rows()
+    ensures { FaultsAreOfRows }
 {}

@@ -24,6 +24,6 @@ mod woken;
 
 pub use fault::RowFault;
 pub use kind::{Kind, find_kind};
-pub use laws::{one_record_of_a_row, rows_are_the_grammar};
+pub use laws::{faults_are_of_rows, one_record_of_a_row, rows_are_the_grammar};
 pub use named::{find_out, find_service};
 pub use source::RowSource;
