@@ -3,3 +3,4 @@ pub mod Standing
 pub mod Ends
 pub mod Places
 pub mod Ahead
+pub mod Refusal

@@ -1,3 +1,4 @@
 pub mod Reading
 pub mod Scan
 pub mod Lanes
+pub mod Refusal

@@ -6,7 +6,9 @@
 #![tactic(auto)]
 
 mod fault;
+mod laws;
 mod placer;
 
 pub use fault::InputFault;
+pub use laws::refused_at_the_first_fault;
 pub use placer::{Filled, Placer};

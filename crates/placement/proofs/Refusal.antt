@@ -1,0 +1,305 @@
+-- A scan that ends with a fault: all before its place is good, and the fault is there.
+use Rattle.std.proofs.Common.{◌≡◌, ◌<◌, ◌≤◌, ◌+◌, ◌∙◌, ◌||◌, ℕ, zero, suc, List, [], ◌∷◌, ◌++◌, Bool, true, false, Option, Some, None, Result, Ok, Err, length, map, take, get_or, set, refl, sym, ap, subst, inl, inr, arith, nat_lt, nat_le, length-append, length-set, get_or-set_same, get_or-set_other}
+use Rattle.std.specs.Prelude.{if◌then◌else◌, slice_get}
+use Rattle.std.proofs.lemmas.Bool.Decides.{nat_tests}
+use Rattle.apex_types.specs.Bounds.{most_records}
+use Rattle.apex_types.specs.declared.record.Pair.{Pair}
+use Rattle.apex_types.specs.declared.record.Record.{Record}
+use Rattle.order_cert.specs.declared.fault.OrderFault.{OrderFault}
+use Rattle.order_cert.specs.declared.fault.OrderFault.TheVariants.{Absent, Missing, NoSuchCore, Repeated, Skipped}
+use Rattle.order_cert.specs.Kept.{Follows, Kept, none_taken, put, taken_of}
+use Rattle.order_cert.specs.Order.{IsPrefixOfLawful, misplaced, numbers_of}
+use Rattle.order_cert.specs.Row.{Item as CertItem}
+use Rattle.order_cert.proofs.Lawful.{follows_none, follows_taken, next_from_prefix}
+use Rattle.record_read.specs.Row.{Item}
+use Rattle.placement.specs.declared.fault.InputFault.{InputFault}
+use Rattle.placement.specs.declared.fault.InputFault.TheVariants as input
+use Rattle.placement.specs.Refusal.{AreTaken, IsFirstFault, IsLeastLeft, IsOrderFault, MayStand, RefusedAtTheFirstFault, next_item, next_row}
+use Rattle.placement.specs.Scan.{Scan, and_then, end_of, ends_of, ends_so, keeping, led_by, placed_at, scan, taking}
+use Rattle.placement.proofs.Readings.{put-here, put-other, same_or}
+
+-- values without a fault, and the items after them
+
+front : {Value Fault : Type 0} (good : List Value) (more : List (Result Value Fault)) → take (length good) (map Ok good ++ more) ≡ map Ok good
+front [] more = refl
+front {Value} {Fault} (g ∷ good) more = ap (λ (list : List (Result Value Fault)). Ok g ∷ list) (front good more)
+
+after : {Value Fault : Type 0} (good : List Value) (more : List (Result Value Fault)) → slice_get (map Ok good ++ more) (length good) ≡ slice_get more 0
+after [] more = refl
+after (g ∷ good) more = after good more
+
+one_on : {Value Fault : Type 0} (good : List Value) (value : Value) (more : List (Result Value Fault)) → map Ok good ++ Ok value ∷ more ≡ map Ok (good ++ value ∷ []) ++ more
+one_on [] value more = refl
+one_on {Value} {Fault} (g ∷ good) value more = ap (λ (list : List (Result Value Fault)). Ok g ∷ list) (one_on good value more)
+
+-- how the recordings end: each has ended, or the least core that has not decides
+abbrev Decides : ℕ → ℕ → (ℕ → ℕ) → (ℕ → List Item) → Result (Unit {0}) InputFault → Type 0
+Decides cores place taken left (Ok ended) = (core : ℕ) → core < cores → left core ≡ []
+Decides cores place taken left (Err fault) =
+    (core : ℕ) × (core < cores) × ((below : ℕ) → below < core → left below ≡ []) × (end_of place core (taken core) (left core) ≡ Err fault)
+
+ends_decide : (cores place : ℕ) (taken : ℕ → ℕ) (left : ℕ → List Item) → Decides cores place taken left (ends_of cores place taken left)
+ends_decide zero place taken left = λ core within. absurd (omega arith)
+ends_decide (suc cores) place taken left = by (ends_of cores place taken left) (left cores) refl (ends_decide cores place taken left)
+  where
+    by : (low : Result (Unit {0}) InputFault) (items : List Item) → left cores ≡ items → Decides cores place taken left low
+        → Decides (suc cores) place taken left (and_then low (end_of place cores (taken cores) items))
+    by (Err fault) items e (core, within, ended, is) = (core, omega arith, ended, is)
+    by (Ok u) [] e ended = λ core within. elim (same_or core cores) [ inl s ↦ rw s e | inr apart ↦ ended core (omega arith) ]
+    by (Ok u) (Ok rec ∷ more) e ended = (cores, omega arith, ended, ap (end_of place cores (taken cores)) e)
+    by (Ok u) (Err fault ∷ more) e ended = (cores, omega arith, ended, ap (end_of place cores (taken cores)) e)
+
+-- these pairs were taken of the certificate and the recordings: so many of each core, and these items are left
+record Taken (kept : Kept) (whole : ℕ → List Item) (certificate : List CertItem) (pairs : List Pair) (taken : ℕ → ℕ) (place : ℕ) (left : ℕ → List Item) (rest : List CertItem) : Type 0 where
+  pub follows : Follows kept pairs
+  pub long : kept.cores ≤ length kept.counts
+  pub taken_is : (core : ℕ) → taken core ≡ taken_of kept core
+  pub place_is : place ≡ length pairs
+  pub rows : certificate ≡ map Ok pairs ++ rest
+  pub recordings : ℕ → List Record
+  pub counts : (core : ℕ) → core < kept.cores → length (recordings core) ≡ length (numbers_of core pairs)
+  pub recorded : (core : ℕ) → core < kept.cores → whole core ≡ map Ok (recordings core) ++ left core
+
+-- what a refusal by the rest means
+abbrev Refused : Kept → (ℕ → List Item) → List CertItem → List Pair → Scan → Type 0
+Refused kept whole certificate before scanned =
+    (fault : InputFault) → scanned.end ≡ Err fault
+    → (pairs : List Pair) × AreTaken kept.cores whole certificate pairs × (length before + length scanned.placed ≡ length pairs)
+    × IsFirstFault kept.cores whole certificate pairs fault
+
+-- the keeper after a pair
+abbrev next_kept : Kept → Pair → Kept
+next_kept kept pair = record { cores = kept.cores; counts = set kept.counts pair.core (taken_of kept pair.core + 1) }
+
+-- a pair that may stand next
+record Fits (cores : ℕ) (taken : ℕ → ℕ) (pair : Pair) : Type 0 where
+  pub known : pair.core < cores
+  pub seq : pair.seq ≡ taken pair.core
+  pub below : pair.seq < most_records
+
+some_fault : (fault : OrderFault) → ◌≡◌ {A = Option OrderFault} (Some fault) None → ⊥
+some_fault fault e = cc
+
+fits_tells : (cores : ℕ) (taken : ℕ → ℕ) (pair : Pair) → misplaced cores taken pair ≡ None → Fits cores taken pair
+fits_tells cores taken pair e =
+    by (nat_lt pair.core cores) (nat_lt pair.seq (taken pair.core)) (nat_lt (taken pair.core) pair.seq) (nat_le most_records pair.seq) refl refl refl refl e
+  where
+    by : (a b c d : Bool) → nat_lt pair.core cores ≡ a → nat_lt pair.seq (taken pair.core) ≡ b → nat_lt (taken pair.core) pair.seq ≡ c → nat_le most_records pair.seq ≡ d
+        → (if a then (if b then Some Repeated else (if c || d then Some Skipped else None)) else Some NoSuchCore) ≡ None → Fits cores taken pair
+    by false b c d x y z w h = absurd (some_fault NoSuchCore h)
+    by true true c d x y z w h = absurd (some_fault Repeated h)
+    by true false false true x y z w h = absurd (some_fault Skipped h)
+    by true false true d x y z w h = absurd (some_fault Skipped h)
+    by true false false false x y z w h = record { known = grind (arith, nat_tests); seq = grind (arith, nat_tests); below = grind (arith, nat_tests) }
+
+module _ {kept : Kept} {whole : ℕ → List Item} {certificate : List CertItem} {pairs : List Pair} {taken : ℕ → ℕ} {place : ℕ} {left : ℕ → List Item} {rest : List CertItem}
+    (t : Taken kept whole certificate pairs taken place left rest) where
+  numbers : (core : ℕ) → taken core ≡ length (numbers_of core pairs)
+  numbers core = t.taken_is core ∙ t.follows.counts core
+
+  are_taken : AreTaken kept.cores whole certificate pairs
+  are_taken = record {
+    rows = ap (take (length pairs)) t.rows ∙ front pairs rest;
+    lawful = t.follows.lawful;
+    recordings = t.recordings;
+    counts = t.counts;
+    recorded = λ core within. ap (take (length (t.recordings core))) (t.recorded core within) ∙ front (t.recordings core) (left core);
+  }
+
+  row_is : next_row certificate pairs ≡ slice_get rest 0
+  row_is = ap (λ l. slice_get l (length pairs)) t.rows ∙ after pairs rest
+
+  item_is : (core : ℕ) → core < kept.cores → next_item whole pairs core ≡ slice_get (left core) 0
+  item_is core within =
+      ap (λ l. slice_get l (length (numbers_of core pairs))) (t.recorded core within)
+      ∙ ap (slice_get (map Ok (t.recordings core) ++ left core)) (sym (t.counts core within)) ∙ after (t.recordings core) (left core)
+
+  -- a scan that ends here with the first fault
+  stopped : (found : InputFault) → IsFirstFault kept.cores whole certificate pairs found → Refused kept whole certificate pairs (ends_so (Err found))
+  stopped found is fault e =
+      let same : found ≡ fault = cc in
+      (pairs, are_taken, omega arith, subst (IsFirstFault kept.cores whole certificate pairs) same is)
+
+  at_end : (end : Result (Unit {0}) InputFault) → Decides kept.cores place taken left end → rest ≡ [] → Refused kept whole certificate pairs (ends_so end)
+  at_end (Ok u) ended none fault e = cc
+  at_end (Err found) (core, within, ended, is) none fault e = by (left core) refl is fault e
+    where
+      least : (item : Item) (more : List Item) → left core ≡ item ∷ more → IsLeastLeft kept.cores whole certificate pairs core item
+      least item more e = (
+        row_is ∙ ap (λ l. slice_get l 0) none,
+        within,
+        (λ below low. item_is below (omega arith) ∙ ap (λ l. slice_get l 0) (ended below low)),
+        item_is core within ∙ ap (λ l. slice_get l 0) e,
+      )
+
+      by : (items : List Item) → left core ≡ items → end_of place core (taken core) items ≡ Err found → Refused kept whole certificate pairs (ends_so (Err found))
+      by [] e is = cc
+      by (Ok rec ∷ more) e is =
+          let same : input.Order place core Missing ≡ found = cc in
+          subst (λ one. Refused kept whole certificate pairs (ends_so (Err one))) same (stopped (input.Order place core Missing) (t.place_is, (rec, least (Ok rec) more e)))
+      by (Err fault ∷ more) e is =
+          let same : input.Row core (taken core) fault ≡ found = cc in
+          subst (λ one. Refused kept whole certificate pairs (ends_so (Err one))) same
+          (stopped (input.Row core (taken core) fault) (inr (numbers core, least (Err fault) more e)))
+
+-- a pair that does not fit makes the pairs no prefix of a lawful order
+order_fault : {kept : Kept} {whole : ℕ → List Item} {certificate : List CertItem} {pairs : List Pair} {taken : ℕ → ℕ} {place : ℕ} {left : ℕ → List Item} {rest : List CertItem} (pair : Pair)
+    → Taken kept whole certificate pairs taken place left (Ok pair ∷ rest) → (fault : OrderFault) → misplaced kept.cores taken pair ≡ Some fault
+    → IsOrderFault kept.cores whole certificate pairs pair.core fault
+order_fault {kept} {whole} {certificate} {pairs} {taken} pair t fault e =
+    by (nat_lt pair.core kept.cores) (nat_lt pair.seq (taken pair.core)) (nat_lt (taken pair.core) pair.seq) (nat_le most_records pair.seq) refl refl refl refl e
+  where
+    Is : OrderFault → Type 0
+    Is = IsOrderFault kept.cores whole certificate pairs pair.core
+
+    count : taken pair.core ≡ length (numbers_of pair.core pairs)
+    count = numbers t pair.core
+
+    unlawful : ¬ Fits kept.cores taken pair → ¬ IsPrefixOfLawful kept.cores (pairs ++ pair ∷ [])
+    unlawful misfit h =
+        let n = next_from_prefix kept pairs pair t.follows h in
+        misfit (record { known = n.known; seq = n.seq ∙ sym (t.taken_is pair.core); below = n.below })
+
+    told : (one : OrderFault) → ◌≡◌ {A = Option OrderFault} (Some one) (Some fault) → Is one → Is fault
+    told one same is = let e : one ≡ fault = cc in subst Is e is
+
+    by : (a b c d : Bool) → nat_lt pair.core kept.cores ≡ a → nat_lt pair.seq (taken pair.core) ≡ b → nat_lt (taken pair.core) pair.seq ≡ c → nat_le most_records pair.seq ≡ d
+        → (if a then (if b then Some Repeated else (if c || d then Some Skipped else None)) else Some NoSuchCore) ≡ Some fault → Is fault
+    by false b c d x y z w h =
+        let high : kept.cores ≤ pair.core = grind (arith, nat_tests) in
+        told NoSuchCore h (pair, row_is t, refl, unlawful (λ f. absurd (omega (arith, f.known))), high)
+    by true true c d x y z w h =
+        let known : pair.core < kept.cores = grind (arith, nat_tests) in
+        let low : pair.seq < taken pair.core = grind (arith, nat_tests) in
+        told Repeated h (pair, row_is t, refl, unlawful (λ f. absurd (omega (arith, f.seq))), (known, omega (arith, count)))
+    by true false true d x y z w h =
+        let known : pair.core < kept.cores = grind (arith, nat_tests) in
+        let high : taken pair.core < pair.seq = grind (arith, nat_tests) in
+        told Skipped h (pair, row_is t, refl, unlawful (λ f. absurd (omega (arith, f.seq))), (known, inl (omega (arith, count))))
+    by true false false true x y z w h =
+        let known : pair.core < kept.cores = grind (arith, nat_tests) in
+        let here : pair.seq ≡ taken pair.core = grind (arith, nat_tests) in
+        let most : most_records ≤ pair.seq = grind (arith, nat_tests) in
+        told Skipped h (pair, row_is t, refl, unlawful (λ f. absurd (omega (arith, f.below))), (known, inr (here ∙ count, most)))
+    by true false false false x y z w h = cc
+
+module _ {kept : Kept} {whole : ℕ → List Item} {certificate : List CertItem} {pairs : List Pair} {taken : ℕ → ℕ} {place : ℕ} {left : ℕ → List Item} {rest : List CertItem}
+    (pair : Pair) (t : Taken kept whole certificate pairs taken place left (Ok pair ∷ rest)) (fits : Fits kept.cores taken pair) where
+  follows_next : Follows (next_kept kept pair) (pairs ++ pair ∷ [])
+  follows_next =
+      follows_taken kept (next_kept kept pair) pairs pair refl refl (omega (arith, t.long, fits.known)) fits.known (fits.seq ∙ t.taken_is pair.core) fits.below t.follows
+
+  may_stand : MayStand kept.cores certificate pairs pair
+  may_stand = (row_is t, follows_next.lawful)
+
+  -- a record more is taken
+  one_more : (rec : Record) (more : List Item) → left pair.core ≡ Ok rec ∷ more
+      → Taken (next_kept kept pair) whole certificate (pairs ++ pair ∷ []) (put taken pair.core (suc (taken pair.core))) (suc place) (put left pair.core more) rest
+  one_more rec more here = record {
+    follows = follows_next;
+    long = rw length-set t.long;
+    taken_is = taken_next;
+    place_is = ap suc t.place_is ∙ simp length-append (omega arith);
+    rows = t.rows ∙ one_on pairs pair rest;
+    recordings = put t.recordings pair.core (t.recordings pair.core ++ rec ∷ []);
+    counts = λ core within. elim (same_or core pair.core) [
+      | inl s ↦ rw (s, put-here t.recordings pair.core (t.recordings pair.core ++ rec ∷ [])) (omega (
+        arith,
+        length-append (t.recordings pair.core) (rec ∷ []),
+        t.counts pair.core fits.known,
+        numbers t pair.core,
+        taken_next pair.core,
+        follows_next.counts pair.core,
+        put-here taken pair.core (suc (taken pair.core)),
+      ))
+      | inr d ↦ rw (put-other t.recordings pair.core core (t.recordings pair.core ++ rec ∷ []) d) (omega (
+        arith,
+        t.counts core within,
+        numbers t core,
+        taken_next core,
+        follows_next.counts core,
+        put-other taken pair.core core (suc (taken pair.core)) d,
+      ))
+    ];
+    recorded = λ core within. elim (same_or core pair.core) [
+      | inl s ↦ rw (s, put-here t.recordings pair.core (t.recordings pair.core ++ rec ∷ []), put-here left pair.core more)
+          (t.recorded pair.core fits.known ∙ ap (λ l. map Ok (t.recordings pair.core) ++ l) here ∙ one_on (t.recordings pair.core) rec more)
+      | inr d ↦ rw (put-other t.recordings pair.core core (t.recordings pair.core ++ rec ∷ []) d, put-other left pair.core core more d) (t.recorded core within)
+    ];
+  }
+    where
+      taken_next : (core : ℕ) → put taken pair.core (suc (taken pair.core)) core ≡ taken_of (next_kept kept pair) core
+      taken_next core = elim (same_or core pair.core) [
+        | inl s ↦ rw (s, put-here taken pair.core (suc (taken pair.core)))
+            (omega (arith, t.taken_is pair.core, get_or-set_same kept.counts pair.core (taken_of kept pair.core + 1) 0 (omega (arith, t.long, fits.known))))
+        | inr d ↦ put-other taken pair.core core (suc (taken pair.core)) d ∙ t.taken_is core ∙ sym (get_or-set_other kept.counts pair.core core (taken_of kept pair.core + 1) 0 d)
+      ]
+
+-- a refusal after one more pair
+refused_more : (kept : Kept) (whole : ℕ → List Item) (certificate : List CertItem) (pairs : List Pair) (pair : Pair) (place : ℕ) (rec : Record) (scanned : Scan)
+    → Refused (next_kept kept pair) whole certificate (pairs ++ pair ∷ []) scanned → Refused kept whole certificate pairs (led_by (placed_at place pair.core rec ∷ []) scanned)
+refused_more kept whole certificate pairs pair place rec scanned refused fault e =
+    let (all, are, count, first) = refused fault e in
+    (all, are, omega (arith, length-append pairs (pair ∷ []), count), first)
+
+scan_refused : (kept : Kept) (whole : ℕ → List Item) (certificate : List CertItem) (pairs : List Pair) (taken : ℕ → ℕ) (place : ℕ) (left : ℕ → List Item) (rest : List CertItem)
+    → Taken kept whole certificate pairs taken place left rest → Refused kept whole certificate pairs (scan kept.cores taken place left rest)
+unfolding scan
+scan_refused kept whole certificate pairs taken place left [] t = at_end t (ends_of kept.cores place taken left) (ends_decide kept.cores place taken left) refl
+scan_refused kept whole certificate pairs taken place left (Err fault ∷ rest) t = stopped t (input.Cert place fault) (t.place_is, row_is t)
+scan_refused kept whole certificate pairs taken place left (Ok pair ∷ rest) t =
+    step (misplaced kept.cores taken pair) refl (left pair.core) refl
+    (λ rec more next. scan_refused (next_kept kept pair) whole certificate (pairs ++ pair ∷ []) (put taken pair.core (suc (taken pair.core))) (suc place) (put left pair.core more) rest next)
+  where
+    later : List Item → Scan
+    later more = scan kept.cores (put taken pair.core (suc (taken pair.core))) (suc place) (put left pair.core more) rest
+
+    step : (wrong : Option OrderFault) → misplaced kept.cores taken pair ≡ wrong → (items : List Item) → left pair.core ≡ items
+        → ((rec : Record) (more : List Item) → Taken (next_kept kept pair) whole certificate (pairs ++ pair ∷ []) (put taken pair.core (suc (taken pair.core))) (suc place) (put left pair.core more) rest
+        → Refused (next_kept kept pair) whole certificate (pairs ++ pair ∷ []) (later more))
+        → Refused kept whole certificate pairs (keeping wrong place pair (taking place pair items (λ rec more. later more)))
+    step (Some fault) a items b on = stopped t (input.Order place pair.core fault) (t.place_is, order_fault pair t fault a)
+    step None a [] b on =
+        let fits = fits_tells kept.cores taken pair a in
+        stopped t (input.Order place pair.core Absent) (t.place_is, (pair, may_stand pair t fits, refl, item_is t pair.core fits.known ∙ ap (λ l. slice_get l 0) b))
+    step None a (Err fault ∷ more) b on =
+        let fits = fits_tells kept.cores taken pair a in
+        stopped t (input.Row pair.core pair.seq fault) (inl (pair, may_stand pair t fits, refl, refl, item_is t pair.core fits.known ∙ ap (λ l. slice_get l 0) b))
+    step None a (Ok rec ∷ more) b on =
+        refused_more kept whole certificate pairs pair place rec (later more) (on rec more (one_more pair t (fits_tells kept.cores taken pair a) rec more b))
+
+-- none were taken yet
+zeros : ℕ → List ℕ
+zeros zero = []
+zeros (suc cores) = 0 ∷ zeros cores
+
+zeros_are : (cores core : ℕ) → get_or (zeros cores) core 0 ≡ 0
+unfolding zeros
+zeros_are zero core = refl
+zeros_are (suc cores) zero = refl
+zeros_are (suc cores) (suc core) = zeros_are cores core
+
+zeros_long : (cores : ℕ) → cores ≤ length (zeros cores)
+unfolding zeros
+zeros_long zero = omega arith
+zeros_long (suc cores) = omega (arith, zeros_long cores)
+
+abbrev none_yet : ℕ → Kept
+none_yet cores = record { cores = cores; counts = zeros cores }
+
+at_start : (cores : ℕ) (left : ℕ → List Item) (certificate : List CertItem) → Taken (none_yet cores) left certificate [] none_taken 0 left certificate
+at_start cores left certificate = record {
+  follows = follows_none (none_yet cores) (zeros_are cores);
+  long = zeros_long cores;
+  taken_is = λ core. sym (zeros_are cores core);
+  place_is = refl;
+  rows = refl;
+  recordings = λ core. [];
+  counts = λ core within. refl;
+  recorded = λ core within. refl;
+}
+
+pub refused_at_first : RefusedAtTheFirstFault
+refused_at_first cores left certificate scanned fault is e =
+    let (pairs, are, count, first) = scan_refused (none_yet cores) left certificate [] none_taken 0 left certificate (at_start cores left certificate) fault (ap (λ one. one.end) is ∙ e) in
+    (pairs, are, ap (λ one. length one.placed) (sym is) ∙ omega (arith, count), first)
