@@ -8,13 +8,13 @@ use Rattle.apex_types.specs.declared.record.Record.{Record}
 use Rattle.order_cert.specs.declared.fault.OrderFault.{OrderFault}
 use Rattle.order_cert.specs.declared.fault.OrderFault.TheVariants.{Absent, Missing, NoSuchCore, Repeated, Skipped}
 use Rattle.order_cert.specs.Kept.{Follows, Kept, none_taken, put, taken_of}
-use Rattle.order_cert.specs.Order.{IsPrefixOfLawful, misplaced, numbers_of}
+use Rattle.order_cert.specs.Order.{IsPrefixOfLawful, misplaced}
 use Rattle.order_cert.specs.Row.{Item as CertItem}
 use Rattle.order_cert.proofs.Lawful.{follows_none, follows_taken, next_from_prefix}
 use Rattle.record_read.specs.Row.{Item}
 use Rattle.placement.specs.declared.fault.InputFault.{InputFault}
 use Rattle.placement.specs.declared.fault.InputFault.TheVariants as input
-use Rattle.placement.specs.Refusal.{AreTaken, IsFirstFault, IsLeastLeft, IsOrderFault, MayStand, RefusedAtTheFirstFault, next_item, next_row}
+use Rattle.placement.specs.Refusal.{AreTaken, IsFirstFault, IsLeastLeft, IsOrderFault, MayStand, RefusedAtTheFirstFault, next_item, next_row, taken_by}
 use Rattle.placement.specs.Scan.{Scan, and_then, end_of, ends_of, ends_so, keeping, led_by, placed_at, scan, taking}
 use Rattle.placement.proofs.Readings.{put-here, put-other, same_or}
 
@@ -57,7 +57,7 @@ record Taken (kept : Kept) (whole : ℕ → List Item) (certificate : List CertI
   pub place_is : place ≡ length pairs
   pub rows : certificate ≡ map Ok pairs ++ rest
   pub recordings : ℕ → List Record
-  pub counts : (core : ℕ) → core < kept.cores → length (recordings core) ≡ length (numbers_of core pairs)
+  pub counts : (core : ℕ) → core < kept.cores → length (recordings core) ≡ taken_by pairs core
   pub recorded : (core : ℕ) → core < kept.cores → whole core ≡ map Ok (recordings core) ++ left core
 
 -- what a refusal by the rest means
@@ -94,7 +94,7 @@ fits_tells cores taken pair e =
 
 module _ {kept : Kept} {whole : ℕ → List Item} {certificate : List CertItem} {pairs : List Pair} {taken : ℕ → ℕ} {place : ℕ} {left : ℕ → List Item} {rest : List CertItem}
     (t : Taken kept whole certificate pairs taken place left rest) where
-  numbers : (core : ℕ) → taken core ≡ length (numbers_of core pairs)
+  numbers : (core : ℕ) → taken core ≡ taken_by pairs core
   numbers core = t.taken_is core ∙ t.follows.counts core
 
   are_taken : AreTaken kept.cores whole certificate pairs
@@ -111,7 +111,7 @@ module _ {kept : Kept} {whole : ℕ → List Item} {certificate : List CertItem}
 
   item_is : (core : ℕ) → core < kept.cores → next_item whole pairs core ≡ slice_get (left core) 0
   item_is core within =
-      ap (λ l. slice_get l (length (numbers_of core pairs))) (t.recorded core within)
+      ap (λ l. slice_get l (taken_by pairs core)) (t.recorded core within)
       ∙ ap (slice_get (map Ok (t.recordings core) ++ left core)) (sym (t.counts core within)) ∙ after (t.recordings core) (left core)
 
   -- a scan that ends here with the first fault
@@ -152,7 +152,7 @@ order_fault {kept} {whole} {certificate} {pairs} {taken} pair t fault e =
     Is : OrderFault → Type 0
     Is = IsOrderFault kept.cores whole certificate pairs pair.core
 
-    count : taken pair.core ≡ length (numbers_of pair.core pairs)
+    count : taken pair.core ≡ taken_by pairs pair.core
     count = numbers t pair.core
 
     unlawful : ¬ Fits kept.cores taken pair → ¬ IsPrefixOfLawful kept.cores (pairs ++ pair ∷ [])
@@ -167,20 +167,20 @@ order_fault {kept} {whole} {certificate} {pairs} {taken} pair t fault e =
         → (if a then (if b then Some Repeated else (if c || d then Some Skipped else None)) else Some NoSuchCore) ≡ Some fault → Is fault
     by false b c d x y z w h =
         let high : kept.cores ≤ pair.core = grind (arith, nat_tests) in
-        told NoSuchCore h (pair, row_is t, refl, unlawful (λ f. absurd (omega (arith, f.known))), high)
+        told NoSuchCore h (pair.seq, (row_is t, unlawful (λ f. absurd (omega (arith, f.known)))), high)
     by true true c d x y z w h =
         let known : pair.core < kept.cores = grind (arith, nat_tests) in
         let low : pair.seq < taken pair.core = grind (arith, nat_tests) in
-        told Repeated h (pair, row_is t, refl, unlawful (λ f. absurd (omega (arith, f.seq))), (known, omega (arith, count)))
+        told Repeated h (pair.seq, (row_is t, unlawful (λ f. absurd (omega (arith, f.seq)))), known, omega (arith, count))
     by true false true d x y z w h =
         let known : pair.core < kept.cores = grind (arith, nat_tests) in
         let high : taken pair.core < pair.seq = grind (arith, nat_tests) in
-        told Skipped h (pair, row_is t, refl, unlawful (λ f. absurd (omega (arith, f.seq))), (known, inl (omega (arith, count))))
+        told Skipped h (pair.seq, (row_is t, unlawful (λ f. absurd (omega (arith, f.seq)))), known, inl (omega (arith, count)))
     by true false false true x y z w h =
         let known : pair.core < kept.cores = grind (arith, nat_tests) in
         let here : pair.seq ≡ taken pair.core = grind (arith, nat_tests) in
         let most : most_records ≤ pair.seq = grind (arith, nat_tests) in
-        told Skipped h (pair, row_is t, refl, unlawful (λ f. absurd (omega (arith, f.below))), (known, inr (here ∙ count, most)))
+        told Skipped h (pair.seq, (row_is t, unlawful (λ f. absurd (omega (arith, f.below)))), known, inr (here ∙ count, most))
     by true false false false x y z w h = cc
 
 module _ {kept : Kept} {whole : ℕ → List Item} {certificate : List CertItem} {pairs : List Pair} {taken : ℕ → ℕ} {place : ℕ} {left : ℕ → List Item} {rest : List CertItem}
@@ -189,7 +189,7 @@ module _ {kept : Kept} {whole : ℕ → List Item} {certificate : List CertItem}
   follows_next =
       follows_taken kept (next_kept kept pair) pairs pair refl refl (omega (arith, t.long, fits.known)) fits.known (fits.seq ∙ t.taken_is pair.core) fits.below t.follows
 
-  may_stand : MayStand kept.cores certificate pairs pair
+  may_stand : MayStand kept.cores certificate pairs pair.core pair.seq
   may_stand = (row_is t, follows_next.lawful)
 
   -- a record more is taken
@@ -261,10 +261,10 @@ scan_refused kept whole certificate pairs taken place left (Ok pair ∷ rest) t 
     step (Some fault) a items b on = stopped t (input.Order place pair.core fault) (t.place_is, order_fault pair t fault a)
     step None a [] b on =
         let fits = fits_tells kept.cores taken pair a in
-        stopped t (input.Order place pair.core Absent) (t.place_is, (pair, may_stand pair t fits, refl, item_is t pair.core fits.known ∙ ap (λ l. slice_get l 0) b))
+        stopped t (input.Order place pair.core Absent) (t.place_is, (pair.seq, may_stand pair t fits, item_is t pair.core fits.known ∙ ap (λ l. slice_get l 0) b))
     step None a (Err fault ∷ more) b on =
         let fits = fits_tells kept.cores taken pair a in
-        stopped t (input.Row pair.core pair.seq fault) (inl (pair, may_stand pair t fits, refl, refl, item_is t pair.core fits.known ∙ ap (λ l. slice_get l 0) b))
+        stopped t (input.Row pair.core pair.seq fault) (inl (may_stand pair t fits, item_is t pair.core fits.known ∙ ap (λ l. slice_get l 0) b))
     step None a (Ok rec ∷ more) b on =
         refused_more kept whole certificate pairs pair place rec (later more) (on rec more (one_more pair t (fits_tells kept.cores taken pair a) rec more b))
 

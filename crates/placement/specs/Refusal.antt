@@ -6,70 +6,79 @@ use Rattle.apex_types.specs.declared.record.Record.{Record}
 use Rattle.order_cert.specs.declared.fault.OrderFault.{OrderFault}
 use Rattle.order_cert.specs.declared.fault.OrderFault.TheVariants.{Absent, Missing, NoSuchCore, Repeated, Skipped}
 use Rattle.order_cert.specs.Kept.{none_taken}
-use Rattle.order_cert.specs.Order.{IsPrefixOfLawful, numbers_of}
+use Rattle.order_cert.specs.Order.{IsPrefixOfLawful, numbers_of, pair_of}
 use Rattle.order_cert.specs.Row.{Item as CertItem}
 use Rattle.record_read.specs.Row.{Item}
 use Rattle.placement.specs.declared.fault.InputFault.{InputFault}
 use Rattle.placement.specs.declared.fault.InputFault.TheVariants as input
 use Rattle.placement.specs.Scan.{Scan, scan}
 
+-- how many records of a core these pairs take: the number of the core's next record
+abbrev pub taken_by : List Pair → ℕ → ℕ
+taken_by pairs core = length (numbers_of core pairs)
+
 -- the first rows of the certificate are these pairs, which begin a lawful order, and the recordings have a record for each of them
 pub record AreTaken (cores : ℕ) (left : ℕ → List Item) (certificate : List CertItem) (pairs : List Pair) : Type 0 where
   pub rows : take (length pairs) certificate ≡ map Ok pairs
   pub lawful : IsPrefixOfLawful cores pairs
   pub recordings : ℕ → List Record
-  pub counts : (core : ℕ) → core < cores → length (recordings core) ≡ length (numbers_of core pairs)
+  pub counts : (core : ℕ) → core < cores → length (recordings core) ≡ taken_by pairs core
   pub recorded : (core : ℕ) → core < cores → take (length (recordings core)) (left core) ≡ map Ok (recordings core)
 
--- the row behind these pairs, if there is one
+-- the row after these pairs, if there is one
 abbrev pub next_row : List CertItem → List Pair → Option CertItem
 next_row certificate pairs = slice_get certificate (length pairs)
 
--- the item of a core behind those that these pairs take, if there is one
+-- the item of a core after those that these pairs take, if there is one
 abbrev pub next_item : (ℕ → List Item) → List Pair → ℕ → Option Item
-next_item left pairs core = slice_get (left core) (length (numbers_of core pairs))
+next_item left pairs core = slice_get (left core) (taken_by pairs core)
 
--- the next row is a pair with which the pairs begin a lawful order
-abbrev pub MayStand : ℕ → List CertItem → List Pair → Pair → Type 0
-MayStand cores certificate pairs pair = (next_row certificate pairs ≡ Some (Ok pair)) × IsPrefixOfLawful cores (pairs ++ pair ∷ [])
+-- the next row is the pair of this core and this number, with which the pairs begin a lawful order
+abbrev pub MayStand : ℕ → List CertItem → List Pair → ℕ → ℕ → Type 0
+MayStand cores certificate pairs core seq = (next_row certificate pairs ≡ Some (Ok (pair_of core seq))) × IsPrefixOfLawful cores (pairs ++ pair_of core seq ∷ [])
 
--- there is no further row, and this core is the least of which an item is left
+-- the next row is the pair of this core and this number, with which the pairs begin no lawful order
+abbrev pub MayNotStand : ℕ → List CertItem → List Pair → ℕ → ℕ → Type 0
+MayNotStand cores certificate pairs core seq = (next_row certificate pairs ≡ Some (Ok (pair_of core seq))) × (¬ IsPrefixOfLawful cores (pairs ++ pair_of core seq ∷ []))
+
+-- there is no further row, and this core is the least of which an item is left, and this item is its next
 abbrev pub IsLeastLeft : ℕ → (ℕ → List Item) → List CertItem → List Pair → ℕ → Item → Type 0
 IsLeastLeft cores left certificate pairs core item =
     (next_row certificate pairs ≡ None) × (core < cores) × ((below : ℕ) → below < core → next_item left pairs below ≡ None)
     × (next_item left pairs core ≡ Some item)
 
--- why a pair may not stand behind these: there is no such core; its number was taken; or it is not the next, or one that no recording has
-abbrev pub IsWhy : ℕ → List Pair → Pair → OrderFault → Type 0
-IsWhy cores pairs pair NoSuchCore = cores ≤ pair.core
-IsWhy cores pairs pair Repeated = (pair.core < cores) × (pair.seq < length (numbers_of pair.core pairs))
-IsWhy cores pairs pair Skipped =
-    (pair.core < cores) × ((length (numbers_of pair.core pairs) < pair.seq) ⊎ ((pair.seq ≡ length (numbers_of pair.core pairs)) × (most_records ≤ pair.seq)))
-IsWhy cores pairs pair Absent = ⊥
-IsWhy cores pairs pair Missing = ⊥
-
--- the fault of an order behind these pairs: the next pair may not stand there; or it may, and its core's recording has ended; or there is no
--- further row, and a record is left
+-- the order has this fault after these pairs, at this core. The next pair may not stand there: there is no such core; or its number was taken;
+-- or it is above the core's next one, or is one that no recording has. Or the pair may stand there, and its core's recording has ended. Or there
+-- is no further row, and a record is left
 abbrev pub IsOrderFault : ℕ → (ℕ → List Item) → List CertItem → List Pair → ℕ → OrderFault → Type 0
-IsOrderFault cores left certificate pairs core Absent = (pair : Pair) × MayStand cores certificate pairs pair × (core ≡ pair.core) × (next_item left pairs core ≡ None)
+IsOrderFault cores left certificate pairs core NoSuchCore = (seq : ℕ) × MayNotStand cores certificate pairs core seq × (cores ≤ core)
+IsOrderFault cores left certificate pairs core Repeated = (seq : ℕ) × MayNotStand cores certificate pairs core seq × (core < cores) × (seq < taken_by pairs core)
+IsOrderFault cores left certificate pairs core Skipped =
+    (seq : ℕ) × MayNotStand cores certificate pairs core seq × (core < cores)
+    × ((taken_by pairs core < seq) ⊎ ((seq ≡ taken_by pairs core) × (most_records ≤ seq)))
+IsOrderFault cores left certificate pairs core Absent = (seq : ℕ) × MayStand cores certificate pairs core seq × (next_item left pairs core ≡ None)
 IsOrderFault cores left certificate pairs core Missing = (rec : Record) × IsLeastLeft cores left certificate pairs core (Ok rec)
-IsOrderFault cores left certificate pairs core fault =
-    (pair : Pair) × (next_row certificate pairs ≡ Some (Ok pair)) × (core ≡ pair.core) × (¬ IsPrefixOfLawful cores (pairs ++ pair ∷ []))
-    × IsWhy cores pairs pair fault
 
--- the first fault of the input is this one, behind these pairs: a row of the certificate has a fault; or the order has; or the record that the
--- next pair names, or, where there is no further row, the least core's next row
+-- the first fault of the input is this one, after these pairs: the next row of the certificate has it; or the order has it; or the recording's
+-- row that the next pair names; or, where there is no further row, the next row of the least core of which one is left
 abbrev pub IsFirstFault : ℕ → (ℕ → List Item) → List CertItem → List Pair → InputFault → Type 0
 IsFirstFault cores left certificate pairs (input.Cert place fault) = (place ≡ length pairs) × (next_row certificate pairs ≡ Some (Err fault))
 IsFirstFault cores left certificate pairs (input.Order place core fault) = (place ≡ length pairs) × IsOrderFault cores left certificate pairs core fault
 IsFirstFault cores left certificate pairs (input.Row core seq fault) =
-    ((pair : Pair) × MayStand cores certificate pairs pair × (core ≡ pair.core) × (seq ≡ pair.seq) × (next_item left pairs core ≡ Some (Err fault)))
-    ⊎ ((seq ≡ length (numbers_of core pairs)) × IsLeastLeft cores left certificate pairs core (Err fault))
+    (MayStand cores certificate pairs core seq × (next_item left pairs core ≡ Some (Err fault)))
+    ⊎ ((seq ≡ taken_by pairs core) × IsLeastLeft cores left certificate pairs core (Err fault))
 IsFirstFault cores left certificate pairs input.Memory = ⊥
 
--- the law: where the input ends with a fault, all before the place is good, and the fault is there
+-- the law: where the input ends with a fault, all before its place is good, and the fault is there
 abbrev pub RefusedAtTheFirstFault : Type 0
 RefusedAtTheFirstFault =
     (cores : ℕ) (left : ℕ → List Item) (certificate : List CertItem) (scanned : Scan) (fault : InputFault)
     → scan cores none_taken 0 left certificate ≡ scanned → scanned.end ≡ Err fault
     → (pairs : List Pair) × AreTaken cores left certificate pairs × (length scanned.placed ≡ length pairs) × IsFirstFault cores left certificate pairs fault
+
+-- the converse: where all before its place is good, and a fault is there, the input ends with it
+abbrev pub FirstFaultIsRefused : Type 0
+FirstFaultIsRefused =
+    (cores : ℕ) (left : ℕ → List Item) (certificate : List CertItem) (scanned : Scan) (fault : InputFault) (pairs : List Pair)
+    → scan cores none_taken 0 left certificate ≡ scanned → AreTaken cores left certificate pairs → IsFirstFault cores left certificate pairs fault
+    → (scanned.end ≡ Err fault) × (length scanned.placed ≡ length pairs)
