@@ -37,7 +37,7 @@ ends_of-stays (suc cores) below place taken left fault within e = elim (same_or 
   | inr apart ↦ let low : ends_of cores place taken left ≡ Err fault = ends_of-stays cores below place taken left fault (omega arith) e in rw low refl
 ]
 
-ends_of-first : (cores core place : ℕ) (taken : ℕ → ℕ) (left : ℕ → List Item) (fault : InputFault) → core < cores
+pub ends_of-first : (cores core place : ℕ) (taken : ℕ → ℕ) (left : ℕ → List Item) (fault : InputFault) → core < cores
     → ((below : ℕ) → below < core → left below ≡ []) → end_of place core (taken core) (left core) ≡ Err fault → ends_of cores place taken left ≡ Err fault
 ends_of-first cores core place taken left fault within empty e =
     ends_of-stays cores (suc core) place taken left fault (omega arith) (rw (ends_of-none core place taken left empty) e)

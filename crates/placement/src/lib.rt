@@ -10,5 +10,5 @@ mod laws;
 mod placer;
 
 pub use fault::InputFault;
-pub use laws::refused_at_the_first_fault;
+pub use laws::{first_fault_is_refused, refused_at_the_first_fault};
 pub use placer::{Filled, Placer};
