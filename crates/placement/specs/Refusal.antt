@@ -35,32 +35,35 @@ next_item left pairs core = slice_get (left core) (taken_by pairs core)
 
 -- the next row is the pair of this core and this number, with which the pairs begin a lawful order
 abbrev pub MayStand : ℕ → List CertItem → List Pair → ℕ → ℕ → Type 0
-MayStand cores certificate pairs core seq = (next_row certificate pairs ≡ Some (Ok (pair_of core seq))) × IsPrefixOfLawful cores (pairs ++ pair_of core seq ∷ [])
+MayStand cores certificate pairs core seq =
+    (next_row certificate pairs ≡ Some (Ok (pair_of core seq))) × IsPrefixOfLawful cores (pairs ++ pair_of core seq ∷ [])
 
 -- the next row is the pair of this core and this number, with which the pairs begin no lawful order
 abbrev pub MayNotStand : ℕ → List CertItem → List Pair → ℕ → ℕ → Type 0
-MayNotStand cores certificate pairs core seq = (next_row certificate pairs ≡ Some (Ok (pair_of core seq))) × (¬ IsPrefixOfLawful cores (pairs ++ pair_of core seq ∷ []))
+MayNotStand cores certificate pairs core seq =
+    (next_row certificate pairs ≡ Some (Ok (pair_of core seq))) × (¬ IsPrefixOfLawful cores (pairs ++ pair_of core seq ∷ []))
 
--- there is no further row, and this core is the least of which an item is left, and this item is its next
+-- there is no further row, this core is the least of which an item is left, and this is its next item
 abbrev pub IsLeastLeft : ℕ → (ℕ → List Item) → List CertItem → List Pair → ℕ → Item → Type 0
 IsLeastLeft cores left certificate pairs core item =
     (next_row certificate pairs ≡ None) × (core < cores) × ((below : ℕ) → below < core → next_item left pairs below ≡ None)
     × (next_item left pairs core ≡ Some item)
 
--- the order has this fault after these pairs, at this core. The next pair may not stand there: there is no such core; or its number was taken;
--- or it is above the core's next one, or is one that no recording has. Or the pair may stand there, and its core's recording has ended. Or there
+-- the order has this fault after these pairs, at this core: the next pair may not stand there, since there is no such core, or its number was
+-- taken, or is above the core's next one or one that no recording has; or the pair may stand there, and its core's recording has ended; or there
 -- is no further row, and a record is left
 abbrev pub IsOrderFault : ℕ → (ℕ → List Item) → List CertItem → List Pair → ℕ → OrderFault → Type 0
 IsOrderFault cores left certificate pairs core NoSuchCore = (seq : ℕ) × MayNotStand cores certificate pairs core seq × (cores ≤ core)
-IsOrderFault cores left certificate pairs core Repeated = (seq : ℕ) × MayNotStand cores certificate pairs core seq × (core < cores) × (seq < taken_by pairs core)
+IsOrderFault cores left certificate pairs core Repeated =
+    (seq : ℕ) × MayNotStand cores certificate pairs core seq × (core < cores) × (seq < taken_by pairs core)
 IsOrderFault cores left certificate pairs core Skipped =
     (seq : ℕ) × MayNotStand cores certificate pairs core seq × (core < cores)
     × ((taken_by pairs core < seq) ⊎ ((seq ≡ taken_by pairs core) × (most_records ≤ seq)))
 IsOrderFault cores left certificate pairs core Absent = (seq : ℕ) × MayStand cores certificate pairs core seq × (next_item left pairs core ≡ None)
 IsOrderFault cores left certificate pairs core Missing = (rec : Record) × IsLeastLeft cores left certificate pairs core (Ok rec)
 
--- the first fault of the input is this one, after these pairs: the next row of the certificate has it; or the order has it; or the recording's
--- row that the next pair names; or, where there is no further row, the next row of the least core of which one is left
+-- the first fault of the input is this one, after these pairs: the next row of the certificate has it; or the order has it; or the row has it
+-- that the next pair names in its core's recording; or, where the certificate has no further row, the next row of the least core of which one is left
 abbrev pub IsFirstFault : ℕ → (ℕ → List Item) → List CertItem → List Pair → InputFault → Type 0
 IsFirstFault cores left certificate pairs (input.Cert place fault) = (place ≡ length pairs) × (next_row certificate pairs ≡ Some (Err fault))
 IsFirstFault cores left certificate pairs (input.Order place core fault) = (place ≡ length pairs) × IsOrderFault cores left certificate pairs core fault
