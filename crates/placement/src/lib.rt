@@ -1,8 +1,9 @@
 //! The records of all cores at their places, one after another or a round at a time: in the order that a certificate proposes.
 //!
 //! Promises: the records, and how the input ends behind them, are what the certificate and the recordings say; a reader that
-//! fails ends its own text early, and nothing else. Each recording is read by a thread of its own, so that this is known once
-//! the threads are joined: each call promises it if what was answered of every core is honest, and `close` promises that.
+//! fails ends its own text early, and nothing else. A fault with which the input ends is its first: all before its place is
+//! good. Each recording is read by a thread of its own, so that this is known once the threads are joined: each call promises
+//! it if what was answered of every core is honest, and `close` promises that.
 #![tactic(auto)]
 
 mod fault;
