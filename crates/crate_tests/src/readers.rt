@@ -1,6 +1,7 @@
 // A recording and a certificate whose readers fail in mid-stream.
 
 use crate::texts::{BOTH, CONFIG, MODULE, ORDER, RECEIVER, RECORDING, SENDER};
+use csv_rows::Watched;
 use order_cert::CertFault;
 use record_read::RowFault;
 use report::{CheckFault, Open, Settings, Verdict, check};
@@ -54,13 +55,13 @@ fn outcome<T>(
 where
     T: Threads + Wait + Sync + Copy + Send + 'static,
 {
-    let readers = vec![in alloc; recording]?;
+    let readers = vec![in alloc; Watched::new(recording)]?;
     Ok(check(
         rt,
         alloc,
         CONFIG.as_bytes(),
         readers,
-        order,
+        Watched::new(order),
         &[],
         settings,
         &Open,
@@ -130,7 +131,7 @@ where
         rt,
         alloc,
         MODULE.as_bytes(),
-        vec![in alloc; sender, receiver]?,
+        vec![in alloc; Watched::new(sender), Watched::new(receiver)]?,
         BOTH.as_bytes(),
         &[],
         settings,

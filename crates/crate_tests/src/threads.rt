@@ -1,6 +1,7 @@
 // Workers that judge beside one another, and recordings that are read beside one another, in a whole check.
 
 use crate::texts::{BOTH, CONFIG, MODULE, RECEIVER, SENDER, asking, in_turn};
+use csv_rows::Watched;
 use report::{Gate, Open, Settings, Verdict, check, check_in_rounds};
 use std::io::{Cursor, ErrorKind, Read};
 use std::sync::Arc;
@@ -149,7 +150,7 @@ fn two_readers_meet(rt: HostRuntime) -> Result<(), Fail> {
             rt,
             alloc,
             MODULE.as_bytes(),
-            vec![in alloc; sender, receiver]?,
+            vec![in alloc; Watched::new(sender), Watched::new(receiver)]?,
             BOTH.as_bytes(),
             &[],
             Settings { workers, depth: 1 },

@@ -3,9 +3,9 @@
 use crate::intake_readers::{Meeting, Piece, Piecewise, Trace};
 use apex_types::{Body, Record};
 use core_intake::{Intake, IntakeFault};
+use csv_rows::{TextSource, Watched};
 use record_read::RowFault;
 use std::alloc::{AllocError, Global};
-use std::io::Read;
 use std::sync::atomic::{AtomicBool, AtomicUsize, Ordering};
 use std::sync::{Arc, Wait};
 use std::test::Fail;
@@ -37,7 +37,7 @@ fn reader_of(alloc: Global, kind: &str, count: u32, piece: Piece) -> Result<Piec
 }
 
 // The next answer of a core that there is.
-fn answer<R: Read, T: Wait>(
+fn answer<R: TextSource, T: Wait>(
     rt: &T,
     intake: &mut Intake<R>,
     core: usize,
@@ -49,7 +49,7 @@ fn answer<R: Read, T: Wait>(
 }
 
 // Whether the core's next record is the tick, or the dispatch of no process, of this number.
-fn has_row<R: Read, T: Wait>(
+fn has_row<R: TextSource, T: Wait>(
     rt: &T,
     intake: &mut Intake<R>,
     core: usize,
@@ -68,7 +68,7 @@ fn has_row<R: Read, T: Wait>(
 }
 
 // Whether the core's recording has ended.
-fn has_end<R: Read, T: Wait>(rt: &T, intake: &mut Intake<R>, core: usize) -> bool {
+fn has_end<R: TextSource, T: Wait>(rt: &T, intake: &mut Intake<R>, core: usize) -> bool {
     matches!(answer(rt, intake, core), Some(Ok(None)))
 }
 
@@ -96,7 +96,7 @@ fn rows_come_in_order(rt: HostRuntime) -> Result<(), Fail> {
         ] {
             let ticks = reader_of(alloc, "tick", 700, piece)?;
             let dispatches = reader_of(alloc, "disp", 700, piece)?;
-            let readers = vec![in alloc; ticks, dispatches]?;
+            let readers = vec![in alloc; Watched::new(ticks), Watched::new(dispatches)]?;
             let mut intake = Intake::open(rt, alloc, readers, depth)?;
             assert_eq!(rt; intake.count(), 2);
             for seq in 0..700 {
@@ -135,7 +135,8 @@ fn two_readers_meet(rt: HostRuntime) -> Result<(), Fail> {
         begun: second,
         other: first,
     };
-    let mut intake = Intake::open(rt, alloc, vec![in alloc; one, other]?, 4)?;
+    let readers = vec![in alloc; Watched::new(one), Watched::new(other)]?;
+    let mut intake = Intake::open(rt, alloc, readers, 4)?;
     for (core, tick) in [(0, true), (1, false)] {
         for seq in 0..13 {
             assert!(rt;
@@ -155,7 +156,8 @@ fn close_stops_the_readers(rt: HostRuntime) -> Result<(), Fail> {
     let (one, other) = (Trace::new(alloc)?, Trace::new(alloc)?);
     let ticks = Piecewise::new(rows_of(alloc, "tick", 13)?, ALL, WHOLE, one.share()?);
     let dispatches = Piecewise::new(rows_of(alloc, "disp", 13)?, ALL, WHOLE, other.share()?);
-    let mut intake = Intake::open(rt, alloc, vec![in alloc; ticks, dispatches]?, 1)?;
+    let readers = vec![in alloc; Watched::new(ticks), Watched::new(dispatches)]?;
+    let mut intake = Intake::open(rt, alloc, readers, 1)?;
     assert!(rt; has_row(&rt, &mut intake, 0, true, 0));
     assert!(rt; !one.gone.load(Ordering::SeqCst));
     assert!(rt; !other.gone.load(Ordering::SeqCst));
@@ -180,7 +182,8 @@ fn readers_do_not_run_ahead(rt: HostRuntime) -> Result<(), Fail> {
         let trace = Trace::new(alloc)?;
         let text = rows_of(alloc, "tick", 5000)?;
         let reader = Piecewise::new(text, Piece::Line, WHOLE, trace.share()?);
-        let mut intake = Intake::open(rt, alloc, vec![in alloc; reader]?, depth)?;
+        let readers = vec![in alloc; Watched::new(reader)]?;
+        let mut intake = Intake::open(rt, alloc, readers, depth)?;
         settle(&trace.reads, waiting + batch + 1);
         assert_eq!(rt;
             trace.reads.load(Ordering::SeqCst),
@@ -212,7 +215,8 @@ fn a_failed_read_comes_behind_its_rows(rt: HostRuntime) -> Result<(), Fail> {
             }
         }
         let reader = Piecewise::new(text, Piece::Bytes(1), half, Trace::new(alloc)?);
-        let mut intake = Intake::open(rt, alloc, vec![in alloc; reader]?, depth)?;
+        let readers = vec![in alloc; Watched::new(reader)]?;
+        let mut intake = Intake::open(rt, alloc, readers, depth)?;
         for seq in 0..rows {
             assert!(rt; has_row(&rt, &mut intake, 0, true, seq));
         }
@@ -228,8 +232,15 @@ fn no_depth_is_refused(rt: HostRuntime) -> Result<(), Fail> {
     let alloc = rt.alloc();
     let trace = Trace::new(alloc)?;
     let reader = Piecewise::new(Vec::new(alloc), ALL, WHOLE, trace.share()?);
-    let opened = Intake::open(rt, alloc, vec![in alloc; reader]?, 0);
-    assert!(rt; matches!(opened, Err(IntakeFault::NoDepth)));
+    let readers = vec![in alloc; Watched::new(reader)]?;
+    let fault = match Intake::open(rt, alloc, readers, 0) {
+        Ok(intake) => {
+            intake.close(&rt);
+            None
+        }
+        Err(fault) => Some(fault),
+    };
+    assert_eq!(rt; fault, Some(IntakeFault::NoDepth));
     assert!(rt; trace.gone.load(Ordering::SeqCst));
     Ok(())
 }
