@@ -1,7 +1,7 @@
 // The rows of a text, as raw fields.
 
-ghost use Rattle.std.specs.Prelude.{◌≡◌, false, true, not, is_err, IfOk, IfSome, Ok, Err, Some, [], option_map, if◌then◌else◌};
-ghost use Rattle.csv.specs.Reading.{reader_source};
+ghost use Rattle.std.specs.Prelude.{◌≡◌, ◌||◌, false, true, not, is_err, IfOk, IfSome, Ok, Err, Some, [], option_map, if◌then◌else◌};
+ghost use Rattle.csv.specs.Reading.{has_failed, reader_source};
 ghost use Rattle.csv.specs.Records.{fields_of};
 ghost use Rattle.csv_rows.specs.Stream.{IsSet, Takes, left_of, rows_of};
 
@@ -25,25 +25,26 @@ pub enum StreamFault {
 #[derive(Drop)]
 pub struct CsvRows<R: TextSource> {
     reader: Reader<SourceReader<R>>,
-    stopped: bool,
+    // Whether a row was asked for: a source that has failed before stops these rows at the first call, which tells of it.
+    begun: bool,
     ended: bool,
 }
 
 impl<R: TextSource> Model for CsvRows<R> {
-    ghost use Rattle.std.specs.Prelude.{◌≡◌, if◌then◌else◌, Some, [], false, true};
-    ghost use Rattle.csv.specs.Reading.{reader_source};
+    ghost use Rattle.std.specs.Prelude.{◌≡◌, ◌&&◌, ◌||◌, if◌then◌else◌, Some, [], false, true};
+    ghost use Rattle.csv.specs.Reading.{has_failed, reader_source};
     ghost use Rattle.csv_rows.specs.Stream.{Stream, IsSet, left_of};
 
     ghost Value = { Stream };
 
     ghost view = { λ rows. record {
-      stopped = rows.stopped;
+      stopped = rows.begun && (R.failed (reader_source rows.reader).source || has_failed rows.reader);
       ended = rows.ended;
       failed = R.failed (reader_source rows.reader).source;
       left = if rows.ended then Some [] else left_of (λ reader. R.remaining reader.source) rows.reader;
     } };
 
-    ghost invariant = { λ rows. rows.stopped ≡ false → (rows.ended ≡ false → IsSet rows.reader) × (rows.ended ≡ true → R.failed (reader_source rows.reader).source ≡ false) };
+    ghost invariant = { λ rows. (rows.begun && (R.failed (reader_source rows.reader).source || has_failed rows.reader)) ≡ false → (rows.ended ≡ false → IsSet rows.reader) × (rows.ended ≡ true → R.failed (reader_source rows.reader).source ≡ false) };
 }
 
 impl<R: TextSource> CsvRows<R> {
@@ -59,7 +60,7 @@ impl<R: TextSource> CsvRows<R> {
                 .has_headers(false)
                 .flexible(true)
                 .from_reader(alloc, SourceReader { source }),
-            stopped: false,
+            begun: false,
             ended: false,
         }
     }
@@ -89,13 +90,12 @@ impl<R: TextSource> CsvRows<R> {
         if self.ended {
             return Ok(false);
         }
-        self.stopped = true;
+        self.begun = true;
         if self.source().has_failed() {
             return Err(StreamFault::Read);
         }
         let found = take_row(&mut self.reader, fields)?;
         self.ended = !found;
-        self.stopped = false;
         Ok(found)
     }
 }
@@ -108,6 +108,7 @@ fn take_row<R: TextSource>(
     requires { IsSet reader.old }
     ensures takes { IfOk result (λ found. IfSome (left_of (λ reader. R.remaining reader.source) reader.old) (λ rows. Takes found rows (fields_of fields.new) (if found then left_of (λ reader. R.remaining reader.source) reader.new else Some []))) }
     ensures set { IfOk result (λ _. IsSet reader.new) }
+    ensures stops { R.failed (reader_source reader.new).source || has_failed reader.new ≡ is_err result }
     ensures failed { result ≡ Err StreamFault.Read → R.failed (reader_source reader.new).source ≡ true }
     ensures told { R.failed (reader_source reader.new).source ≡ true → result ≡ Err StreamFault.Read }
     ensures can_fail { result ≡ Err StreamFault.Read → R.can_fail ≡ true }
