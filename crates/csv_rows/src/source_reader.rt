@@ -1,9 +1,5 @@
 // The reader that `csv` is given.
 
-ghost use Rattle.std.specs.Prelude.{◌≡◌, true, OnOk, OnErr};
-ghost use Rattle.std.specs.Io.{ReadsAtMost};
-ghost use Rattle.std.specs.Io.KnownBytes.{ReadConsumes};
-
 use crate::text_source::TextSource;
 use std::io;
 use std::io::Read;
