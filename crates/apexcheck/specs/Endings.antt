@@ -12,6 +12,8 @@ use Rattle.rules_file.specs.declared.fault.RuleFault.TheVariants as rule
 use Rattle.rules_file.specs.declared.fault.RulesFault.{RulesFault}
 use Rattle.rules_file.specs.declared.fault.RulesFault.TheVariants as rules
 use Rattle.apexcheck.specs.declared.ending.Ending.{Ending}
+use Rattle.apexcheck.specs.declared.usage.UsageFault.{UsageFault}
+use Rattle.apexcheck.specs.declared.usage.UsageFault.TheVariants as usage
 use Rattle.apexcheck.specs.declared.ending.Ending.TheVariants.{Checked, BadUsage, Unopened, BadRules, BadRule, Version}
 
 -- 0 for a Yes, 1 for a No, 3 for want of memory, and 2 for every other refusal
@@ -67,6 +69,11 @@ text_of Version = codes "apexcheck 0.1.0\n"
 -- the end by want of memory before the check, which is the check's own, and behind which nothing is told
 abbrev pub out_of_memory : Ending
 out_of_memory = Checked (Err fault.Memory) None
+
+-- the end that a refusal of the command line is: want of memory is the check's own
+abbrev pub refused_words : UsageFault → Ending
+refused_words usage.Usage = BadUsage
+refused_words usage.Memory = out_of_memory
 
 -- the end that a refusal of a text of rules is: want of memory is the check's own
 abbrev pub refused_by : RulesFault → Ending

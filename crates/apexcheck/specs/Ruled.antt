@@ -5,10 +5,7 @@ use Rattle.report.specs.declared.fault.CheckFault.{CheckFault}
 use Rattle.report.specs.declared.fault.CheckFault.TheVariants.{Memory}
 use Rattle.report.specs.declared.settings.Settings.{Settings}
 use Rattle.report.specs.declared.last.LastItem.{LastItem}
-use Rattle.report.specs.Last.{IsLastOf}
-use Rattle.report.specs.No.{NoMeansRefusal}
-use Rattle.report.specs.Outcome.{IsOutcome}
-use Rattle.report.specs.Yes.{YesMeansRun}
+use Rattle.report.specs.Answers.{AnswersWith, Given}
 use Rattle.rule_options.specs.declared.option.RuleOption.{RuleOption}
 use Rattle.rule_options.specs.Options.{SayInTurn}
 use Rattle.rules_file.specs.declared.fault.RulesFault.{RulesFault}
@@ -34,29 +31,27 @@ abbrev pub SayBoth : List RuleOption → List SaidRule → List Relation → Typ
 SayBoth options rules relations =
     (front : List Relation) × (behind : List Relation) × (relations ≡ front ++ behind) × SayInTurn options front × HoldInTurn rules behind
 
--- the outcome with these settings, the meaning of a Yes and that of a No, and the last records behind it are those under relations that
--- say what the options ask for, and behind that what the rules of a text say, in their order; want of memory outranks them, and has
--- no records behind it
-abbrev pub IsRuledOutcome : Settings → List ℕ → List (List ℕ) → List ℕ → List RuleOption → List SaidRule → Result Verdict CheckFault → List LastItem → Type 0
-IsRuledOutcome settings config texts certificate options rules result last =
+-- the answer, and the last records that it leaves, are those of these inputs under relations that say what the options ask for, and
+-- behind that what the rules of a text say, in their order; want of memory outranks it, and has no records behind it
+abbrev pub AnswersRuled : Given → List RuleOption → List SaidRule → Settings → Result Verdict CheckFault → List LastItem → Type 0
+AnswersRuled given options rules settings result last =
     ((result ≡ Err Memory) × (last ≡ []))
-    ⊎ ((relations : List Relation) × SayBoth options rules relations × IsOutcome settings config texts certificate relations result
-    × YesMeansRun config texts certificate relations result × NoMeansRefusal config texts certificate relations result × IsLastOf config texts certificate relations result last)
+    ⊎ ((relations : List Relation) × SayBoth options rules relations × AnswersWith given relations settings result last)
 
 -- the last records stand in an end where they are asked for, and in no other
 abbrev pub where_asked : Bool → List LastItem → Option (List LastItem)
 where_asked true last = Some last
 where_asked false last = None
 
--- the end by what the rules' text is: its first refusal, else the outcome under its rules, with the last records if they are asked for
-abbrev pub IsEndingBy : Result (List SaidRule) RulesFault → Settings → List ℕ → List (List ℕ) → List ℕ → List RuleOption → Bool → Ending → Type 0
-IsEndingBy (Err fault) settings config texts certificate options asked ending = ending ≡ refused_by fault
-IsEndingBy (Ok rules) settings config texts certificate options asked ending =
+-- the end by what the rules' text is: its first refusal, else the answer under its rules, with the last records if they are asked for
+abbrev pub IsEndingBy : Result (List SaidRule) RulesFault → Given → List RuleOption → Settings → Bool → Ending → Type 0
+IsEndingBy (Err fault) given options settings asked ending = ending ≡ refused_by fault
+IsEndingBy (Ok rules) given options settings asked ending =
     (outcome : Result Verdict CheckFault) × (last : List LastItem) × (ending ≡ Checked outcome (where_asked asked last))
-    × IsRuledOutcome settings config texts certificate options rules outcome last
+    × AnswersRuled given options rules settings outcome last
 
--- the end of a run over these texts, with the rules' text if there is one, and with the last records if they are asked for; want of memory
--- outranks it
-abbrev pub IsRuledEnding : Settings → List ℕ → List (List ℕ) → List ℕ → List RuleOption → Option (List ℕ) → Bool → Ending → Type 0
-IsRuledEnding settings config texts certificate options rules asked ending =
-    (ending ≡ out_of_memory) ⊎ IsEndingBy (rules_given rules) settings config texts certificate options asked ending
+-- the end of a run over these inputs, with the rules' text if there is one, and with the last records if they are asked for; want of
+-- memory outranks it
+abbrev pub IsRuledEnding : Given → List RuleOption → Option (List ℕ) → Settings → Bool → Ending → Type 0
+IsRuledEnding given options rules settings asked ending =
+    (ending ≡ out_of_memory) ⊎ IsEndingBy (rules_given rules) given options settings asked ending

@@ -3,9 +3,10 @@
 ghost use Rattle.std.specs.Prelude.{◌≡◌, ◌≢◌, ◌<◌, ◌++◌, OnErr, OnOk};
 ghost use Rattle.report.specs.Text.{report_of};
 ghost use Rattle.apexcheck.specs.declared.ending.Ending.TheVariants.{BadRule, BadRules};
-ghost use Rattle.apexcheck.specs.Endings.{exit_status_of, lines_behind, out_of_memory, outcome_status_of, text_of, refused_by, rule_fault_name};
+ghost use Rattle.apexcheck.specs.Endings.{exit_status_of, lines_behind, out_of_memory, outcome_status_of, text_of, refused_by, refused_words, rule_fault_name};
 ghost use Rattle.sink.specs.Written.{IsCut, IsWritten};
 
+use crate::usage::UsageFault;
 use itoa::Buffer;
 use report::{CheckFault, Last, Verdict, write_last, write_report};
 use rules_file::{RuleFault, RulesFault};
@@ -69,6 +70,16 @@ pub fn out_of_memory() -> Ending
     Ending::Checked {
         outcome: Err(CheckFault::Memory),
         last: None,
+    }
+}
+
+/// The end that a refusal of the command line is. Want of memory is the check's own.
+pub fn refused_words(fault: UsageFault) -> Ending
+    ensures { result ≡ refused_words fault }
+{
+    match fault {
+        UsageFault::Usage => Ending::BadUsage,
+        UsageFault::Memory => out_of_memory(),
     }
 }
 

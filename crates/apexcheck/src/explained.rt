@@ -1,7 +1,9 @@
 // The answer in words, on standard error. It decides nothing: a failure there, or want of memory, ends the words alone.
 
+ghost use Rattle.std.specs.Prelude.{◌≡◌, map, option_map, slice_get, string_bytes};
+
 use crate::ending::Ending;
-use crate::files::open_text;
+use crate::files::{open, open_text};
 use crate::usage::FileNames;
 use csv_rows::read_decimal;
 use explanation::{Explanation, RecordNumber};
@@ -14,11 +16,12 @@ use record_read::RowFault;
 use report::{ArgumentFault, CheckFault, Verdict};
 use std::alloc::Global;
 use std::fs;
-use std::fs::{File, Files};
+use std::fs::Files;
+use std::io::Read;
 use wording::{Count, Words};
 
 /// Tells a person why the answer is no Yes: where the record, the row or the key is, what was found and what is wanted.
-pub fn explain<R: Files<File = File> + Eprint>(
+pub fn explain<R: Files<File = F> + Eprint, F: Read + Drop>(
     rt: &R,
     alloc: Global,
     names: &FileNames,
@@ -56,7 +59,7 @@ fn tell(rt: &impl Eprint, words: &Words) {
 }
 
 // The row of this number in the file of this name, read once more. None where it is no regular file: a pipe gives its text once.
-fn row_of<R: Files<File = File>>(
+fn row_of<R: Files<File = F>, F: Read + Drop>(
     rt: &R,
     alloc: Global,
     name: &str,
@@ -65,14 +68,14 @@ fn row_of<R: Files<File = File>>(
     if !is_regular(rt, name) {
         return None;
     }
-    match File::open(rt, name) {
+    match open(rt, name) {
         Ok(file) => find_row(alloc, file, number),
         Err(_) => None,
     }
 }
 
 // Whether a file can be read once more.
-fn is_regular<R: Files<File = File>>(rt: &R, name: &str) -> bool {
+fn is_regular<R: Files<File = F>, F: Read + Drop>(rt: &R, name: &str) -> bool {
     match fs::metadata(rt, name) {
         Ok(metadata) => metadata.is_file(),
         Err(_) => false,
@@ -87,8 +90,18 @@ fn tell_place(words: &mut Words, name: &str, number: u64, found: &Option<FoundRo
     }
 }
 
+// The name of the file with a core's recording.
+fn name_of_core(names: &FileNames, core: u32) -> Option<&str>
+    ensures { option_map (λ name. name.now) result ≡ slice_get (map string_bytes names.now.cores.items) core }
+{
+    match names.cores.get(core as usize) {
+        Some(name) => Some(name.as_str()),
+        None => None,
+    }
+}
+
 // Tells of the record at the place of a No.
-fn explain_record<R: Files<File = File> + Eprint>(
+fn explain_record<R: Files<File = F> + Eprint, F: Read + Drop>(
     rt: &R,
     alloc: Global,
     names: &FileNames,
@@ -97,7 +110,7 @@ fn explain_record<R: Files<File = File> + Eprint>(
     let Some(RecordNumber { core, seq }) = explanation.record() else {
         return;
     };
-    let Some(name) = names.cores.get(core.number() as usize) else {
+    let Some(name) = name_of_core(names, u32::from(core.number())) else {
         return;
     };
     let number = u64::from(seq);
@@ -109,7 +122,7 @@ fn explain_record<R: Files<File = File> + Eprint>(
 }
 
 // Tells of a row of a recording that has a fault.
-fn explain_row<R: Files<File = File> + Eprint>(
+fn explain_row<R: Files<File = F> + Eprint, F: Read + Drop>(
     rt: &R,
     alloc: Global,
     names: &FileNames,
@@ -117,7 +130,7 @@ fn explain_row<R: Files<File = File> + Eprint>(
     seq: u64,
     fault: RowFault,
 ) {
-    let Some(name) = names.cores.get(core as usize) else {
+    let Some(name) = name_of_core(names, core) else {
         return;
     };
     let found = row_of(rt, alloc, name, seq);
@@ -132,7 +145,7 @@ fn explain_row<R: Files<File = File> + Eprint>(
 }
 
 // Tells of a row of the certificate that has a fault.
-fn explain_cert<R: Files<File = File> + Eprint>(
+fn explain_cert<R: Files<File = F> + Eprint, F: Read + Drop>(
     rt: &R,
     alloc: Global,
     names: &FileNames,
@@ -151,7 +164,7 @@ fn explain_cert<R: Files<File = File> + Eprint>(
 }
 
 // Tells of a pair of the certificate that may not stand in its place.
-fn explain_order<R: Files<File = File> + Eprint>(
+fn explain_order<R: Files<File = F> + Eprint, F: Read + Drop>(
     rt: &R,
     alloc: Global,
     names: &FileNames,
@@ -177,7 +190,7 @@ fn number_named(alloc: Global, row: &FoundRow) -> Option<u64> {
 }
 
 // Tells of a configuration that is refused.
-fn explain_configuration<R: Files<File = File> + Eprint>(
+fn explain_configuration<R: Files<File = F> + Eprint, F: Read + Drop>(
     rt: &R,
     alloc: Global,
     names: &FileNames,

@@ -1,22 +1,22 @@
 // The check of files.
 
-ghost use Rattle.std.specs.Prelude.{◌≡◌, ◌≢◌, ◌+◌, ℕ, IfErr, IfOk, IfSome, List, Some, is_some, length, map, option_map, take, vec_len};
+ghost use Rattle.std.specs.Prelude.{◌≡◌, ◌≢◌, ◌+◌, IfErr, IfOk, IfSome, is_some, length, take, vec_len};
 ghost use Rattle.std.specs.IoError.{error_kind};
 ghost use Rattle.module_config.specs.Reading.{configuration_of};
 ghost use Rattle.rules_file.specs.Reading.{rules_of};
-ghost use Rattle.apexcheck.specs.Files.{IsOfFiles, ending_of};
-ghost use Rattle.apexcheck.specs.Ruled.{IsRuledEnding, where_asked};
+ghost use Rattle.apexcheck.specs.Files.{AreOpened, EndsAsAsked, IsOfFiles, ending_of};
+ghost use Rattle.apexcheck.specs.Ruled.{where_asked};
 
 use crate::ending::{Ending, out_of_memory, refused_by};
 use crate::explained::explain;
 use crate::explainer::Explainer;
 use crate::ruled::{check_ruled, read_rules, tell_broken, tell_fields};
 use crate::usage::{FileNames, FilesAsked};
-use report::Last;
-use rule_options::RuleOption;
+use csv_rows::{TextSource, Watched};
+use report::{Inputs, Last};
 use rules_file::RulesFault;
 use std::alloc::{AllocFailed, Global};
-use std::fs::{File, Files};
+use std::fs::{Files, OpenOptions};
 use std::io;
 use std::io::{ErrorKind, Read};
 use std::sync::Wait;
@@ -32,23 +32,14 @@ const LONGEST_TEXT: u64 = 1_048_576;
 /// Where a file can't be opened, or the configuration or the text of rules can't be read, standard error names it and tells
 /// why, and so where the text of rules is refused. Where a rule is broken, standard error tells which. It explains the answer too,
 /// unless that is not asked for.
-pub fn check_files<R>(rt: &R, alloc: Global, asked: &FilesAsked) -> Ending
+pub fn check_files<R, F>(rt: &R, alloc: Global, asked: &FilesAsked) -> Ending
 where
-    R: Files<File = File> + Eprint + AllocGlobal + Threads + Wait + Sync + Copy + Send + 'static,
-    ensures { IsOfFiles (is_some asked.now.names.rules) result }
+    R: Files<File = F> + Eprint + AllocGlobal + Threads + Wait + Sync + Copy + Send + 'static,
+    F: Read + Drop + Send + 'static,
+    ensures { IsOfFiles ⟦<Watched<F> as TextSource>⟧.remaining ⟦<Watched<F> as TextSource>⟧.can_fail asked.now result }
 {
-    let Ok(options) = asked.options.in_order(alloc) else {
-        return end_by(OpenFault::Memory);
-    };
     match Opened::open(rt, alloc, &asked.names) {
-        Ok(opened) => {
-            let mut explainer = Explainer::new(alloc);
-            let ending = opened.check(rt, alloc, &options, asked, &mut explainer);
-            if !asked.quiet {
-                explain(rt, alloc, &asked.names, &ending, explainer.explanation());
-            }
-            ending
-        }
+        Ok(opened) => opened.check(rt, alloc, asked),
         Err(fault) => end_by(fault),
     }
 }
@@ -66,25 +57,24 @@ fn end_by(fault: OpenFault) -> Ending
 // What is opened for a check. The order and the recordings are read as the check goes on, in pieces of 8 KiB: the reader
 // of rows has that buffer of its own.
 #[derive(Drop)]
-struct Opened<F> {
+struct Opened<S> {
     config: Vec<u8>,
     rules: Option<Vec<u8>>,
-    order: F,
-    cores: Vec<F>,
+    order: S,
+    cores: Vec<S>,
 }
 
-impl Opened<File> {
-    fn open<R: Files<File = File> + Eprint + AllocGlobal>(
+impl<F: Read + Drop + Send + 'static> Opened<Watched<F>> {
+    fn open<R: Files<File = F> + Eprint + AllocGlobal>(
         rt: &R,
         alloc: Global,
         names: &FileNames,
-    ) -> Result<Opened<File>, OpenFault>
-        ensures cores { IfOk result (λ opened. vec_len opened.cores ≡ vec_len names.now.cores) }
-        ensures rules { IfOk result (λ opened. is_some opened.rules ≡ is_some names.now.rules) }
+    ) -> Result<Opened<Watched<F>>, OpenFault>
+        ensures { IfOk result (AreOpened names.now) }
     {
         let config = told(rt, &names.config, open_text(rt, alloc, &names.config))?;
         let rules = open_rules(rt, alloc, &names.rules)?;
-        let order = told(rt, &names.order, File::open(rt, &names.order))?;
+        let order = Watched::new(told(rt, &names.order, open(rt, &names.order))?);
         let cores = open_cores(rt, alloc, &names.cores)?;
         Ok(Opened {
             config,
@@ -95,21 +85,34 @@ impl Opened<File> {
     }
 }
 
-impl<F: Read + Drop + Send + 'static> Opened<F> {
-    // Checks what the files hold, under the rules of these options and of the text, with the settings that are asked for. The last
-    // records before the place of a No are in the end where they are asked for. What stands at that place is explained.
-    fn check<R>(
+impl<S: TextSource + Drop + Send + 'static> Opened<S> {
+    // Checks the texts, as is asked for, and explains why the answer is no Yes, unless that is not asked for.
+    fn check<R, F>(self, rt: &R, alloc: Global, asked: &FilesAsked) -> Ending
+    where
+        R: Files<File = F> + Eprint + AllocGlobal + Threads + Wait + Sync + Copy + Send + 'static,
+        F: Read + Drop,
+        ensures { EndsAsAsked S.remaining S.can_fail self asked.now result }
+    {
+        let mut explainer = Explainer::new(alloc);
+        let ending = self.judge(rt, alloc, asked, &mut explainer);
+        if !asked.quiet {
+            explain(rt, alloc, &asked.names, &ending, explainer.explanation());
+        }
+        ending
+    }
+
+    // Judges the text of rules, and then checks the others under the rules of the options and of the text. The last records
+    // before the place of a No are in the end where they are asked for. The explainer is told what stands at that place.
+    fn judge<R>(
         self,
         rt: &R,
         alloc: Global,
-        options: &[RuleOption],
         asked: &FilesAsked,
         explainer: &mut Explainer,
     ) -> Ending
     where
         R: Eprint + Threads + Wait + Sync + Copy + Send + 'static,
-        ensures of_files { IsOfFiles (is_some self.rules) result }
-        ensures ending { (texts : List (List ℕ)) (certificate : List ℕ) → map (λ reader. F.remaining reader) self.cores.items ≡ map Some texts → F.remaining self.order ≡ Some certificate → IsRuledEnding asked.now.settings self.config.items texts certificate options.now (option_map (λ text. text.items) self.rules) asked.now.last result }
+        ensures { EndsAsAsked S.remaining S.can_fail self asked.now result }
     {
         let Opened {
             config,
@@ -117,6 +120,9 @@ impl<F: Read + Drop + Send + 'static> Opened<F> {
             order,
             cores,
         } = self;
+        let Ok(options) = asked.options.in_order(alloc) else {
+            return out_of_memory();
+        };
         let rules = match read_rules(alloc, rules.as_deref()) {
             Ok(rules) => rules,
             Err(fault) => {
@@ -127,20 +133,13 @@ impl<F: Read + Drop + Send + 'static> Opened<F> {
         let Ok(mut last) = Last::new(alloc) else {
             return out_of_memory();
         };
+        let inputs = Inputs::new(&config, cores, order);
+        let settings = asked.settings;
         let outcome = check_ruled(
-            *rt,
-            alloc,
-            &config,
-            cores,
-            order,
-            options,
-            &rules,
-            asked.settings,
-            &mut last,
-            explainer,
+            *rt, alloc, inputs, &options, &rules, settings, &mut last, explainer,
         );
-        tell_broken(rt, options, &rules, &outcome);
-        tell_fields(alloc, explainer, options, &rules, &outcome);
+        tell_broken(rt, &options, &rules, &outcome);
+        tell_fields(alloc, explainer, &options, &rules, &outcome);
         Ending::Checked {
             outcome,
             last: where_asked(asked.last, last),
@@ -167,7 +166,7 @@ fn tell_refused(rt: &impl Eprint, names: &FileNames, fault: &RulesFault) {
 }
 
 // The text of rules in the file of this name, if one is named.
-fn open_rules<R: Files<File = File> + Eprint>(
+fn open_rules<R: Files<File = F> + Eprint, F: Read + Drop>(
     rt: &R,
     alloc: Global,
     name: &Option<String>,
@@ -181,23 +180,32 @@ fn open_rules<R: Files<File = File> + Eprint>(
 }
 
 // The recordings in the files of these names, in their order.
-fn open_cores<R: Files<File = File> + Eprint>(
+fn open_cores<R: Files<File = F> + Eprint, F: Read + Drop>(
     rt: &R,
     alloc: Global,
     names: &[String],
-) -> Result<Vec<File>, OpenFault>
+) -> Result<Vec<Watched<F>>, OpenFault>
     ensures { IfOk result (λ cores. vec_len cores ≡ length names.now) }
 {
     let mut cores = Vec::new(alloc);
     for name in names {
-        cores.push(told(rt, name, File::open(rt, name))?)?;
+        cores.push(Watched::new(told(rt, name, open(rt, name))?))?;
     }
     Ok(cores)
 }
 
 /// The text in the file of this name, as `read_text` reads it.
-pub fn open_text<R: Files<File = File>>(rt: &R, alloc: Global, name: &str) -> io::Result<Vec<u8>> {
-    read_text(alloc, File::open(rt, name)?)
+pub fn open_text<R: Files<File = F>, F: Read + Drop>(
+    rt: &R,
+    alloc: Global,
+    name: &str,
+) -> io::Result<Vec<u8>> {
+    read_text(alloc, open(rt, name)?)
+}
+
+/// The file of this name, opened to be read.
+pub fn open<R: Files<File = F>, F: Read + Drop>(rt: &R, name: &str) -> io::Result<F> {
+    OpenOptions::new().read(true).open(rt, name)
 }
 
 // The text that a reader gives, or its first bytes where it is longer than a configuration or a text of rules may be: these

@@ -16,7 +16,7 @@ mod settings;
 mod stored;
 mod usage;
 
-use ending::{Ending, conclude, out_of_memory};
+use ending::{Ending, conclude, refused_words};
 use sink::WriterSink;
 use std::alloc::Global;
 use std::fs::{File, Files};
@@ -25,7 +25,7 @@ use std::process::ExitCode;
 use std::rt::Env;
 use std::sync::Wait;
 use std::thread::Threads;
-use usage::{Asked, UsageFault};
+use usage::Asked;
 
 fn main(rt: HostRuntime) -> ExitCode {
     let ending = run(&rt, rt.alloc());
@@ -55,10 +55,9 @@ where
         },
         Ok(Asked::Version) => Ending::Version,
         Ok(Asked::Files(asked)) => files::check_files(rt, alloc, &asked),
-        Err(UsageFault::Usage) => {
-            usage::tell_usage(rt, alloc);
-            Ending::BadUsage
+        Err(fault) => {
+            usage::tell_usage(rt, alloc, fault);
+            refused_words(fault)
         }
-        Err(UsageFault::Memory) => out_of_memory(),
     }
 }

@@ -1,24 +1,26 @@
 // The check under the rules that options ask for and those of a text.
 
-ghost use Rattle.std.specs.Prelude.{[], ◌≡◌, ℕ, IfOk, List, Some, map, option_map};
-ghost use Rattle.rules_file.specs.declared.fault.RulesFault.TheVariants.{Memory};
+ghost use Rattle.std.specs.Prelude.{[], ◌≡◌, IfOk, map, option_map};
+ghost use Rattle.rules_file.specs.declared.fault.RulesFault.TheVariants as fault;
 ghost use Rattle.rules_file.specs.Keys.{Gives};
 ghost use Rattle.rules_file.specs.Reading.{said};
-ghost use Rattle.apexcheck.specs.Ruled.{HoldInTurn, IsRuledOutcome, SayBoth, rules_given};
+ghost use Rattle.apexcheck.specs.Ruled.{AnswersRuled, HoldInTurn, SayBoth, rules_given};
 
 use crate::explainer::Explainer;
-use report::{CheckFault, Last, MOST_RECORDS, Open, Settings, Verdict, Witness, check_relations};
+use csv_rows::TextSource;
+use report::{
+    CheckFault, Inputs, Last, Open, Options, Settings, Verdict, Witness, check_relations,
+};
 use rule_options::{RuleOption, relations_of};
 use rules_file::{NamedRule, RulesFault};
 use std::alloc::{AllocError, Global};
-use std::io::Read;
 use std::sync::Wait;
 use std::thread::Threads;
 use user_rules::Relation;
 
 /// The rules that a text gives, in its order; none where there is no text.
 pub fn read_rules(alloc: Global, text: Option<&[u8]>) -> Result<Vec<NamedRule>, RulesFault>
-    ensures { Gives Memory (λ rules. map said rules.items) result (rules_given (option_map (λ text. text.now) text.entry)) }
+    ensures { Gives fault.Memory (λ rules. map said rules.items) result (rules_given (option_map (λ text. text.now) text.entry)) }
 {
     match text {
         Some(text) => rules_file::read(alloc, text),
@@ -26,17 +28,15 @@ pub fn read_rules(alloc: Global, text: Option<&[u8]>) -> Result<Vec<NamedRule>, 
     }
 }
 
-/// Checks the recordings, one reader for each core in order, against the configuration, the proposed order and rules: those
-/// that these options ask for, numbered in their order, and the named ones behind them. It is carried out as the settings say.
+/// Checks these inputs under rules: those that these options ask for, numbered in their order, and the named ones behind them. It
+/// is carried out as the settings say.
 ///
 /// Leaves the last records before the place of a No or of a broken rule in `last`, where none were before, and none behind any other
 /// answer. The witness is told what stands at that place.
 pub fn check_ruled<T, R, C, V>(
     rt: T,
     alloc: Global,
-    config: &[u8],
-    readers: Vec<R>,
-    order: C,
+    inputs: Inputs<'_, R, C>,
     options: &[RuleOption],
     rules: &[NamedRule],
     settings: Settings,
@@ -45,27 +45,16 @@ pub fn check_ruled<T, R, C, V>(
 ) -> Result<Verdict, CheckFault>
 where
     T: Threads + Wait + Sync + Copy + Send + 'static,
-    R: Read + Drop + Send + 'static,
-    C: Read + Drop,
+    R: TextSource + Drop + Send + 'static,
+    C: TextSource + Drop,
     V: Witness,
-    ensures { (texts : List (List ℕ)) (certificate : List ℕ) → last.old ≡ [] → map (λ reader. R.remaining reader) readers.items ≡ map Some texts → C.remaining order ≡ Some certificate → IsRuledOutcome settings config.now texts certificate options.now (map said rules.now) result last.new }
+    ensures { last.old ≡ [] → AnswersRuled inputs.entry options.now (map said rules.now) settings result last.new }
 {
     let Ok(relations) = all_relations(alloc, options, rules) else {
         return Err(CheckFault::Memory);
     };
-    check_relations(
-        rt,
-        alloc,
-        config,
-        readers,
-        order,
-        relations,
-        settings,
-        &Open,
-        MOST_RECORDS,
-        last,
-        witness,
-    )
+    let options = Options::new(settings, &Open);
+    check_relations(rt, alloc, inputs, relations, options, last, witness)
 }
 
 // The relations that options ask for, and behind them those of rules.

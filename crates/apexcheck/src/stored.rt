@@ -1,9 +1,7 @@
 // The run that stands in the program, which is checked where the command line has no words.
 
-ghost use Rattle.std.specs.Prelude.{[], ◌∷◌};
-ghost use Rattle.report.specs.No.{NoMeansRefusal};
-ghost use Rattle.report.specs.Outcome.{IsOutcome};
-ghost use Rattle.report.specs.Yes.{YesMeansRun};
+ghost use Rattle.std.specs.Prelude.{[], ◌∷◌, Some, false};
+ghost use Rattle.report.specs.Answers.{Answers, given_by};
 
 use crate::settings::USUAL_DEPTH;
 use report::{CheckFault, Open, Settings, Verdict, check};
@@ -75,9 +73,7 @@ const SETTINGS: Settings = Settings {
 pub fn check_stored<T>(rt: T, alloc: Global) -> Result<Verdict, CheckFault>
 where
     T: Threads + Wait + Sync + Copy + Send + 'static,
-    ensures outcome { IsOutcome SETTINGS CONFIG.now (RECORDING.now ∷ []) ORDER.now [] result }
-    ensures yes { YesMeansRun CONFIG.now (RECORDING.now ∷ []) ORDER.now [] result }
-    ensures no { NoMeansRefusal CONFIG.now (RECORDING.now ∷ []) ORDER.now [] result }
+    ensures { Answers (given_by CONFIG.now (Some RECORDING.now ∷ []) false (Some ORDER.now) false) [] SETTINGS result }
 {
     let Ok(readers) = vec![in alloc; RECORDING] else {
         return Err(CheckFault::Memory);

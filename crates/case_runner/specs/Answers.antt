@@ -1,17 +1,20 @@
--- What answers a case: a line and an exit status.
-use Rattle.std.specs.Prelude.{◌≡◌, ◌++◌, ◌∷◌, [], ℕ, List, Result, Ok, Err}
+-- What answers a case, and what has to.
+use Rattle.std.specs.Prelude.{◌≡◌, ◌↔◌, ◌++◌, ◌∷◌, [], ℕ, Bool, false, List, Option, IfSome, Result, Ok, Err}
 use Rattle.verdict_merge.specs.declared.verdict.Verdict.{Verdict}
 use Rattle.verdict_merge.specs.declared.verdict.Verdict.TheVariants.{Yes, No, Broken}
+use Rattle.placement.specs.Reading.{CanFail}
 use Rattle.report.specs.declared.fault.CheckFault.{CheckFault}
 use Rattle.report.specs.declared.fault.CheckFault.TheVariants as fault
 use Rattle.report.specs.declared.settings.Settings.{Settings}
 use Rattle.report.specs.declared.last.LastItem.{LastItem}
-use Rattle.report.specs.Last.{IsLastOf, last_lines}
-use Rattle.report.specs.Outcome.{IsOutcome}
+use Rattle.report.specs.Answers.{IsAnswer}
+use Rattle.report.specs.Inputs.{Texts}
+use Rattle.report.specs.Last.{last_lines}
 use Rattle.report.specs.Text.{report_of}
 use Rattle.rule_options.specs.declared.option.RuleOption.{RuleOption}
 use Rattle.rule_options.specs.Options.{SayInTurn}
 use Rattle.user_rules.specs.declared.relation.Relation.{Relation}
+use Rattle.case_runner.specs.declared.manner.Named.{Named}
 
 -- 0 for a Yes, 1 for a No, 3 for want of memory, and 2 for every other refusal
 abbrev pub exit_status_of : Result Verdict CheckFault → ℕ
@@ -25,10 +28,50 @@ exit_status_of (Err (fault.Cert place which)) = 2
 exit_status_of (Err (fault.Order place core which)) = 2
 exit_status_of (Err (fault.Row core seq which)) = 2
 
--- the line, ended by a line feed, is the report of an outcome that these texts have with these settings and under relations that
--- say what these options ask for, the lines of the last records are those of that outcome, and the status is that outcome's
-abbrev pub IsAnswer : Settings → List ℕ → List (List ℕ) → List ℕ → List RuleOption → List ℕ → List ℕ → ℕ → Type 0
-IsAnswer settings config recordings order options line lines status =
-    (relations : List Relation) × SayInTurn options relations
-    × (outcome : Result Verdict CheckFault) × IsOutcome settings config recordings order relations outcome × (line ++ 10 ∷ [] ≡ report_of outcome)
-    × (last : List LastItem) × IsLastOf config recordings order relations outcome last × (lines ≡ last_lines last) × (status ≡ exit_status_of outcome)
+-- what came of a check: the line without its line feed, the lines of the last records with theirs, and the exit status
+pub record Told : Type 0 where
+  pub line : List ℕ
+  pub last : List ℕ
+  pub status : ℕ
+
+abbrev pub told_by : List ℕ → List ℕ → ℕ → Told
+told_by line last status = record { line = line; last = last; status = status }
+
+-- what has to come; the lines of the last records only where a case tells them
+pub record Wanted : Type 0 where
+  pub line : List ℕ
+  pub last : Option (List ℕ)
+  pub status : ℕ
+
+abbrev pub wanted_by : List ℕ → Option (List ℕ) → ℕ → Wanted
+wanted_by line last status = record { line = line; last = last; status = status }
+
+-- what came is what has to come
+abbrev pub IsWanted : Told → Wanted → Type 0
+IsWanted told wanted = (told.line ≡ wanted.line) × IfSome wanted.last (λ lines. told.last ≡ lines) × (told.status ≡ wanted.status)
+
+-- reading a text in memory can't fail
+abbrev pub in_memory : CanFail
+in_memory = record { recordings = false; certificate = false }
+
+-- the line, ended by a line feed, is the report of an answer that a check of these texts has with these settings and under relations
+-- that say what these options ask for, the lines of the last records are those of that answer, and the status is that answer's
+pub record IsToldOf (settings : Settings) (texts : Texts) (options : List RuleOption) (told : Told) : Type 0 where
+  pub relations : List Relation
+  pub asked : SayInTurn options relations
+  pub outcome : Result Verdict CheckFault
+  pub items : List LastItem
+  pub answer : IsAnswer settings texts in_memory relations outcome items
+  pub line : told.line ++ 10 ∷ [] ≡ report_of outcome
+  pub last : told.last ≡ last_lines items
+  pub status : told.status ≡ exit_status_of outcome
+
+-- the texts of a case
+abbrev pub texts_of : List ℕ → List (List ℕ) → List ℕ → Texts
+texts_of config recordings order = record { config = config; recordings = recordings; certificate = order }
+
+-- a check of these texts was made with settings that the case names, and what came of it differs from what has to come or does not
+abbrev pub IsCompared : Named → Texts → List RuleOption → Wanted → Bool → Type 0
+IsCompared named texts options wanted differs =
+    (settings : Settings) × IfSome named.workers (λ workers. settings.workers ≡ workers) × IfSome named.depth (λ depth. settings.depth ≡ depth)
+    × (told : Told) × IsToldOf settings texts options told × ((differs ≡ false) ↔ IsWanted told wanted)

@@ -1,12 +1,16 @@
 // What a check answers for texts in memory.
 
-ghost use Rattle.std.specs.Prelude.{◌≡◌, ◌↔◌, ◌++◌, ◌∷◌, [], IfOk, IfSome, IsTrue, Some, map};
+ghost use Rattle.std.specs.Prelude.{◌≡◌, ◌↔◌, ◌++◌, ◌∷◌, [], IfOk, IfSome, IsTrue, Some, length, map, option_map};
 ghost use Rattle.std.specs.Io.Cursor.{cursor_remaining};
-ghost use Rattle.case_runner.specs.Answers.{IsAnswer, exit_status_of};
+ghost use Rattle.report.specs.Text.{report_of};
+ghost use Rattle.case_runner.specs.Answers.{IsToldOf, IsWanted, exit_status_of, texts_of, told_by, wanted_by};
 
 use crate::fields::LINE_FEED;
 use crate::manner::Manner;
-use report::{CheckFault, Last, Nobody, Open, Verdict, check_relations, write_last, write_report};
+use report::{
+    CheckFault, Inputs, Last, Nobody, Open, Options, Verdict, check_relations, write_last,
+    write_report,
+};
 use rule_options::{RuleOption, relations_of};
 use sink::{FailureCount, Sink, SinkFault};
 use std::alloc::{AllocError, Global};
@@ -37,7 +41,7 @@ pub struct Expected<'a> {
 impl Answer {
     /// Whether the answer is the expected one.
     pub fn is(&self, expected: Expected<'_>) -> bool
-        ensures { IsTrue result ↔ (self.now.line.items ≡ expected.entry.line.now) × IfSome expected.entry.last (λ lines. self.now.last.items ≡ lines.now) × (self.now.status ≡ expected.entry.status) }
+        ensures { IsTrue result ↔ IsWanted (told_by self.now.line.items self.now.last.items self.now.status) (wanted_by expected.entry.line.now (option_map (λ lines. lines.now) expected.entry.last) expected.entry.status) }
     {
         self.line.as_slice() == expected.line
             && has_lines(&self.last, expected.last)
@@ -47,7 +51,7 @@ impl Answer {
 
 // Whether these are the lines that have to come, if there are such.
 fn has_lines(lines: &[u8], expected: Option<&[u8]>) -> bool
-    ensures { IsTrue result ↔ IfSome expected.entry (λ wanted. lines.now ≡ wanted.now) }
+    ensures { IsTrue result ↔ IfSome (option_map (λ wanted. wanted.now) expected.entry) (λ wanted. lines.now ≡ wanted) }
 {
     match expected {
         Some(wanted) => lines == wanted,
@@ -68,49 +72,55 @@ pub fn answer_to<T>(
 ) -> Result<Answer, AllocError>
 where
     T: Threads + Wait + Sync + Copy + Send + 'static,
-    ensures { IfOk result (λ answer. IsAnswer manner.settings config.now (map (λ recording. recording.items) recordings.now) order.now options.now answer.line.items answer.last.items answer.status) }
+    ensures { IfOk result (λ answer. IsToldOf manner.settings (texts_of config.now (map (λ recording. recording.items) recordings.now) order.now) options.now (told_by answer.line.items answer.last.items answer.status)) }
 {
     let readers = readers_of(alloc, recordings)?;
     let relations = relations_of(alloc, options)?;
     let Ok(mut last) = Last::new(alloc) else {
         return Err(AllocError);
     };
+    let inputs = Inputs::new(config, readers, order);
+    let options = Options::new(manner.settings, &Open).in_rounds(manner.rounds.size());
     let outcome = check_relations(
         rt,
         alloc,
-        config,
-        readers,
-        order,
+        inputs,
         relations,
-        manner.settings,
-        &Open,
-        manner.rounds.size(),
+        options,
         &mut last,
         &mut Nobody,
     );
-    let mut report = Kept::new(alloc);
-    let Ok(()) = write_report(&mut report, &outcome) else {
-        return Err(AllocError);
-    };
     let mut lines = Kept::new(alloc);
     let Ok(()) = write_last(&mut lines, &last) else {
         return Err(AllocError);
     };
+    Ok(Answer {
+        line: line_of(alloc, &outcome)?,
+        last: lines.taken,
+        status: status_of(&outcome),
+    })
+}
+
+/// The line that reports an outcome, without its line feed.
+pub fn line_of(alloc: Global, outcome: &Result<Verdict, CheckFault>) -> Result<Vec<u8>, AllocError>
+    ensures { IfOk result (λ line. line.items ++ 10 ∷ [] ≡ report_of outcome.now) }
+{
+    let mut report = Kept::new(alloc);
+    let Ok(()) = write_report(&mut report, outcome) else {
+        return Err(AllocError);
+    };
     let mut line = report.taken;
     match line.pop() {
-        Some(LINE_FEED) => Ok(Answer {
-            line,
-            last: lines.taken,
-            status: status_of(&outcome),
-        }),
+        Some(LINE_FEED) => Ok(line),
         // No report lacks its line feed.
         _ => Err(AllocError),
     }
 }
 
-// A reader for each recording, which gives a copy of its bytes.
-fn readers_of(alloc: Global, recordings: &[Vec<u8>]) -> Result<Vec<Cursor<Vec<u8>>>, AllocError>
-    ensures { IfOk result (λ readers. map (λ reader. cursor_remaining (λ text. Some text.items) reader) readers.items ≡ map Some (map (λ recording. recording.items) recordings.now)) }
+/// A reader for each recording, which gives a copy of its bytes.
+pub fn readers_of(alloc: Global, recordings: &[Vec<u8>]) -> Result<Vec<Cursor<Vec<u8>>>, AllocError>
+    ensures count { IfOk result (λ readers. length readers.items ≡ length recordings.now) }
+    ensures bytes { IfOk result (λ readers. map (λ reader. cursor_remaining (λ text. Some text.items) reader) readers.items ≡ map Some (map (λ recording. recording.items) recordings.now)) }
 {
     let mut readers = Vec::new(alloc);
     for recording in recordings {
@@ -126,8 +136,8 @@ fn reader_of(alloc: Global, recording: &[u8]) -> Result<Cursor<Vec<u8>>, AllocEr
     Ok(Cursor::new(Vec::from_slice(alloc, recording)?))
 }
 
-// The exit status of an outcome: 0 yes, 1 no, 2 refused, 3 out of memory.
-fn status_of(outcome: &Result<Verdict, CheckFault>) -> u64
+/// The exit status of an outcome: 0 yes, 1 no, 2 refused, 3 out of memory.
+pub fn status_of(outcome: &Result<Verdict, CheckFault>) -> u64
     ensures { result ≡ exit_status_of outcome.now }
 {
     match outcome {

@@ -12,6 +12,7 @@ mod editing;
 mod fields;
 mod heading;
 mod manner;
+mod plain;
 mod rewriting;
 mod running;
 mod tally;

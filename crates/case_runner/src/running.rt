@@ -1,12 +1,14 @@
 // The run of the cases of some files.
 
-ghost use Rattle.std.specs.Prelude.{◌≡◌, ◌++◌};
+ghost use Rattle.std.specs.Prelude.{◌≡◌, ◌++◌, IfOk, is_some, map, option_map};
+ghost use Rattle.case_runner.specs.Answers.{IsCompared, texts_of, wanted_by};
 
 use crate::answering::{Answer, Expected, answer_to};
 use crate::archive::{Section, sections};
 use crate::case::{Case, CaseFault, Cut};
 use crate::heading::Heading;
 use crate::manner::{Manner, Named, Rounds};
+use crate::plain::answer_at_once;
 use crate::rewriting::in_format_2;
 use crate::tally::Tally;
 use itoa::Buffer;
@@ -116,9 +118,18 @@ struct Difference<'a> {
     cut: Option<usize>,
     // Whether the recordings were written in format 2.
     is_rewritten: bool,
-    manner: Manner,
+    how: How,
     expected: Expected<'a>,
     found: Answer,
+}
+
+// By which call an answer came.
+#[derive(Clone, Copy)]
+enum How {
+    // The check, run in this manner.
+    Checked(Manner),
+    // The verdict over all records at once.
+    AtOnce,
 }
 
 // Runs a case: the sections that all cases of its file begin with, and its own.
@@ -211,7 +222,8 @@ struct Texts<'b> {
 }
 
 impl<'b> Texts<'b> {
-    // The first answer that is not the expected one: as the recordings are written, in rounds of each size, and in format 2.
+    // The first answer that is not the expected one: as the recordings are written, in rounds of each size, and in format 2; and of
+    // all records at once.
     fn difference<'a, T>(
         &self,
         rt: T,
@@ -233,7 +245,10 @@ impl<'b> Texts<'b> {
             is_rewritten: true,
             ..*self
         };
-        texts.difference_in(rt, alloc, Rounds::OfMost, expected)
+        if let Some(difference) = texts.difference_in(rt, alloc, Rounds::OfMost, expected)? {
+            return Ok(Some(difference));
+        }
+        self.difference_at_once(rt, alloc, expected)
     }
 
     // The answer in these rounds, if it is not the expected one.
@@ -246,6 +261,7 @@ impl<'b> Texts<'b> {
     ) -> Result<Option<Difference<'a>>, AllocError>
     where
         T: Threads + Wait + Sync + Copy + Send + 'static,
+        ensures { IfOk result (λ difference. IsCompared self.now.named (texts_of self.now.config.now (map (λ recording. recording.items) self.now.recordings.now) self.now.order.now) self.now.rules.now (wanted_by expected.entry.line.now (option_map (λ lines. lines.now) expected.entry.last) expected.entry.status) (is_some difference)) }
     {
         let manner = self.named.in_rounds(rounds);
         let found = answer_to(
@@ -263,8 +279,48 @@ impl<'b> Texts<'b> {
         Ok(Some(Difference {
             cut: self.cut,
             is_rewritten: self.is_rewritten,
-            manner,
+            how: How::Checked(manner),
             expected,
+            found,
+        }))
+    }
+
+    // The verdict over all records at once, if it is not the expected one. Nothing is asked where the input is to be refused, since
+    // the verdict says nothing of it.
+    fn difference_at_once<'a, T>(
+        &self,
+        rt: T,
+        alloc: Global,
+        expected: Expected<'a>,
+    ) -> Result<Option<Difference<'a>>, AllocError>
+    where
+        T: Threads + Wait + Sync + Copy + Send + 'static,
+    {
+        if expected.status > 1 {
+            return Ok(None);
+        }
+        let found = answer_at_once(
+            rt,
+            alloc,
+            self.config,
+            self.recordings,
+            self.order,
+            self.rules,
+        )?;
+        // It leaves no last records.
+        let wanted = Expected {
+            line: expected.line,
+            last: None,
+            status: expected.status,
+        };
+        if found.is(wanted) {
+            return Ok(None);
+        }
+        Ok(Some(Difference {
+            cut: self.cut,
+            is_rewritten: self.is_rewritten,
+            how: How::AtOnce,
+            expected: wanted,
             found,
         }))
     }
@@ -305,7 +361,7 @@ fn tell_difference<W: Sink>(output: &mut W, difference: &Difference<'_>) -> Resu
     if difference.is_rewritten {
         put_all(output, b"in format 2: ")?;
     }
-    put_manner(output, difference.manner)?;
+    put_how(output, difference.how)?;
     put_all(output, b": expected ")?;
     put_answer(output, difference.expected.status, difference.expected.line)?;
     put_all(output, b", found ")?;
@@ -318,6 +374,14 @@ fn tell_difference<W: Sink>(output: &mut W, difference: &Difference<'_>) -> Resu
         put_all(output, &difference.found.last)?;
     }
     Ok(())
+}
+
+// Puts out by which call an answer came.
+fn put_how<W: Sink>(output: &mut W, how: How) -> Result<(), WriteFault> {
+    match how {
+        How::Checked(manner) => put_manner(output, manner),
+        How::AtOnce => put_all(output, b"all records at once"),
+    }
 }
 
 // Puts out how a check was run.

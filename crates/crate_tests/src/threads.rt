@@ -83,6 +83,76 @@ fn two_claims_meet(rt: HostRuntime) -> Result<(), Fail> {
     Ok(())
 }
 
+// Holds the claim of each of two pieces until that of the other was seen, for 1,000,000 yields at most, and counts those that saw
+// it.
+#[derive(Drop)]
+struct Pair {
+    first: usize,
+    second: usize,
+    first_claimed: AtomicBool,
+    second_claimed: AtomicBool,
+    met: AtomicUsize,
+}
+
+impl Gate for Pair {
+    fn at_claim(&self, _worker: usize, piece: usize) {
+        let (own, other) = if piece == self.first {
+            (&self.first_claimed, &self.second_claimed)
+        } else if piece == self.second {
+            (&self.second_claimed, &self.first_claimed)
+        } else {
+            return;
+        };
+        own.store(true, Ordering::SeqCst);
+        for _ in 0..1_000_000 {
+            if other.load(Ordering::SeqCst) {
+                self.met.fetch_add(1, Ordering::SeqCst);
+                return;
+            }
+            thread::yield_now();
+        }
+    }
+
+    fn at_post(&self, _worker: usize, _piece: usize) {}
+}
+
+// Two workers hold any two of the five pieces at one time.
+#[test]
+fn every_two_claims_meet(rt: HostRuntime) -> Result<(), Fail> {
+    let alloc = rt.alloc();
+    for first in 0..5 {
+        for second in first + 1..5 {
+            let gate = Pair {
+                first,
+                second,
+                first_claimed: AtomicBool::new(false),
+                second_claimed: AtomicBool::new(false),
+                met: AtomicUsize::new(0),
+            };
+            let outcome = check(
+                rt,
+                alloc,
+                MODULE.as_bytes(),
+                vec![in alloc; SENDER.as_bytes(), RECEIVER.as_bytes()]?,
+                BOTH.as_bytes(),
+                &[],
+                Settings {
+                    workers: 2,
+                    depth: 4,
+                },
+                &gate,
+            );
+            assert_eq!(rt;
+                outcome,
+                Ok(Verdict::Yes { records: 23 }),
+                "{first} and {second}"
+            );
+            assert_eq!(rt; gate.met.load(Ordering::SeqCst), 2, "{first} and {second}");
+        }
+    }
+    Ok(())
+}
+
 // The pieces are the module and a partition. The last of 4,097 records stands in a second round.
 #[test]
 fn two_claims_meet_in_both_rounds(rt: HostRuntime) -> Result<(), Fail> {

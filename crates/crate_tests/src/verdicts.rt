@@ -3,20 +3,24 @@
 ghost use Rattle.std.specs.Prelude.{◌≡◌, IfOk, length, false};
 ghost use Rattle.order_cert.specs.Kept.{place_of};
 
+use crate::ruled::rule;
 use crate::texts::{CONFIG, ORDER, RECORDING};
 use crate::writers::Narrow;
-use apex_types::{Cause, CoreId, Ordered, Place};
+use apex_types::{Cause, CoreId, Field, Ordered, Place};
 use core_intake::{Intake, IntakeFault};
 use module_config::Config;
 use order_cert::CertSource;
 use placement::{Filled, Placer};
 use record_read::Kind;
-use report::{Last, LastItem, Open, Settings, Verdict, check_with_last, write_last};
+use report::{
+    Last, LastItem, Open, Settings, Verdict, check, check_in_rounds, check_with_last, write_last,
+};
 use sink::WriterSink;
 use std::alloc::Global;
 use std::sync::Wait;
 use std::test::Fail;
 use std::thread::Threads;
+use user_rules::Relation;
 use verdict_merge::check_plain;
 
 // The recording of the wait, whose second tick wakes nobody.
@@ -155,9 +159,56 @@ fn a_recording_is_judged_at_once(rt: HostRuntime) -> Result<(), Fail> {
     ] {
         let mut placer = placer_of(rt, alloc, text)?;
         let mut records: Vec<Ordered> = Vec::new(alloc);
-        assert!(rt; matches!(placer.fill(&rt, &mut records, 64), Filled::Ended(Ok(()))));
+        let filled = placer.fill(&rt, &mut records, 64);
         placer.close(&rt);
+        assert!(rt; matches!(filled, Filled::Ended(Ok(()))));
         assert_eq!(rt; check_plain(alloc, &config, &records, &[]), Ok(verdict));
+    }
+    Ok(())
+}
+
+// Each of the calls under the rule that no call takes more than so many ticks until its return. One of the recording takes two.
+#[test]
+fn each_call_tests_rules(rt: HostRuntime) -> Result<(), Fail> {
+    let alloc = rt.alloc();
+    let broken = Verdict::Broken {
+        pos: Place::new(12),
+        rule: 0,
+    };
+    let settings = Settings {
+        workers: 2,
+        depth: 4,
+    };
+    for (ticks, verdict) in [(1i64, broken), (2, Verdict::Yes { records: 13 })] {
+        let relation = Relation::Less(Field::Elapsed, ticks + 1);
+        let rules = vec![in alloc; rule!(alloc, relation)]?;
+        let (config, order) = (CONFIG.as_bytes(), ORDER.as_bytes());
+        let readers = vec![in alloc; RECORDING.as_bytes()]?;
+        let answer = check(rt, alloc, config, readers, order, &rules, settings, &Open);
+        assert_eq!(rt; answer, Ok(verdict), "check");
+        let readers = vec![in alloc; RECORDING.as_bytes()]?;
+        let answer = check_in_rounds(
+            rt, alloc, config, readers, order, &rules, settings, &Open, 5,
+        );
+        assert_eq!(rt; answer, Ok(verdict), "check_in_rounds");
+        let mut last = Last::new(alloc)?;
+        let readers = vec![in alloc; RECORDING.as_bytes()]?;
+        let answer = check_with_last(
+            rt, alloc, config, readers, order, &rules, settings, &Open, &mut last,
+        );
+        assert_eq!(rt; answer, Ok(verdict), "check_with_last");
+        let parsed = Config::read(alloc, config)?;
+        assert_eq!(rt; parsed.cores(), 1);
+        let mut placer = placer_of(rt, alloc, RECORDING)?;
+        let mut records: Vec<Ordered> = Vec::new(alloc);
+        let filled = placer.fill(&rt, &mut records, 64);
+        placer.close(&rt);
+        assert!(rt; matches!(filled, Filled::Ended(Ok(()))));
+        assert_eq!(rt;
+            check_plain(alloc, &parsed, &records, &rules),
+            Ok(verdict),
+            "check_plain"
+        );
     }
     Ok(())
 }

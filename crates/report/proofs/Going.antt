@@ -4,14 +4,12 @@ use Rattle.std.proofs.lemmas.List.{append-nil, length-append}
 use Rattle.apex_types.specs.declared.record.Ordered.{Ordered}
 use Rattle.apex_machine.specs.Configuration.{Configuration}
 use Rattle.apex_machine.specs.Runs.{ArePlaced}
-use Rattle.module_config.specs.declared.fault.ConfigFault.{ConfigFault}
-use Rattle.module_config.specs.declared.fault.ConfigFault.TheVariants as config
-use Rattle.module_config.specs.Reading.{configuration_of}
 use Rattle.placement.specs.declared.fault.InputFault.{InputFault}
 use Rattle.placement.specs.declared.fault.InputFault.TheVariants as input
 use Rattle.placement.specs.declared.placer.Filled.{Filled}
 use Rattle.placement.specs.declared.placer.Filled.TheVariants.{Full, Ended}
 use Rattle.placement.specs.Lanes.{IsAhead, IsFilled, IsTheEnd, Lead, Placing}
+use Rattle.placement.specs.Reading.{CanFail}
 use Rattle.placement.specs.Scan.{Scan, led_by}
 use Rattle.placement.proofs.Ahead.{something_ahead}
 use Rattle.user_rules.specs.declared.broken.Broken.{Broken as BrokenView}
@@ -27,30 +25,23 @@ use Rattle.verdict_merge.specs.Views.{broken_of}
 use Rattle.verdict_merge.proofs.Rounds.{all_run_on}
 use Rattle.verdict_merge.proofs.Ruled.{ends_here, goes_on_here, meet_on, verdict_on}
 use Rattle.report.specs.declared.fault.CheckFault.{CheckFault}
-use Rattle.report.specs.declared.fault.ArgumentFault.{ArgumentFault}
-use Rattle.report.specs.declared.fault.CheckFault.TheVariants.{Arguments, Config, Memory}
-use Rattle.report.specs.declared.settings.Settings.{Settings}
+use Rattle.report.specs.declared.fault.CheckFault.TheVariants.{Memory}
 use Rattle.report.specs.declared.last.LastItem.{LastItem}
 use Rattle.report.specs.Last.{item_of, kept_behind, last_of, most_last}
-use Rattle.report.specs.Outcome.{IsJudged, IsOutcome, IsOutcomeBy, IsOutcomeWith, answer_with, argument_fault_of, config_refusal_of}
+use Rattle.report.specs.Outcome.{IsJudged, answer_with}
 use Rattle.report.specs.Rounds.{IsDecided, IsLastAnswer, MayJudge}
 use Rattle.report.proofs.LastOnes.{answer_within, kept_is_last, verdict_within}
-
--- a fault of the configuration as the check tells it
-pub config_told : (fault : ConfigFault) → (fault ≡ config.Memory) ⊎ ((fault ≢ config.Memory) × (config_refusal_of fault ≡ Config fault))
-config_told config.Memory = inl refl
-config_told fault = inr ((λ e. cc), refl)
 
 -- one round
 
 -- an end of the input that is no want of memory is the end of what was ahead
-the_end : (old : Placing) (records : List Ordered) (end : Result (Unit {0}) InputFault) → end ≢ Err input.Memory → IsTheEnd old records end
-    → IsAhead old (record { placed = records; end = end })
-the_end old records (Ok ended) other is = is
-the_end old records (Err input.Memory) other is = absurd (other refl)
-the_end old records (Err (input.Cert place fault)) other is = is
-the_end old records (Err (input.Order place core fault)) other is = is
-the_end old records (Err (input.Row core seq fault)) other is = is
+the_end : (can_fail : CanFail) (old : Placing) (records : List Ordered) (end : Result (Unit {0}) InputFault) → end ≢ Err input.Memory → IsTheEnd can_fail old records end
+    → IsAhead can_fail old (record { placed = records; end = end })
+the_end can_fail old records (Ok ended) other is = is
+the_end can_fail old records (Err input.Memory) other is = absurd (other refl)
+the_end can_fail old records (Err (input.Cert place fault)) other is = is
+the_end can_fail old records (Err (input.Order place core fault)) other is = is
+the_end can_fail old records (Err (input.Row core seq fault)) other is = is
 
 -- what decides against a round decides however the input ends
 decides_whatever : (first : ℕ) (found : Option Refused) (broken : Option BrokenView) (verdict : Verdict) (end : Result (Unit {0}) InputFault) → against first found broken ≡ Some verdict
@@ -86,18 +77,18 @@ last_undecided configuration relations judging judged records end other (run, co
 
 -- round behind round
 
-pub lead_join : (start now next : Placing) (before records : List Ordered) → Lead start before now → Lead now records next → Lead start (before ++ records) next
-lead_join start now next before records first second scanned ahead =
-    subst (λ placed. IsAhead start (record { placed = placed; end = scanned.end })) (sym (append_assoc before records scanned.placed)) (first (led_by records scanned) (second scanned ahead))
+pub lead_join : (can_fail : CanFail) (start now next : Placing) (before records : List Ordered) → Lead can_fail start before now → Lead can_fail now records next → Lead can_fail start (before ++ records) next
+lead_join can_fail start now next before records first second scanned ahead =
+    subst (λ placed. IsAhead can_fail start (record { placed = placed; end = scanned.end })) (sym (append_assoc before records scanned.placed)) (first (led_by records scanned) (second scanned ahead))
 
 -- a round behind others is filled as all of them are
-pub filled_on : (start now next : Placing) (before records : List Ordered) (filled : Filled) → Lead start before now → IsFilled now records filled next → IsFilled start (before ++ records) filled next
-filled_on start now next before records Full lead is = lead_join start now next before records lead is
-filled_on start now next before records (Ended (Ok ended)) lead is = lead (record { placed = records; end = Ok ended }) is
-filled_on start now next before records (Ended (Err input.Memory)) lead is = tt
-filled_on start now next before records (Ended (Err (input.Cert place fault))) lead is = lead (record { placed = records; end = Err (input.Cert place fault) }) is
-filled_on start now next before records (Ended (Err (input.Order place core fault))) lead is = lead (record { placed = records; end = Err (input.Order place core fault) }) is
-filled_on start now next before records (Ended (Err (input.Row core seq fault))) lead is = lead (record { placed = records; end = Err (input.Row core seq fault) }) is
+pub filled_on : (can_fail : CanFail) (start now next : Placing) (before records : List Ordered) (filled : Filled) → Lead can_fail start before now → IsFilled can_fail now records filled next → IsFilled can_fail start (before ++ records) filled next
+filled_on can_fail start now next before records Full lead is = lead_join can_fail start now next before records lead is
+filled_on can_fail start now next before records (Ended (Ok ended)) lead is = lead (record { placed = records; end = Ok ended }) is
+filled_on can_fail start now next before records (Ended (Err input.Memory)) lead is = tt
+filled_on can_fail start now next before records (Ended (Err (input.Cert place fault))) lead is = lead (record { placed = records; end = Err (input.Cert place fault) }) is
+filled_on can_fail start now next before records (Ended (Err (input.Order place core fault))) lead is = lead (record { placed = records; end = Err (input.Order place core fault) }) is
+filled_on can_fail start now next before records (Ended (Err (input.Row core seq fault))) lead is = lead (record { placed = records; end = Err (input.Row core seq fault) }) is
 
 -- these records were judged, and each of their views meets every relation
 abbrev pub AreBehind : Configuration → List Relation → List Ordered → Judging → Type 0
@@ -112,31 +103,31 @@ over_all configuration relations judging before records verdict (run, meet, coun
     (subst (λ n. IsVerdictFrom configuration relations (parts_of judging) n records verdict) (let e : judging.count ≡ 0 + length before = omega (arith, count) in e) is)
 
 -- the answer over what is ahead, and the last records before its place
-abbrev pub IsToldOf : Configuration → List Relation → Placing → Result Verdict CheckFault → List LastItem → Type 0
-IsToldOf configuration relations start answer last =
-    (scanned : Scan) × IsAhead start scanned × IsJudged configuration relations scanned answer × (last ≡ last_of answer scanned.placed)
+abbrev pub IsToldOf : CanFail → Configuration → List Relation → Placing → Result Verdict CheckFault → List LastItem → Type 0
+IsToldOf can_fail configuration relations start answer last =
+    (scanned : Scan) × IsAhead can_fail start scanned × IsJudged configuration relations scanned answer × (last ≡ last_of answer scanned.placed)
 
 -- the answer of a check whose last records are answered so
-pub last_on : (configuration : Configuration) (relations : List Relation) (start now : Placing) (judging : Judging) (before records : List Ordered) (end : Result (Unit {0}) InputFault) (answer : Result Verdict CheckFault)
-    → IsFilled start (before ++ records) (Ended end) now → AreBehind configuration relations before judging → ArePlaced judging.count records
+pub last_on : (can_fail : CanFail) (configuration : Configuration) (relations : List Relation) (start now : Placing) (judging : Judging) (before records : List Ordered) (end : Result (Unit {0}) InputFault) (answer : Result Verdict CheckFault)
+    → IsFilled can_fail start (before ++ records) (Ended end) now → AreBehind configuration relations before judging → ArePlaced judging.count records
     → IsLastAnswer configuration relations judging records end answer
-    → (answer ≡ Err Memory) ⊎ IsToldOf configuration relations start answer (kept_behind answer judging.count (keep_last most_last (map item_of before)) records)
-last_on configuration relations start now judging before records end answer filled behind placed (inl memory) = inl memory
-last_on configuration relations start now judging before records end answer filled behind placed (inr (other, (verdict, is, told))) =
+    → (answer ≡ Err Memory) ⊎ IsToldOf can_fail configuration relations start answer (kept_behind answer judging.count (keep_last most_last (map item_of before)) records)
+last_on can_fail configuration relations start now judging before records end answer filled behind placed (inl memory) = inl memory
+last_on can_fail configuration relations start now judging before records end answer filled behind placed (inr (other, (verdict, is, told))) =
     inr (
       record { placed = before ++ records; end = end },
-      the_end start (before ++ records) end other filled,
+      the_end can_fail start (before ++ records) end other filled,
       (verdict, over_all configuration relations judging before records verdict behind is, told),
       kept_is_last answer judging.count before records [] behind.2 (answer_within verdict end judging.count records answer told (verdict_within configuration relations (parts_of judging) judging.count records verdict placed is))
           ∙ ap (last_of answer) (append-nil (before ++ records)),
     )
 
 -- the answer of a check in which a round decides
-pub decided_on : (configuration : Configuration) (relations : List Relation) (start now : Placing) (judging judged : Judging) (before records : List Ordered) (verdict : Verdict)
-    → Lead start (before ++ records) now → AreBehind configuration relations before judging → ArePlaced judging.count records → IsDecided configuration relations judging records (Some verdict) judged
-    → (Ok verdict ≡ Err Memory) ⊎ IsToldOf configuration relations start (Ok verdict) (kept_behind (Ok verdict) judging.count (keep_last most_last (map item_of before)) records)
-decided_on configuration relations start now judging judged before records verdict lead behind placed (over, final) =
-    let more = something_ahead now in
+pub decided_on : (can_fail : CanFail) (configuration : Configuration) (relations : List Relation) (start now : Placing) (judging judged : Judging) (before records : List Ordered) (verdict : Verdict)
+    → Lead can_fail start (before ++ records) now → AreBehind configuration relations before judging → ArePlaced judging.count records → IsDecided configuration relations judging records (Some verdict) judged
+    → (Ok verdict ≡ Err Memory) ⊎ IsToldOf can_fail configuration relations start (Ok verdict) (kept_behind (Ok verdict) judging.count (keep_last most_last (map item_of before)) records)
+decided_on can_fail configuration relations start now judging judged before records verdict lead behind placed (over, final) =
+    let more = something_ahead can_fail now in
     let here = subst (λ list. IsVerdictFrom configuration relations (parts_of judging) judging.count list verdict) (append-nil records) (over []) in
     inr (
       led_by (before ++ records) more.0,
@@ -158,28 +149,3 @@ behind_on configuration relations judging judged before records (run, meet, coun
   meet_on configuration relations (cold_parts configuration) (parts_of judging) before records run meet also,
   omega (arith, counted, count, length-append before records),
 )
-
--- refusals of the configuration
-
--- the outcome where nothing is wrong with the settings
-abbrev pub IsOutcomeOf : List ℕ → List (List ℕ) → List ℕ → List Relation → Result Verdict CheckFault → Type 0
-IsOutcomeOf text texts certificate relations result = (result ≡ Err Memory) ⊎ IsOutcomeBy (configuration_of text) texts certificate relations result
-
-pub with_settings : (settings : Settings) (text : List ℕ) (texts : List (List ℕ)) (certificate : List ℕ) (relations : List Relation) (result : Result Verdict CheckFault)
-    → argument_fault_of settings ≡ None → IsOutcomeOf text texts certificate relations result → IsOutcome settings text texts certificate relations result
-with_settings settings text texts certificate relations result none (inl memory) = inl memory
-with_settings settings text texts certificate relations result none (inr by) = inr (subst (λ found. IsOutcomeWith found text texts certificate relations result) (sym none) by)
-
--- the refusal of the settings is the outcome of every input
-pub refused_settings : (settings : Settings) (text : List ℕ) (texts : List (List ℕ)) (certificate : List ℕ) (relations : List Relation) (fault : ArgumentFault)
-    → argument_fault_of settings ≡ Some fault → IsOutcome settings text texts certificate relations (Err (Arguments fault))
-refused_settings settings text texts certificate relations fault is =
-    inr (subst (λ found. IsOutcomeWith found text texts certificate relations (Err (Arguments fault))) (sym is) refl)
-
--- the refusal of a configuration is the outcome of every input
-pub refused_outcome : (text : List ℕ) (texts : List (List ℕ)) (certificate : List ℕ) (relations : List Relation) (fault : ConfigFault) → (fault ≢ config.Memory → configuration_of text ≡ Err fault)
-    → IsOutcomeOf text texts certificate relations (Err (config_refusal_of fault))
-refused_outcome text texts certificate relations fault read = elim (config_told fault) [
-  | inl memory ↦ inl (ap (λ one. Err (config_refusal_of one)) memory)
-  | inr (other, is) ↦ inr (subst (λ reading. IsOutcomeBy reading texts certificate relations (Err (config_refusal_of fault))) (sym (read other)) (ap Err is))
-]

@@ -20,7 +20,7 @@ use Rattle.order_cert.specs.Row.{Item as CertItem, pairs_of}
 use Rattle.placement.specs.declared.fault.InputFault.{InputFault}
 use Rattle.placement.specs.declared.fault.InputFault.TheVariants as input
 use Rattle.placement.specs.Lanes.{IsScanOf}
-use Rattle.placement.specs.Reading.{Reads}
+use Rattle.placement.specs.Reading.{CanFail, Reads}
 use Rattle.placement.specs.Scan.{Scan, and_then, end_of, ends_of, ends_so, keeping, led_by, placed_at, scan, taking}
 use Rattle.placement.proofs.Readings.{put-here, put-other, put-back, same_or}
 use Rattle.record_read.specs.declared.fault.RowFault.TheVariants as row
@@ -31,22 +31,22 @@ use Rattle.verdict_merge.specs.declared.verdict.Verdict.TheVariants.{Yes, No, Br
 use Rattle.verdict_merge.specs.Refusals.{IsBrokenAt, IsRefusedAt, IsRunUpToNo}
 use Rattle.verdict_merge.specs.Verdicts.{IsRunWhereYes}
 use Rattle.report.specs.declared.fault.CheckFault.{CheckFault}
-use Rattle.report.specs.declared.fault.CheckFault.TheVariants as refusal
 use Rattle.report.specs.declared.last.LastItem.{LastItem}
 use Rattle.report.specs.Last.{IsLastOf, last_before, last_of, settled}
 use Rattle.report.specs.No.{IsLawfulUpTo, NoMeansRefusal}
-use Rattle.report.specs.Outcome.{answer_with, items_at}
+use Rattle.report.specs.Inputs.{Texts, items_at}
+use Rattle.report.specs.Outcome.{answer_with}
 use Rattle.report.specs.Yes.{AreInOrder, YesMeansRun}
 
 -- a reading that begins with no fault is of items that begin so
-reads_begun : {Value Fault : Type 0} (failure : Fault) (items : List (Result Value Fault)) (good : List Value) (more given : List (Result Value Fault))
-    → given ≡ map Ok good ++ more → Reads failure items given → take (length good) items ≡ map Ok good
-reads_begun {Value} {Fault} failure items good more given e (inl f) = ap (take (length good)) (sym f ∙ e) ∙ front good
+reads_begun : {Value Fault : Type 0} (can_fail : Bool) (failure : Fault) (items : List (Result Value Fault)) (good : List Value) (more given : List (Result Value Fault))
+    → given ≡ map Ok good ++ more → Reads can_fail failure items given → take (length good) items ≡ map Ok good
+reads_begun {Value} {Fault} can_fail failure items good more given e (inl f) = ap (take (length good)) (sym f ∙ e) ∙ front good
   where
     front : (good : List Value) → take (length good) (map Ok good ++ more) ≡ map Ok good
     front [] = refl
     front (g ∷ gs) = ap (λ (list : List (Result Value Fault)). Ok g ∷ list) (front gs)
-reads_begun {Value} {Fault} failure items good more given e (inr (before, rest, f, h)) = ap (take (length good)) f ∙ within before good (sym h ∙ e)
+reads_begun {Value} {Fault} can_fail failure items good more given e (inr (can, before, rest, f, h)) = ap (take (length good)) f ∙ within before good (sym h ∙ e)
   where
     within : (before good : List Value) → map Ok before ++ Err failure ∷ [] ≡ map Ok good ++ more → take (length good) (map Ok before ++ rest) ≡ map Ok good
     within before [] e = refl
@@ -56,10 +56,10 @@ reads_begun {Value} {Fault} failure items good more given e (inr (before, rest, 
         ap (λ (one : Result Value Fault). one ∷ take (length gs) (map Ok xs ++ rest)) head ∙ ap (λ (list : List (Result Value Fault)). Ok g ∷ list) (within xs gs (cc))
 
 -- one with no fault at all is of items with none
-reads_good : {Value Fault : Type 0} (failure : Fault) (items : List (Result Value Fault)) (good : List Value) (given : List (Result Value Fault))
-    → given ≡ map Ok good → Reads failure items given → items ≡ map Ok good
-reads_good failure items good given e (inl f) = sym f ∙ e
-reads_good {Value} {Fault} failure items good given e (inr (before, rest, f, h)) = absurd (no_fault before good (sym h ∙ e))
+reads_good : {Value Fault : Type 0} (can_fail : Bool) (failure : Fault) (items : List (Result Value Fault)) (good : List Value) (given : List (Result Value Fault))
+    → given ≡ map Ok good → Reads can_fail failure items given → items ≡ map Ok good
+reads_good can_fail failure items good given e (inl f) = sym f ∙ e
+reads_good {Value} {Fault} can_fail failure items good given e (inr (can, before, rest, f, h)) = absurd (no_fault before good (sym h ∙ e))
   where
     no_fault : (before good : List Value) → map Ok before ++ Err failure ∷ [] ≡ map Ok good → ⊥
     no_fault [] [] e = cc
@@ -197,7 +197,7 @@ scan_places_first cores taken place left (Ok pair ∷ rest) =
     (λ more. scan_places_first cores (put taken pair.core (suc (taken pair.core))) (suc place) (put left pair.core more) rest)
 
 -- the records of a scan stand at this place and those after it
-scan_places : (cores : ℕ) (taken : ℕ → ℕ) (place : ℕ) (left : ℕ → List Item) (items : List CertItem) → ArePlaced place (scan cores taken place left items).placed
+pub scan_places : (cores : ℕ) (taken : ℕ → ℕ) (place : ℕ) (left : ℕ → List Item) (items : List CertItem) → ArePlaced place (scan cores taken place left items).placed
 unfolding scan
 scan_places cores taken place left [] = tt
 scan_places cores taken place left (Err fault ∷ rest) = tt
@@ -213,8 +213,8 @@ scan_places cores taken place left (Ok pair ∷ rest) = step (misplaced cores ta
     step None (Err fault ∷ more) later = tt
     step None (Ok rec ∷ more) later = (refl, later more)
 
-pub scan_placed : (cores : ℕ) (items : ℕ → List Item) (certificate : List CertItem) (scanned : Scan) → IsScanOf cores none_taken 0 items certificate scanned → ArePlaced 0 scanned.placed
-scan_placed cores items certificate scanned (left, pairs, reads, certs, is) = subst (λ one. ArePlaced 0 one.placed) is (scan_places cores none_taken 0 left pairs)
+pub scan_placed : (can_fail : CanFail) (cores : ℕ) (items : ℕ → List Item) (certificate : List CertItem) (scanned : Scan) → IsScanOf can_fail cores none_taken 0 items certificate scanned → ArePlaced 0 scanned.placed
+scan_placed can_fail cores items certificate scanned (left, pairs, reads, certs, is) = subst (λ one. ArePlaced 0 one.placed) is (scan_places cores none_taken 0 left pairs)
 
 -- what was placed of the texts
 
@@ -232,16 +232,16 @@ yes_of (Broken pos rule) end count e = cc
 yes_of (Yes records) (Ok u) count e = (cc, refl)
 yes_of (Yes records) (Err fault) count e = cc
 
-pub yes_means : (config : List ℕ) (texts : List (List ℕ)) (certificate : List ℕ) (relations : List Relation) (configuration : Configuration) (scanned : Scan) (verdict : Verdict) (result : Result Verdict CheckFault)
-    → configuration_of config ≡ Ok configuration → length texts ≡ configuration.cores
-    → IsScanOf (length texts) none_taken 0 (items_at texts) (pairs_of certificate) scanned → IsRunWhereYes configuration relations scanned.placed verdict → result ≡ answer_with verdict scanned.end
-    → YesMeansRun config texts certificate relations result
-yes_means config texts certificate relations configuration scanned verdict (Err fault) read count scan run e = tt
-yes_means config texts certificate relations configuration scanned verdict (Ok (No pos piece cause)) read count scan run e = tt
-yes_means config texts certificate relations configuration scanned verdict (Ok (Broken pos rule)) read count scan run e = tt
-yes_means config texts certificate relations configuration scanned verdict (Ok (Yes records)) read count (left, items, reads, certs, is) run e =
+pub yes_means : (can_fail : CanFail) (texts : Texts) (relations : List Relation) (configuration : Configuration) (scanned : Scan) (verdict : Verdict) (result : Result Verdict CheckFault)
+    → configuration_of texts.config ≡ Ok configuration → length texts.recordings ≡ configuration.cores
+    → IsScanOf can_fail (length texts.recordings) none_taken 0 (items_at texts.recordings) (pairs_of texts.certificate) scanned → IsRunWhereYes configuration relations scanned.placed verdict → result ≡ answer_with verdict scanned.end
+    → YesMeansRun texts relations result
+yes_means can_fail texts relations configuration scanned verdict (Err fault) read count scan run e = tt
+yes_means can_fail texts relations configuration scanned verdict (Ok (No pos piece cause)) read count scan run e = tt
+yes_means can_fail texts relations configuration scanned verdict (Ok (Broken pos rule)) read count scan run e = tt
+yes_means can_fail texts relations configuration scanned verdict (Ok (Yes records)) read count (left, items, reads, certs, is) run e =
     let yes = yes_of verdict scanned.end records e in
-    let p = placed_of configuration scanned left items (length texts) count is in
+    let p = placed_of configuration scanned left items (length texts.recordings) count is in
     let none = p.ended yes.1 in
     let final = subst (IsRunWhereYes configuration relations scanned.placed) yes.0 run in
     record {
@@ -249,9 +249,9 @@ yes_means config texts certificate relations configuration scanned verdict (Ok (
       configured = read;
       readers = count;
       pairs = p.pairs;
-      proposed = reads_good cert.Read (pairs_of certificate) p.pairs items (p.items_are ∙ ap (λ list. map Ok p.pairs ++ list) none.0 ∙ append-nil (map Ok p.pairs)) certs;
+      proposed = reads_good can_fail.certificate cert.Read (pairs_of texts.certificate) p.pairs items (p.items_are ∙ ap (λ list. map Ok p.pairs ++ list) none.0 ∙ append-nil (map Ok p.pairs)) certs;
       recordings = p.recordings;
-      recorded = λ core h. reads_good row.Read (items_at texts core) (p.recordings core) (left core)
+      recorded = λ core h. reads_good can_fail.recordings row.Read (items_at texts.recordings core) (p.recordings core) (left core)
           (p.left_is core h ∙ ap (λ list. map Ok (p.recordings core) ++ list) (none.1 core h) ∙ append-nil (map Ok (p.recordings core))) (reads core);
       lawful = record { numbers = p.numbers; known = p.known };
       records = scanned.placed;
@@ -263,19 +263,19 @@ yes_means config texts certificate relations configuration scanned verdict (Ok (
     }
 
 -- a fact about the records that were placed is one about the first records of the recordings, in the order of the certificate
-lawful_up_to : (config : List ℕ) (texts : List (List ℕ)) (certificate : List ℕ) (Fact : Configuration → List Ordered → Type 0) (configuration : Configuration) (scanned : Scan)
-    → configuration_of config ≡ Ok configuration → length texts ≡ configuration.cores
-    → IsScanOf (length texts) none_taken 0 (items_at texts) (pairs_of certificate) scanned → Fact configuration scanned.placed → IsLawfulUpTo config texts certificate Fact
-lawful_up_to config texts certificate Fact configuration scanned read count (left, items, reads, certs, is) holds =
-    let p = placed_of configuration scanned left items (length texts) count is in
+lawful_up_to : (can_fail : CanFail) (texts : Texts) (Fact : Configuration → List Ordered → Type 0) (configuration : Configuration) (scanned : Scan)
+    → configuration_of texts.config ≡ Ok configuration → length texts.recordings ≡ configuration.cores
+    → IsScanOf can_fail (length texts.recordings) none_taken 0 (items_at texts.recordings) (pairs_of texts.certificate) scanned → Fact configuration scanned.placed → IsLawfulUpTo texts Fact
+lawful_up_to can_fail texts Fact configuration scanned read count (left, items, reads, certs, is) holds =
+    let p = placed_of configuration scanned left items (length texts.recordings) count is in
     record {
       configuration = configuration;
       configured = read;
       readers = count;
       pairs = p.pairs;
-      proposed = reads_begun cert.Read (pairs_of certificate) p.pairs p.later_pairs items p.items_are certs;
+      proposed = reads_begun can_fail.certificate cert.Read (pairs_of texts.certificate) p.pairs p.later_pairs items p.items_are certs;
       recordings = p.recordings;
-      recorded = λ core h. reads_begun row.Read (items_at texts core) (p.recordings core) (p.later_records core) (left core) (p.left_is core h) (reads core);
+      recorded = λ core h. reads_begun can_fail.recordings row.Read (items_at texts.recordings core) (p.recordings core) (p.later_records core) (left core) (p.left_is core h) (reads core);
       lawful = record { numbers = p.numbers; known = p.known };
       records = scanned.placed;
       ordered = p.ordered;
@@ -289,42 +289,31 @@ found_of (Broken pos rule) found end other e = cc
 found_of (Yes records) found (Ok u) other e = absurd (other records (cc))
 found_of (Yes records) found (Err fault) other e = cc
 
-pub no_means : (config : List ℕ) (texts : List (List ℕ)) (certificate : List ℕ) (relations : List Relation) (configuration : Configuration) (scanned : Scan) (verdict : Verdict) (result : Result Verdict CheckFault)
-    → configuration_of config ≡ Ok configuration → length texts ≡ configuration.cores
-    → IsScanOf (length texts) none_taken 0 (items_at texts) (pairs_of certificate) scanned → IsRunUpToNo configuration relations scanned.placed verdict → result ≡ answer_with verdict scanned.end
-    → NoMeansRefusal config texts certificate relations result
-no_means config texts certificate relations configuration scanned verdict (Err fault) read count scan run e = tt
-no_means config texts certificate relations configuration scanned verdict (Ok (Yes records)) read count scan run e = tt
-no_means config texts certificate relations configuration scanned verdict (Ok (No place piece cause)) read count scan run e =
+pub no_means : (can_fail : CanFail) (texts : Texts) (relations : List Relation) (configuration : Configuration) (scanned : Scan) (verdict : Verdict) (result : Result Verdict CheckFault)
+    → configuration_of texts.config ≡ Ok configuration → length texts.recordings ≡ configuration.cores
+    → IsScanOf can_fail (length texts.recordings) none_taken 0 (items_at texts.recordings) (pairs_of texts.certificate) scanned → IsRunUpToNo configuration relations scanned.placed verdict → result ≡ answer_with verdict scanned.end
+    → NoMeansRefusal texts relations result
+no_means can_fail texts relations configuration scanned verdict (Err fault) read count scan run e = tt
+no_means can_fail texts relations configuration scanned verdict (Ok (Yes records)) read count scan run e = tt
+no_means can_fail texts relations configuration scanned verdict (Ok (No place piece cause)) read count scan run e =
     let is = found_of verdict (No place piece cause) scanned.end (λ count yes. cc) e in
-    lawful_up_to config texts certificate (λ one records. IsRefusedAt one relations records place) configuration scanned read count scan (subst (IsRunUpToNo configuration relations scanned.placed) is run)
-no_means config texts certificate relations configuration scanned verdict (Ok (Broken place rule)) read count scan run e =
+    lawful_up_to can_fail texts (λ one records. IsRefusedAt one relations records place) configuration scanned read count scan (subst (IsRunUpToNo configuration relations scanned.placed) is run)
+no_means can_fail texts relations configuration scanned verdict (Ok (Broken place rule)) read count scan run e =
     let is = found_of verdict (Broken place rule) scanned.end (λ count yes. cc) e in
-    lawful_up_to config texts certificate (λ one records. IsBrokenAt one relations records place rule) configuration scanned read count scan (subst (IsRunUpToNo configuration relations scanned.placed) is run)
+    lawful_up_to can_fail texts (λ one records. IsBrokenAt one relations records place rule) configuration scanned read count scan (subst (IsRunUpToNo configuration relations scanned.placed) is run)
 
 -- what is told behind an answer over what was scanned is of the records that its meaning is about
-pub last_means : (config : List ℕ) (texts : List (List ℕ)) (certificate : List ℕ) (relations : List Relation) (configuration : Configuration) (scanned : Scan) (verdict : Verdict) (result : Result Verdict CheckFault)
-    (last : List LastItem) → configuration_of config ≡ Ok configuration → length texts ≡ configuration.cores
-    → IsScanOf (length texts) none_taken 0 (items_at texts) (pairs_of certificate) scanned → IsRunUpToNo configuration relations scanned.placed verdict → result ≡ answer_with verdict scanned.end
-    → last ≡ last_of result scanned.placed → IsLastOf config texts certificate relations result (settled result last)
-last_means config texts certificate relations configuration scanned verdict (Err fault) last read count scan run e told = refl
-last_means config texts certificate relations configuration scanned verdict (Ok (Yes records)) last read count scan run e told = told
-last_means config texts certificate relations configuration scanned verdict (Ok (No place piece cause)) last read count scan run e told =
+pub last_means : (can_fail : CanFail) (texts : Texts) (relations : List Relation) (configuration : Configuration) (scanned : Scan) (verdict : Verdict) (result : Result Verdict CheckFault)
+    (last : List LastItem) → configuration_of texts.config ≡ Ok configuration → length texts.recordings ≡ configuration.cores
+    → IsScanOf can_fail (length texts.recordings) none_taken 0 (items_at texts.recordings) (pairs_of texts.certificate) scanned → IsRunUpToNo configuration relations scanned.placed verdict → result ≡ answer_with verdict scanned.end
+    → last ≡ last_of result scanned.placed → IsLastOf texts relations result (settled result last)
+last_means can_fail texts relations configuration scanned verdict (Err fault) last read count scan run e told = refl
+last_means can_fail texts relations configuration scanned verdict (Ok (Yes records)) last read count scan run e told = told
+last_means can_fail texts relations configuration scanned verdict (Ok (No place piece cause)) last read count scan run e told =
     let is = found_of verdict (No place piece cause) scanned.end (λ count yes. cc) e in
-    lawful_up_to config texts certificate (λ one records. IsRefusedAt one relations records place × (last ≡ last_before place records)) configuration scanned read count scan
+    lawful_up_to can_fail texts (λ one records. IsRefusedAt one relations records place × (last ≡ last_before place records)) configuration scanned read count scan
     (subst (IsRunUpToNo configuration relations scanned.placed) is run, told)
-last_means config texts certificate relations configuration scanned verdict (Ok (Broken place rule)) last read count scan run e told =
+last_means can_fail texts relations configuration scanned verdict (Ok (Broken place rule)) last read count scan run e told =
     let is = found_of verdict (Broken place rule) scanned.end (λ count yes. cc) e in
-    lawful_up_to config texts certificate (λ one records. IsBrokenAt one relations records place rule × (last ≡ last_before place records)) configuration scanned read count scan
+    lawful_up_to can_fail texts (λ one records. IsBrokenAt one relations records place rule × (last ≡ last_before place records)) configuration scanned read count scan
     (subst (IsRunUpToNo configuration relations scanned.placed) is run, told)
-
--- nothing is told behind want of memory
-pub none_behind_memory : (config : List ℕ) (texts : List (List ℕ)) (certificate : List ℕ) (relations : List Relation) (result : Result Verdict CheckFault) (last : List LastItem) → result ≡ Err refusal.Memory
-    → IsLastOf config texts certificate relations result (settled result last)
-none_behind_memory config texts certificate relations result last e = subst (λ one. IsLastOf config texts certificate relations one (settled one last)) (sym e) refl
-
--- want of memory is no Yes and no No
-pub memory_means : (config : List ℕ) (texts : List (List ℕ)) (certificate : List ℕ) (relations : List Relation) (result : Result Verdict CheckFault) → result ≡ Err refusal.Memory
-    → YesMeansRun config texts certificate relations result × NoMeansRefusal config texts certificate relations result
-memory_means config texts certificate relations result e =
-    (subst (YesMeansRun config texts certificate relations) (sym e) tt, subst (NoMeansRefusal config texts certificate relations) (sym e) tt)

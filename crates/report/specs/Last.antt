@@ -12,6 +12,7 @@ use Rattle.verdict_merge.specs.declared.verdict.Verdict.TheVariants.{Yes, No, Br
 use Rattle.verdict_merge.specs.Refusals.{IsBrokenAt, IsRefusedAt}
 use Rattle.report.specs.declared.fault.CheckFault.{CheckFault}
 use Rattle.report.specs.declared.last.LastItem.{LastItem}
+use Rattle.report.specs.Inputs.{Texts}
 use Rattle.report.specs.No.{IsLawfulUpTo}
 
 -- the most records that are told
@@ -53,13 +54,13 @@ settled (Ok verdict) kept = kept
 settled (Err fault) kept = []
 
 -- what is told behind the answer of a check of these texts: of the records that the answer's meaning is about, the last before its place
-abbrev pub IsLastOf : List ℕ → List (List ℕ) → List ℕ → List Relation → Result Verdict CheckFault → List LastItem → Type 0
-IsLastOf config texts certificate relations (Ok (No pos piece cause)) last =
-    IsLawfulUpTo config texts certificate (λ configuration records. IsRefusedAt configuration relations records pos × (last ≡ last_before pos records))
-IsLastOf config texts certificate relations (Ok (Broken pos rule)) last =
-    IsLawfulUpTo config texts certificate (λ configuration records. IsBrokenAt configuration relations records pos rule × (last ≡ last_before pos records))
-IsLastOf config texts certificate relations (Ok (Yes count)) last = last ≡ []
-IsLastOf config texts certificate relations (Err fault) last = last ≡ []
+abbrev pub IsLastOf : Texts → List Relation → Result Verdict CheckFault → List LastItem → Type 0
+IsLastOf texts relations (Ok (No pos piece cause)) last =
+    IsLawfulUpTo texts (λ configuration records. IsRefusedAt configuration relations records pos × (last ≡ last_before pos records))
+IsLastOf texts relations (Ok (Broken pos rule)) last =
+    IsLawfulUpTo texts (λ configuration records. IsBrokenAt configuration relations records pos rule × (last ≡ last_before pos records))
+IsLastOf texts relations (Ok (Yes count)) last = last ≡ []
+IsLastOf texts relations (Err fault) last = last ≡ []
 
 -- the text of the last records, a line for each
 

@@ -1,6 +1,9 @@
+pub mod Inputs
 pub mod Outcome
 pub mod Yes
 pub mod No
 pub mod Last
+pub mod Refused
+pub mod Answers
 pub mod Text
 pub mod Rounds

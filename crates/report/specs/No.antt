@@ -12,20 +12,20 @@ use Rattle.verdict_merge.specs.declared.verdict.Verdict.{Verdict}
 use Rattle.verdict_merge.specs.declared.verdict.Verdict.TheVariants.{Yes, No, Broken}
 use Rattle.verdict_merge.specs.Refusals.{IsBrokenAt, IsRefusedAt}
 use Rattle.report.specs.declared.fault.CheckFault.{CheckFault}
-use Rattle.report.specs.Outcome.{items_at}
+use Rattle.report.specs.Inputs.{Texts, items_at}
 use Rattle.report.specs.Yes.{AreInOrder}
 
 -- the texts are a configuration, with one recording for each core, and a certificate whose first pairs are a lawful order of the
 -- first records of the recordings; and of the records in that order this fact holds under the configuration. Behind them
 -- the texts are whatever they are
-pub record IsLawfulUpTo (config : List ℕ) (texts : List (List ℕ)) (certificate : List ℕ) (Fact : Configuration → List Ordered → Type 0) : Type 0 where
+pub record IsLawfulUpTo (texts : Texts) (Fact : Configuration → List Ordered → Type 0) : Type 0 where
   pub configuration : Configuration
-  pub configured : configuration_of config ≡ Ok configuration
-  pub readers : length texts ≡ configuration.cores
+  pub configured : configuration_of texts.config ≡ Ok configuration
+  pub readers : length texts.recordings ≡ configuration.cores
   pub pairs : List Pair
-  pub proposed : take (length pairs) (pairs_of certificate) ≡ map Ok pairs
+  pub proposed : take (length pairs) (pairs_of texts.certificate) ≡ map Ok pairs
   pub recordings : ℕ → List Record
-  pub recorded : (core : ℕ) → core < configuration.cores → take (length (recordings core)) (items_at texts core) ≡ map Ok (recordings core)
+  pub recorded : (core : ℕ) → core < configuration.cores → take (length (recordings core)) (items_at texts.recordings core) ≡ map Ok (recordings core)
   pub lawful : IsLawfulOrder configuration.cores (λ core. length (recordings core)) pairs
   pub records : List Ordered
   pub ordered : AreInOrder configuration.cores 0 pairs recordings records
@@ -33,10 +33,10 @@ pub record IsLawfulUpTo (config : List ℕ) (texts : List (List ℕ)) (certifica
 
 -- where the answer is No, the records before its place are a run of the machine, which has no step that takes the record at the place;
 -- where a rule is broken, the records up to its place are a run, and the view there is the first that breaks a rule
-abbrev pub NoMeansRefusal : List ℕ → List (List ℕ) → List ℕ → List Relation → Result Verdict CheckFault → Type 0
-NoMeansRefusal config texts certificate relations (Ok (No pos piece cause)) =
-    IsLawfulUpTo config texts certificate (λ configuration records. IsRefusedAt configuration relations records pos)
-NoMeansRefusal config texts certificate relations (Ok (Broken pos rule)) =
-    IsLawfulUpTo config texts certificate (λ configuration records. IsBrokenAt configuration relations records pos rule)
-NoMeansRefusal config texts certificate relations (Ok (Yes records)) = Unit {0}
-NoMeansRefusal config texts certificate relations (Err fault) = Unit {0}
+abbrev pub NoMeansRefusal : Texts → List Relation → Result Verdict CheckFault → Type 0
+NoMeansRefusal texts relations (Ok (No pos piece cause)) =
+    IsLawfulUpTo texts (λ configuration records. IsRefusedAt configuration relations records pos)
+NoMeansRefusal texts relations (Ok (Broken pos rule)) =
+    IsLawfulUpTo texts (λ configuration records. IsBrokenAt configuration relations records pos rule)
+NoMeansRefusal texts relations (Ok (Yes records)) = Unit {0}
+NoMeansRefusal texts relations (Err fault) = Unit {0}

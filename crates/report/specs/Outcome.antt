@@ -1,17 +1,15 @@
--- The outcome of a check, from the bytes of its inputs.
-use Rattle.std.specs.Prelude.{◌≡◌, ◌⊎◌, ◌↔◌, ℕ, zero, suc, List, [], ◌∷◌, Bool, true, false, Option, Some, None, Result, Ok, Err, length, nat_eq, nat_lt, if◌then◌else◌}
+-- The outcome of a check, from its texts and how far they are read.
+use Rattle.std.specs.Prelude.{◌≡◌, ◌≢◌, ◌⊎◌, ◌↔◌, ℕ, List, Bool, true, false, Option, Some, None, Result, Ok, Err, length, nat_eq, nat_lt, if◌then◌else◌}
 use Rattle.std.specs.Option.{option_or}
 use Rattle.apex_machine.specs.Configuration.{Configuration}
 use Rattle.module_config.specs.declared.fault.ConfigFault.{ConfigFault}
 use Rattle.module_config.specs.declared.fault.ConfigFault.TheVariants as config
 use Rattle.module_config.specs.Reading.{configuration_of}
-use Rattle.order_cert.specs.Kept.{none_taken}
-use Rattle.order_cert.specs.Row.{pairs_of}
+use Rattle.order_cert.specs.declared.fault.CertFault.TheVariants as cert
 use Rattle.placement.specs.declared.fault.InputFault.{InputFault}
 use Rattle.placement.specs.declared.fault.InputFault.TheVariants as input
-use Rattle.placement.specs.Lanes.{IsScanOf}
 use Rattle.placement.specs.Scan.{Scan}
-use Rattle.record_read.specs.Row.{Item, records_of}
+use Rattle.record_read.specs.declared.fault.RowFault.TheVariants as row
 use Rattle.user_rules.specs.declared.relation.Relation.{Relation}
 use Rattle.verdict_merge.specs.declared.verdict.Verdict.{Verdict}
 use Rattle.verdict_merge.specs.declared.verdict.Verdict.TheVariants.{Yes, No, Broken}
@@ -19,14 +17,9 @@ use Rattle.verdict_merge.specs.Verdicts.{IsVerdict}
 use Rattle.report.specs.declared.fault.ArgumentFault.{ArgumentFault}
 use Rattle.report.specs.declared.fault.ArgumentFault.TheVariants.{NoWorkers, TooManyWorkers, NoDepth, TooDeep, ReaderCount}
 use Rattle.report.specs.declared.fault.CheckFault.{CheckFault}
-use Rattle.report.specs.declared.settings.Settings.{Settings}
 use Rattle.report.specs.declared.fault.CheckFault.TheVariants.{Arguments, Config, Cert, Order, Row, Memory}
-
--- what the text of a core's recording is read as: nothing where there is no such core
-abbrev pub items_at : List (List ℕ) → ℕ → List Item
-items_at [] core = []
-items_at (text ∷ texts) zero = records_of text
-items_at (text ∷ texts) (suc core) = items_at texts core
+use Rattle.report.specs.declared.settings.Settings.{Settings}
+use Rattle.report.specs.Inputs.{Readings, Texts, scan_of, whole}
 
 -- the refusal that a fault of the input is
 abbrev pub refusal_of : InputFault → CheckFault
@@ -53,16 +46,15 @@ IsJudged configuration relations scanned result =
     (verdict : Verdict) × IsVerdict configuration relations scanned.placed verdict × (result ≡ answer_with verdict scanned.end)
 
 -- the outcome under a configuration: there has to be one recording for each core
-abbrev pub IsOutcomeUnder : Bool → Configuration → List (List ℕ) → List ℕ → List Relation → Result Verdict CheckFault → Type 0
-IsOutcomeUnder false configuration texts certificate relations result = result ≡ Err (Arguments ReaderCount)
-IsOutcomeUnder true configuration texts certificate relations result =
-    (scanned : Scan) × IsScanOf (length texts) none_taken 0 (items_at texts) (pairs_of certificate) scanned × IsJudged configuration relations scanned result
+abbrev pub IsOutcomeUnder : Bool → Configuration → Texts → Readings → List Relation → Result Verdict CheckFault → Type 0
+IsOutcomeUnder false configuration texts readings relations result = result ≡ Err (Arguments ReaderCount)
+IsOutcomeUnder true configuration texts readings relations result = IsJudged configuration relations (scan_of texts readings) result
 
 -- the outcome of these texts, by what the text of the configuration is
-abbrev pub IsOutcomeBy : Result Configuration ConfigFault → List (List ℕ) → List ℕ → List Relation → Result Verdict CheckFault → Type 0
-IsOutcomeBy (Err fault) texts certificate relations result = result ≡ Err (Config fault)
-IsOutcomeBy (Ok configuration) texts certificate relations result =
-    IsOutcomeUnder (nat_eq (length texts) configuration.cores) configuration texts certificate relations result
+abbrev pub IsOutcomeBy : Result Configuration ConfigFault → Texts → Readings → List Relation → Result Verdict CheckFault → Type 0
+IsOutcomeBy (Err fault) texts readings relations result = result ≡ Err (Config fault)
+IsOutcomeBy (Ok configuration) texts readings relations result =
+    IsOutcomeUnder (nat_eq (length texts.recordings) configuration.cores) configuration texts readings relations result
 
 -- what is wrong with the number of workers: 1 to 64 may judge
 abbrev pub worker_fault_of : ℕ → Option ArgumentFault
@@ -77,17 +69,16 @@ abbrev pub argument_fault_of : Settings → Option ArgumentFault
 argument_fault_of settings = option_or (worker_fault_of settings.workers) (depth_fault_of settings.depth)
 
 -- the outcome of these texts, by what is wrong with the settings: where nothing is, it is the same for all settings
-abbrev pub IsOutcomeWith : Option ArgumentFault → List ℕ → List (List ℕ) → List ℕ → List Relation → Result Verdict CheckFault → Type 0
-IsOutcomeWith (Some fault) config texts certificate relations result = result ≡ Err (Arguments fault)
-IsOutcomeWith None config texts certificate relations result = IsOutcomeBy (configuration_of config) texts certificate relations result
+abbrev pub IsOutcomeWith : Option ArgumentFault → Texts → Readings → List Relation → Result Verdict CheckFault → Type 0
+IsOutcomeWith (Some fault) texts readings relations result = result ≡ Err (Arguments fault)
+IsOutcomeWith None texts readings relations result = IsOutcomeBy (configuration_of texts.config) texts readings relations result
 
--- the outcome of a check with these settings, of a configuration's text, the recordings' texts, the certificate's and the rules' relations,
--- for some readings of these in which readers may have failed; want of memory outranks it
-abbrev pub IsOutcome : Settings → List ℕ → List (List ℕ) → List ℕ → List Relation → Result Verdict CheckFault → Type 0
-IsOutcome settings config texts certificate relations result =
-    (result ≡ Err Memory) ⊎ IsOutcomeWith (argument_fault_of settings) config texts certificate relations result
+-- the outcome of a check with these settings, of these texts as far as they are read, and of the rules' relations; want of memory outranks it
+abbrev pub IsOutcome : Settings → Texts → Readings → List Relation → Result Verdict CheckFault → Type 0
+IsOutcome settings texts readings relations result =
+    (result ≡ Err Memory) ⊎ IsOutcomeWith (argument_fault_of settings) texts readings relations result
 
--- the law
+-- the laws
 
 -- one worker, and one record of a core read ahead
 abbrev pub one_by_one : Settings
@@ -96,6 +87,30 @@ one_by_one = record { workers = 1; depth = 1 }
 -- whatever the settings, where nothing is wrong with them, the outcomes are those of one worker
 abbrev pub SettingsChangeNoOutcome : Type 0
 SettingsChangeNoOutcome =
-    (settings : Settings) (config : List ℕ) (texts : List (List ℕ)) (certificate : List ℕ) (relations : List Relation) (result : Result Verdict CheckFault)
+    (settings : Settings) (texts : Texts) (readings : Readings) (relations : List Relation) (result : Result Verdict CheckFault)
     → argument_fault_of settings ≡ None
-    → IsOutcome settings config texts certificate relations result ↔ IsOutcome one_by_one config texts certificate relations result
+    → IsOutcome settings texts readings relations result ↔ IsOutcome one_by_one texts readings relations result
+
+-- for the same texts, readings and relations there is one outcome beside want of memory, for all settings that are refused alike or not at all
+abbrev pub OneOutcome : Type 0
+OneOutcome =
+    (some others : Settings) (texts : Texts) (readings : Readings) (relations : List Relation) (one other : Result Verdict CheckFault)
+    → argument_fault_of some ≡ argument_fault_of others
+    → IsOutcome some texts readings relations one → IsOutcome others texts readings relations other
+    → one ≢ Err Memory → other ≢ Err Memory → one ≡ other
+
+-- this is no failure of a reader
+abbrev pub TellsNoFailure : Result Verdict CheckFault → Type 0
+TellsNoFailure (Err (Cert place fault)) = fault ≢ cert.Read
+TellsNoFailure (Err (Row core seq fault)) = fault ≢ row.Read
+TellsNoFailure (Err (Arguments fault)) = Unit {0}
+TellsNoFailure (Err (Config fault)) = Unit {0}
+TellsNoFailure (Err (Order place core fault)) = Unit {0}
+TellsNoFailure (Err Memory) = Unit {0}
+TellsNoFailure (Ok verdict) = Unit {0}
+
+-- where no reader failed, no outcome is a failure of one
+abbrev pub WholeReadingsTellNoFailure : Type 0
+WholeReadingsTellNoFailure =
+    (settings : Settings) (texts : Texts) (relations : List Relation) (result : Result Verdict CheckFault)
+    → IsOutcome settings texts whole relations result → TellsNoFailure result

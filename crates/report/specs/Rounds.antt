@@ -9,6 +9,7 @@ use Rattle.placement.specs.declared.fault.InputFault.TheVariants as input
 use Rattle.placement.specs.declared.placer.Filled.{Filled}
 use Rattle.placement.specs.declared.placer.Filled.TheVariants.{Full}
 use Rattle.placement.specs.Lanes.{AreHonest, IsFilled, Placing}
+use Rattle.placement.specs.Reading.{CanFail}
 use Rattle.user_rules.specs.declared.relation.Relation.{Relation}
 use Rattle.verdict_merge.specs.declared.verdict.Verdict.{Verdict}
 use Rattle.verdict_merge.specs.Verdicts.{IsVerdictFrom, ViewsMeet}
@@ -44,9 +45,9 @@ IsLastAnswer configuration relations judging records end answer =
     × ((verdict : Verdict) × IsVerdictFrom configuration relations (parts_of judging) judging.count records verdict × (answer ≡ answer_with verdict end)))
 
 -- a round was filled so: its records stand at the next places, and what was ahead is known where the recordings were told honestly
-pub record IsPlaced (old : Placing) (records : List Ordered) (filled : Filled) (new : Placing) : Type 0 where
-  pub known : AreHonest new.lanes → IsFilled old records filled new
-  pub honest : AreHonest new.lanes → AreHonest old.lanes
+pub record IsPlaced (can_fail : CanFail) (old : Placing) (records : List Ordered) (filled : Filled) (new : Placing) : Type 0 where
+  pub known : AreHonest can_fail.recordings new.lanes → IsFilled can_fail old records filled new
+  pub honest : AreHonest can_fail.recordings new.lanes → AreHonest can_fail.recordings old.lanes
   pub placed : ArePlaced (place_of old.kept) records
   pub cores : AreOfCores (length old.lanes) records
   pub going : filled ≡ Full → new.ended ≡ false

@@ -18,7 +18,7 @@ use Rattle.user_rules.specs.FirstBroken.{MeetsAll}
 use Rattle.verdict_merge.specs.declared.verdict.Verdict.{Verdict}
 use Rattle.verdict_merge.specs.declared.verdict.Verdict.TheVariants.{Yes, No, Broken}
 use Rattle.report.specs.declared.fault.CheckFault.{CheckFault}
-use Rattle.report.specs.Outcome.{items_at}
+use Rattle.report.specs.Inputs.{Texts, items_at}
 
 -- from this place on the records are those that the pairs name, each the next of its core's recording, and none is left
 abbrev pub AreInOrder : ℕ → ℕ → List Pair → (ℕ → List Record) → List Ordered → Type 0
@@ -31,14 +31,14 @@ AreInOrder cores place (pair ∷ pairs) rest records =
 -- the texts are a configuration, recordings and a certificate without a fault; the certificate's pairs are a lawful order
 -- of the recordings' records; and in that order the records are a run of the configured machine from the cold state, in which the
 -- view of each record meets every relation
-pub record IsLawfulRun (config : List ℕ) (texts : List (List ℕ)) (certificate : List ℕ) (relations : List Relation) (count : ℕ) : Type 0 where
+pub record IsLawfulRun (texts : Texts) (relations : List Relation) (count : ℕ) : Type 0 where
   pub configuration : Configuration
-  pub configured : configuration_of config ≡ Ok configuration
-  pub readers : length texts ≡ configuration.cores
+  pub configured : configuration_of texts.config ≡ Ok configuration
+  pub readers : length texts.recordings ≡ configuration.cores
   pub pairs : List Pair
-  pub proposed : pairs_of certificate ≡ map Ok pairs
+  pub proposed : pairs_of texts.certificate ≡ map Ok pairs
   pub recordings : ℕ → List Record
-  pub recorded : (core : ℕ) → core < configuration.cores → items_at texts core ≡ map Ok (recordings core)
+  pub recorded : (core : ℕ) → core < configuration.cores → items_at texts.recordings core ≡ map Ok (recordings core)
   pub lawful : IsLawfulOrder configuration.cores (λ core. length (recordings core)) pairs
   pub records : List Ordered
   pub ordered : AreInOrder configuration.cores 0 pairs recordings records
@@ -48,8 +48,8 @@ pub record IsLawfulRun (config : List ℕ) (texts : List (List ℕ)) (certificat
   pub counted : count ≡ length records
 
 -- where the answer is Yes, the recordings are lawful in the order of the certificate, and every relation holds in their run
-abbrev pub YesMeansRun : List ℕ → List (List ℕ) → List ℕ → List Relation → Result Verdict CheckFault → Type 0
-YesMeansRun config texts certificate relations (Ok (Yes records)) = IsLawfulRun config texts certificate relations records
-YesMeansRun config texts certificate relations (Ok (No pos piece cause)) = Unit {0}
-YesMeansRun config texts certificate relations (Ok (Broken pos rule)) = Unit {0}
-YesMeansRun config texts certificate relations (Err fault) = Unit {0}
+abbrev pub YesMeansRun : Texts → List Relation → Result Verdict CheckFault → Type 0
+YesMeansRun texts relations (Ok (Yes records)) = IsLawfulRun texts relations records
+YesMeansRun texts relations (Ok (No pos piece cause)) = Unit {0}
+YesMeansRun texts relations (Ok (Broken pos rule)) = Unit {0}
+YesMeansRun texts relations (Err fault) = Unit {0}

@@ -1,31 +1,28 @@
 // The check.
 
-ghost use Rattle.std.specs.Prelude.{◌≡◌, ◌≤◌, ℕ, List, Some, map};
+ghost use Rattle.std.specs.Prelude.{◌≡◌, ◌≤◌, map};
 ghost use Rattle.user_rules.specs.Rules.{relations_of};
-ghost use Rattle.report.specs.Last.{IsLastOf};
-ghost use Rattle.report.specs.No.{NoMeansRefusal};
-ghost use Rattle.report.specs.Outcome.{IsOutcome, config_refusal_of};
-ghost use Rattle.report.specs.Yes.{YesMeansRun};
+ghost use Rattle.report.specs.Answers.{Answers, AnswersWith, given_by};
+ghost use Rattle.report.specs.Outcome.{config_refusal_of};
 
 use crate::fault::{ArgumentFault, CheckFault};
+use crate::inputs::Inputs;
 use crate::last::Last;
+use crate::options::{MOST_RECORDS, Options};
 use crate::rounds::judge_all;
 use crate::settings::Settings;
 use crate::witness::{Nobody, Witness};
 use core_intake::Intake;
+use csv_rows::TextSource;
 use module_config::{Config, ConfigFault};
 use order_cert::CertSource;
 use partition_workers::Gate;
 use placement::Placer;
 use std::alloc::Global;
-use std::io::Read;
 use std::sync::Wait;
 use std::thread::Threads;
 use user_rules::Rule;
 use verdict_merge::Verdict;
-
-/// The most records that a round holds.
-pub const MOST_RECORDS: usize = 4096;
 
 // The refusal that a fault of the configuration is.
 fn config_refusal(fault: ConfigFault) -> CheckFault
@@ -37,25 +34,87 @@ fn config_refusal(fault: ConfigFault) -> CheckFault
     }
 }
 
-/// Checks the recordings, one reader for each core in order, against the configuration, the order that the certificate
-/// proposes, and the user's rules.
+/// Checks the recordings against the configuration, the order that the certificate proposes, and the user's rules.
 ///
 /// Each recording is read by a thread of its own, beside the judging of what was read. The pieces of a round are judged by the
-/// workers, of which the gate is told.
+/// workers, of which the gate is told. No more is held at a time than two rounds, of which one is judged while the other is
+/// filled, and of each core what was read ahead. Behind a round in which a record is refused no more is taken than the round
+/// that was filled meanwhile, and the threads are stopped.
 ///
 /// Yes with the number of records where the order is lawful, the records in it are a run of the machine, and each rule holds of
 /// the view of each record; No with the first place that is not, the piece that refuses it and its cause; or the first place
 /// whose view breaks a rule, with the number of the rule; else the refusal that comes first: that of the settings, of the
 /// configuration, of the number of readers, and then of the least place. It is the same for all settings that are not refused,
-/// for every gate, and however the threads take turns. Memory comes where a growth or a thread was refused, at whatever
-/// point. A reader that answers an error ends its text there, with the fault Read.
+/// for every gate and every size of rounds, and however the threads take turns. Memory comes where a growth or a thread was
+/// refused, at whatever point. A reader that answers an error ends its text there, with the fault Read.
 ///
 /// A No and a broken rule speak of the machine too. The certificate's first pairs are then a lawful order of the first records of
 /// the recordings. Those before the place of a No are a run of the machine in which each rule holds, and the machine has no step
 /// that takes the record at the place. Those up to the place of a broken rule, with the one there, are a run, and the view there is
 /// the first that breaks a rule.
 ///
+/// `last` gets the last records before the place of a No or of a broken rule, at most eight, and none behind any other answer. The
+/// witness is told what stands at that place.
+///
 /// All threads have ended when it answers. A reader that waits in a read of its own holds it until that read returns.
+pub fn check_inputs<T, R, C, G, V>(
+    rt: T,
+    alloc: Global,
+    inputs: Inputs<'_, R, C>,
+    rules: &[Rule],
+    options: Options<'_, G>,
+    last: &mut Last,
+    witness: &mut V,
+) -> Result<Verdict, CheckFault>
+where
+    T: Threads + Wait + Sync + Copy + Send + 'static,
+    R: TextSource + Drop + Send + 'static,
+    C: TextSource + Drop,
+    G: Gate + Sync,
+    V: Witness,
+    ensures { AnswersWith inputs.entry (relations_of rules.now) options.entry.settings result last.new }
+{
+    last.clear();
+    if let Some(fault) = options.settings.fault() {
+        return Err(CheckFault::Arguments(fault));
+    }
+    let config = match Config::read(alloc, inputs.config) {
+        Ok(config) => config,
+        Err(fault) => return Err(config_refusal(fault)),
+    };
+    if inputs.recordings.len() != config.cores() as usize {
+        return Err(CheckFault::Arguments(ArgumentFault::ReaderCount));
+    }
+    config.keeps_limits();
+    // Workers read it while the placer is written to: apart from it, no line of the cache has both.
+    let Ok(config) = Box::new(alloc, config) else {
+        return Err(CheckFault::Memory);
+    };
+    let Inputs {
+        config: _,
+        recordings,
+        order,
+    } = inputs;
+    let Ok(intake) = Intake::open(rt, alloc, recordings, options.settings.depth) else {
+        return Err(CheckFault::Memory);
+    };
+    let mut placer = Placer::new(intake, CertSource::new(alloc, order));
+    let answer = judge_all(
+        &rt,
+        alloc,
+        &config,
+        &mut placer,
+        rules,
+        &options,
+        last,
+        witness,
+    );
+    placer.close(&rt);
+    last.settle(&answer);
+    answer
+}
+
+/// The same check, without the last records and with nobody who is told of a No.
 pub fn check<T, R, C, G>(
     rt: T,
     alloc: Global,
@@ -68,12 +127,10 @@ pub fn check<T, R, C, G>(
 ) -> Result<Verdict, CheckFault>
 where
     T: Threads + Wait + Sync + Copy + Send + 'static,
-    R: Read + Drop + Send + 'static,
-    C: Read + Drop,
+    R: TextSource + Drop + Send + 'static,
+    C: TextSource + Drop,
     G: Gate + Sync,
-    ensures outcome { (texts : List (List ℕ)) (certificate : List ℕ) → map (λ reader. R.remaining reader) readers.items ≡ map Some texts → C.remaining cert ≡ Some certificate → IsOutcome settings config.now texts certificate (relations_of rules.now) result }
-    ensures yes { (texts : List (List ℕ)) (certificate : List ℕ) → map (λ reader. R.remaining reader) readers.items ≡ map Some texts → C.remaining cert ≡ Some certificate → YesMeansRun config.now texts certificate (relations_of rules.now) result }
-    ensures no { (texts : List (List ℕ)) (certificate : List ℕ) → map (λ reader. R.remaining reader) readers.items ≡ map Some texts → C.remaining cert ≡ Some certificate → NoMeansRefusal config.now texts certificate (relations_of rules.now) result }
+    ensures { Answers (given_by config.now (map R.remaining readers.items) R.can_fail (C.remaining cert) C.can_fail) (relations_of rules.now) settings result }
 {
     check_in_rounds(
         rt,
@@ -88,8 +145,7 @@ where
     )
 }
 
-/// The same check, which leaves the last records before the place of a No or of a broken rule, at most eight; none behind any other
-/// answer.
+/// The same check, which leaves the last records before the place of a No or of a broken rule.
 pub fn check_with_last<T, R, C, G>(
     rt: T,
     alloc: Global,
@@ -103,32 +159,17 @@ pub fn check_with_last<T, R, C, G>(
 ) -> Result<Verdict, CheckFault>
 where
     T: Threads + Wait + Sync + Copy + Send + 'static,
-    R: Read + Drop + Send + 'static,
-    C: Read + Drop,
+    R: TextSource + Drop + Send + 'static,
+    C: TextSource + Drop,
     G: Gate + Sync,
-    ensures outcome { (texts : List (List ℕ)) (certificate : List ℕ) → map (λ reader. R.remaining reader) readers.items ≡ map Some texts → C.remaining cert ≡ Some certificate → IsOutcome settings config.now texts certificate (relations_of rules.now) result }
-    ensures yes { (texts : List (List ℕ)) (certificate : List ℕ) → map (λ reader. R.remaining reader) readers.items ≡ map Some texts → C.remaining cert ≡ Some certificate → YesMeansRun config.now texts certificate (relations_of rules.now) result }
-    ensures no { (texts : List (List ℕ)) (certificate : List ℕ) → map (λ reader. R.remaining reader) readers.items ≡ map Some texts → C.remaining cert ≡ Some certificate → NoMeansRefusal config.now texts certificate (relations_of rules.now) result }
-    ensures last { (texts : List (List ℕ)) (certificate : List ℕ) → map (λ reader. R.remaining reader) readers.items ≡ map Some texts → C.remaining cert ≡ Some certificate → IsLastOf config.now texts certificate (relations_of rules.now) result last.new }
+    ensures { AnswersWith (given_by config.now (map R.remaining readers.items) R.can_fail (C.remaining cert) C.can_fail) (relations_of rules.now) settings result last.new }
 {
-    check_keeping(
-        rt,
-        alloc,
-        config,
-        readers,
-        cert,
-        rules,
-        settings,
-        gate,
-        MOST_RECORDS,
-        last,
-        &mut Nobody,
-    )
+    let inputs = Inputs::new(config, readers, cert);
+    let options = Options::new(settings, gate);
+    check_inputs(rt, alloc, inputs, rules, options, last, &mut Nobody)
 }
 
-/// The same check with rounds of at most this many records, from 1 to 4,096. No more is held at a time than two rounds, of which one
-/// is judged while the other is filled, and of each core what was read ahead. Behind a round in which a record is refused no more
-/// is taken than the round that was filled meanwhile, and the threads are stopped.
+/// The same check with rounds of at most this many records, from 1 to 4,096.
 pub fn check_in_rounds<T, R, C, G>(
     rt: T,
     alloc: Global,
@@ -142,94 +183,17 @@ pub fn check_in_rounds<T, R, C, G>(
 ) -> Result<Verdict, CheckFault>
 where
     T: Threads + Wait + Sync + Copy + Send + 'static,
-    R: Read + Drop + Send + 'static,
-    C: Read + Drop,
+    R: TextSource + Drop + Send + 'static,
+    C: TextSource + Drop,
     G: Gate + Sync,
     requires least { 1 ≤ size }
     requires most { size ≤ 4096 }
-    ensures outcome { (texts : List (List ℕ)) (certificate : List ℕ) → map (λ reader. R.remaining reader) readers.items ≡ map Some texts → C.remaining cert ≡ Some certificate → IsOutcome settings config.now texts certificate (relations_of rules.now) result }
-    ensures yes { (texts : List (List ℕ)) (certificate : List ℕ) → map (λ reader. R.remaining reader) readers.items ≡ map Some texts → C.remaining cert ≡ Some certificate → YesMeansRun config.now texts certificate (relations_of rules.now) result }
-    ensures no { (texts : List (List ℕ)) (certificate : List ℕ) → map (λ reader. R.remaining reader) readers.items ≡ map Some texts → C.remaining cert ≡ Some certificate → NoMeansRefusal config.now texts certificate (relations_of rules.now) result }
+    ensures { Answers (given_by config.now (map R.remaining readers.items) R.can_fail (C.remaining cert) C.can_fail) (relations_of rules.now) settings result }
 {
     let Ok(mut last) = Last::new(alloc) else {
         return Err(CheckFault::Memory);
     };
-    check_keeping(
-        rt,
-        alloc,
-        config,
-        readers,
-        cert,
-        rules,
-        settings,
-        gate,
-        size,
-        &mut last,
-        &mut Nobody,
-    )
-}
-
-/// The check in rounds, which keeps the last records and tells the witness of a No.
-pub(crate) fn check_keeping<T, R, C, G, V>(
-    rt: T,
-    alloc: Global,
-    config: &[u8],
-    readers: Vec<R>,
-    cert: C,
-    rules: &[Rule],
-    settings: Settings,
-    gate: &G,
-    size: usize,
-    last: &mut Last,
-    witness: &mut V,
-) -> Result<Verdict, CheckFault>
-where
-    T: Threads + Wait + Sync + Copy + Send + 'static,
-    R: Read + Drop + Send + 'static,
-    C: Read + Drop,
-    G: Gate + Sync,
-    V: Witness,
-    requires least { 1 ≤ size }
-    requires most { size ≤ 4096 }
-    ensures outcome { (texts : List (List ℕ)) (certificate : List ℕ) → map (λ reader. R.remaining reader) readers.items ≡ map Some texts → C.remaining cert ≡ Some certificate → IsOutcome settings config.now texts certificate (relations_of rules.now) result }
-    ensures yes { (texts : List (List ℕ)) (certificate : List ℕ) → map (λ reader. R.remaining reader) readers.items ≡ map Some texts → C.remaining cert ≡ Some certificate → YesMeansRun config.now texts certificate (relations_of rules.now) result }
-    ensures no { (texts : List (List ℕ)) (certificate : List ℕ) → map (λ reader. R.remaining reader) readers.items ≡ map Some texts → C.remaining cert ≡ Some certificate → NoMeansRefusal config.now texts certificate (relations_of rules.now) result }
-    ensures last { (texts : List (List ℕ)) (certificate : List ℕ) → map (λ reader. R.remaining reader) readers.items ≡ map Some texts → C.remaining cert ≡ Some certificate → IsLastOf config.now texts certificate (relations_of rules.now) result last.new }
-{
-    last.clear();
-    if let Some(fault) = settings.fault() {
-        return Err(CheckFault::Arguments(fault));
-    }
-    let config = match Config::read(alloc, config) {
-        Ok(config) => config,
-        Err(fault) => return Err(config_refusal(fault)),
-    };
-    if readers.len() != config.cores() as usize {
-        return Err(CheckFault::Arguments(ArgumentFault::ReaderCount));
-    }
-    config.keeps_limits();
-    // Workers read it while the placer is written to: apart from it, no line of the cache has both.
-    let Ok(config) = Box::new(alloc, config) else {
-        return Err(CheckFault::Memory);
-    };
-    let Ok(intake) = Intake::open(rt, alloc, readers, settings.depth) else {
-        return Err(CheckFault::Memory);
-    };
-    let mut placer = Placer::new(intake, CertSource::new(alloc, cert));
-    let workers = settings.workers;
-    let answer = judge_all(
-        &rt,
-        alloc,
-        &config,
-        &mut placer,
-        rules,
-        workers,
-        gate,
-        size,
-        last,
-        witness,
-    );
-    placer.close(&rt);
-    last.settle(&answer);
-    answer
+    let inputs = Inputs::new(config, readers, cert);
+    let options = Options::new(settings, gate).in_rounds(size);
+    check_inputs(rt, alloc, inputs, rules, options, &mut last, &mut Nobody)
 }

@@ -10,27 +10,32 @@
 //! No more is held at a time than two rounds of records, of which one is judged while the other is filled, and of each core what was
 //! read ahead: the depth and two batches.
 //!
-//! Whoever has relations, and no tests of their own, calls `check_relations`. A witness is told there what stands at the place of a No,
-//! to tell it a person; nothing is promised of what it is told, and the answer is the same for every witness.
+//! `check_inputs` is the check; the other calls are the same one under other arguments. Whoever has relations, and no tests of their
+//! own, calls `check_relations`. A witness is told what stands at the place of a No, to tell it a person; the answer is the
+//! same for every witness.
 #![tactic(auto)]
 
 mod checking;
 mod fault;
+mod inputs;
 mod last;
 mod last_text;
 mod laws;
 mod names;
+mod options;
 mod relations;
 mod rounds;
 mod settings;
 mod text;
 mod witness;
 
-pub use checking::{MOST_RECORDS, check, check_in_rounds, check_with_last};
+pub use checking::{check, check_in_rounds, check_inputs, check_with_last};
 pub use fault::{ArgumentFault, CheckFault};
+pub use inputs::Inputs;
 pub use last::{Last, LastItem};
 pub use last_text::write_last;
-pub use laws::settings_change_no_outcome;
+pub use laws::{one_outcome, settings_change_no_outcome, whole_readings_tell_no_failure};
+pub use options::{MOST_RECORDS, Options};
 pub use partition_workers::{Gate, Open};
 pub use relations::check_relations;
 pub use settings::Settings;

@@ -13,42 +13,49 @@ ghost use Rattle.report.specs.Rounds.{IsDecided, IsLastAnswer, IsPlaced, MayJudg
 
 use crate::fault::{CheckFault, refusal};
 use crate::last::Last;
+use crate::options::Options;
 use crate::witness::{Witness, tell};
 use apex_types::Ordered;
+use csv_rows::TextSource;
 use module_config::Config;
 use partition_workers::{Gate, Judge};
 use placement::{Filled, InputFault, Placer};
 use std::alloc::Global;
-use std::io::Read;
 use std::mem;
 use std::sync::Wait;
 use std::thread::{Threads, join_mut};
 use user_rules::Rule;
 use verdict_merge::{Memory, Verdict};
 
-/// Judges all records that are ahead of the placer, in rounds of at most this many, each by so many workers. While a round is
-/// judged the next one is filled; behind a round with a finding nothing further is taken than that one.
+/// Judges all records that are ahead of the placer, in rounds. While a round is judged the next one is filled; behind a round with
+/// a finding nothing further is taken than that one.
 ///
 /// What is promised holds once the placer's threads are joined, since it is known then what they read. Behind a No the last
 /// records before it are kept, and the witness is told of it.
-pub fn judge_all<T: Threads + Wait + Sync, R: Read, C: Read, G: Gate + Sync, V: Witness>(
+pub fn judge_all<
+    T: Threads + Wait + Sync,
+    R: TextSource,
+    C: TextSource,
+    G: Gate + Sync,
+    V: Witness,
+>(
     rt: &T,
     alloc: Global,
     config: &Config,
     placer: &mut Placer<R, C>,
     rules: &[Rule],
-    workers: usize,
-    gate: &G,
-    size: usize,
+    options: &Options<'_, G>,
     last: &mut Last,
     witness: &mut V,
 ) -> Result<Verdict, CheckFault>
-    requires least { 1 ≤ size }
     requires going { placer.old.ended ≡ false }
     requires first { place_of placer.old.kept ≡ 0 }
     requires cores { length placer.old.lanes ≡ config.now.cores }
-    ensures { AreHonest placer.new.lanes → (result ≡ Err CheckFault.Memory) ⊎ ((scanned : Scan) × IsAhead placer.old scanned × IsJudged config.now (relations_of rules.now) scanned result × (last.new ≡ last_of result scanned.placed)) }
+    ensures { AreHonest R.can_fail placer.new.lanes → (result ≡ Err CheckFault.Memory) ⊎ ((scanned : Scan) × IsAhead (record { recordings = R.can_fail; certificate = C.can_fail }) placer.old scanned × IsJudged config.now (relations_of rules.now) scanned result × (last.new ≡ last_of result scanned.placed)) }
 {
+    let workers = options.settings.workers;
+    let gate = options.gate;
+    let size = options.size();
     last.clear();
     let Ok(mut judge) = Judge::start(alloc, config) else {
         return Err(CheckFault::Memory);
@@ -93,7 +100,7 @@ pub fn judge_all<T: Threads + Wait + Sync, R: Read, C: Read, G: Gate + Sync, V: 
 }
 
 // Judges a round and fills the next one: in a thread beside it where there are several workers, and behind it where there is one.
-fn judge_and_fill<T: Threads + Wait + Sync, R: Read, C: Read, G: Gate + Sync>(
+fn judge_and_fill<T: Threads + Wait + Sync, R: TextSource, C: TextSource, G: Gate + Sync>(
     rt: &T,
     config: &Config,
     judge: &mut Judge,
@@ -109,7 +116,7 @@ fn judge_and_fill<T: Threads + Wait + Sync, R: Read, C: Read, G: Gate + Sync>(
     requires going { placer.old.ended ≡ false }
     requires empty { next.old.items ≡ [] }
     ensures decided { IfOk result.0 (λ decided. IsDecided config.now (relations_of rules.now) judge.old round.now decided judge.new) }
-    ensures placed { IsPlaced placer.old next.new.items result.1 placer.new }
+    ensures placed { IsPlaced (record { recordings = R.can_fail; certificate = C.can_fail }) placer.old next.new.items result.1 placer.new }
 {
     if workers == 1 {
         let decided = judge_round(rt, config, judge, round, rules, workers, gate);
@@ -123,13 +130,13 @@ fn judge_and_fill<T: Threads + Wait + Sync, R: Read, C: Read, G: Gate + Sync>(
         { judge_round(rt, config, judge, round, rules, workers, gate) },
         &mut ||
             requires { (placer.now.ended ≡ false) × (next.now.items ≡ []) }
-            ensures { IsPlaced placer.entry.now next.exit.now.items result placer.exit.now }
+            ensures { IsPlaced (record { recordings = R.can_fail; certificate = C.can_fail }) placer.entry.now next.exit.now.items result placer.exit.now }
         { fill(rt, placer, next, size) },
     )
 }
 
 // Fills a round with the next records, up to this many of them.
-fn fill<T: Wait, R: Read, C: Read>(
+fn fill<T: Wait, R: TextSource, C: TextSource>(
     rt: &T,
     placer: &mut Placer<R, C>,
     round: &mut Vec<Ordered>,
@@ -137,7 +144,7 @@ fn fill<T: Wait, R: Read, C: Read>(
 ) -> Filled
     requires going { placer.old.ended ≡ false }
     requires empty { round.old.items ≡ [] }
-    ensures { IsPlaced placer.old round.new.items result placer.new }
+    ensures { IsPlaced (record { recordings = R.can_fail; certificate = C.can_fail }) placer.old round.new.items result placer.new }
 {
     placer.fill(rt, round, size)
 }

@@ -1,5 +1,7 @@
 // Who is told what stands at the place of a No.
 
+ghost use Rattle.std.specs.Prelude.{◌≡◌, ◌-◌, option_copied, slice_get};
+
 use crate::fault::CheckFault;
 use apex_types::{Cause, Ordered, Place, View};
 use module_config::Config;
@@ -37,13 +39,13 @@ pub(crate) fn tell<V: Witness>(
 ) {
     match answer {
         Ok(Verdict::No { pos, piece, cause }) => {
-            let found = records.get(index_of(*pos, first));
+            let found = record_at(*pos, first, records);
             if let (Some(piece), Some(ordered)) = (judge.piece(*piece), found) {
                 witness.refused(config, piece, ordered, *cause);
             }
         }
         Ok(Verdict::Broken { pos, rule }) => {
-            let found = records.get(index_of(*pos, first));
+            let found = record_at(*pos, first, records);
             if let (Some(ordered), Some(breach)) = (found, judge.breach()) {
                 witness.broken(ordered, &breach.seen.view, *rule);
             }
@@ -52,7 +54,9 @@ pub(crate) fn tell<V: Witness>(
     }
 }
 
-// The index of a place among records of which the first stands at this one.
-fn index_of(pos: Place, first: u64) -> usize {
-    pos.number().saturating_sub(first) as usize
+// The record at a place, among those of which the first stands at this one.
+fn record_at(pos: Place, first: u64, records: &[Ordered]) -> Option<&Ordered>
+    ensures { option_copied result ≡ slice_get records.now (pos - first) }
+{
+    records.get(pos.number().saturating_sub(first) as usize)
 }

@@ -1,13 +1,13 @@
-use Rattle.std.proofs.Common.{inr}
+use Rattle.std.proofs.Common.{inr, subst}
+use Rattle.report.specs.declared.settings.Settings.{Settings}
+use Rattle.report.specs.Answers.{AnswersWith}
 use Rattle.apexcheck.proofs.ruled.check_ruled.Goals as goal
 
 pub returns : goal.returns
-returns g c = λ texts certificate none recorded proposed.
+returns g c = λ none.
+    let relations = c.in-Ok.relations.items in
     inr (
-      c.in-Ok.relations.items,
+      relations,
       c.in-Ok.ensures,
-      c.check_relations.ensures.outcome texts certificate recorded proposed,
-      c.check_relations.ensures.yes texts certificate recorded proposed,
-      c.check_relations.ensures.no texts certificate recorded proposed,
-      c.check_relations.ensures.last texts certificate recorded proposed,
+      subst (λ (settings : Settings). AnswersWith c.args.inputs relations settings c.check_relations.result c.check_relations.new.last) c.new-options.ensures c.check_relations.ensures,
     )

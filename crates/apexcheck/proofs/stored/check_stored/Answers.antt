@@ -1,9 +1,6 @@
-use Rattle.std.proofs.Common.{[], ◌∷◌, refl}
-use Rattle.apexcheck.specs.declared.stored.TheConstants.{RECORDING, ORDER}
+use Rattle.std.proofs.Common.{[]}
+use Rattle.report.proofs.Answering.{want_of_memory}
 use Rattle.apexcheck.proofs.stored.check_stored.Goals as goal
 
-pub returns-clause-yes : goal.returns-clause-yes
-returns-clause-yes g c = c.check.ensures.yes (RECORDING.now ∷ []) ORDER.now (rw c.in-Ok.ensures.items refl) refl
-
-pub returns-clause-no : goal.returns-clause-no
-returns-clause-no g c = c.check.ensures.no (RECORDING.now ∷ []) ORDER.now (rw c.in-Ok.ensures.items refl) refl
+pub returns-in_default : goal.returns-in_default
+returns-in_default g c = ([], λ recordings certificate e is. want_of_memory _ _ _ [])

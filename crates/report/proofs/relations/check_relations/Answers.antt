@@ -1,31 +1,35 @@
-use Rattle.std.proofs.Common.{◌∙◌, map-id, sym, subst, arith}
+use Rattle.std.proofs.Common.{◌∙◌, Err, map-id, sym, subst, arith}
 use Rattle.std.proofs.lemmas.Iterator.Adapters.{YieldsList-from_vec}
 use Rattle.std.proofs.lemmas.Iterator.Consumers.{YieldsList-end}
-use Rattle.report.specs.Last.{IsLastOf}
-use Rattle.report.specs.No.{NoMeansRefusal}
-use Rattle.report.specs.Yes.{YesMeansRun}
+use Rattle.report.specs.declared.fault.CheckFault.TheVariants.{Memory}
+use Rattle.report.specs.Answers.{IsAnswer}
+use Rattle.report.specs.Inputs.{Texts}
+use Rattle.report.proofs.Answering.{want_of_memory}
 use Rattle.report.proofs.relations.check_relations.Goals as goal
 
-pub returns-clause-yes : goal.returns-clause-yes
-returns-clause-yes g c = λ texts certificate e is.
+pub returns : goal.returns
+returns g c = λ recordings certificate e is.
     let from = c.into_iter-relation-iterator.ensures.into_iter_gives in
     let listed = YieldsList-from_vec c.args.relations.items from.0 (omega (arith, from.1, c.args.relations.ok)) in
     let end = YieldsList-end listed c.loop-relation.yielded c.loop-relation.relation-iterator c.loop-relation.yielded_by c.next.result c.next.new.self c.in-None.is c.next.ensures.steps in
-    subst (λ relations. YesMeansRun c.args.config.now texts certificate relations c.check_keeping.result) (c.loop-relation.invariant ∙ sym (map-id c.loop-relation.yielded) ∙ end.0)
-    (rw c.deref.ensures.value at c.check_keeping.ensures.yes texts certificate e is)
+    let texts : Texts = record { config = c.args.inputs.config; recordings = recordings; certificate = certificate } in
+    subst (λ relations. IsAnswer c.args.options.settings texts c.args.inputs.can_fail relations c.check_inputs.result c.check_inputs.new.last) (c.loop-relation.invariant ∙ sym (map-id c.loop-relation.yielded) ∙ end.0)
+    (rw c.deref.ensures.value at c.check_inputs.ensures recordings certificate e is)
 
-pub returns-clause-no : goal.returns-clause-no
-returns-clause-no g c = λ texts certificate e is.
-    let from = c.into_iter-relation-iterator.ensures.into_iter_gives in
-    let listed = YieldsList-from_vec c.args.relations.items from.0 (omega (arith, from.1, c.args.relations.ok)) in
-    let end = YieldsList-end listed c.loop-relation.yielded c.loop-relation.relation-iterator c.loop-relation.yielded_by c.next.result c.next.new.self c.in-None.is c.next.ensures.steps in
-    subst (λ relations. NoMeansRefusal c.args.config.now texts certificate relations c.check_keeping.result) (c.loop-relation.invariant ∙ sym (map-id c.loop-relation.yielded) ∙ end.0)
-    (rw c.deref.ensures.value at c.check_keeping.ensures.no texts certificate e is)
+pub returns-in_default : goal.returns-in_default
+returns-in_default g c = λ recordings certificate e is.
+    let texts : Texts = record { config = c.args.inputs.config; recordings = recordings; certificate = certificate } in
+    subst (IsAnswer c.args.options.settings texts c.args.inputs.can_fail c.args.relations.items (Err Memory)) (sym c.clear.ensures)
+    (want_of_memory c.args.options.settings texts c.args.inputs.can_fail c.args.relations.items)
 
-pub returns-clause-last : goal.returns-clause-last
-returns-clause-last g c = λ texts certificate e is.
-    let from = c.into_iter-relation-iterator.ensures.into_iter_gives in
-    let listed = YieldsList-from_vec c.args.relations.items from.0 (omega (arith, from.1, c.args.relations.ok)) in
-    let end = YieldsList-end listed c.loop-relation.yielded c.loop-relation.relation-iterator c.loop-relation.yielded_by c.next.result c.next.new.self c.in-None.is c.next.ensures.steps in
-    subst (λ relations. IsLastOf c.args.config.now texts certificate relations c.check_keeping.result c.check_keeping.new.last) (c.loop-relation.invariant ∙ sym (map-id c.loop-relation.yielded) ∙ end.0)
-    (rw c.deref.ensures.value at c.check_keeping.ensures.last texts certificate e is)
+pub returns-in_default-new : goal.returns-in_default-new
+returns-in_default-new g c = λ recordings certificate e is.
+    let texts : Texts = record { config = c.args.inputs.config; recordings = recordings; certificate = certificate } in
+    subst (IsAnswer c.args.options.settings texts c.args.inputs.can_fail c.args.relations.items (Err Memory)) (sym c.clear.ensures)
+    (want_of_memory c.args.options.settings texts c.args.inputs.can_fail c.args.relations.items)
+
+pub returns-then-is_err : goal.returns-then-is_err
+returns-then-is_err g c = λ recordings certificate e is.
+    let texts : Texts = record { config = c.args.inputs.config; recordings = recordings; certificate = certificate } in
+    subst (IsAnswer c.args.options.settings texts c.args.inputs.can_fail c.args.relations.items (Err Memory)) (sym c.clear.ensures)
+    (want_of_memory c.args.options.settings texts c.args.inputs.can_fail c.args.relations.items)

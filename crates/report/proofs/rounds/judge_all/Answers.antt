@@ -4,6 +4,7 @@ use Rattle.apex_types.specs.declared.record.Ordered.{Ordered}
 use Rattle.apex_machine.specs.Runs.{ArePlaced, AreOfCores}
 use Rattle.circular_buffer.specs.Buffer.{keep_last}
 use Rattle.placement.specs.Lanes.{AreHonest, IsFilled, Lead}
+use Rattle.placement.specs.Reading.{CanFail}
 use Rattle.user_rules.specs.Rules.{relations_of}
 use Rattle.report.specs.declared.fault.CheckFault.TheVariants.{Memory}
 use Rattle.report.specs.declared.last.LastItem.{LastItem}
@@ -15,6 +16,7 @@ use Rattle.report.proofs.rounds.judge_all.Goals as goal
 
 pub returns-in-Ended : goal.returns-in-Ended
 returns-in-Ended g c =
+    let can_fail : CanFail = record { recordings = g.R.TextSource.can_fail; certificate = g.C.TextSource.can_fail } in
     let config = c.args.config.now in
     let relations = relations_of c.args.rules.now in
     let gone = c.rounds.invariant.gone in
@@ -24,33 +26,35 @@ returns-in-Ended g c =
     rw c.deref-in-Ended.ensures.value at c.keep_behind.ensures
     ∙ ap (λ first. kept_behind c.judge_last-answer.result first c.rounds.last round) c.count-first.ensures
     ∙ ap (λ before. kept_behind c.judge_last-answer.result c.rounds.judge.count before round) gone.3 in λ honest.
-    subst (λ told. (c.judge_last-answer.result ≡ Err Memory) ⊎ IsToldOf config relations c.args.placer.now c.judge_last-answer.result told) (sym last)
-    (last_on config relations c.args.placer.now c.rounds.placer c.rounds.judge gone.0 round c.in-Ended.end c.judge_last-answer.result
-    (subst (λ filled. IsFilled c.args.placer.now (gone.0 ++ round) filled c.rounds.placer) c.in-Ended.is (gone.1 honest)) gone.2 c.rounds.invariant.may.placed
+    subst (λ told. (c.judge_last-answer.result ≡ Err Memory) ⊎ IsToldOf can_fail config relations c.args.placer.now c.judge_last-answer.result told) (sym last)
+    (last_on can_fail config relations c.args.placer.now c.rounds.placer c.rounds.judge gone.0 round c.in-Ended.end c.judge_last-answer.result
+    (subst (λ filled. IsFilled can_fail c.args.placer.now (gone.0 ++ round) filled c.rounds.placer) c.in-Ended.is (gone.1 honest)) gone.2 c.rounds.invariant.may.placed
     (rw c.deref.ensures.value at c.judge_last-answer.ensures))
 
 pub returns-in-Ok-Some : goal.returns-in-Ok-Some
 returns-in-Ok-Some g c =
+    let can_fail : CanFail = record { recordings = g.R.TextSource.can_fail; certificate = g.C.TextSource.can_fail } in
     let config = c.args.config.now in
     let relations = relations_of c.args.rules.now in
     let gone = c.rounds.invariant.gone in
     let round : List Ordered = c.rounds.round.items in
     let kept : List LastItem = keep_last most_last (map item_of gone.0) in
     let verdict = c.in-Ok-Some.verdict in
-    let lead : AreHonest c.rounds.placer.lanes → Lead c.args.placer.now (gone.0 ++ round) c.rounds.placer =
-    λ honest. subst (λ filled. IsFilled c.args.placer.now (gone.0 ++ round) filled c.rounds.placer) c.in-Full.is (gone.1 honest) in
+    let lead : AreHonest can_fail.recordings c.rounds.placer.lanes → Lead can_fail c.args.placer.now (gone.0 ++ round) c.rounds.placer =
+    λ honest. subst (λ filled. IsFilled can_fail c.args.placer.now (gone.0 ++ round) filled c.rounds.placer) c.in-Full.is (gone.1 honest) in
     let decided : IsDecided config relations c.rounds.judge round (Some verdict) c.judge_and_fill-decided.new.judge =
     rw c.in-Ok-Some.field-0-is at (rw c.in-Ok-Some.is at (rw c.deref-in-rounds.ensures.value at c.judge_and_fill-decided.ensures.decided)) in
     let last : c.keep_behind-in-Ok-Some.new.self ≡ kept_behind (Ok verdict) c.rounds.judge.count kept round =
     rw c.deref-in-Ok-Some.ensures.value at c.keep_behind-in-Ok-Some.ensures
     ∙ ap (λ first. kept_behind (Ok verdict) first c.rounds.last round) c.count-first.ensures
     ∙ ap (λ before. kept_behind (Ok verdict) c.rounds.judge.count before round) gone.3 in λ honest.
-    subst (λ told. (Ok verdict ≡ Err Memory) ⊎ IsToldOf config relations c.args.placer.now (Ok verdict) told) (sym last)
-    (decided_on config relations c.args.placer.now c.rounds.placer c.rounds.judge c.judge_and_fill-decided.new.judge gone.0 round verdict
+    subst (λ told. (Ok verdict ≡ Err Memory) ⊎ IsToldOf can_fail config relations c.args.placer.now (Ok verdict) told) (sym last)
+    (decided_on can_fail config relations c.args.placer.now c.rounds.placer c.rounds.judge c.judge_and_fill-decided.new.judge gone.0 round verdict
     (lead (c.judge_and_fill-decided.ensures.placed.honest honest)) gone.2 c.rounds.invariant.may.placed decided)
 
 pub rounds-preserved : goal.rounds-preserved
 rounds-preserved g c =
+    let can_fail : CanFail = record { recordings = g.R.TextSource.can_fail; certificate = g.C.TextSource.can_fail } in
     let config = c.args.config.now in
     let relations = relations_of c.args.rules.now in
     let is = c.rounds.invariant in
@@ -58,8 +62,8 @@ rounds-preserved g c =
     let round : List Ordered = c.rounds.round.items in
     let next : List Ordered = c.judge_and_fill-decided.new.next.items in
     let placed = c.judge_and_fill-decided.ensures.placed in
-    let lead : AreHonest c.rounds.placer.lanes → Lead c.args.placer.now (gone.0 ++ round) c.rounds.placer =
-    λ honest. subst (λ filled. IsFilled c.args.placer.now (gone.0 ++ round) filled c.rounds.placer) c.in-Full.is (gone.1 honest) in
+    let lead : AreHonest can_fail.recordings c.rounds.placer.lanes → Lead can_fail c.args.placer.now (gone.0 ++ round) c.rounds.placer =
+    λ honest. subst (λ filled. IsFilled can_fail c.args.placer.now (gone.0 ++ round) filled c.rounds.placer) c.in-Full.is (gone.1 honest) in
     let decided : IsDecided config relations c.rounds.judge round None c.judge_and_fill-decided.new.judge =
     rw c.in-Ok-None.field-0-is at (rw c.in-Ok-None.is at (rw c.deref-in-rounds.ensures.value at c.judge_and_fill-decided.ensures.decided)) in
     let count = decided.1 ∙ sym (is.place c.in-Full.is) in
@@ -75,7 +79,7 @@ rounds-preserved g c =
       };
       gone = (
         gone.0 ++ round,
-        (λ honest. filled_on c.args.placer.now c.rounds.placer c.judge_and_fill-decided.new.placer (gone.0 ++ round) next c.judge_and_fill-decided.result.1 (lead (placed.honest honest)) (placed.known honest)),
+        (λ honest. filled_on can_fail c.args.placer.now c.rounds.placer c.judge_and_fill-decided.new.placer (gone.0 ++ round) next c.judge_and_fill-decided.result.1 (lead (placed.honest honest)) (placed.known honest)),
         behind_on config relations c.rounds.judge c.judge_and_fill-decided.new.judge gone.0 round gone.2 decided,
         kept,
       );

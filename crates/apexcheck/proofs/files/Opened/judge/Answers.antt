@@ -1,0 +1,33 @@
+use Rattle.std.proofs.Common.{◌≡◌, ◌∙◌, ℕ, List, Bool, Option, Result, Ok, ap, subst, sym, refl, inr, map, option_map}
+use Rattle.report.specs.declared.fault.CheckFault.{CheckFault}
+use Rattle.report.specs.declared.last.LastItem.{LastItem}
+use Rattle.report.specs.declared.settings.Settings.{Settings}
+use Rattle.report.specs.Answers.{Given}
+use Rattle.rule_options.specs.declared.option.RuleOption.{RuleOption}
+use Rattle.rule_options.specs.Options.{in_order}
+use Rattle.rules_file.specs.Reading.{SaidRule, said}
+use Rattle.verdict_merge.specs.declared.verdict.Verdict.{Verdict}
+use Rattle.apexcheck.specs.declared.ending.Ending.TheVariants.{Checked}
+use Rattle.apexcheck.specs.Files.{given_of}
+use Rattle.apexcheck.specs.Ruled.{AnswersRuled, IsRuledEnding, rules_given, where_asked}
+use Rattle.apexcheck.proofs.files.Opened.judge.Goals as goal
+
+-- a run ends by the answer under the rules that its text says
+ends : (given : Given) (options : List RuleOption) (text : Option (List ℕ)) (settings : Settings) (asked : Bool) (rules : List SaidRule) (outcome : Result Verdict CheckFault) (last : List LastItem)
+    → rules_given text ≡ Ok rules → AnswersRuled given options rules settings outcome last → IsRuledEnding given options text settings asked (Checked outcome (where_asked asked last))
+ends given options text settings asked rules outcome last read is = inr (rw read (outcome, last, refl, is))
+
+pub returns : goal.returns
+returns g c =
+    let given : Given = given_of (λ source. g.S.TextSource.remaining source) g.S.TextSource.can_fail c.args.self in
+    let asked = c.args.asked.now in
+    let text = option_map (λ text. text.items) c.args.self.rules in
+    let same : option_map (λ text. text.now) c.as_deref.result ≡ text = c.as_deref.ensures.value in
+    let rules = map said c.in-Ok-read_rules.rules.items in
+    let outcome = c.check_ruled-outcome.result in
+    let last = c.check_ruled-outcome.new.last in
+    let answers : AnswersRuled given c.in-Ok.options.items rules asked.settings outcome last =
+    rw (c.new-inputs.ensures, c.deref.ensures.value, c.deref-2.ensures.value, c.deref-3.ensures.value) at (c.check_ruled-outcome.ensures c.in-Ok-new.ensures) in
+    subst (λ told. IsRuledEnding given (in_order asked.options) text asked.settings asked.last (Checked outcome told)) (sym c.where_asked.ensures)
+    (ends given (in_order asked.options) text asked.settings asked.last rules outcome last (ap rules_given (sym same) ∙ c.in-Ok-read_rules.ensures)
+    (subst (λ (options : List RuleOption). AnswersRuled given options rules asked.settings outcome last) c.in-Ok.ensures answers))

@@ -1,0 +1,103 @@
+// The verdict for texts in memory over all their records at once.
+
+ghost use Rattle.std.specs.Prelude.{◌≤◌, IfOk, length};
+ghost use Rattle.apex_machine.specs.Runs.{ArePlaced, AreOfCores};
+
+use crate::answering::{Answer, line_of, readers_of, status_of};
+use apex_types::{Ordered, View};
+use core_intake::Intake;
+use module_config::Config;
+use order_cert::CertSource;
+use placement::{Filled, InputFault, Placer};
+use report::Verdict;
+use rule_options::{RuleOption, relations_of};
+use std::alloc::{AllocError, Global};
+use std::io::Cursor;
+use std::sync::Wait;
+use std::thread::Threads;
+use user_rules::{Rule, Test};
+use verdict_merge::check_plain;
+
+// How far ahead the recordings are read.
+const DEPTH: usize = 64;
+
+/// What `check_plain` answers for these texts over the records that they place, whatever refuses the rest of them, and under the
+/// rules that these options ask for. No last records are told.
+///
+/// The answer to a configuration that is refused, or that has another number of cores, is an empty line with status 2.
+pub fn answer_at_once<T>(
+    rt: T,
+    alloc: Global,
+    config: &[u8],
+    recordings: &[Vec<u8>],
+    order: &[u8],
+    options: &[RuleOption],
+) -> Result<Answer, AllocError>
+where
+    T: Threads + Wait + Sync + Copy + Send + 'static,
+{
+    let config = match Config::read(alloc, config) {
+        Ok(config) if config.cores() as usize == recordings.len() => config,
+        _ => {
+            return Ok(Answer {
+                line: Vec::new(alloc),
+                last: Vec::new(alloc),
+                status: 2,
+            });
+        }
+    };
+    let Ok(intake) = Intake::open(rt, alloc, readers_of(alloc, recordings)?, DEPTH) else {
+        return Err(AllocError);
+    };
+    let records = records_of(rt, alloc, intake, order)?;
+    let outcome = Ok(verdict_over(alloc, &config, &records, options)?);
+    Ok(Answer {
+        line: line_of(alloc, &outcome)?,
+        last: Vec::new(alloc),
+        status: status_of(&outcome),
+    })
+}
+
+// All records that this certificate places, whatever refuses the rest.
+fn records_of<T: Threads + Wait + Copy + Send + 'static>(
+    rt: T,
+    alloc: Global,
+    intake: Intake<Cursor<Vec<u8>>>,
+    order: &[u8],
+) -> Result<Vec<Ordered>, AllocError>
+    requires some { 1 ≤ length intake }
+    requires few { length intake ≤ 16 }
+    ensures placed { IfOk result (λ records. ArePlaced 0 records.items) }
+    ensures cores { IfOk result (λ records. AreOfCores (length intake) records.items) }
+{
+    let mut placer = Placer::new(intake, CertSource::new(alloc, order));
+    let mut records: Vec<Ordered> = Vec::new(alloc);
+    let filled = placer.fill(&rt, &mut records, usize::MAX);
+    placer.close(&rt);
+    match filled {
+        Filled::Full | Filled::Ended(Err(InputFault::Memory)) => Err(AllocError),
+        Filled::Ended(_) => Ok(records),
+    }
+}
+
+// The verdict over these records under the rules that the options ask for, each of which is its own test.
+fn verdict_over(
+    alloc: Global,
+    config: &Config,
+    records: &[Ordered],
+    options: &[RuleOption],
+) -> Result<Verdict, AllocError>
+    requires placed { ArePlaced 0 records.now }
+    requires cores { AreOfCores config.now.cores records.now }
+{
+    let mut rules = Vec::new(alloc);
+    for relation in relations_of(alloc, options)? {
+        let tested = relation.clone()?;
+        let test: Test = Box::new(alloc, move |view: &View| tested.holds(view))?;
+        rules.push(Rule::new(relation, test))?;
+    }
+    match check_plain(alloc, config, records, &rules) {
+        Ok(verdict) => Ok(verdict),
+        Err(_) => Err(AllocError),
+    }
+}

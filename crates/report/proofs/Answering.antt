@@ -1,0 +1,140 @@
+-- What is said of the answers of a check, by how it ended.
+use Rattle.std.proofs.Common.{◌≡◌, ◌≢◌, ◌⊎◌, List, [], Some, None, Result, Ok, Err, length, refl, sym, ap, subst, inl, inr}
+use Rattle.apex_machine.specs.Configuration.{Configuration}
+use Rattle.module_config.specs.declared.fault.ConfigFault.{ConfigFault}
+use Rattle.module_config.specs.declared.fault.ConfigFault.TheVariants as config
+use Rattle.module_config.specs.Reading.{configuration_of}
+use Rattle.order_cert.specs.Kept.{none_taken}
+use Rattle.order_cert.specs.Row.{pairs_of}
+use Rattle.placement.specs.declared.fault.InputFault.{InputFault}
+use Rattle.placement.specs.declared.fault.InputFault.TheVariants as input
+use Rattle.placement.specs.Lanes.{IsScanOf}
+use Rattle.placement.specs.Reading.{CanFail}
+use Rattle.placement.specs.Scan.{Scan}
+use Rattle.user_rules.specs.declared.relation.Relation.{Relation}
+use Rattle.placement.proofs.Refusal.{refused_at_first}
+use Rattle.verdict_merge.specs.declared.verdict.Verdict.{Verdict}
+use Rattle.verdict_merge.specs.declared.verdict.Verdict.TheVariants.{Yes, No, Broken}
+use Rattle.verdict_merge.specs.Refusals.{IsRunUpToNo}
+use Rattle.verdict_merge.specs.Verdicts.{IsRunWhereYes, IsVerdict}
+use Rattle.report.specs.declared.fault.ArgumentFault.{ArgumentFault}
+use Rattle.report.specs.declared.fault.ArgumentFault.TheVariants.{ReaderCount}
+use Rattle.report.specs.declared.fault.CheckFault.{CheckFault}
+use Rattle.report.specs.declared.fault.CheckFault.TheVariants.{Arguments, Config, Cert, Order, Row, Memory}
+use Rattle.report.specs.declared.last.LastItem.{LastItem}
+use Rattle.report.specs.declared.settings.Settings.{Settings}
+use Rattle.report.specs.Answers.{IsAnswer}
+use Rattle.report.specs.Inputs.{Readings, Texts, given_of_certificate, given_of_core, items_at, scan_of, whole}
+use Rattle.report.specs.Last.{last_of, settled}
+use Rattle.report.specs.Outcome.{IsJudged, IsOutcome, IsOutcomeBy, IsOutcomeWith, answer_with, argument_fault_of, config_refusal_of}
+use Rattle.report.specs.Refused.{IsFirstOf, RefusalMeansFault}
+use Rattle.report.proofs.Lawful.{last_means, no_means, yes_means}
+use Rattle.report.proofs.Whole.{other_count, outcome_under, read_so}
+
+-- the first fault of the input, where a scan ends with it
+first_of : (texts : Texts) (readings : Readings) (fault : InputFault) → (scan_of texts readings).end ≡ Err fault → IsFirstOf texts readings fault
+first_of texts readings fault is =
+    let (pairs, taken, count, first) = refused_at_first (length texts.recordings) (given_of_core texts readings) (given_of_certificate texts readings) (scan_of texts readings) fault refl is in
+    (pairs, taken, first)
+
+-- a refusal of the input is for its first fault
+refusal_means : (texts : Texts) (readings : Readings) (verdict : Verdict) (end : Result (Unit {0}) InputFault) → (scan_of texts readings).end ≡ end
+    → RefusalMeansFault texts readings (answer_with verdict end)
+refusal_means texts readings (No pos piece cause) end is = tt
+refusal_means texts readings (Broken pos rule) end is = tt
+refusal_means texts readings (Yes records) (Ok ended) is = tt
+refusal_means texts readings (Yes records) (Err (input.Cert place fault)) is = first_of texts readings (input.Cert place fault) is
+refusal_means texts readings (Yes records) (Err (input.Order place core fault)) is = first_of texts readings (input.Order place core fault) is
+refusal_means texts readings (Yes records) (Err (input.Row core seq fault)) is = first_of texts readings (input.Row core seq fault) is
+refusal_means texts readings (Yes records) (Err input.Memory) is = tt
+
+-- a refusal of another kind says nothing of the input
+abbrev IsOfNoText : CheckFault → Type 0
+IsOfNoText (Arguments fault) = Unit {0}
+IsOfNoText (Config fault) = Unit {0}
+IsOfNoText Memory = Unit {0}
+IsOfNoText (Cert place fault) = ⊥
+IsOfNoText (Order place core fault) = ⊥
+IsOfNoText (Row core seq fault) = ⊥
+
+nothing_refused : (texts : Texts) (fault : CheckFault) → IsOfNoText fault → RefusalMeansFault texts whole (Err fault)
+nothing_refused texts (Arguments fault) is = tt
+nothing_refused texts (Config fault) is = tt
+nothing_refused texts Memory is = tt
+nothing_refused texts (Cert place fault) is = absurd is
+nothing_refused texts (Order place core fault) is = absurd is
+nothing_refused texts (Row core seq fault) is = absurd is
+
+-- such a refusal is no Yes and no No, and has no records behind it
+refused : (settings : Settings) (texts : Texts) (can_fail : CanFail) (relations : List Relation) (fault : CheckFault) → IsOfNoText fault → IsOutcome settings texts whole relations (Err fault)
+    → IsAnswer settings texts can_fail relations (Err fault) []
+refused settings texts can_fail relations fault kind is = record { readings = whole; read = record { recordings = λ cannot core. refl; certificate = λ cannot. refl }; outcome = is; yes = tt; no = tt; refusal = nothing_refused texts fault kind; last_records = refl }
+
+pub want_of_memory : (settings : Settings) (texts : Texts) (can_fail : CanFail) (relations : List Relation) → IsAnswer settings texts can_fail relations (Err Memory) []
+want_of_memory settings texts can_fail relations = refused settings texts can_fail relations Memory tt (inl refl)
+
+-- the refusal of the settings
+pub refused_settings : (settings : Settings) (texts : Texts) (can_fail : CanFail) (relations : List Relation) (fault : ArgumentFault) → argument_fault_of settings ≡ Some fault
+    → IsAnswer settings texts can_fail relations (Err (Arguments fault)) []
+refused_settings settings texts can_fail relations fault is =
+    refused settings texts can_fail relations (Arguments fault) tt (inr (subst (λ found. IsOutcomeWith found texts whole relations (Err (Arguments fault))) (sym is) refl))
+
+-- where nothing is wrong with the settings, the outcome is that of the texts
+with_settings : (settings : Settings) (texts : Texts) (readings : Readings) (relations : List Relation) (result : Result Verdict CheckFault) → argument_fault_of settings ≡ None
+    → IsOutcomeBy (configuration_of texts.config) texts readings relations result → IsOutcome settings texts readings relations result
+with_settings settings texts readings relations result none is = inr (subst (λ found. IsOutcomeWith found texts readings relations result) (sym none) is)
+
+-- a fault of the configuration as the check tells it
+config_told : (fault : ConfigFault) → (fault ≡ config.Memory) ⊎ ((fault ≢ config.Memory) × (config_refusal_of fault ≡ Config fault))
+config_told config.Memory = inl refl
+config_told fault = inr ((λ e. cc), refl)
+
+-- the refusal of the configuration
+pub refused_configuration : (settings : Settings) (texts : Texts) (can_fail : CanFail) (relations : List Relation) (fault : ConfigFault) → argument_fault_of settings ≡ None
+    → (fault ≢ config.Memory → configuration_of texts.config ≡ Err fault) → IsAnswer settings texts can_fail relations (Err (config_refusal_of fault)) []
+refused_configuration settings texts can_fail relations fault none read = elim (config_told fault) [
+  | inl memory ↦ subst (λ one. IsAnswer settings texts can_fail relations (Err (config_refusal_of one)) []) (sym memory) (want_of_memory settings texts can_fail relations)
+  | inr (other, is) ↦ subst (λ one. IsAnswer settings texts can_fail relations (Err one) []) (sym is)
+      (refused settings texts can_fail relations (Config fault) tt (with_settings settings texts whole relations (Err (Config fault)) none
+      (subst (λ reading. IsOutcomeBy reading texts whole relations (Err (Config fault))) (sym (read other)) refl)))
+]
+
+-- the refusal of the number of readers
+pub refused_count : (settings : Settings) (texts : Texts) (can_fail : CanFail) (relations : List Relation) (configuration : Configuration) → argument_fault_of settings ≡ None
+    → configuration_of texts.config ≡ Ok configuration → length texts.recordings ≢ configuration.cores → IsAnswer settings texts can_fail relations (Err (Arguments ReaderCount)) []
+refused_count settings texts can_fail relations configuration none read apart =
+    refused settings texts can_fail relations (Arguments ReaderCount) tt (with_settings settings texts whole relations (Err (Arguments ReaderCount)) none
+    (subst (λ reading. IsOutcomeBy reading texts whole relations (Err (Arguments ReaderCount))) (sym read)
+    (other_count configuration texts whole relations (Err (Arguments ReaderCount)) apart refl)))
+
+-- what is known behind the judging of all that was ahead
+pub record IsEnded (configuration : Configuration) (texts : Texts) (can_fail : CanFail) (relations : List Relation) (result : Result Verdict CheckFault) (last : List LastItem) : Type 0 where
+  pub scanned : Scan
+  pub scan : IsScanOf can_fail (length texts.recordings) none_taken 0 (items_at texts.recordings) (pairs_of texts.certificate) scanned
+  pub judged : IsJudged configuration relations scanned result
+  pub told : last ≡ last_of result scanned.placed
+
+-- the answer behind it
+pub answered : (settings : Settings) (texts : Texts) (can_fail : CanFail) (relations : List Relation) (configuration : Configuration) (result : Result Verdict CheckFault) (last : List LastItem)
+    → argument_fault_of settings ≡ None → configuration_of texts.config ≡ Ok configuration → length texts.recordings ≡ configuration.cores
+    → ((scanned : Scan) (verdict : Verdict) → IsScanOf can_fail (length texts.recordings) none_taken 0 (items_at texts.recordings) (pairs_of texts.certificate) scanned
+    → IsVerdict configuration relations scanned.placed verdict
+    → IsRunWhereYes configuration relations scanned.placed verdict × IsRunUpToNo configuration relations scanned.placed verdict)
+    → (result ≡ Err Memory) ⊎ IsEnded configuration texts can_fail relations result last
+    → IsAnswer settings texts can_fail relations result (settled result last)
+answered settings texts can_fail relations configuration result last none read count means (inl memory) =
+    subst (λ one. IsAnswer settings texts can_fail relations one (settled one last)) (sym memory) (want_of_memory settings texts can_fail relations)
+answered settings texts can_fail relations configuration result last none read count means (inr ended) =
+    let (verdict, found, is) = ended.judged in
+    let runs = means ended.scanned verdict ended.scan found in
+    let so = read_so can_fail texts ended.scanned ended.scan in
+    record {
+      readings = so.readings;
+      read = so.read;
+      outcome = with_settings settings texts so.readings relations result none
+          (subst (λ reading. IsOutcomeBy reading texts so.readings relations result) (sym read) (outcome_under configuration texts so.readings relations result ended.scanned count so.scan ended.judged));
+      yes = yes_means can_fail texts relations configuration ended.scanned verdict result read count ended.scan runs.0 is;
+      no = no_means can_fail texts relations configuration ended.scanned verdict result read count ended.scan runs.1 is;
+      refusal = subst (RefusalMeansFault texts so.readings) (sym is) (refusal_means texts so.readings verdict ended.scanned.end (ap (λ one. one.end) so.scan));
+      last_records = last_means can_fail texts relations configuration ended.scanned verdict result last read count ended.scan runs.1 is ended.told;
+    }

@@ -1,0 +1,54 @@
+// How a check is carried out.
+
+ghost use Rattle.std.specs.Prelude.{◌≡◌, ◌≤◌};
+
+use crate::settings::Settings;
+
+/// The most records that a round holds.
+pub const MOST_RECORDS: usize = 4096;
+
+/// How a check is carried out: its settings, the gate that is told of each claim and each post, and how many records a round
+/// holds. No answer hangs on the gate, nor on the rounds.
+#[derive(Drop)]
+pub struct Options<'a, G> {
+    /// The workers and the depth.
+    pub settings: Settings,
+    /// Who is told of claims and posts.
+    pub gate: &'a G,
+    size: usize,
+    ghost is_size: { (1 ≤ size) × (size ≤ 4096) },
+}
+
+impl<'a, G> Options<'a, G> {
+    /// These settings and this gate, with rounds of 4,096 records.
+    pub fn new(settings: Settings, gate: &'a G) -> Options<'a, G>
+        ensures { result.settings ≡ settings }
+    {
+        Options {
+            settings,
+            gate,
+            size: MOST_RECORDS,
+        }
+    }
+
+    /// The same with rounds of at most this many records, from 1 to 4,096.
+    pub fn in_rounds(self, size: usize) -> Options<'a, G>
+        requires least { 1 ≤ size }
+        requires most { size ≤ 4096 }
+        ensures { result.settings ≡ self.entry.settings }
+    {
+        Options {
+            settings: self.settings,
+            gate: self.gate,
+            size,
+        }
+    }
+
+    /// How many records a round holds at most.
+    pub fn size(&self) -> usize
+        ensures least { 1 ≤ result }
+        ensures most { result ≤ 4096 }
+    {
+        self.size
+    }
+}
