@@ -29,6 +29,7 @@ if ! .ci/time_by_crate "$room/times" rt ci | tee "$room/log"; then
     exit 1
 fi
 program=crates/apexcheck/out/apexcheck
+bash .ci/run_wrong_cases crates/case_runner/out/case_runner
 bash .ci/run_examples "$program"
 bash .ci/run_explanations "$program"
 bash .ci/run_hostile "$program"
