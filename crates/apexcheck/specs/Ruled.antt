@@ -32,7 +32,7 @@ SayBoth options rules relations =
     (front : List Relation) × (behind : List Relation) × (relations ≡ front ++ behind) × SayInTurn options front × HoldInTurn rules behind
 
 -- the answer, and the last records that it leaves, are those of these inputs under relations that say what the options ask for, and
--- behind that what the rules of a text say, in their order; want of memory outranks it, and has no records behind it
+-- after that what the rules of a text say, in their order; want of memory outranks it, and has no last records
 abbrev pub AnswersRuled : Given → List RuleOption → List SaidRule → Settings → Result Verdict CheckFault → List LastItem → Type 0
 AnswersRuled given options rules settings result last =
     ((result ≡ Err Memory) × (last ≡ []))

@@ -102,7 +102,7 @@ impl<S: TextSource + Drop + Send + 'static> Opened<S> {
     }
 
     // Judges the text of rules, and then checks the others under the rules of the options and of the text. The last records
-    // before the place of a No are in the end where they are asked for. The explainer is told what stands at that place.
+    // before the place of a No are in the end where they are asked for. The explainer receives what is at that place.
     fn judge<R>(
         self,
         rt: &R,

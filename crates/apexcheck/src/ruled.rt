@@ -28,7 +28,7 @@ pub fn read_rules(alloc: Global, text: Option<&[u8]>) -> Result<Vec<NamedRule>, 
     }
 }
 
-/// Checks these inputs under rules: those that these options ask for, numbered in their order, and the named ones behind them. It
+/// Checks these inputs under rules: those that these options ask for, numbered in their order, and the named ones after them. It
 /// is carried out as the settings say.
 ///
 /// Leaves the last records before the place of a No or of a broken rule in `last`, where none were before, and none behind any other

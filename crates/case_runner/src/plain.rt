@@ -22,7 +22,7 @@ use verdict_merge::check_plain;
 const DEPTH: usize = 64;
 
 /// What `check_plain` answers for these texts over the records that they place, whatever refuses the rest of them, and under the
-/// rules that these options ask for. No last records are told.
+/// rules that these options ask for. There are no last records.
 ///
 /// The answer to a configuration that is refused, or that has another number of cores, is an empty line with status 2.
 pub fn answer_at_once<T>(

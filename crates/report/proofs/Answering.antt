@@ -65,7 +65,7 @@ nothing_refused texts (Cert place fault) is = absurd is
 nothing_refused texts (Order place core fault) is = absurd is
 nothing_refused texts (Row core seq fault) is = absurd is
 
--- such a refusal is no Yes and no No, and has no records behind it
+-- such a refusal is no Yes and no No, and leaves no last records
 refused : (settings : Settings) (texts : Texts) (can_fail : CanFail) (relations : List Relation) (fault : CheckFault) → IsOfNoText fault → IsOutcome settings texts whole relations (Err fault)
     → IsAnswer settings texts can_fail relations (Err fault) []
 refused settings texts can_fail relations fault kind is = record { readings = whole; read = record { recordings = λ cannot core. refl; certificate = λ cannot. refl }; outcome = is; yes = tt; no = tt; refusal = nothing_refused texts fault kind; last_records = refl }
@@ -107,14 +107,14 @@ refused_count settings texts can_fail relations configuration none read apart =
     (subst (λ reading. IsOutcomeBy reading texts whole relations (Err (Arguments ReaderCount))) (sym read)
     (other_count configuration texts whole relations (Err (Arguments ReaderCount)) apart refl)))
 
--- what is known behind the judging of all that was ahead
+-- what is known after the judging of all that was ahead
 pub record IsEnded (configuration : Configuration) (texts : Texts) (can_fail : CanFail) (relations : List Relation) (result : Result Verdict CheckFault) (last : List LastItem) : Type 0 where
   pub scanned : Scan
   pub scan : IsScanOf can_fail (length texts.recordings) none_taken 0 (items_at texts.recordings) (pairs_of texts.certificate) scanned
   pub judged : IsJudged configuration relations scanned result
   pub told : last ≡ last_of result scanned.placed
 
--- the answer behind it
+-- the answer after it
 pub answered : (settings : Settings) (texts : Texts) (can_fail : CanFail) (relations : List Relation) (configuration : Configuration) (result : Result Verdict CheckFault) (last : List LastItem)
     → argument_fault_of settings ≡ None → configuration_of texts.config ≡ Ok configuration → length texts.recordings ≡ configuration.cores
     → ((scanned : Scan) (verdict : Verdict) → IsScanOf can_fail (length texts.recordings) none_taken 0 (items_at texts.recordings) (pairs_of texts.certificate) scanned

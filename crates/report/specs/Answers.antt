@@ -25,7 +25,7 @@ pub record IsAnswer (settings : Settings) (texts : Texts) (can_fail : CanFail) (
   pub no : NoMeansRefusal texts relations result
   -- a refusal of the input: for its first fault
   pub refusal : RefusalMeansFault texts readings result
-  -- the last records before the place of a No and of a broken rule, and none behind any other answer
+  -- the last records before the place of a No and of a broken rule, and none after any other answer
   pub last_records : IsLastOf texts relations result last
 
 -- what is known of the inputs of a check: of a reader the bytes that it gives, where they are known, and whether it can fail

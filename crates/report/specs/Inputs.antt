@@ -47,6 +47,6 @@ given_of_core texts readings core = given row.Read (readings.recordings core) (i
 abbrev pub given_of_certificate : Texts → Readings → List CertItem
 given_of_certificate texts readings = given cert.Read readings.certificate (pairs_of texts.certificate)
 
--- the records in the order of the certificate, and how the input ends behind them
+-- the records in the order of the certificate, and how the input ends after them
 abbrev pub scan_of : Texts → Readings → Scan
 scan_of texts readings = scan (length texts.recordings) none_taken 0 (given_of_core texts readings) (given_of_certificate texts readings)

@@ -37,9 +37,9 @@ fn config_refusal(fault: ConfigFault) -> CheckFault
 /// Checks the recordings against the configuration, the order that the certificate proposes, and the user's rules.
 ///
 /// Each recording is read by a thread of its own, beside the judging of what was read. The pieces of a round are judged by the
-/// workers, of which the gate is told. No more is held at a time than two rounds, of which one is judged while the other is
-/// filled, and of each core what was read ahead. Behind a round in which a record is refused no more is taken than the round
-/// that was filled meanwhile, and the threads are stopped.
+/// workers, and the gate sees each claim and each post. No more is held at a time than two rounds, of which one is judged while
+/// the other is filled, and of each core what was read ahead. After a round in which a record is refused no more is taken than
+/// the round that was filled meanwhile, and the threads are stopped.
 ///
 /// Yes with the number of records where the order is lawful, the records in it are a run of the machine, and each rule holds of
 /// the view of each record; No with the first place that is not, the piece that refuses it and its cause; or the first place
@@ -53,8 +53,8 @@ fn config_refusal(fault: ConfigFault) -> CheckFault
 /// that takes the record at the place. Those up to the place of a broken rule, with the one there, are a run, and the view there is
 /// the first that breaks a rule.
 ///
-/// `last` gets the last records before the place of a No or of a broken rule, at most eight, and none behind any other answer. The
-/// witness is told what stands at that place.
+/// `last` gets the last records before the place of a No or of a broken rule, at most eight, and none after any other answer. The
+/// witness receives what is at that place.
 ///
 /// All threads have ended when it answers. A reader that waits in a read of its own holds it until that read returns.
 pub fn check_inputs<T, R, C, G, V>(
@@ -114,7 +114,7 @@ where
     answer
 }
 
-/// The same check, without the last records and with nobody who is told of a No.
+/// The same check, without the last records and without a witness.
 pub fn check<T, R, C, G>(
     rt: T,
     alloc: Global,

@@ -7,13 +7,13 @@ use crate::settings::Settings;
 /// The most records that a round holds.
 pub const MOST_RECORDS: usize = 4096;
 
-/// How a check is carried out: its settings, the gate that is told of each claim and each post, and how many records a round
-/// holds. No answer hangs on the gate, nor on the rounds.
+/// How a check is carried out: its settings, the gate that sees each claim and each post, and how many records a round
+/// holds. No answer depends on the gate or the rounds.
 #[derive(Drop)]
 pub struct Options<'a, G> {
     /// The workers and the depth.
     pub settings: Settings,
-    /// Who is told of claims and posts.
+    /// What sees claims and posts.
     pub gate: &'a G,
     size: usize,
     ghost is_size: { (1 ≤ size) × (size ≤ 4096) },
