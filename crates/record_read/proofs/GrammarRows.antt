@@ -35,7 +35,7 @@ texts_from fields place zero = []
 texts_from fields place (suc n) = text_at fields place ∷ texts_from fields (suc place) n
 
 -- fields without a fault that must be empty are empty
-all_are_empty : (fields : Fields) (place count : ℕ) → all_empty fields place count ≡ Ok tt → AreEmpty (texts_from fields place count)
+pub all_are_empty : (fields : Fields) (place count : ℕ) → all_empty fields place count ≡ Ok tt → AreEmpty (texts_from fields place count)
 unfolding all_empty
 all_are_empty fields place zero e = tt
 all_are_empty fields place (suc n) e =
@@ -43,7 +43,7 @@ all_are_empty fields place (suc n) e =
     (empty_is (text_at fields place) s.1, all_are_empty fields (suc place) n s.2)
 
 -- empty fields have no fault where they must be empty
-are_all_empty : (fields : Fields) (place count : ℕ) → AreEmpty (texts_from fields place count) → all_empty fields place count ≡ Ok tt
+pub are_all_empty : (fields : Fields) (place count : ℕ) → AreEmpty (texts_from fields place count) → all_empty fields place count ≡ Ok tt
 unfolding all_empty
 are_all_empty fields place zero h = refl
 are_all_empty fields place (suc n) h = rw h.0 (are_all_empty fields (suc place) n h.1)

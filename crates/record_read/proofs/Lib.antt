@@ -1,4 +1,5 @@
 pub mod Empty
+pub mod FirstFaults
 pub mod GrammarFields
 pub mod GrammarLists
 pub mod GrammarNames

@@ -4,6 +4,7 @@ use Rattle.csv_rows.specs.Stream.{Fields}
 use Rattle.apex_types.specs.declared.record.Record.{Record}
 use Rattle.record_read.specs.declared.fault.RowFault.{RowFault}
 use Rattle.record_read.specs.declared.format.Format.{Format}
+use Rattle.record_read.specs.FirstFault.{IsFirstFault}
 use Rattle.record_read.specs.Grammar.{IsRow}
 use Rattle.record_read.specs.Row.{record_of}
 use Rattle.record_read.specs.Steps.{IsOfRow}
@@ -19,3 +20,7 @@ OneRecordOfARow = (format : Format) (next : ℕ) (fields : Fields) (rec other : 
 -- a row that is none has a fault that the text of a row can have: neither the failure of a source nor want of memory
 abbrev pub FaultsAreOfRows : Type 0
 FaultsAreOfRows = (format : Format) (next : ℕ) (fields : Fields) (fault : RowFault) → record_of format next fields ≡ Err fault → IsOfRow fault
+
+-- a row that is none is refused with the fault of its first faulty field, and with no other
+abbrev pub FirstFaultsDecide : Type 0
+FirstFaultsDecide = (format : Format) (next : ℕ) (fields : Fields) (fault : RowFault) → (record_of format next fields ≡ Err fault) ↔ IsFirstFault format next fields fault

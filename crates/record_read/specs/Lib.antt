@@ -8,4 +8,5 @@ pub mod Arguments
 pub mod Row
 pub mod Memory
 pub mod Grammar
+pub mod FirstFault
 pub mod GrammarLaws

@@ -1,6 +1,6 @@
 // The laws of the row grammar. Each is the contract of a function without code.
 
-ghost use Rattle.record_read.specs.GrammarLaws.{FaultsAreOfRows, OneRecordOfARow, RowsAreTheGrammar};
+ghost use Rattle.record_read.specs.GrammarLaws.{FaultsAreOfRows, FirstFaultsDecide, OneRecordOfARow, RowsAreTheGrammar};
 
 /// A row is read as a record exactly where the grammar says that it is the record's row.
 pub fn rows_are_the_grammar()
@@ -15,4 +15,9 @@ pub fn one_record_of_a_row()
 /// A row that is no record has a fault that the text of a row can have: neither the failure of a source nor want of memory.
 pub fn faults_are_of_rows()
     ensures { FaultsAreOfRows }
+{}
+
+/// A row that is no record is refused with the fault of its first faulty field from left to right, and with no other.
+pub fn first_faults_decide()
+    ensures { FirstFaultsDecide }
 {}

@@ -1,0 +1,507 @@
+-- A row that is no record's is read with the fault of its first faulty field.
+use Rattle.std.proofs.Common.{◌≡◌, ◌^◌, ◌<◌, ◌∙◌, ◌≤◌, ℕ, zero, suc, ℤ, pos, List, [], ◌∷◌, Bool, true, false, Option, Some, None, Result, Ok, Err, length, refl, sym, ap, subst, inl, inr, nat_le, nat_lt, nat_eq, arith, if◌then◌else◌, ◌==◌}
+use Rattle.std.specs.Prelude.{◌≢◌, ◌-◌}
+use Rattle.std.specs.Option.{ok_or}
+use Rattle.std.proofs.lemmas.Bool.{eqb-true, eqb-false, le-leb, leb-true, ltb-true, ltb-false}
+use Rattle.hex.specs.Hex.{decode_of}
+use Rattle.hex.specs.declared.error.FromHexError.{FromHexError}
+use Rattle.csv_rows.specs.Decimal.{decimal, signed_decimal}
+use Rattle.csv_rows.specs.Stream.{Fields}
+use Rattle.apex_types.specs.Bounds.{greatest_channel, greatest_number, greatest_partition, greatest_priority, longest_message, most_records}
+use Rattle.apex_types.specs.declared.record.Who.{Who}
+use Rattle.apex_types.specs.declared.service.Service.{Service}
+use Rattle.record_read.specs.declared.fault.RowFault.{RowFault}
+use Rattle.record_read.specs.declared.fault.RowFault.TheVariants.{BadHex, BadKind, BadLength, BadName, BadNumber, BadOut, BadService, BadWoken, FieldCount, FieldNotForKind, SeqGap, TooMany}
+use Rattle.record_read.specs.declared.format.Format.{Format}
+use Rattle.record_read.specs.declared.kind.Kind.{Kind}
+use Rattle.record_read.specs.declared.kind.Kind.TheVariants as kind
+use Rattle.record_read.specs.Arguments.{arguments_of}
+use Rattle.record_read.specs.Field.{all_empty, argument, empty, maybe_number, maybe_signed, number, signed, text_at}
+use Rattle.record_read.specs.FirstFault.{ArgumentFault, CallFault, ClaimFault, DispatchFault, DispatchedFault, FaultOf, HoldsCode, HoldsKind, HoldsNone, HoldsService, IsFirstFault, MessageFault, MustBeBytes, MustBeEmpty, MustBeMessageIf, MustHold, MustHoldIf, NameFault, OtherNumber, ProcessFault, RequestFault, ReturnFault, SentFault, TickFault, ◌or_else◌}
+use Rattle.record_read.specs.Format.{field_count, stands_in}
+use Rattle.record_read.specs.Grammar.{GoesWith, HoldsName, HoldsNumber, HoldsOutcome, HoldsProcesses, HoldsSigned, MayHold, columns_of}
+use Rattle.record_read.specs.GrammarLaws.{FirstFaultsDecide}
+use Rattle.record_read.specs.Named.{code_named, code_of, kind_named, kind_of, out_named, out_of, service_named, service_of}
+use Rattle.record_read.specs.Payload.{from_hex, goes_with, maybe_message, message_in, message_of, name_in, name_of}
+use Rattle.record_read.specs.Row.{body_in, call_in, claim_in, dispatch_in, fields_read, proc_of, record_of, request_in, return_in, seq_in, tick_in, who_in}
+use Rattle.record_read.specs.Steps.{◌>>=◌}
+use Rattle.record_read.specs.Woken.{woken_of}
+use Rattle.record_read.proofs.GrammarFields.{argument_holds, holds_argument, holds_maybe_number, holds_maybe_signed, holds_number, holds_signed, maybe_number_holds, maybe_signed_holds, number_holds, same_ok, signed_holds, no_fault}
+use Rattle.record_read.proofs.GrammarLists.{hold_processes, processes_hold}
+use Rattle.record_read.proofs.GrammarNames.{code_is, is_code, is_kind, is_outcome, is_service, kind_is, kind_name, outcome_is, service_is}
+use Rattle.record_read.proofs.GrammarRows.{all_are_empty, are_all_empty, texts_from}
+use Rattle.record_read.proofs.GrammarTexts.{holds_name, length_decides, name_holds}
+
+-- a step has a fault exactly where a relation says so
+pub record FailsAs {A : Type 0} (read : Result A RowFault) (Fault : RowFault → Type 0) : Type 0 where
+  pub to : (e : RowFault) → read ≡ Err e → Fault e
+  pub from : (e : RowFault) → Fault e → read ≡ Err e
+
+-- one fault is given
+same_err : {A : Type 0} (e f : RowFault) → ◌≡◌ {A = Result A RowFault} (Err e) (Err f) → e ≡ f
+same_err e f same = cc
+
+-- a value is no fault
+no_value : {A : Type 0} {Goal : Type 0} (x : A) (e : RowFault) → ◌≡◌ {A = Result A RowFault} (Ok x) (Err e) → Goal
+no_value x e same = absurd (let f : ◌≡◌ {A = Result _ RowFault} (Ok x) (Err e) = same in cc)
+
+-- a step, and the steps after it
+step : {A B : Type 0} (read : Result A RowFault) (more : A → Result B RowFault) (First Others : RowFault → Type 0)
+    → FailsAs read First → ((x : A) → read ≡ Ok x → FailsAs (more x) Others) → FailsAs (read >>= more) (First or_else Others)
+step {A = A} {B = B} (Ok x) more First Others first others = record {
+  to = λ e same. inr ((λ other fault. no_value x other (first.from other fault)), (others x refl).to e same);
+  from = λ e fault. by e fault;
+}
+  where
+    by : (e : RowFault) → (First or_else Others) e → more x ≡ Err e
+    by e (inl fault) = no_value x e (first.from e fault)
+    by e (inr fault) = (others x refl).from e fault.1
+step {A = A} {B = B} (Err f) more First Others first others = record {
+  to = λ e same. inl (first.to e (ap Err (same_err f e same)));
+  from = λ e fault. by e fault;
+}
+  where
+    by : (e : RowFault) → (First or_else Others) e → ◌≡◌ {A = Result B RowFault} (Err f) (Err e)
+    by e (inl fault) = ap Err (same_err f e (first.from e fault))
+    by e (inr fault) = absurd (fault.0 f (first.to f refl))
+
+-- the last step
+last_step : {A B : Type 0} (read : Result A RowFault) (made : A → B) (First : RowFault → Type 0) → FailsAs read First → FailsAs (read >>= (λ x. Ok (made x))) First
+last_step (Ok x) made First first = record { to = λ e same. no_value (made x) e same; from = λ e fault. no_value x e (first.from e fault) }
+last_step (Err f) made First first = record { to = λ e same. first.to e (ap Err (same_err f e same)); from = λ e fault. ap Err (same_err f e (first.from e fault)) }
+
+-- a step of which every fault is the same one, and which gives what the field holds
+none_held : {A : Type 0} (read : Result A RowFault) (bad : RowFault) (Holds : List ℕ → A → Type 0) (text : List ℕ)
+    → ((e : RowFault) → read ≡ Err e → e ≡ bad) → ((x : A) → read ≡ Ok x → Holds text x) → ((x : A) → Holds text x → read ≡ Ok x)
+    → FailsAs read (HoldsNone bad Holds text)
+none_held (Ok x) bad Holds text only holds held = record {
+  to = λ e same. no_value x e same;
+  from = λ e fault. absurd (fault.0 x (holds x refl));
+}
+none_held (Err f) bad Holds text only holds held = record {
+  to = λ e same. ((λ x h. no_fault f x (held x h)), only e same);
+  from = λ e fault. ap Err (only f refl ∙ sym fault.1);
+}
+
+-- the same where an empty field has a fault of its own
+must_hold : {A : Type 0} (read : List ℕ → Result A RowFault) (bad : RowFault) (Holds : List ℕ → A → Type 0) (text : List ℕ) → read [] ≡ Err FieldNotForKind
+    → ((b : ℕ) (bs : List ℕ) (e : RowFault) → read (b ∷ bs) ≡ Err e → e ≡ bad) → ((x : A) → read text ≡ Ok x → Holds text x) → ((x : A) → Holds text x → read text ≡ Ok x)
+    → FailsAs (read text) (MustHold bad Holds text)
+must_hold read bad Holds [] none only holds held = record {
+  to = λ e same. inl (refl, same_err e FieldNotForKind (sym same ∙ none));
+  from = λ e fault. by e fault;
+}
+  where
+    by : (e : RowFault) → MustHold bad Holds [] e → read [] ≡ Err e
+    by e (inl fault) = none ∙ ap Err (sym fault.1)
+    by e (inr fault) = absurd (fault.0 refl)
+must_hold read bad Holds (b ∷ bs) none only holds held = record {
+  to = λ e same. inr ((λ empty. cc), (some.to e same));
+  from = λ e fault. by e fault;
+}
+  where
+    some : FailsAs (read (b ∷ bs)) (HoldsNone bad Holds (b ∷ bs))
+    some = none_held (read (b ∷ bs)) bad Holds (b ∷ bs) (only b bs) holds held
+
+    by : (e : RowFault) → MustHold bad Holds (b ∷ bs) e → read (b ∷ bs) ≡ Err e
+    by e (inl fault) = absurd (let f : b ∷ bs ≡ [] = fault.0 in cc)
+    by e (inr fault) = some.from e fault.1
+
+-- an option's want is this fault
+or_bad : {A : Type 0} (found : Option A) (bad e : RowFault) → ok_or found bad ≡ Err e → e ≡ bad
+or_bad (Some x) bad e same = no_value x e same
+or_bad None bad e same = sym (same_err bad e same)
+
+-- a value that is made of what a step gave has the step's faults
+made_bad : {A B : Type 0} (read : Result A RowFault) (made : A → B) (bad e : RowFault) → ((f : RowFault) → read ≡ Err f → f ≡ bad) → (read >>= (λ x. Ok (made x))) ≡ Err e → e ≡ bad
+made_bad (Ok x) made bad e only same = no_value (made x) e same
+made_bad (Err f) made bad e only same = sym (same_err f e same) ∙ only f refl
+
+-- a test's fault
+test_bad : {A : Type 0} (test : Bool) (x : A) (bad e : RowFault) → (if test then Ok x else Err bad) ≡ Err e → e ≡ bad
+test_bad true x bad e same = no_value x e same
+test_bad false x bad e same = sym (same_err bad e same)
+
+number_fails : (greatest : ℕ) (text : List ℕ) → greatest < 2 ^ 64 → FailsAs (number greatest text) (MustHold BadNumber (HoldsNumber greatest) text)
+unfolding number
+number_fails greatest text room =
+    must_hold (number greatest) BadNumber (HoldsNumber greatest) text refl (λ b bs e same. or_bad (decimal greatest (b ∷ bs)) BadNumber e same)
+    (λ n. number_holds greatest text n room) (λ n. holds_number greatest text n room)
+
+signed_fails : (text : List ℕ) → FailsAs (signed text) (MustHold BadNumber HoldsSigned text)
+unfolding signed
+signed_fails text =
+    must_hold signed BadNumber HoldsSigned text refl (λ b bs e same. or_bad (signed_decimal (b ∷ bs)) BadNumber e same) (signed_holds text) (holds_signed text)
+
+maybe_number_fails : (greatest : ℕ) (text : List ℕ) → greatest < 2 ^ 64 → FailsAs (maybe_number greatest text) (HoldsNone BadNumber (MayHold (HoldsNumber greatest)) text)
+unfolding maybe_number number
+maybe_number_fails greatest text room =
+    none_held (maybe_number greatest text) BadNumber (MayHold (HoldsNumber greatest)) text (only text)
+    (λ o. maybe_number_holds greatest text o room) (λ o. holds_maybe_number greatest text o room)
+  where
+    only : (text : List ℕ) (e : RowFault) → maybe_number greatest text ≡ Err e → e ≡ BadNumber
+    only [] e same = no_value None e same
+    only (b ∷ bs) e same = made_bad (number greatest (b ∷ bs)) Some BadNumber e (λ f is. or_bad (decimal greatest (b ∷ bs)) BadNumber f is) same
+
+maybe_signed_fails : (text : List ℕ) → FailsAs (maybe_signed text) (HoldsNone BadNumber (MayHold HoldsSigned) text)
+unfolding maybe_signed signed
+maybe_signed_fails text =
+    none_held (maybe_signed text) BadNumber (MayHold HoldsSigned) text (only text) (maybe_signed_holds text) (holds_maybe_signed text)
+  where
+    only : (text : List ℕ) (e : RowFault) → maybe_signed text ≡ Err e → e ≡ BadNumber
+    only [] e same = no_value None e same
+    only (b ∷ bs) e same = made_bad (signed (b ∷ bs)) Some BadNumber e (λ f is. or_bad (signed_decimal (b ∷ bs)) BadNumber f is) same
+
+-- a field that must be empty, and steps after it, have one fault
+empty_bad : {A : Type 0} (text : List ℕ) (more : Unit {0} → Result A RowFault) (e : RowFault) → (more tt ≡ Err e → e ≡ FieldNotForKind)
+    → (empty text >>= more) ≡ Err e → e ≡ FieldNotForKind
+empty_bad [] more e others same = others same
+empty_bad (b ∷ bs) more e others same = sym (same_err FieldNotForKind e same)
+
+-- and so have several
+all_empty_bad : (fields : Fields) (place count : ℕ) (e : RowFault) → all_empty fields place count ≡ Err e → e ≡ FieldNotForKind
+unfolding all_empty
+all_empty_bad fields place zero e same = no_value tt e same
+all_empty_bad fields place (suc n) e same =
+    empty_bad (text_at fields place) (λ u. all_empty fields (suc place) n) e (all_empty_bad fields (suc place) n e) same
+
+-- fields that must be empty
+all_empty_fail : (fields : Fields) (place count : ℕ) → FailsAs (all_empty fields place count) (MustBeEmpty (texts_from fields place count))
+all_empty_fail fields place count = by (all_empty fields place count) refl
+  where
+    by : (read : Result (Unit {0}) RowFault) → all_empty fields place count ≡ read → FailsAs read (MustBeEmpty (texts_from fields place count))
+    by (Ok u) is = record {
+      to = λ e same. no_value u e same;
+      from = λ e fault. absurd (fault.0 (all_are_empty fields place count is));
+    }
+    by (Err f) is = record {
+      to = λ e same. ((λ empties. no_fault f tt (sym is ∙ are_all_empty fields place count empties)), sym (same_err f e same) ∙ all_empty_bad fields place count f is);
+      from = λ e fault. ap Err (all_empty_bad fields place count f is ∙ sym fault.1);
+    }
+
+-- one field that must be empty, for which a value stands
+unused_fails : {A : Type 0} (text : List ℕ) (unused : A) → FailsAs (empty text >>= (λ u. Ok unused)) (MustBeEmpty (text ∷ []))
+unused_fails [] unused = record { to = λ e same. no_value unused e same; from = λ e fault. absurd (fault.0 (refl, tt)) }
+unused_fails (b ∷ bs) unused = record {
+  to = λ e same. ((λ empties. let f : b ∷ bs ≡ [] = empties.0 in cc), sym (same_err FieldNotForKind e same));
+  from = λ e fault. ap Err (sym fault.1);
+}
+
+argument_fails : (taken : Bool) (text : List ℕ) → FailsAs (argument taken text) (MustHoldIf taken BadNumber HoldsSigned text)
+unfolding argument
+argument_fails true text = signed_fails text
+argument_fails false text = unused_fails text (pos 0)
+
+name_fails : (taken : Bool) (text : List ℕ) → FailsAs (name_in taken text) (MustHoldIf taken BadName HoldsName text)
+unfolding name_in name_of
+name_fails true text =
+    must_hold (name_in true) BadName HoldsName text refl (λ b bs e same. test_bad _ (b ∷ bs) BadName e same) (name_holds true text) (holds_name true text)
+name_fails false text = unused_fails text []
+
+-- bytes in hexadecimal, of which a test takes some
+bytes_fail : (decoded : Result (List ℕ) FromHexError) (test : ℕ → Bool) (MayBe : ℕ → Type 0) (text : List ℕ) → decode_of text ≡ decoded
+    → ((count : ℕ) → test count ≡ true → MayBe count) → ((count : ℕ) → MayBe count → test count ≡ true)
+    → FailsAs (from_hex decoded >>= (λ bytes. if test (length bytes) then Ok bytes else Err BadLength)) (MustBeBytes MayBe text)
+bytes_fail (Err error) test MayBe text is may fits = record {
+  to = λ e same. inl ((λ bytes found. let f : ◌≡◌ {A = Result (List ℕ) FromHexError} (Err error) (Ok bytes) = sym is ∙ found in cc), sym (same_err BadHex e same));
+  from = λ e fault. by e fault;
+}
+  where
+    by : (e : RowFault) → MustBeBytes MayBe text e → ◌≡◌ {A = Result (List ℕ) RowFault} (Err BadHex) (Err e)
+    by e (inl fault) = ap Err (sym fault.1)
+    by e (inr fault) = absurd (let f : ◌≡◌ {A = Result (List ℕ) FromHexError} (Err error) (Ok fault.0) = sym is ∙ fault.1 in cc)
+bytes_fail (Ok bytes) test MayBe text is may fits = by (test (length bytes)) refl
+  where
+    same_bytes : (other : List ℕ) → decode_of text ≡ Ok other → bytes ≡ other
+    same_bytes other found = let f : ◌≡◌ {A = Result (List ℕ) FromHexError} (Ok bytes) (Ok other) = sym is ∙ found in cc
+
+    good : (e : RowFault) → test (length bytes) ≡ true → ¬ MustBeBytes MayBe text e
+    good e true_test (inl fault) = fault.0 bytes is
+    good e true_test (inr fault) = fault.2 (subst (λ other. MayBe (length other)) (same_bytes fault.0 fault.1) (may (length bytes) true_test))
+
+    bad : (e : RowFault) → MustBeBytes MayBe text e → BadLength ≡ e
+    bad e (inl fault) = absurd (fault.0 bytes is)
+    bad e (inr fault) = sym fault.3
+
+    by : (fit : Bool) → test (length bytes) ≡ fit → FailsAs (if fit then Ok bytes else Err BadLength) (MustBeBytes MayBe text)
+    by true held = record { to = λ e same. no_value bytes e same; from = λ e fault. absurd (good e held fault) }
+    by false missed = record {
+      to = λ e same. inr (bytes, is, (λ may_be. let f : true ≡ false = sym (fits (length bytes) may_be) ∙ missed in cc), sym (same_err BadLength e same));
+      from = λ e fault. ap Err (bad e fault);
+    }
+
+data_fails : (text : List ℕ) → FailsAs (maybe_message text) (MustBeBytes (λ count. count ≤ longest_message) text)
+unfolding maybe_message
+data_fails text =
+    bytes_fail (decode_of text) (λ count. nat_le count longest_message) (λ count. count ≤ longest_message) text refl
+    (λ count is. leb-true count longest_message is) (λ count is. le_leb_of count is)
+  where
+    le_leb_of : (count : ℕ) → count ≤ longest_message → nat_le count longest_message ≡ true
+    le_leb_of count is = le-leb count longest_message is
+
+message_fails : (taken : Bool) (len : ℤ) (text : List ℕ) → FailsAs (message_in taken len text) (MustBeMessageIf taken len text)
+unfolding message_in message_of
+message_fails true len text =
+    bytes_fail (decode_of text) (goes_with len) (GoesWith len) text refl (λ count is. (length_decides len count).0 is) (λ count is. (length_decides len count).1 is)
+message_fails false len text = unused_fails text []
+
+-- a field that is read as a kind holds its name
+kind_held : (text : List ℕ) (k : Kind) → kind_of text ≡ Ok k → HoldsKind text k
+kind_held text k is = named k (kind_is text k is)
+  where
+    named : (k : Kind) → text ≡ kind_name k → HoldsKind text k
+    named kind.Call h = h
+    named kind.Ret h = h
+    named kind.Disp h = h
+    named kind.Tick h = h
+
+-- and where it holds the name it is read as the kind
+kind_holds : (text : List ℕ) (k : Kind) → HoldsKind text k → kind_of text ≡ Ok k
+kind_holds text kind.Call h = is_kind text kind.Call h
+kind_holds text kind.Ret h = is_kind text kind.Ret h
+kind_holds text kind.Disp h = is_kind text kind.Disp h
+kind_holds text kind.Tick h = is_kind text kind.Tick h
+
+kind_fails : (text : List ℕ) → FailsAs (kind_of text) (MustHold BadKind HoldsKind text)
+unfolding kind_of
+kind_fails text = must_hold kind_of BadKind HoldsKind text refl (λ b bs e same. or_bad (kind_named (b ∷ bs)) BadKind e same) (kind_held text) (kind_holds text)
+
+service_fails : (format : Format) (text : List ℕ) → FailsAs (service_of format text) (MustHold BadService (HoldsService format) text)
+unfolding service_of
+service_fails format text =
+    must_hold (service_of format) BadService (HoldsService format) text refl (λ b bs e same. only (service_named (b ∷ bs)) e same)
+    (λ s is. let given = service_is format text s is in record { named = given.0; stands = given.1 }) (λ s h. is_service format text s h.named h.stands)
+  where
+    only : (found : Option Service) (e : RowFault) → (ok_or found BadService >>= (λ s. if stands_in format s then Ok s else Err BadService)) ≡ Err e → e ≡ BadService
+    only (Some s) e same = test_bad (stands_in format s) s BadService e same
+    only None e same = sym (same_err BadService e same)
+
+code_fails : (text : List ℕ) → FailsAs (code_of text) (MustHold BadOut HoldsCode text)
+unfolding code_of
+code_fails text = must_hold code_of BadOut HoldsCode text refl (λ b bs e same. or_bad (code_named (b ∷ bs)) BadOut e same) (code_is text) (is_code text)
+
+out_fails : (text : List ℕ) → FailsAs (out_of text) (MustHold BadOut HoldsOutcome text)
+unfolding out_of
+out_fails text = must_hold out_of BadOut HoldsOutcome text refl (λ b bs e same. or_bad (out_named (b ∷ bs)) BadOut e same) (outcome_is text) (is_outcome text)
+
+woken_fails : (text : List ℕ) → FailsAs (woken_of text) (HoldsNone BadWoken HoldsProcesses text)
+unfolding woken_of
+woken_fails text = none_held (woken_of text) BadWoken HoldsProcesses text (only text) (processes_hold text) (hold_processes text)
+  where
+    only : (text : List ℕ) (e : RowFault) → woken_of text ≡ Err e → e ≡ BadWoken
+    only [] e same = no_value _ e same
+    only (b ∷ bs) e same = or_bad _ BadWoken e same
+
+-- what a field's fault depends on is what was read before
+by_service : {A : Type 0} (format : Format) (text : List ℕ) (s : Service) (read : Result A RowFault) (Fault : Service → RowFault → Type 0) → service_of format text ≡ Ok s
+    → FailsAs read (Fault s) → FailsAs read (λ e. (other : Service) × HoldsService format text other × Fault other e)
+by_service format text s read Fault is fails = record {
+  to = λ e same. let given = service_is format text s is in (s, record { named = given.0; stands = given.1 }, fails.to e same);
+  from = λ e fault. fails.from e (subst (λ other. Fault other e) (same_ok fault.0 s (sym (is_service format text fault.0 fault.1.named fault.1.stands) ∙ is)) fault.2);
+}
+
+request_fails : (format : Format) (fields : Fields) → FailsAs (request_in format fields) (RequestFault format (columns_of fields))
+unfolding request_in
+request_fails format fields =
+    step _ _ _ _ (service_fails format (text_at fields 4)) (λ s is.
+    step _ _ _ _ (numbered s is 1 (text_at fields 5)) (λ n1 is1.
+    step _ _ _ _ (numbered s is 2 (text_at fields 6)) (λ n2 is2.
+    step _ _ _ _ (numbered s is 3 (text_at fields 7)) (λ n3 is3.
+    step _ _ _ _ (named s is) (λ name isn.
+    last_step _ _ _ (sent s is n2 is2))))))
+  where
+    numbered : (s : Service) → service_of format (text_at fields 4) ≡ Ok s → (place : ℕ) (text : List ℕ)
+        → FailsAs (argument (nat_le place (arguments_of s).numbers) text) (ArgumentFault format (columns_of fields) place text)
+    numbered s is place text =
+        by_service format (text_at fields 4) s _ (λ other. MustHoldIf (nat_le place (arguments_of other).numbers) BadNumber HoldsSigned text) is
+        (argument_fails (nat_le place (arguments_of s).numbers) text)
+
+    named : (s : Service) → service_of format (text_at fields 4) ≡ Ok s → FailsAs (name_in (arguments_of s).name (text_at fields 8)) (NameFault format (columns_of fields))
+    named s is =
+        by_service format (text_at fields 4) s _ (λ other. MustHoldIf (arguments_of other).name BadName HoldsName (text_at fields 8)) is
+        (name_fails (arguments_of s).name (text_at fields 8))
+
+    sent : (s : Service) → service_of format (text_at fields 4) ≡ Ok s → (n2 : ℤ) → argument (nat_le 2 (arguments_of s).numbers) (text_at fields 6) ≡ Ok n2
+        → FailsAs (message_in (arguments_of s).message n2 (text_at fields 9)) (MessageFault format (columns_of fields))
+    sent s is n2 is2 =
+        by_service format (text_at fields 4) s _ (λ other. SentFault other (columns_of fields)) is
+        (record {
+          to = λ e same. (n2, argument_holds (nat_le 2 (arguments_of s).numbers) (text_at fields 6) n2 is2, message.to e same);
+          from = λ e fault. message.from e (subst (λ len. MustBeMessageIf (arguments_of s).message len (text_at fields 9) e)
+              (same_ok fault.0 n2 (sym (holds_argument (nat_le 2 (arguments_of s).numbers) (text_at fields 6) fault.0 fault.1) ∙ is2)) fault.2);
+        })
+      where
+        message : FailsAs (message_in (arguments_of s).message n2 (text_at fields 9)) (MustBeMessageIf (arguments_of s).message n2 (text_at fields 9))
+        message = message_fails (arguments_of s).message n2 (text_at fields 9)
+
+who_fails : (fields : Fields) → FailsAs (who_in fields) (ProcessFault (columns_of fields))
+unfolding who_in
+who_fails fields =
+    step _ _ _ _ (number_fails greatest_partition (text_at fields 2) (omega arith)) (λ part is. last_step _ _ _ (number_fails greatest_number (text_at fields 3) (omega arith)))
+
+claim_fails : (fields : Fields) → FailsAs (claim_in fields) (ClaimFault (columns_of fields))
+unfolding claim_in
+claim_fails fields =
+    step _ _ _ _ (number_fails greatest_priority (text_at fields 10) (omega arith)) (λ prio is.
+    step _ _ _ _ (out_fails (text_at fields 11)) (λ out is.
+    step _ _ _ _ (maybe_signed_fails (text_at fields 12)) (λ val is.
+    step _ _ _ _ (data_fails (text_at fields 13)) (λ bytes is.
+    step _ _ _ _ (maybe_number_fails greatest_channel (text_at fields 14) (omega arith)) (λ chan is.
+    step _ _ _ _ (woken_fails (text_at fields 15)) (λ woken is.
+    step _ _ _ _ (maybe_signed_fails (text_at fields 16)) (λ val2 is.
+    last_step _ _ _ (maybe_signed_fails (text_at fields 17)))))))))
+
+call_fails : (format : Format) (fields : Fields) → FailsAs (call_in format fields) (CallFault format (columns_of fields))
+unfolding call_in
+call_fails format fields =
+    step _ _ _ _ (who_fails fields) (λ who is. step _ _ _ _ (request_fails format fields) (λ request is. last_step _ _ _ (claim_fails fields)))
+
+return_fails : (format : Format) (fields : Fields) → FailsAs (return_in format fields) (ReturnFault format (columns_of fields))
+unfolding return_in
+return_fails format fields =
+    step _ _ _ _ (who_fails fields) (λ who is.
+    step _ _ _ _ (service_fails format (text_at fields 4)) (λ service is.
+    step _ _ _ _ (all_empty_fail fields 5 6) (λ unused is.
+    step _ _ _ _ (code_fails (text_at fields 11)) (λ code is.
+    step _ _ _ _ (maybe_signed_fails (text_at fields 12)) (λ val is.
+    step _ _ _ _ (data_fails (text_at fields 13)) (λ bytes is.
+    step _ _ _ _ (all_empty_fail fields 14 2) (λ unused_too is.
+    step _ _ _ _ (maybe_signed_fails (text_at fields 16)) (λ val2 is.
+    last_step _ _ _ (maybe_signed_fails (text_at fields 17))))))))))
+
+-- the process of a dispatch, by what its partition's field holds
+proc_fails : (fields : Fields) (part : Option ℕ) → maybe_number greatest_partition (text_at fields 2) ≡ Ok part → FailsAs (proc_of part (text_at fields 3)) (DispatchedFault (columns_of fields))
+unfolding proc_of number
+proc_fails fields part is = by part (maybe_number_holds greatest_partition (text_at fields 2) part (omega arith) is)
+  where
+    by : (part : Option ℕ) → MayHold (HoldsNumber greatest_partition) (text_at fields 2) part → FailsAs (proc_of part (text_at fields 3)) (DispatchedFault (columns_of fields))
+    by None left_out = record {
+      to = λ e same. inl (left_out, unused.to e same);
+      from = λ e fault. from e fault;
+    }
+      where
+        unused : FailsAs {A = Option Who} (empty (text_at fields 3) >>= (λ u. Ok None)) (MustBeEmpty (text_at fields 3 ∷ []))
+        unused = unused_fails (text_at fields 3) None
+
+        from : (e : RowFault) → DispatchedFault (columns_of fields) e → ◌≡◌ {A = Result (Option Who) RowFault} (empty (text_at fields 3) >>= (λ u. Ok None)) (Err e)
+        from e (inl fault) = unused.from e fault.1
+        from e (inr fault) = absurd (fault.0 left_out)
+    by (Some n) held = record {
+      to = λ e same. inr (filled, given.to e same);
+      from = λ e fault. from e fault;
+    }
+      where
+        filled : text_at fields 2 ≢ []
+        filled none =
+            no_fault FieldNotForKind n (subst (λ text. number greatest_partition text ≡ Ok n) none (holds_number greatest_partition (text_at fields 2) n (omega arith) held))
+
+        given : FailsAs {A = Option Who} (number greatest_number (text_at fields 3) >>= (λ proc. Ok (Some (record { part = n; proc = proc })))) (MustHold BadNumber (HoldsNumber greatest_number) (text_at fields 3))
+        given = last_step _ _ _ (number_fails greatest_number (text_at fields 3) (omega arith))
+
+        from : (e : RowFault) → DispatchedFault (columns_of fields) e
+            → ◌≡◌ {A = Result (Option Who) RowFault} (number greatest_number (text_at fields 3) >>= (λ proc. Ok (Some (record { part = n; proc = proc })))) (Err e)
+        from e (inl fault) = absurd (filled fault.0)
+        from e (inr fault) = given.from e fault.1
+
+dispatch_fails : (fields : Fields) → FailsAs (dispatch_in fields) (DispatchFault (columns_of fields))
+unfolding dispatch_in
+dispatch_fails fields =
+    step _ _ _ _ (maybe_number_fails greatest_partition (text_at fields 2) (omega arith)) (λ part is.
+    step _ _ _ _ (proc_fails fields part is) (λ who is.
+    last_step _ _ _ (all_empty_fail fields 4 14)))
+
+tick_fails : (fields : Fields) → FailsAs (tick_in fields) (TickFault (columns_of fields))
+unfolding tick_in
+tick_fails fields =
+    step _ _ _ _ (all_empty_fail fields 2 13) (λ unused is.
+    step _ _ _ _ (woken_fails (text_at fields 15)) (λ woken is.
+    last_step _ _ _ (all_empty_fail fields 16 2)))
+
+body_fails : (format : Format) (which : Kind) (fields : Fields) → FailsAs (body_in format which fields) (FaultOf which format (columns_of fields))
+unfolding body_in
+body_fails format kind.Call fields = last_step _ _ _ (call_fails format fields)
+body_fails format kind.Ret fields = last_step _ _ _ (return_fails format fields)
+body_fails format kind.Disp fields = last_step _ _ _ (dispatch_fails fields)
+body_fails format kind.Tick fields = last_step _ _ _ (tick_fails fields)
+
+-- the number of a row
+seq_fails : (next given : ℕ) (fields : Fields) → number (most_records - 1) (text_at fields 0) ≡ Ok given → FailsAs (seq_in next given) (OtherNumber next (columns_of fields))
+unfolding seq_in
+seq_fails next given fields is = by (nat_eq given next) refl
+  where
+    by : (same : Bool) → nat_eq given next ≡ same → FailsAs (if same then Ok given else Err SeqGap) (OtherNumber next (columns_of fields))
+    by true same = record {
+      to = λ e read. no_value given e read;
+      from = λ e fault.
+          let one : fault.0 ≡ given = same_ok fault.0 given (sym (holds_number (most_records - 1) (text_at fields 0) fault.0 (omega arith) fault.1) ∙ is) in
+          absurd (fault.2 (one ∙ eqb-true given next same));
+    }
+    by false other = record {
+      to = λ e read. (given, number_holds (most_records - 1) (text_at fields 0) given (omega arith) is, eqb-false given next other, sym (same_err SeqGap e read));
+      from = λ e fault. ap Err (sym fault.3);
+    }
+
+fields_fail : (format : Format) (next : ℕ) (fields : Fields)
+    → FailsAs (fields_read format next fields)
+    (MustHold BadNumber (HoldsNumber (most_records - 1)) (columns_of fields).seq
+    or_else OtherNumber next (columns_of fields)
+    or_else MustHold BadKind HoldsKind (columns_of fields).kind
+    or_else (λ fault. (which : Kind) × HoldsKind (columns_of fields).kind which × FaultOf which format (columns_of fields) fault))
+unfolding fields_read
+fields_fail format next fields =
+    step _ _ _ _ (number_fails (most_records - 1) (text_at fields 0) (omega arith)) (λ given is.
+    step _ _ _ _ (seq_fails next given fields is) (λ seq at.
+    step _ _ _ _ (kind_fails (text_at fields 1)) (λ which named.
+    last_step _ _ _ (after which named))))
+  where
+    after : (which : Kind) → kind_of (text_at fields 1) ≡ Ok which
+        → FailsAs (body_in format which fields) (λ fault. (k : Kind) × HoldsKind (text_at fields 1) k × FaultOf k format (columns_of fields) fault)
+    after which named = record {
+      to = λ e same. (which, kind_held (text_at fields 1) which named, (body_fails format which fields).to e same);
+      from = λ e fault. (body_fails format which fields).from e (subst (λ k. FaultOf k format (columns_of fields) e)
+          (same_ok fault.0 which (sym (kind_holds (text_at fields 1) fault.0 fault.1) ∙ named)) fault.2);
+    }
+
+-- a test before the steps
+tested : {A : Type 0} (test : Bool) (read : Result A RowFault) (bad : RowFault) (Missed : Type 0) (Others : RowFault → Type 0)
+    → (test ≡ true → ¬ Missed) → (test ≡ false → Missed) → FailsAs read Others
+    → FailsAs (if test then read else Err bad) ((λ fault. Missed × (fault ≡ bad)) or_else Others)
+tested true read bad Missed Others hit missed others = record {
+  to = λ e same. inr ((λ other fault. hit refl fault.0), others.to e same);
+  from = λ e fault. by e fault;
+}
+  where
+    by : (e : RowFault) → ((λ fault. Missed × (fault ≡ bad)) or_else Others) e → read ≡ Err e
+    by e (inl fault) = absurd (hit refl fault.0)
+    by e (inr fault) = others.from e fault.1
+tested {A = A} false read bad Missed Others hit missed others = record {
+  to = λ e same. inl (missed refl, sym (same_err bad e same));
+  from = λ e fault. by e fault;
+}
+  where
+    by : (e : RowFault) → ((λ fault. Missed × (fault ≡ bad)) or_else Others) e → ◌≡◌ {A = Result A RowFault} (Err bad) (Err e)
+    by e (inl fault) = ap Err (sym fault.1)
+    by e (inr fault) = absurd (fault.0 bad (missed refl, refl))
+
+row_fails : (format : Format) (next : ℕ) (fields : Fields) → FailsAs (record_of format next fields) (IsFirstFault format next fields)
+unfolding record_of
+row_fails format next fields =
+    tested (nat_lt next most_records) _ TooMany (most_records ≤ next) _ fits full
+    (tested (length fields == field_count format) _ FieldCount (length fields ≢ field_count format) _ counted other
+    (fields_fail format next fields))
+  where
+    fits : nat_lt next most_records ≡ true → ¬ (most_records ≤ next)
+    fits is over = let below : next < most_records = ltb-true next most_records is in absurd (omega arith)
+
+    full : nat_lt next most_records ≡ false → most_records ≤ next
+    full is = ltb-false next most_records is
+
+    counted : (length fields == field_count format) ≡ true → ¬ (length fields ≢ field_count format)
+    counted is not = not (eqb-true (length fields) (field_count format) is)
+
+    other : (length fields == field_count format) ≡ false → length fields ≢ field_count format
+    other is = eqb-false (length fields) (field_count format) is
+
+-- a row that is no record's is read with the fault of its first faulty field, and with no other
+pub first_faults_decide : FirstFaultsDecide
+first_faults_decide format next fields fault = ((row_fails format next fields).to fault, (row_fails format next fields).from fault)

@@ -1,0 +1,175 @@
+-- The fault of a row that is no record's: that of the first faulty field from left to right. Each field is judged by what it may hold.
+use Rattle.std.specs.Prelude.{◌≡◌, ◌≢◌, ◌⊎◌, ◌≤◌, ◌-◌, ℕ, ℤ, List, [], ◌∷◌, Bool, true, false, Ok, IsTrue, codes, length, nat_le}
+use Rattle.hex.specs.Hex.{decode_of}
+use Rattle.csv_rows.specs.Stream.{Fields}
+use Rattle.apex_types.specs.Bounds.{greatest_channel, greatest_number, greatest_partition, greatest_priority, longest_message, most_records}
+use Rattle.apex_types.specs.CodeName as CodeName
+use Rattle.apex_types.specs.ServiceName as ServiceName
+use Rattle.apex_types.specs.declared.code.Code.{Code}
+use Rattle.apex_types.specs.declared.service.Service.{Service}
+use Rattle.record_read.specs.declared.fault.RowFault.{RowFault}
+use Rattle.record_read.specs.declared.fault.RowFault.TheVariants.{BadHex, BadKind, BadLength, BadName, BadNumber, BadOut, BadService, BadWoken, FieldCount, FieldNotForKind, SeqGap, TooMany}
+use Rattle.record_read.specs.declared.format.Format.{Format}
+use Rattle.record_read.specs.declared.kind.Kind.{Kind}
+use Rattle.record_read.specs.declared.kind.Kind.TheVariants as kind
+use Rattle.record_read.specs.Arguments.{arguments_of}
+use Rattle.record_read.specs.Format.{field_count, stands_in}
+use Rattle.record_read.specs.Grammar.{AreEmpty, Columns, GoesWith, HoldsArgument, HoldsName, HoldsNumber, HoldsOutcome, HoldsProcesses, HoldsSigned, MayHold, columns_of}
+
+-- the fault of one field
+
+infixr 10 ◌or_else◌
+-- the fault of several fields: that of the first one, or else, where this one has none, that of the others
+abbrev pub ◌or_else◌ : (RowFault → Type 0) → (RowFault → Type 0) → RowFault → Type 0
+◌or_else◌ First Others fault = First fault ⊎ (((other : RowFault) → ¬ First other) × Others fault)
+
+-- a field that holds nothing of what it may hold
+abbrev pub HoldsNone : {A : Type 0} → RowFault → (List ℕ → A → Type 0) → List ℕ → RowFault → Type 0
+HoldsNone bad Holds text fault = ((value : _) → ¬ Holds text value) × (fault ≡ bad)
+
+-- a field that must be filled: it is empty, or holds nothing of what it may hold
+abbrev pub MustHold : {A : Type 0} → RowFault → (List ℕ → A → Type 0) → List ℕ → RowFault → Type 0
+MustHold bad Holds text fault = ((text ≡ []) × (fault ≡ FieldNotForKind)) ⊎ ((text ≢ []) × HoldsNone bad Holds text fault)
+
+-- fields of which one is filled, and all must be empty
+abbrev pub MustBeEmpty : List (List ℕ) → RowFault → Type 0
+MustBeEmpty texts fault = (¬ AreEmpty texts) × (fault ≡ FieldNotForKind)
+
+-- an argument's field: filled where the service takes it, and else empty
+abbrev pub MustHoldIf : {A : Type 0} → Bool → RowFault → (List ℕ → A → Type 0) → List ℕ → RowFault → Type 0
+MustHoldIf true bad Holds text fault = MustHold bad Holds text fault
+MustHoldIf false bad Holds text fault = MustBeEmpty (text ∷ []) fault
+
+-- bytes in hexadecimal, as many as they may be: the digits are none, or their bytes are too many or too few
+abbrev pub MustBeBytes : (ℕ → Type 0) → List ℕ → RowFault → Type 0
+MustBeBytes MayBe text fault =
+    (((bytes : List ℕ) → decode_of text ≢ Ok bytes) × (fault ≡ BadHex))
+    ⊎ ((bytes : List ℕ) × (decode_of text ≡ Ok bytes) × (¬ MayBe (length bytes)) × (fault ≡ BadLength))
+
+-- a message's field: as many bytes as go with the length argument where the service takes a message, and else empty
+abbrev pub MustBeMessageIf : Bool → ℤ → List ℕ → RowFault → Type 0
+MustBeMessageIf true argument text fault = MustBeBytes (GoesWith argument) text fault
+MustBeMessageIf false argument text fault = MustBeEmpty (text ∷ []) fault
+
+-- what fields hold that others are judged by
+
+-- the name of a service of the format
+pub record HoldsService (format : Format) (text : List ℕ) (service : Service) : Type 0 where
+  pub named : text ≡ ServiceName.name_of service
+  pub stands : IsTrue (stands_in format service)
+
+-- the name of a kind of rows
+abbrev pub HoldsKind : List ℕ → Kind → Type 0
+HoldsKind text kind.Call = text ≡ codes "call"
+HoldsKind text kind.Ret = text ≡ codes "ret"
+HoldsKind text kind.Disp = text ≡ codes "disp"
+HoldsKind text kind.Tick = text ≡ codes "tick"
+
+-- the name of a code
+abbrev pub HoldsCode : List ℕ → Code → Type 0
+HoldsCode text code = text ≡ CodeName.name_of code
+
+-- the faults of a row's fields
+
+-- the number of the row, which is not the next one
+abbrev pub OtherNumber : ℕ → Columns → RowFault → Type 0
+OtherNumber next row fault = (number : ℕ) × HoldsNumber (most_records - 1) row.seq number × (number ≢ next) × (fault ≡ SeqGap)
+
+-- the process of a call or of a return
+abbrev pub ProcessFault : Columns → RowFault → Type 0
+ProcessFault row = MustHold BadNumber (HoldsNumber greatest_partition) row.part or_else MustHold BadNumber (HoldsNumber greatest_number) row.proc
+
+-- the first, second or third number of a call, by the service that the row names
+abbrev pub ArgumentFault : Format → Columns → ℕ → List ℕ → RowFault → Type 0
+ArgumentFault format row place text fault =
+    (service : Service) × HoldsService format row.service service × MustHoldIf (nat_le place (arguments_of service).numbers) BadNumber HoldsSigned text fault
+
+-- the name of a call, by its service
+abbrev pub NameFault : Format → Columns → RowFault → Type 0
+NameFault format row fault =
+    (service : Service) × HoldsService format row.service service × MustHoldIf (arguments_of service).name BadName HoldsName row.name fault
+
+-- the message that goes with a length argument, which is the second number
+abbrev pub SentFault : Service → Columns → RowFault → Type 0
+SentFault service row fault = (argument : ℤ) × HoldsArgument service 2 row.n2 argument × MustBeMessageIf (arguments_of service).message argument row.msg fault
+
+-- the message of a call, by its service and by the length argument
+abbrev pub MessageFault : Format → Columns → RowFault → Type 0
+MessageFault format row fault = (service : Service) × HoldsService format row.service service × SentFault service row fault
+
+-- the request of a call
+abbrev pub RequestFault : Format → Columns → RowFault → Type 0
+RequestFault format row =
+    MustHold BadService (HoldsService format) row.service
+    or_else ArgumentFault format row 1 row.n1
+    or_else ArgumentFault format row 2 row.n2
+    or_else ArgumentFault format row 3 row.n3
+    or_else NameFault format row
+    or_else MessageFault format row
+
+-- what a call claims
+abbrev pub ClaimFault : Columns → RowFault → Type 0
+ClaimFault row =
+    MustHold BadNumber (HoldsNumber greatest_priority) row.prio
+    or_else MustHold BadOut HoldsOutcome row.out
+    or_else HoldsNone BadNumber (MayHold HoldsSigned) row.val
+    or_else MustBeBytes (λ count. count ≤ longest_message) row.«data»
+    or_else HoldsNone BadNumber (MayHold (HoldsNumber greatest_channel)) row.chan
+    or_else HoldsNone BadWoken HoldsProcesses row.woken
+    or_else HoldsNone BadNumber (MayHold HoldsSigned) row.val2
+    or_else HoldsNone BadNumber (MayHold HoldsSigned) row.val3
+
+-- the fields of a call after its kind
+abbrev pub CallFault : Format → Columns → RowFault → Type 0
+CallFault format row = ProcessFault row or_else RequestFault format row or_else ClaimFault row
+
+-- those of a return
+abbrev pub ReturnFault : Format → Columns → RowFault → Type 0
+ReturnFault format row =
+    ProcessFault row
+    or_else MustHold BadService (HoldsService format) row.service
+    or_else MustBeEmpty (row.n1 ∷ row.n2 ∷ row.n3 ∷ row.name ∷ row.msg ∷ row.prio ∷ [])
+    or_else MustHold BadOut HoldsCode row.out
+    or_else HoldsNone BadNumber (MayHold HoldsSigned) row.val
+    or_else MustBeBytes (λ count. count ≤ longest_message) row.«data»
+    or_else MustBeEmpty (row.chan ∷ row.woken ∷ [])
+    or_else HoldsNone BadNumber (MayHold HoldsSigned) row.val2
+    or_else HoldsNone BadNumber (MayHold HoldsSigned) row.val3
+
+-- the number of the process of a dispatch: it stands just where the partition does
+abbrev pub DispatchedFault : Columns → RowFault → Type 0
+DispatchedFault row fault =
+    ((row.part ≡ []) × MustBeEmpty (row.proc ∷ []) fault)
+    ⊎ ((row.part ≢ []) × MustHold BadNumber (HoldsNumber greatest_number) row.proc fault)
+
+-- the fields of a dispatch after its kind
+abbrev pub DispatchFault : Columns → RowFault → Type 0
+DispatchFault row =
+    HoldsNone BadNumber (MayHold (HoldsNumber greatest_partition)) row.part
+    or_else DispatchedFault row
+    or_else MustBeEmpty (row.service ∷ row.n1 ∷ row.n2 ∷ row.n3 ∷ row.name ∷ row.msg ∷ row.prio ∷ row.out ∷ row.val ∷ row.«data» ∷ row.chan ∷ row.woken ∷ row.val2 ∷ row.val3 ∷ [])
+
+-- those of a tick
+abbrev pub TickFault : Columns → RowFault → Type 0
+TickFault row =
+    MustBeEmpty (row.part ∷ row.proc ∷ row.service ∷ row.n1 ∷ row.n2 ∷ row.n3 ∷ row.name ∷ row.msg ∷ row.prio ∷ row.out ∷ row.val ∷ row.«data» ∷ row.chan ∷ [])
+    or_else HoldsNone BadWoken HoldsProcesses row.woken
+    or_else MustBeEmpty (row.val2 ∷ row.val3 ∷ [])
+
+-- the fields after the kind
+abbrev pub FaultOf : Kind → Format → Columns → RowFault → Type 0
+FaultOf kind.Call format row fault = CallFault format row fault
+FaultOf kind.Ret format row fault = ReturnFault format row fault
+FaultOf kind.Disp format row fault = DispatchFault row fault
+FaultOf kind.Tick format row fault = TickFault row fault
+
+-- the row of this number, in a recording of this format, has this fault: the recording has too many rows, or else the row other fields
+-- than the format, or else its first faulty field has the fault
+abbrev pub IsFirstFault : Format → ℕ → Fields → RowFault → Type 0
+IsFirstFault format next fields =
+    (λ fault. (most_records ≤ next) × (fault ≡ TooMany))
+    or_else (λ fault. (length fields ≢ field_count format) × (fault ≡ FieldCount))
+    or_else MustHold BadNumber (HoldsNumber (most_records - 1)) (columns_of fields).seq
+    or_else OtherNumber next (columns_of fields)
+    or_else MustHold BadKind HoldsKind (columns_of fields).kind
+    or_else (λ fault. (which : Kind) × HoldsKind (columns_of fields).kind which × FaultOf which format (columns_of fields) fault)
