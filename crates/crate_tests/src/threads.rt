@@ -1,50 +1,67 @@
 // Workers that judge beside one another, and recordings that are read beside one another, in a whole check.
 
+use crate::gates::{Meeting, Pair};
 use crate::texts::{BOTH, CONFIG, MODULE, RECEIVER, SENDER, asking, in_turn};
 use csv_rows::Watched;
-use report::{Gate, Open, Settings, Verdict, check, check_in_rounds};
+use report::{CheckFault, Gate, Open, Settings, Verdict, check, check_in_rounds};
+use std::alloc::{AllocError, Global};
 use std::io::{Cursor, ErrorKind, Read};
-use std::sync::Arc;
-use std::sync::atomic::{AtomicBool, AtomicUsize, Ordering};
+use std::sync::atomic::{AtomicBool, Ordering};
+use std::sync::{Arc, Wait};
 use std::test::Fail;
+use std::thread::Threads;
 use std::{io, thread};
 
-// Holds each claim until so many pieces of its round are claimed, for 1,000,000 yields at most, and counts the claims that saw
-// them.
-#[derive(Drop)]
-struct Meeting {
-    pieces: usize,
-    wanted: usize,
-    claimed: AtomicUsize,
-    met: AtomicUsize,
+// What comes of a message from one partition to another, judged by so many workers in rounds of this size.
+fn sent_in_rounds<T, G>(
+    rt: T,
+    alloc: Global,
+    workers: usize,
+    gate: &G,
+    size: usize,
+) -> Result<Result<Verdict, CheckFault>, AllocError>
+where
+    T: Threads + Wait + Sync + Copy + Send + 'static,
+    G: Gate + Sync,
+    requires least { 1 ≤ size }
+    requires most { size ≤ 4096 }
+{
+    let readers = vec![in alloc; SENDER.as_bytes(), RECEIVER.as_bytes()]?;
+    Ok(check_in_rounds(
+        rt,
+        alloc,
+        MODULE.as_bytes(),
+        readers,
+        BOTH.as_bytes(),
+        &[],
+        Settings { workers, depth: 4 },
+        gate,
+        size,
+    ))
 }
 
-impl Gate for Meeting {
-    fn at_claim(&self, _worker: usize, _piece: usize) {
-        let before = self.claimed.fetch_add(1, Ordering::SeqCst);
-        // All pieces of a round are claimed before the next round begins.
-        let in_round = before.checked_rem(self.pieces).unwrap_or(0);
-        let wanted = (before - in_round).saturating_add(self.wanted);
-        for _ in 0..1_000_000 {
-            if self.claimed.load(Ordering::SeqCst) >= wanted {
-                self.met.fetch_add(1, Ordering::SeqCst);
-                return;
-            }
-            thread::yield_now();
-        }
-    }
-
-    fn at_post(&self, _worker: usize, _piece: usize) {}
-}
-
-// The gate of a module of so many pieces, at which so many claims of a round have to meet.
-fn gate_for(pieces: usize, wanted: usize) -> Meeting {
-    Meeting {
-        pieces,
-        wanted,
-        claimed: AtomicUsize::new(0),
-        met: AtomicUsize::new(0),
-    }
+// The same in one round, by `check`.
+fn sent<T, G>(
+    rt: T,
+    alloc: Global,
+    workers: usize,
+    gate: &G,
+) -> Result<Result<Verdict, CheckFault>, AllocError>
+where
+    T: Threads + Wait + Sync + Copy + Send + 'static,
+    G: Gate + Sync,
+{
+    let readers = vec![in alloc; SENDER.as_bytes(), RECEIVER.as_bytes()]?;
+    Ok(check(
+        rt,
+        alloc,
+        MODULE.as_bytes(),
+        readers,
+        BOTH.as_bytes(),
+        &[],
+        Settings { workers, depth: 4 },
+        gate,
+    ))
 }
 
 // A worker that is held makes no claim. So where all claims of a round saw so many of it, as many threads held a piece at one
@@ -54,66 +71,17 @@ fn two_claims_meet(rt: HostRuntime) -> Result<(), Fail> {
     let alloc = rt.alloc();
     for (size, rounds) in [(12, 2), (4096, 1)] {
         for workers in [2, 5] {
-            let gate = gate_for(5, workers);
-            let readers = vec![in alloc; SENDER.as_bytes(), RECEIVER.as_bytes()]?;
-            let settings = Settings { workers, depth: 4 };
-            let outcome = check_in_rounds(
-                rt,
-                alloc,
-                MODULE.as_bytes(),
-                readers,
-                BOTH.as_bytes(),
-                &[],
-                settings,
-                &gate,
-                size,
-            );
+            let gate = Meeting::new(5, workers);
+            let outcome = sent_in_rounds(rt, alloc, workers, &gate, size)?;
             assert_eq!(rt;
                 outcome,
                 Ok(Verdict::Yes { records: 23 }),
                 "{workers} workers"
             );
-            assert_eq!(rt;
-                gate.met.load(Ordering::SeqCst),
-                rounds * 5,
-                "{workers} workers"
-            );
+            assert_eq!(rt; gate.met(), rounds * 5, "{workers} workers");
         }
     }
     Ok(())
-}
-
-// Holds the claim of each of two pieces until that of the other was seen, for 1,000,000 yields at most, and counts those that saw
-// it.
-#[derive(Drop)]
-struct Pair {
-    first: usize,
-    second: usize,
-    first_claimed: AtomicBool,
-    second_claimed: AtomicBool,
-    met: AtomicUsize,
-}
-
-impl Gate for Pair {
-    fn at_claim(&self, _worker: usize, piece: usize) {
-        let (own, other) = if piece == self.first {
-            (&self.first_claimed, &self.second_claimed)
-        } else if piece == self.second {
-            (&self.second_claimed, &self.first_claimed)
-        } else {
-            return;
-        };
-        own.store(true, Ordering::SeqCst);
-        for _ in 0..1_000_000 {
-            if other.load(Ordering::SeqCst) {
-                self.met.fetch_add(1, Ordering::SeqCst);
-                return;
-            }
-            thread::yield_now();
-        }
-    }
-
-    fn at_post(&self, _worker: usize, _piece: usize) {}
 }
 
 // Two workers hold any two of the five pieces at one time.
@@ -122,32 +90,14 @@ fn every_two_claims_meet(rt: HostRuntime) -> Result<(), Fail> {
     let alloc = rt.alloc();
     for first in 0..5 {
         for second in first + 1..5 {
-            let gate = Pair {
-                first,
-                second,
-                first_claimed: AtomicBool::new(false),
-                second_claimed: AtomicBool::new(false),
-                met: AtomicUsize::new(0),
-            };
-            let outcome = check(
-                rt,
-                alloc,
-                MODULE.as_bytes(),
-                vec![in alloc; SENDER.as_bytes(), RECEIVER.as_bytes()]?,
-                BOTH.as_bytes(),
-                &[],
-                Settings {
-                    workers: 2,
-                    depth: 4,
-                },
-                &gate,
-            );
+            let gate = Pair::new(first, second);
+            let outcome = sent(rt, alloc, 2, &gate)?;
             assert_eq!(rt;
                 outcome,
                 Ok(Verdict::Yes { records: 23 }),
                 "{first} and {second}"
             );
-            assert_eq!(rt; gate.met.load(Ordering::SeqCst), 2, "{first} and {second}");
+            assert_eq!(rt; gate.met(), 2, "{first} and {second}");
         }
     }
     Ok(())
@@ -157,7 +107,7 @@ fn every_two_claims_meet(rt: HostRuntime) -> Result<(), Fail> {
 #[test]
 fn two_claims_meet_in_both_rounds(rt: HostRuntime) -> Result<(), Fail> {
     let alloc = rt.alloc();
-    let gate = gate_for(2, 2);
+    let gate = Meeting::new(2, 2);
     let (recording, order) = (asking(alloc, 2045)?, in_turn(alloc, 4097)?);
     let outcome = check(
         rt,
@@ -173,7 +123,7 @@ fn two_claims_meet_in_both_rounds(rt: HostRuntime) -> Result<(), Fail> {
         &gate,
     );
     assert_eq!(rt; outcome, Ok(Verdict::Yes { records: 4097 }));
-    assert_eq!(rt; gate.met.load(Ordering::SeqCst), 4);
+    assert_eq!(rt; gate.met(), 4);
     Ok(())
 }
 

@@ -1,26 +1,27 @@
 // The verdict at once, without rounds, and the last records before a No.
 
-ghost use Rattle.std.specs.Prelude.{◌≡◌, IfOk, length, false};
-ghost use Rattle.order_cert.specs.Kept.{place_of};
+ghost use Rattle.std.specs.Prelude.{IfSome};
+ghost use Rattle.apex_machine.specs.Runs.{ArePlaced, AreOfCores};
 
 use crate::ruled::rule;
 use crate::texts::{CONFIG, ORDER, RECORDING};
 use crate::writers::Narrow;
 use apex_types::{Cause, CoreId, Field, Ordered, Place};
-use core_intake::{Intake, IntakeFault};
+use core_intake::Intake;
 use module_config::Config;
 use order_cert::CertSource;
 use placement::{Filled, Placer};
 use record_read::Kind;
 use report::{
-    Last, LastItem, Open, Settings, Verdict, check, check_in_rounds, check_with_last, write_last,
+    CheckFault, Last, LastItem, Open, Settings, Verdict, check, check_in_rounds, check_with_last,
+    write_last,
 };
 use sink::WriterSink;
-use std::alloc::Global;
+use std::alloc::{AllocError, Global};
 use std::sync::Wait;
 use std::test::Fail;
 use std::thread::Threads;
-use user_rules::Relation;
+use user_rules::{Relation, Rule};
 use verdict_merge::check_plain;
 
 // The recording of the wait, whose second tick wakes nobody.
@@ -51,6 +52,11 @@ LAST place=8 core=0 seq=8 kind=disp
 LAST place=9 core=0 seq=9 kind=tick
 ";
 
+const SETTINGS: Settings = Settings {
+    workers: 2,
+    depth: 4,
+};
+
 // What has to come of the second recording: the piece of the partition refuses the tick of record 10.
 fn missed() -> Verdict {
     Verdict::No {
@@ -63,10 +69,6 @@ fn missed() -> Verdict {
 #[test]
 fn last_records_are_left(rt: HostRuntime) -> Result<(), Fail> {
     let alloc = rt.alloc();
-    let settings = Settings {
-        workers: 2,
-        depth: 4,
-    };
     let mut last = Last::new(alloc)?;
     for (text, outcome, count) in [
         (MISSED, missed(), 8),
@@ -79,7 +81,7 @@ fn last_records_are_left(rt: HostRuntime) -> Result<(), Fail> {
             vec![in alloc; text.as_bytes()]?,
             ORDER.as_bytes(),
             &[],
-            settings,
+            SETTINGS,
             &Open,
             &mut last,
         );
@@ -128,42 +130,97 @@ fn the_earliest_comes_first(rt: HostRuntime) -> Result<(), Fail> {
     Ok(())
 }
 
-// A placer of one recording, which stands before its first record.
-fn placer_of<T: Threads + Wait + Copy + Send + 'static>(
+// The recording of the wait under these rules, by `check`.
+fn by_check<T>(
     rt: T,
     alloc: Global,
-    text: &'static str,
-) -> Result<Placer<&'static [u8], &'static [u8]>, IntakeFault>
-    ensures going { IfOk result (λ placer. placer.ended ≡ false) }
-    ensures first { IfOk result (λ placer. place_of placer.kept ≡ 0) }
-    ensures lanes { IfOk result (λ placer. length placer.lanes ≡ 1) }
+    rules: &[Rule],
+) -> Result<Result<Verdict, CheckFault>, AllocError>
+where
+    T: Threads + Wait + Sync + Copy + Send + 'static,
+{
+    let readers = vec![in alloc; RECORDING.as_bytes()]?;
+    let (config, order) = (CONFIG.as_bytes(), ORDER.as_bytes());
+    Ok(check(rt, alloc, config, readers, order, rules, SETTINGS, &Open))
+}
+
+// The same, by `check_in_rounds`.
+fn in_rounds<T>(
+    rt: T,
+    alloc: Global,
+    rules: &[Rule],
+) -> Result<Result<Verdict, CheckFault>, AllocError>
+where
+    T: Threads + Wait + Sync + Copy + Send + 'static,
+{
+    let readers = vec![in alloc; RECORDING.as_bytes()]?;
+    let (config, order) = (CONFIG.as_bytes(), ORDER.as_bytes());
+    Ok(check_in_rounds(rt, alloc, config, readers, order, rules, SETTINGS, &Open, 5))
+}
+
+// The same, by `check_with_last`.
+fn with_last<T>(
+    rt: T,
+    alloc: Global,
+    rules: &[Rule],
+) -> Result<Result<Verdict, CheckFault>, AllocError>
+where
+    T: Threads + Wait + Sync + Copy + Send + 'static,
+{
+    let readers = vec![in alloc; RECORDING.as_bytes()]?;
+    let (config, order) = (CONFIG.as_bytes(), ORDER.as_bytes());
+    let Ok(mut last) = Last::new(alloc) else {
+        return Err(AllocError);
+    };
+    Ok(check_with_last(
+        rt, alloc, config, readers, order, rules, SETTINGS, &Open, &mut last,
+    ))
+}
+
+// The records of a recording, in its own order.
+fn records_of<T>(rt: T, alloc: Global, text: &'static str) -> Option<Vec<Ordered>>
+where
+    T: Threads + Wait + Copy + Send + 'static,
+    ensures placed { IfSome result (λ records. ArePlaced 0 records.items) }
+    ensures cores { IfSome result (λ records. AreOfCores 1 records.items) }
 {
     let Ok(readers) = vec![in alloc; text.as_bytes()] else {
-        return Err(IntakeFault::Memory);
+        return None;
     };
-    let intake = match Intake::open(rt, alloc, readers, 2) {
-        Ok(intake) => intake,
-        Err(fault) => return Err(fault),
+    let Ok(intake) = Intake::open(rt, alloc, readers, 2) else {
+        return None;
     };
-    Ok(Placer::new(intake, CertSource::new(alloc, ORDER.as_bytes())))
+    let mut placer = Placer::new(intake, CertSource::new(alloc, ORDER.as_bytes()));
+    let mut records = Vec::new(alloc);
+    let filled = placer.fill(&rt, &mut records, 64);
+    placer.close(&rt);
+    match filled {
+        Filled::Ended(Ok(())) => Some(records),
+        Filled::Full | Filled::Ended(Err(_)) => None,
+    }
+}
+
+// A recording under these rules, by `check_plain`.
+fn at_once<T>(rt: T, alloc: Global, text: &'static str, rules: &[Rule]) -> Option<Verdict>
+where
+    T: Threads + Wait + Copy + Send + 'static,
+{
+    let Ok(config) = Config::read(alloc, CONFIG.as_bytes()) else {
+        return None;
+    };
+    if config.cores() != 1 {
+        return None;
+    }
+    let records = records_of(rt, alloc, text)?;
+    check_plain(alloc, &config, &records, rules).ok()
 }
 
 #[test]
 fn a_recording_is_judged_at_once(rt: HostRuntime) -> Result<(), Fail> {
     let alloc = rt.alloc();
-    let config = Config::read(alloc, CONFIG.as_bytes())?;
-    assert_eq!(rt; config.cores(), 1);
-    for (text, verdict) in [
-        (RECORDING, Verdict::Yes { records: 13 }),
-        (MISSED, missed()),
-    ] {
-        let mut placer = placer_of(rt, alloc, text)?;
-        let mut records: Vec<Ordered> = Vec::new(alloc);
-        let filled = placer.fill(&rt, &mut records, 64);
-        placer.close(&rt);
-        assert!(rt; matches!(filled, Filled::Ended(Ok(()))));
-        assert_eq!(rt; check_plain(alloc, &config, &records, &[]), Ok(verdict));
-    }
+    let whole = Verdict::Yes { records: 13 };
+    assert_eq!(rt; at_once(rt, alloc, RECORDING, &[]), Some(whole));
+    assert_eq!(rt; at_once(rt, alloc, MISSED, &[]), Some(missed()));
     Ok(())
 }
 
@@ -175,38 +232,23 @@ fn each_call_tests_rules(rt: HostRuntime) -> Result<(), Fail> {
         pos: Place::new(12),
         rule: 0,
     };
-    let settings = Settings {
-        workers: 2,
-        depth: 4,
-    };
     for (ticks, verdict) in [(1i64, broken), (2, Verdict::Yes { records: 13 })] {
         let relation = Relation::Less(Field::Elapsed, ticks + 1);
         let rules = vec![in alloc; rule!(alloc, relation)]?;
-        let (config, order) = (CONFIG.as_bytes(), ORDER.as_bytes());
-        let readers = vec![in alloc; RECORDING.as_bytes()]?;
-        let answer = check(rt, alloc, config, readers, order, &rules, settings, &Open);
-        assert_eq!(rt; answer, Ok(verdict), "check");
-        let readers = vec![in alloc; RECORDING.as_bytes()]?;
-        let answer = check_in_rounds(
-            rt, alloc, config, readers, order, &rules, settings, &Open, 5,
-        );
-        assert_eq!(rt; answer, Ok(verdict), "check_in_rounds");
-        let mut last = Last::new(alloc)?;
-        let readers = vec![in alloc; RECORDING.as_bytes()]?;
-        let answer = check_with_last(
-            rt, alloc, config, readers, order, &rules, settings, &Open, &mut last,
-        );
-        assert_eq!(rt; answer, Ok(verdict), "check_with_last");
-        let parsed = Config::read(alloc, config)?;
-        assert_eq!(rt; parsed.cores(), 1);
-        let mut placer = placer_of(rt, alloc, RECORDING)?;
-        let mut records: Vec<Ordered> = Vec::new(alloc);
-        let filled = placer.fill(&rt, &mut records, 64);
-        placer.close(&rt);
-        assert!(rt; matches!(filled, Filled::Ended(Ok(()))));
+        assert_eq!(rt; by_check(rt, alloc, &rules)?, Ok(verdict), "check");
         assert_eq!(rt;
-            check_plain(alloc, &parsed, &records, &rules),
+            in_rounds(rt, alloc, &rules)?,
             Ok(verdict),
+            "check_in_rounds"
+        );
+        assert_eq!(rt;
+            with_last(rt, alloc, &rules)?,
+            Ok(verdict),
+            "check_with_last"
+        );
+        assert_eq!(rt;
+            at_once(rt, alloc, RECORDING, &rules),
+            Some(verdict),
             "check_plain"
         );
     }

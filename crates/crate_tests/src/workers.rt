@@ -5,73 +5,25 @@ ghost use Rattle.apex_machine.specs.Runs.{ArePlaced, AreOfCores};
 ghost use Rattle.piece_check.specs.Touching.{AreSortedOut, indices_of};
 ghost use Rattle.partition_workers.specs.Contents.{AreGoingFrom, IsOpen, content_of, parts_held};
 
+use crate::gates::{Meeting, Pair};
 use crate::ruled::rule;
+use crate::texts::{BOTH, MODULE, RECEIVER, SENDER};
 use apex_types::{Body, Cause, CoreId, Field, Ordered, PartId, Place, ProcId, Record, Who, Woken};
+use core_intake::Intake;
 use module_config::Config;
+use order_cert::CertSource;
 use partition_workers::{
     Board, Done, Gate, Naming, Open, PostRefusal, Round, RoundFault, judge_round,
 };
 use piece_check::{Piece, Touched};
+use placement::{Filled, Placer};
 use std::alloc::{AllocError, Global};
 use std::marker::Brand;
 use std::sync::Wait;
-use std::sync::atomic::{AtomicUsize, Ordering};
 use std::test::Fail;
-use std::thread;
 use std::thread::Threads;
 use user_rules::{Relation, Rule};
 use verdict_merge::{Judged, Lent, Refused, start_pieces};
-
-// Two cores, each of a partition of its own, and two channels: five pieces.
-const CONFIG: &str = "\
-cores = 2
-frame = 10
-skew = 6
-[[partition]]
-number = 0
-period = 10
-cores = [0]
-processes = 4
-buffers = 2
-blackboards = 1
-semaphores = 1
-events = 1
-mutexes = 2
-[[partition]]
-number = 1
-period = 10
-cores = [1]
-processes = 4
-buffers = 2
-blackboards = 1
-semaphores = 1
-events = 1
-mutexes = 2
-[[window]]
-core = 0
-partition = 0
-start = 0
-length = 10
-[[window]]
-core = 1
-partition = 1
-start = 0
-length = 10
-[[queuing]]
-channel = 0
-size = 4
-capacity = 1
-source = { partition = 0, port = \"Q\" }
-source_discipline = \"FIFO\"
-destination = { partition = 1, port = \"Q\" }
-destination_discipline = \"FIFO\"
-[[sampling]]
-channel = 1
-size = 4
-refresh = 5
-source = { partition = 0, port = \"S\" }
-destinations = [{ partition = 1, port = \"S\" }]
-";
 
 // A record at its place.
 fn ordered(pos: Place, core: u8, body: Body) -> Ordered
@@ -107,7 +59,7 @@ fn tick(alloc: Global, pos: Place) -> Ordered
 
 // Partition 1 knows no process 3, so that it refuses place 1; and the seventh tick is one ahead of the skew, so that the module
 // refuses place 8.
-fn records(alloc: Global) -> Result<Vec<Ordered>, AllocError>
+fn refused_records(alloc: Global) -> Result<Vec<Ordered>, AllocError>
     ensures placed { IfOk result (λ records. ArePlaced 0 records.items) }
     ensures cores { IfOk result (λ records. AreOfCores 2 records.items) }
 {
@@ -125,11 +77,11 @@ fn records(alloc: Global) -> Result<Vec<Ordered>, AllocError>
     Ok(records)
 }
 
-// The module that the text configures.
+// The module of the tests.
 fn read_config(alloc: Global) -> Option<Config>
     ensures { IfSome result (λ config. config.cores ≡ 2) }
 {
-    let Ok(config) = Config::read(alloc, CONFIG.as_bytes()) else {
+    let Ok(config) = Config::read(alloc, MODULE.as_bytes()) else {
         return None;
     };
     if config.cores() == 2 {
@@ -152,27 +104,28 @@ fn sort_out(alloc: Global, config: &Config, records: &[Ordered]) -> Option<Touch
     Some(touched)
 }
 
-// What the round makes of each piece under these rules, by so many workers.
+// What the round of these records makes of each piece under these rules, by so many workers.
 fn judge_all<G: Gate + Sync, R: Threads + Wait + Sync>(
     rt: &R,
     alloc: Global,
+    records: &[Ordered],
     rules: &[Rule],
     workers: usize,
     gate: &G,
-) -> Result<Vec<Judged>, RoundFault> {
+) -> Result<Vec<Judged>, RoundFault>
+    requires placed { ArePlaced 0 records.now }
+    requires cores { AreOfCores 2 records.now }
+{
     let Some(config) = read_config(alloc) else {
         return Err(RoundFault::Memory);
     };
-    let Ok(records) = records(alloc) else {
-        return Err(RoundFault::Memory);
-    };
-    let Some(touched) = sort_out(alloc, &config, &records) else {
+    let Some(touched) = sort_out(alloc, &config, records) else {
         return Err(RoundFault::Memory);
     };
     let Ok(pieces) = start_pieces(alloc, &config) else {
         return Err(RoundFault::Memory);
     };
-    let lent = Lent::new(&config, 0, &records, &touched);
+    let lent = Lent::new(&config, 0, records, &touched);
     judge_round(rt, alloc, &lent, rules, pieces, workers, gate)
 }
 
@@ -208,14 +161,15 @@ fn have_come(ruled: bool, all: &[Judged]) -> bool {
 #[test]
 fn any_number_of_workers_gives_the_same(rt: HostRuntime) -> Result<(), Fail> {
     let alloc = rt.alloc();
+    let records = refused_records(alloc)?;
     let mut rules = Vec::new(alloc);
     rules.push(rule!(alloc, Relation::Less(Field::Kind, 3)))?;
     for workers in [1, 2, 5] {
-        let Ok(ruled) = judge_all(&rt, alloc, &rules, workers, &Open) else {
+        let Ok(ruled) = judge_all(&rt, alloc, &records, &rules, workers, &Open) else {
             return Err(Fail::from("no round under a rule"));
         };
         assert!(rt; have_come(true, &ruled), "{workers} workers under a rule");
-        let Ok(all) = judge_all(&rt, alloc, &[], workers, &Open) else {
+        let Ok(all) = judge_all(&rt, alloc, &records, &[], workers, &Open) else {
             return Err(Fail::from("no round"));
         };
         assert!(rt; have_come(false, &all), "{workers} workers");
@@ -225,47 +179,68 @@ fn any_number_of_workers_gives_the_same(rt: HostRuntime) -> Result<(), Fail> {
 
 #[test]
 fn no_worker_is_refused(rt: HostRuntime) -> Result<(), Fail> {
-    let judged = judge_all(&rt, rt.alloc(), &[], 0, &Open);
+    let judged = judge_all(&rt, rt.alloc(), &[], &[], 0, &Open);
     assert!(rt; matches!(judged, Err(RoundFault::NoWorkers)));
     Ok(())
 }
 
-// Holds each claim until so many pieces are claimed, for 1,000,000 yields at most, and counts the claims that saw them.
-#[derive(Drop)]
-struct Meeting {
-    wanted: usize,
-    claimed: AtomicUsize,
-    met: AtomicUsize,
+// The records of a message from one partition to another, which touch all five pieces.
+fn sent_records<T: Threads + Wait + Copy + Send + 'static>(
+    rt: T,
+    alloc: Global,
+) -> Result<Vec<Ordered>, AllocError>
+    ensures placed { IfOk result (λ records. ArePlaced 0 records.items) }
+    ensures cores { IfOk result (λ records. AreOfCores 2 records.items) }
+{
+    let readers = vec![in alloc; SENDER.as_bytes(), RECEIVER.as_bytes()]?;
+    let Ok(intake) = Intake::open(rt, alloc, readers, 4) else {
+        return Err(AllocError);
+    };
+    let mut placer = Placer::new(intake, CertSource::new(alloc, BOTH.as_bytes()));
+    let mut records = Vec::new(alloc);
+    let filled = placer.fill(&rt, &mut records, 64);
+    placer.close(&rt);
+    match filled {
+        Filled::Ended(Ok(())) => Ok(records),
+        Filled::Full | Filled::Ended(Err(_)) => Err(AllocError),
+    }
 }
 
-impl Gate for Meeting {
-    fn at_claim(&self, _worker: usize, _piece: usize) {
-        self.claimed.fetch_add(1, Ordering::SeqCst);
-        for _ in 0..1_000_000 {
-            if self.claimed.load(Ordering::SeqCst) >= self.wanted {
-                self.met.fetch_add(1, Ordering::SeqCst);
-                return;
-            }
-            thread::yield_now();
-        }
-    }
-
-    fn at_post(&self, _worker: usize, _piece: usize) {}
+// Whether no piece refuses a record.
+fn all_went(all: &[Judged]) -> bool {
+    all.len() == 5 && all.iter().all(|one| one.gone.found.is_none())
 }
 
 // A worker that is held makes no claim. So where all five claims saw so many others, as many threads held a piece at one time.
 #[test]
 fn two_claims_meet(rt: HostRuntime) -> Result<(), Fail> {
     let alloc = rt.alloc();
+    let records = sent_records(rt, alloc)?;
     for workers in [2, 5] {
-        let gate = Meeting {
-            wanted: workers,
-            claimed: AtomicUsize::new(0),
-            met: AtomicUsize::new(0),
+        let gate = Meeting::new(5, workers);
+        let Ok(judged) = judge_all(&rt, alloc, &records, &[], workers, &gate) else {
+            return Err(Fail::from("no round"));
         };
-        let judged = judge_all(&rt, alloc, &[], workers, &gate);
-        assert!(rt; judged.is_ok());
-        assert_eq!(rt; gate.met.load(Ordering::SeqCst), 5, "{workers} workers");
+        assert!(rt; all_went(&judged), "{workers} workers");
+        assert_eq!(rt; gate.met(), 5, "{workers} workers");
+    }
+    Ok(())
+}
+
+// Two workers hold any two of the five pieces at one time.
+#[test]
+fn every_two_claims_meet(rt: HostRuntime) -> Result<(), Fail> {
+    let alloc = rt.alloc();
+    let records = sent_records(rt, alloc)?;
+    for first in 0..5 {
+        for second in first + 1..5 {
+            let gate = Pair::new(first, second);
+            let Ok(judged) = judge_all(&rt, alloc, &records, &[], 2, &gate) else {
+                return Err(Fail::from("no round"));
+            };
+            assert!(rt; all_went(&judged), "{first} and {second}");
+            assert_eq!(rt; gate.met(), 2, "{first} and {second}");
+        }
     }
     Ok(())
 }
@@ -394,7 +369,7 @@ fn refuse_in_round(alloc: Global) -> Option<[Told; 3]> {
     let Some(config) = read_config(alloc) else {
         return None;
     };
-    let Ok(records) = records(alloc) else {
+    let Ok(records) = refused_records(alloc) else {
         return None;
     };
     let Some(touched) = sort_out(alloc, &config, &records) else {
