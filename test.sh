@@ -1,9 +1,10 @@
 #!/usr/bin/env bash
 # All tests, after the line of the kit that runs them: that each wrong body applies; the program on one example through real
 # files; every proof, every wrong body of the gate's set, every test and the program as two compilers build it; the program as
-# its users run it, and on hostile texts and files; and each of its allocations refused in turn, without rules, with options
-# that ask for rules, with a rules file, with a message between partitions, and with several who wait at a blackboard. At the
-# end come the costs of each crate. The last line is `N passed, 0 failed`.
+# its users run it, and on hostile texts and files; each allocation refused in turn that a waiting set makes for its first entry;
+# and so each of the program's, without rules, with options that ask for rules, with a rules file, with a message between
+# partitions, and with several who wait at a blackboard. At the end come the costs of each crate. The last line is
+# `N passed, 0 failed`.
 #
 # `bash test.sh quick` shows without a proof, in minutes, that everything works. `bash audit.sh` tries all wrong bodies.
 set -euo pipefail
@@ -33,6 +34,7 @@ bash .ci/run_wrong_cases crates/case_runner/out/case_runner
 bash .ci/run_examples "$program"
 bash .ci/run_explanations "$program"
 bash .ci/run_hostile "$program"
+bash .ci/refuse_in_test crates/part_tests/out/part_tests_tests queuing::a_refused_entry_comes_back 2
 bash .ci/refuse_allocations "$program"
 late=examples/return_too_late
 bash .ci/refuse_allocations "$program" --config "$late/config.toml" --order "$late/order.csv" --workers 2 --max-elapsed 1 --forbid STOP "$late/core0.csv"
