@@ -1,4 +1,4 @@
-// What no clause says: that several threads claim pieces at one time, and how a board tells its refusals.
+// What no clause says: that several threads claim pieces at one time, and what a board says of its refusals.
 
 ghost use Rattle.std.specs.Prelude.{◌≡◌, [], IfOk, IfSome};
 ghost use Rattle.apex_machine.specs.Runs.{ArePlaced, AreOfCores};
@@ -13,7 +13,7 @@ use core_intake::Intake;
 use module_config::Config;
 use order_cert::CertSource;
 use partition_workers::{
-    Board, Done, Gate, Naming, Open, PostRefusal, Round, RoundFault, judge_round,
+    Board, Done, Gate, Naming, Open, PostFault, PostRefusal, Round, RoundFault, judge_round,
 };
 use piece_check::{Piece, Touched};
 use placement::{Filled, Placer};
@@ -245,37 +245,37 @@ fn every_two_claims_meet(rt: HostRuntime) -> Result<(), Fail> {
     Ok(())
 }
 
-// What a board tells of what it refuses, and how many events its history then has.
+// What a board says of what it refuses, and how many events its history then has.
 #[derive(Clone, Copy, Debug, PartialEq, Eq)]
-struct Told {
+struct RefusedPost {
     refusal: PostRefusal,
     worker: usize,
     number: usize,
     events: usize,
 }
 
-// Posts what is refused, and gives it back with what the board tells; none where it is not refused.
-fn refuse<J: Naming>(board: &mut Board<J>, done: Done<J>) -> Option<(Told, Done<J>)> {
+// Posts what is refused, and gives it back with what the board says; none where it is not refused.
+fn refuse<J: Naming>(board: &mut Board<J>, done: Done<J>) -> Option<(RefusedPost, PostFault<J>)> {
     match board.post(done) {
         Ok(()) => None,
         Err(fault) => {
-            let told = Told {
+            let refused = RefusedPost {
                 refusal: fault.refusal,
                 worker: fault.done.worker(),
                 number: fault.done.number(),
                 events: board.log().len(),
             };
-            Some((told, fault.done))
+            Some((refused, fault))
         }
     }
 }
 
-// What a board tells of what it refuses.
-fn told_by<J: Naming>(board: &mut Board<J>, done: Done<J>) -> Option<Told> {
+// What a board says of what it refuses, which is given up.
+fn refusal_by<J: Naming>(board: &mut Board<J>, done: Done<J>) -> Option<RefusedPost> {
     match refuse(board, done) {
-        Some((told, done)) => {
-            drop(done);
-            Some(told)
+        Some((refused, fault)) => {
+            fault.give_up();
+            Some(refused)
         }
         None => None,
     }
@@ -299,31 +299,32 @@ fn post_next<J: Naming>(board: &mut Board<J>, worker: usize) -> bool
     requires { J.round.relations ≡ [] }
 {
     match finish_next(board, worker) {
-        Some(done) => told_by(board, done).is_none(),
+        Some(done) => refusal_by(board, done).is_none(),
         None => false,
     }
 }
 
 // Posts to a board what another board's worker 1 made of the first piece, before and after that piece is claimed and posted by a
 // worker 1 of its own.
-fn refuse_first<J: Naming>(board: &mut Board<J>, other: &mut Board<J>) -> Option<[Told; 2]>
+fn refuse_first<J: Naming>(board: &mut Board<J>, other: &mut Board<J>) -> Option<[RefusedPost; 2]>
     requires { J.round.relations ≡ [] }
 {
     let Some(done) = finish_next(other, 1) else {
         return None;
     };
-    let Some((not_claimed, done)) = refuse(board, done) else {
+    let Some((not_claimed, fault)) = refuse(board, done) else {
         return None;
     };
+    let PostFault { refusal: _, done } = fault;
     let posted = post_next(board, 1);
-    match told_by(board, done) {
+    match refusal_by(board, done) {
         Some(repeated) if posted => Some([not_claimed, repeated]),
         _ => None,
     }
 }
 
 // Posts to a board, where worker 3 has claimed the next piece, what another board's worker 2 made of it.
-fn refuse_next<J: Naming>(board: &mut Board<J>, other: &mut Board<J>) -> Option<Told>
+fn refuse_next<J: Naming>(board: &mut Board<J>, other: &mut Board<J>) -> Option<RefusedPost>
     requires { J.round.relations ≡ [] }
 {
     match board.claim(3) {
@@ -331,7 +332,7 @@ fn refuse_next<J: Naming>(board: &mut Board<J>, other: &mut Board<J>) -> Option<
         None => return None,
     }
     match finish_next(other, 2) {
-        Some(done) => told_by(board, done),
+        Some(done) => refusal_by(board, done),
         None => None,
     }
 }
@@ -342,7 +343,7 @@ fn refuse_all<J: Naming>(
     lent: &Lent,
     pieces: Vec<Piece>,
     others: Vec<Piece>,
-) -> Option<[Told; 3]>
+) -> Option<[RefusedPost; 3]>
     requires named { content_of lent.now [] (parts_held pieces.items) ≡ J.round }
     requires other_named { content_of lent.now [] (parts_held others.items) ≡ J.round }
     requires open { IsOpen J.round }
@@ -365,7 +366,7 @@ fn refuse_all<J: Naming>(
 }
 
 // The same, of the round that the tests judge.
-fn refuse_in_round(alloc: Global) -> Option<[Told; 3]> {
+fn refuse_in_round(alloc: Global) -> Option<[RefusedPost; 3]> {
     let Some(config) = read_config(alloc) else {
         return None;
     };
@@ -385,9 +386,9 @@ fn refuse_in_round(alloc: Global) -> Option<[Told; 3]> {
     refuse_all::<Brand>(alloc, &lent, pieces, others)
 }
 
-// What has to be told of a refusal.
-fn refused_as(refusal: PostRefusal, worker: usize, number: usize, events: usize) -> Told {
-    Told {
+// What has to be said of a refusal.
+fn refused_as(refusal: PostRefusal, worker: usize, number: usize, events: usize) -> RefusedPost {
+    RefusedPost {
         refusal,
         worker,
         number,

@@ -14,7 +14,7 @@ use Rattle.verdict_merge.specs.declared.judged.Judged.{Judged}
 use Rattle.verdict_merge.proofs.Splits.{up_to}
 use Rattle.partition_workers.specs.declared.log.Event.{Event}
 use Rattle.partition_workers.specs.Boards.{IsBoard, IsPlaced}
-use Rattle.partition_workers.specs.Contents.{AreGoingFrom, AreJudged, Content, Finished, IsJudged, content_of, part_at, parts_held}
+use Rattle.partition_workers.specs.Contents.{AreGoingFrom, AreJudged, Content, IsJudged, content_of, part_at, parts_held}
 
 -- the part of a piece by its number
 pub part_held : (holdings : List Holding) (number : ℕ) → part_at (parts_held holdings) number ≡ (holding_at holdings number).part
@@ -89,12 +89,12 @@ judged_more content judged new count counted each last =
     (λ number less one is. each number less one (is ∙ get_or_append_left judged (new ∷ []) one number (omega (arith, less, counted))))
     (λ one is. subst (IsJudged content count) (sym (is ∙ ap (λ n. get_or (judged ++ new ∷ []) n one) (sym counted) ∙ get_or-append_seam judged new [] one)) last)
 
--- the value in the next place is that of the next piece
-pub next_done : (parts left : List Part) (claimed : ℕ) (log : List Event) (places before after : List (Option Finished)) (done : Finished)
-    → (before ++ Some done ∷ []) ++ after ≡ places → IsBoard parts left claimed log places → done.number ≡ length before
-next_done parts left claimed log places before after done is board =
-    let split : before ++ Some done ∷ after ≡ places = sym (append_assoc before (Some done ∷ []) after) ∙ is in
-    let within : length before < length parts = omega (arith, board.place, ap length split, length-append before (Some done ∷ after)) in
-    let here : get_or places (length before) (Some done) ≡ Some done =
-    ap (λ list. get_or list (length before) (Some done)) (sym split) ∙ get_or-append_seam before (Some done) after (Some done) in
-    (subst (IsPlaced log (length before)) here (board.placed (length before) (Some done) within)).1
+-- what stands in the next place became of the next piece
+pub next_judged : (round : Content) (left : List Part) (claimed : ℕ) (log : List Event) (places before after : List (Option Judged)) (judged : Judged)
+    → (before ++ Some judged ∷ []) ++ after ≡ places → IsBoard round left claimed log places → IsJudged round (length before) judged
+next_judged round left claimed log places before after judged is board =
+    let split : before ++ Some judged ∷ after ≡ places = sym (append_assoc before (Some judged ∷ []) after) ∙ is in
+    let within : length before < length round.parts = omega (arith, board.place, ap length split, length-append before (Some judged ∷ after)) in
+    let here : get_or places (length before) (Some judged) ≡ Some judged =
+    ap (λ list. get_or list (length before) (Some judged)) (sym split) ∙ get_or-append_seam before (Some judged) after (Some judged) in
+    (subst (IsPlaced round log (length before)) here (board.placed (length before) (Some judged) within)).1

@@ -4,9 +4,10 @@ use Rattle.std.proofs.lemmas.Bool.{cases_lt, cases_eq}
 use Rattle.std.proofs.lemmas.List.{length-append, length-set, get_or-set_same, get_or-set_other}
 use Rattle.std.proofs.lemmas.List.Sums.{sum_by-set, sum_by-cons}
 use Rattle.apex_machine.specs.Pieces.{Part}
+use Rattle.verdict_merge.specs.declared.judged.Judged.{Judged}
 use Rattle.partition_workers.specs.declared.log.Event.{Event}
 use Rattle.partition_workers.specs.declared.log.Event.TheVariants.{Claim, Post}
-use Rattle.partition_workers.specs.Contents.{Finished, part_at}
+use Rattle.partition_workers.specs.Contents.{Content, IsJudged, part_at}
 use Rattle.partition_workers.specs.Boards.{IsBoard, IsPlaced, filled, weight}
 use Rattle.partition_workers.specs.Logs.{AreAllClaimed, IsFirstLeft, claimant, is_posted}
 use Rattle.partition_workers.proofs.Histories.{claimant_at_post, claimant_beside, claimant_here, claimant_stays, legal_on, posted_at_claim, posted_beside, posted_here}
@@ -22,26 +23,26 @@ left_behind [] left part claimed is = absurd (none claimed is)
 left_behind (first ∷ others) left part zero is = (cc, cc)
 left_behind (first ∷ others) left part (suc claimed) is = left_behind others left part claimed is
 
-placed_still : (log now : List Event) (piece : ℕ) (one : Option Finished) → is_posted now piece ≡ is_posted log piece → IsPlaced log piece one → IsPlaced now piece one
-placed_still log now piece None same placed = same ∙ placed
-placed_still log now piece (Some done) same placed = (same ∙ placed.0, placed.1)
+placed_still : (round : Content) (log now : List Event) (piece : ℕ) (one : Option Judged) → is_posted now piece ≡ is_posted log piece → IsPlaced round log piece one → IsPlaced round now piece one
+placed_still round log now piece None same placed = same ∙ placed
+placed_still round log now piece (Some judged) same placed = (same ∙ placed.0, placed.1)
 
-no_weight : (log : List Event) (piece : ℕ) (one : Option Finished) → is_posted log piece ≡ false → IsPlaced log piece one → weight one ≡ 0
-no_weight log piece None unposted placed = refl
-no_weight log piece (Some done) unposted placed = absurd (cc (unposted, placed.0))
+no_weight : (round : Content) (log : List Event) (piece : ℕ) (one : Option Judged) → is_posted log piece ≡ false → IsPlaced round log piece one → weight one ≡ 0
+no_weight round log piece None unposted placed = refl
+no_weight round log piece (Some judged) unposted placed = absurd (cc (unposted, placed.0))
 
-filled_most : (places : List (Option Finished)) → filled places ≤ length places
+filled_most : (places : List (Option Judged)) → filled places ≤ length places
 filled_most [] = omega arith
 filled_most (None ∷ others) =
     let more = filled_most others in
     let here : filled (None ∷ others) ≡ 0 + filled others = sum_by-cons weight None others in
     omega (arith, here, more)
-filled_most (Some done ∷ others) =
+filled_most (Some judged ∷ others) =
     let more = filled_most others in
-    let here : filled (Some done ∷ others) ≡ 1 + filled others = sum_by-cons weight (Some done) others in
+    let here : filled (Some judged ∷ others) ≡ 1 + filled others = sum_by-cons weight (Some judged) others in
     omega (arith, here, more)
 
-none_filled : (places : List (Option Finished)) → All (λ place. place ≡ None) places → filled places ≡ 0
+none_filled : (places : List (Option Judged)) → All (λ place. place ≡ None) places → filled places ≡ 0
 none_filled [] none = refl
 none_filled (first ∷ others) none =
     let more = none_filled others (λ number one within. none (suc number) one (omega (arith, within))) in
@@ -49,16 +50,16 @@ none_filled (first ∷ others) none =
     let here : filled (first ∷ others) ≡ weight first + filled others = sum_by-cons weight first others in
     omega (arith, here, more, ap weight is)
 
-module _ (parts left : List Part) (claimed : ℕ) (log : List Event) (places : List (Option Finished)) where
+module _ (round : Content) (left : List Part) (claimed : ℕ) (log : List Event) (places : List (Option Judged)) where
   -- a claim of the first piece that is left
-  pub claims : (part : Part) (worker : ℕ) → IsBoard parts (part ∷ left) claimed log places → IsBoard parts left (claimed + 1) (log ++ Claim worker claimed ∷ []) places
+  pub claims : (part : Part) (worker : ℕ) → IsBoard round (part ∷ left) claimed log places → IsBoard round left (claimed + 1) (log ++ Claim worker claimed ∷ []) places
   claims part worker board =
       let event = Claim worker claimed in
       let free : claimant log claimed ≡ None = board.free claimed (omega arith) in
       let one_more : suc claimed ≡ claimed + 1 = omega arith in
       record {
-        legal = legal_on (length parts) [] log event board.legal (omega (arith, board.whole), free);
-        rest = subst (λ count. left ≡ drop count parts) one_more (left_behind parts left part claimed board.rest).0;
+        legal = legal_on (length round.parts) [] log event board.legal (omega (arith, board.whole), free);
+        rest = subst (λ count. left ≡ drop count round.parts) one_more (left_behind round.parts left part claimed board.rest).0;
         whole = omega (arith, board.whole);
         free = (λ number behind. claimant_beside log worker claimed number (λ same. absurd (omega (arith, same, behind))) ∙ board.free number (omega (arith, behind)));
         taken = (λ number before none.
@@ -71,66 +72,66 @@ module _ (parts left : List Part) (claimed : ℕ) (log : List Event) (places : L
             (cases_lt number claimed));
         count = omega (arith, board.count, length-append log (event ∷ []));
         place = board.place;
-        placed = (λ number one within. placed_still log (log ++ event ∷ []) number (slice_index_or places number one) (posted_at_claim log worker claimed number) (board.placed number one within));
+        placed = (λ number one within. placed_still round log (log ++ event ∷ []) number (slice_index_or places number one) (posted_at_claim log worker claimed number) (board.placed number one within));
       }
 
-  pub first_left : (part : Part) → IsBoard parts (part ∷ left) claimed log places → IsFirstLeft (length parts) log claimed
+  pub first_left : (part : Part) → IsBoard round (part ∷ left) claimed log places → IsFirstLeft (length round.parts) log claimed
   first_left part board = record {
     within = omega (arith, board.whole);
     left = board.free claimed (omega arith);
     rising = board.taken;
   }
 
-  pub claimed_part : (part : Part) → IsBoard parts (part ∷ left) claimed log places → part ≡ part_at parts claimed
-  claimed_part part board = (left_behind parts left part claimed board.rest).1
+  pub claimed_part : (part : Part) → IsBoard round (part ∷ left) claimed log places → part ≡ part_at round.parts claimed
+  claimed_part part board = (left_behind round.parts left part claimed board.rest).1
 
-  pub none_left : left ≡ [] → IsBoard parts left claimed log places → AreAllClaimed (length parts) log
+  pub none_left : left ≡ [] → IsBoard round left claimed log places → AreAllClaimed (length round.parts) log
   none_left none board number within = board.taken number (omega (arith, within, board.whole, ap length none))
 
-  pub room_to_claim : (part : Part) → IsBoard parts (part ∷ left) claimed log places → length log < 2 * length parts
+  pub room_to_claim : (part : Part) → IsBoard round (part ∷ left) claimed log places → length log < 2 * length round.parts
   room_to_claim part board = omega (arith, board.count, board.whole, filled_most places, board.place)
 
-  count_posted : (number worker : ℕ) (done : Finished) → IsBoard parts left claimed log places → is_posted log number ≡ false → number < length parts
-      → length (log ++ Post worker number ∷ []) ≡ claimed + filled (slice_set places number (Some done))
-  count_posted number worker done board unposted within =
-      let empty : weight (slice_index_or places number None) ≡ 0 = no_weight log number _ unposted (board.placed number None within) in
-      omega (arith, board.count, empty, length-append log (Post worker number ∷ []), sum_by-set weight places number (Some done) None (omega (arith, board.place, within)))
+  count_posted : (number worker : ℕ) (judged : Judged) → IsBoard round left claimed log places → is_posted log number ≡ false → number < length round.parts
+      → length (log ++ Post worker number ∷ []) ≡ claimed + filled (slice_set places number (Some judged))
+  count_posted number worker judged board unposted within =
+      let empty : weight (slice_index_or places number None) ≡ 0 = no_weight round log number _ unposted (board.placed number None within) in
+      omega (arith, board.count, empty, length-append log (Post worker number ∷ []), sum_by-set weight places number (Some judged) None (omega (arith, board.place, within)))
 
-  pub room_to_post : (number : ℕ) (done : Finished) → IsBoard parts left claimed log places → is_posted log number ≡ false → number < length parts → length log < 2 * length parts
-  room_to_post number done board unposted within =
-      let after = count_posted number 0 done board unposted within in
-      omega (arith, after, board.whole, length-append log (Post 0 number ∷ []), filled_most (slice_set places number (Some done)), length-set places number (Some done), board.place)
+  pub room_to_post : (number : ℕ) (judged : Judged) → IsBoard round left claimed log places → is_posted log number ≡ false → number < length round.parts → length log < 2 * length round.parts
+  room_to_post number judged board unposted within =
+      let after = count_posted number 0 judged board unposted within in
+      omega (arith, after, board.whole, length-append log (Post 0 number ∷ []), filled_most (slice_set places number (Some judged)), length-set places number (Some judged), board.place)
 
   -- the first post of a piece by the worker that has claimed it
-  pub posts : (number worker : ℕ) (done : Finished) → IsBoard parts left claimed log places → claimant log number ≡ Some worker → is_posted log number ≡ false
-      → done.number ≡ number → number < length parts → IsBoard parts left claimed (log ++ Post worker number ∷ []) (slice_set places number (Some done))
-  posts number worker done board by unposted is within =
+  pub posts : (number worker : ℕ) (judged : Judged) → IsBoard round left claimed log places → claimant log number ≡ Some worker → is_posted log number ≡ false
+      → IsJudged round number judged → number < length round.parts → IsBoard round left claimed (log ++ Post worker number ∷ []) (slice_set places number (Some judged))
+  posts number worker judged board by unposted is within =
       let event = Post worker number in
       record {
-        legal = legal_on (length parts) [] log event board.legal (by, unposted);
+        legal = legal_on (length round.parts) [] log event board.legal (by, unposted);
         rest = board.rest;
         whole = board.whole;
         free = (λ piece behind. claimant_at_post log worker number piece ∙ board.free piece behind);
         taken = (λ piece before none. board.taken piece before (sym (claimant_at_post log worker number piece) ∙ none));
-        count = count_posted number worker done board unposted within;
-        place = length-set places number (Some done) ∙ board.place;
+        count = count_posted number worker judged board unposted within;
+        place = length-set places number (Some judged) ∙ board.place;
         placed = (λ piece one inside.
             ⊎_elim
             (λ (same : piece ≡ number).
-            let slot : slice_index_or (slice_set places number (Some done)) piece one ≡ Some done =
-            ap (λ n. slice_index_or (slice_set places number (Some done)) n one) same ∙ get_or-set_same places number (Some done) one (omega (arith, board.place, within)) in
+            let slot : slice_index_or (slice_set places number (Some judged)) piece one ≡ Some judged =
+            ap (λ n. slice_index_or (slice_set places number (Some judged)) n one) same ∙ get_or-set_same places number (Some judged) one (omega (arith, board.place, within)) in
             let posted : is_posted (log ++ event ∷ []) piece ≡ true = subst (λ n. is_posted (log ++ event ∷ []) n ≡ true) (sym same) (posted_here log worker number) in
-            subst (IsPlaced (log ++ event ∷ []) piece) (sym slot) (posted, is ∙ sym same))
+            subst (IsPlaced round (log ++ event ∷ []) piece) (sym slot) (posted, subst (λ n. IsJudged round n judged) (sym same) is))
             (λ (apart : piece ≢ number).
-            subst (IsPlaced (log ++ event ∷ []) piece) (sym (get_or-set_other places number piece (Some done) one apart))
-            (placed_still log (log ++ event ∷ []) piece (slice_index_or places piece one) (posted_beside log worker number piece (λ same. apart (sym same))) (board.placed piece one inside)))
+            subst (IsPlaced round (log ++ event ∷ []) piece) (sym (get_or-set_other places number piece (Some judged) one apart))
+            (placed_still round log (log ++ event ∷ []) piece (slice_index_or places piece one) (posted_beside log worker number piece (λ same. apart (sym same))) (board.placed piece one inside)))
             (cases_eq piece number));
       }
 
 -- a board of which nothing is claimed
-pub empty_board : (parts : List Part) (places : List (Option Finished)) → length places ≡ length parts → All (λ place. place ≡ None) places
-    → IsBoard parts parts 0 [] places
-empty_board parts places whole none = record {
+pub empty_board : (round : Content) (places : List (Option Judged)) → length places ≡ length round.parts → All (λ place. place ≡ None) places
+    → IsBoard round round.parts 0 [] places
+empty_board round places whole none = record {
   legal = tt;
   rest = refl;
   whole = omega arith;
@@ -138,5 +139,5 @@ empty_board parts places whole none = record {
   taken = λ piece before. absurd (omega (arith, before));
   count = omega (arith, none_filled places none);
   place = whole;
-  placed = λ piece one within. subst (IsPlaced [] piece) (sym (none piece one (omega (arith, whole, within)))) refl;
+  placed = λ piece one within. subst (IsPlaced round [] piece) (sym (none piece one (omega (arith, whole, within)))) refl;
 }

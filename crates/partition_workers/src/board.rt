@@ -24,7 +24,7 @@ pub struct Board<'a, J: Naming> {
     left: VecDeque<Piece>,
     claimed: usize,
     log: Vec<Event>,
-    places: Vec<Option<Done<J>>>,
+    places: Vec<Option<Judged>>,
     of: PhantomData<J>,
 }
 
@@ -39,7 +39,7 @@ impl<'a, J: Naming> Model for Board<'a, J> {
 
     ghost view = { λ board. board.log.items };
 
-    ghost invariant = { λ board. (content_of board.lent J.round.relations J.round.parts ≡ J.round) × IsOpen J.round × (2 * length J.round.parts ≤ vec_capacity board.log) × AreGoingFrom J.round.configuration J.round.first board.claimed board.left.items × IsBoard J.round.parts (parts_held board.left.items) board.claimed board.log.items board.places.items };
+    ghost invariant = { λ board. (content_of board.lent J.round.relations J.round.parts ≡ J.round) × IsOpen J.round × (2 * length J.round.parts ≤ vec_capacity board.log) × AreGoingFrom J.round.configuration J.round.first board.claimed board.left.items × IsBoard J.round (parts_held board.left.items) board.claimed board.log.items board.places.items };
 }
 
 impl<'a, J: Naming> Board<'a, J> {
@@ -133,7 +133,7 @@ impl<'a, J: Naming> Board<'a, J> {
             piece: number,
         });
         // An assignment would drop what was there part by part, each a step of this proof.
-        drop(self.places[number].replace(done));
+        drop(self.places[number].replace(done.into_judged()));
     }
 
     /// What became of all pieces, each at its number.
@@ -155,7 +155,7 @@ impl<'a, J: Naming> Board<'a, J> {
         };
         'places: for place in places {
             match place {
-                Some(done) => judged.push_reserved(done.into_judged()),
+                Some(one) => judged.push_reserved(one),
                 None => return Err(Memory),
             }
         }
@@ -178,7 +178,7 @@ fn log_for(alloc: Global, count: usize) -> Result<Vec<Event>, Memory>
 }
 
 // A place without a value for each of so many pieces.
-fn empty_places<J: Naming>(alloc: Global, count: usize) -> Result<Vec<Option<Done<J>>>, Memory>
+fn empty_places(alloc: Global, count: usize) -> Result<Vec<Option<Judged>>, Memory>
     ensures count { IfOk result (λ places. length places.items ≡ count) }
     ensures none { IfOk result (λ places. All (λ place. place ≡ None) places.items) }
 {

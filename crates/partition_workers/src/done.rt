@@ -7,8 +7,8 @@ use crate::round::Naming;
 use std::marker::{Model, PhantomData};
 use verdict_merge::Judged;
 
-/// What became of a piece of the round: by its type, it is what that very piece made of the records.
-#[derive(Drop)]
+/// What became of a piece of the round: by its type, it is what that very piece made of the records. It is not dropped: a board
+/// takes it by `post`, or else it is given up with the fault that `post` answers.
 pub struct Done<J: Naming> {
     pub(crate) worker: usize,
     pub(crate) number: usize,
@@ -44,10 +44,16 @@ impl<J: Naming> Done<J> {
     }
 
     /// What became of the piece.
-    pub fn into_judged(self) -> Judged
+    pub(crate) fn into_judged(self) -> Judged
         ensures value { result ≡ self.judged }
         ensures judged { IsJudged J.round self.number result }
     {
-        self.judged
+        let Done {
+            worker: _,
+            number: _,
+            judged: outcome,
+            of: _,
+        } = self;
+        outcome
     }
 }

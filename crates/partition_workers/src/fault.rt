@@ -1,5 +1,7 @@
 // Why a board refused a value, and why a round gave none.
 
+ghost use Rattle.std.specs.Prelude.{◌≡◌};
+
 use crate::done::Done;
 use crate::round::Naming;
 use thiserror::Error;
@@ -19,11 +21,21 @@ pub enum PostRefusal {
 }
 
 /// What a board refused, and why.
-#[derive(Drop)]
 pub struct PostFault<J: Naming> {
     pub refusal: PostRefusal,
     /// What was to be posted.
     pub done: Done<J>,
+}
+
+impl<J: Naming> PostFault<J> {
+    /// Gives up what the board refused, and says why it did.
+    pub fn give_up(self) -> PostRefusal
+        ensures { result ≡ self.refusal }
+    {
+        let PostFault { refusal, done } = self;
+        drop(done.into_judged());
+        refusal
+    }
 }
 
 /// Why a round gave no values.

@@ -134,7 +134,7 @@ fn post<J: Naming, R: Wait>(rt: &R, board: &Mutex<Board<J>>, done: Done<J>) -> R
     match posted {
         Ok(()) => Ok(()),
         Err(fault) => {
-            drop(fault);
+            fault.give_up();
             Err(Memory)
         }
     }

@@ -7,7 +7,7 @@ pub push_reserved-requires : goal.push_reserved-requires
 push_reserved-requires g c =
     let was : c.self.inside.left.items ≡ c.in_ok-piece.piece ∷ c.pop_front.new.self.items = c.in_ok-piece.ensures.items in
     let board = rw was at c.self.invariant.4 in
-    let room = room_to_claim g.J.Naming.round.parts (parts_held c.pop_front.new.self.items) c.self.inside.claimed c.self.inside.log.items c.self.inside.places.items c.in_ok-piece.piece.part board in
+    let room = room_to_claim g.J.Naming.round (parts_held c.pop_front.new.self.items) c.self.inside.claimed c.self.inside.log.items c.self.inside.places.items c.in_ok-piece.piece.part board in
     let k = c.self.inside.log.ok in omega (arith, room, c.self.invariant.2, k.0)
 
 pub invariant_of-result : goal.invariant_of-result
@@ -15,8 +15,8 @@ invariant_of-result g c =
     let was : c.self.inside.left.items ≡ c.in_ok-piece.piece ∷ c.pop_front.new.self.items = c.in_ok-piece.ensures.items in
     let board = rw was at c.self.invariant.4 in
     let going = rw was at c.self.invariant.3 in (
-      (first_left g.J.Naming.round.parts (parts_held c.pop_front.new.self.items) c.self.inside.claimed c.self.inside.log.items c.self.inside.places.items c.in_ok-piece.piece.part board).within,
-      claimed_part g.J.Naming.round.parts (parts_held c.pop_front.new.self.items) c.self.inside.claimed c.self.inside.log.items c.self.inside.places.items c.in_ok-piece.piece.part board,
+      (first_left g.J.Naming.round (parts_held c.pop_front.new.self.items) c.self.inside.claimed c.self.inside.log.items c.self.inside.places.items c.in_ok-piece.piece.part board).within,
+      claimed_part g.J.Naming.round (parts_held c.pop_front.new.self.items) c.self.inside.claimed c.self.inside.log.items c.self.inside.places.items c.in_ok-piece.piece.part board,
       going.0,
       c.self.invariant.0,
       c.self.invariant.1,
@@ -35,11 +35,11 @@ invariant_of-self-2 g c =
       c.self.invariant.1,
       rw c.push_reserved.ensures.capacity c.self.invariant.2,
       subst (λ number. AreGoingFrom round.configuration round.first number left) one_more going.1,
-      rw c.push_reserved.ensures.items (claims round.parts (parts_held left) c.self.inside.claimed c.self.inside.log.items c.self.inside.places.items piece.part c.args.worker board),
+      rw c.push_reserved.ensures.items (claims round (parts_held left) c.self.inside.claimed c.self.inside.log.items c.self.inside.places.items piece.part c.args.worker board),
     )
 
 pub returns-clause-piece : goal.returns-clause-piece
 returns-clause-piece g c =
     let was : c.self.inside.left.items ≡ c.in_ok-piece.piece ∷ c.pop_front.new.self.items = c.in_ok-piece.ensures.items in
     let board = rw was at c.self.invariant.4 in
-    claimed_part g.J.Naming.round.parts (parts_held c.pop_front.new.self.items) c.self.inside.claimed c.self.inside.log.items c.self.inside.places.items c.in_ok-piece.piece.part board
+    claimed_part g.J.Naming.round (parts_held c.pop_front.new.self.items) c.self.inside.claimed c.self.inside.log.items c.self.inside.places.items c.in_ok-piece.piece.part board

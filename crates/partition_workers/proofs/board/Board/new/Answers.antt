@@ -17,5 +17,5 @@ invariant_of-result g c =
       (let room = c.in-Ok.ensures.room in let n = c.len.ensures in grind arith),
       rw c.from_vec.ensures.items c.round.invariant.2,
       rw (c.from_vec.ensures.items, c.in-Ok.ensures.none, parts)
-          (empty_board round.parts c.in-Ok-empty_places.places.items (let count = c.in-Ok-empty_places.ensures.count in let n = c.len.ensures in grind arith) c.in-Ok-empty_places.ensures.none),
+          (empty_board round c.in-Ok-empty_places.places.items (let count = c.in-Ok-empty_places.ensures.count in let n = c.len.ensures in grind arith) c.in-Ok-empty_places.ensures.none),
     )
