@@ -3,4 +3,4 @@ use Rattle.std.specs.Vec.{vec_capacity}
 use Rattle.partition_workers.proofs.board.empty_places.Given as goal
 
 abbrev pub invariant-places : goal.invariant-places
-invariant-places g l = (length l.places.items ≡ l._place) × (vec_capacity l.places ≡ l.count) × All (λ place. place ≡ None) l.places.items
+invariant-places l = (length l.places.items ≡ l._place) × (vec_capacity l.places ≡ l.count) × All (λ place. place ≡ None) l.places.items
