@@ -29,15 +29,15 @@ exit_status_of (Err (fault.Order place core which)) = 2
 exit_status_of (Err (fault.Row core seq which)) = 2
 
 -- what came of a check: the line without its line feed, the lines of the last records with theirs, and the exit status
-pub record Told : Type 0 where
+pub record Reported : Type 0 where
   pub line : List ℕ
   pub last : List ℕ
   pub status : ℕ
 
-abbrev pub told_by : List ℕ → List ℕ → ℕ → Told
-told_by line last status = record { line = line; last = last; status = status }
+abbrev pub reported_by : List ℕ → List ℕ → ℕ → Reported
+reported_by line last status = record { line = line; last = last; status = status }
 
--- what has to come; the lines of the last records only where a case tells them
+-- what has to come; the lines of the last records only where a case names them
 pub record Wanted : Type 0 where
   pub line : List ℕ
   pub last : Option (List ℕ)
@@ -47,8 +47,8 @@ abbrev pub wanted_by : List ℕ → Option (List ℕ) → ℕ → Wanted
 wanted_by line last status = record { line = line; last = last; status = status }
 
 -- what came is what has to come
-abbrev pub IsWanted : Told → Wanted → Type 0
-IsWanted told wanted = (told.line ≡ wanted.line) × IfSome wanted.last (λ lines. told.last ≡ lines) × (told.status ≡ wanted.status)
+abbrev pub IsWanted : Reported → Wanted → Type 0
+IsWanted found wanted = (found.line ≡ wanted.line) × IfSome wanted.last (λ lines. found.last ≡ lines) × (found.status ≡ wanted.status)
 
 -- reading a text in memory can't fail
 abbrev pub in_memory : CanFail
@@ -56,15 +56,15 @@ in_memory = record { recordings = false; certificate = false }
 
 -- the line, ended by a line feed, is the report of an answer that a check of these texts has with these settings and under relations
 -- that say what these options ask for, the lines of the last records are those of that answer, and the status is that answer's
-pub record IsToldOf (settings : Settings) (texts : Texts) (options : List RuleOption) (told : Told) : Type 0 where
+pub record IsReportOf (settings : Settings) (texts : Texts) (options : List RuleOption) (found : Reported) : Type 0 where
   pub relations : List Relation
   pub asked : SayInTurn options relations
   pub outcome : Result Verdict CheckFault
   pub items : List LastItem
   pub answer : IsAnswer settings texts in_memory relations outcome items
-  pub line : told.line ++ 10 ∷ [] ≡ report_of outcome
-  pub last : told.last ≡ last_lines items
-  pub status : told.status ≡ exit_status_of outcome
+  pub line : found.line ++ 10 ∷ [] ≡ report_of outcome
+  pub last : found.last ≡ last_lines items
+  pub status : found.status ≡ exit_status_of outcome
 
 -- the texts of a case
 abbrev pub texts_of : List ℕ → List (List ℕ) → List ℕ → Texts
@@ -74,4 +74,4 @@ texts_of config recordings order = record { config = config; recordings = record
 abbrev pub IsCompared : Named → Texts → List RuleOption → Wanted → Bool → Type 0
 IsCompared named texts options wanted differs =
     (settings : Settings) × IfSome named.workers (λ workers. settings.workers ≡ workers) × IfSome named.depth (λ depth. settings.depth ≡ depth)
-    × (told : Told) × IsToldOf settings texts options told × ((differs ≡ false) ↔ IsWanted told wanted)
+    × (found : Reported) × IsReportOf settings texts options found × ((differs ≡ false) ↔ IsWanted found wanted)

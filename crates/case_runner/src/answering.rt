@@ -3,7 +3,7 @@
 ghost use Rattle.std.specs.Prelude.{◌≡◌, ◌↔◌, ◌++◌, ◌∷◌, [], IfOk, IfSome, IsTrue, Some, length, map, option_map};
 ghost use Rattle.std.specs.Io.Cursor.{cursor_remaining};
 ghost use Rattle.report.specs.Text.{report_of};
-ghost use Rattle.case_runner.specs.Answers.{IsToldOf, IsWanted, exit_status_of, texts_of, told_by, wanted_by};
+ghost use Rattle.case_runner.specs.Answers.{IsReportOf, IsWanted, exit_status_of, texts_of, reported_by, wanted_by};
 
 use crate::fields::LINE_FEED;
 use crate::manner::Manner;
@@ -29,7 +29,7 @@ pub struct Answer {
     pub status: u64,
 }
 
-/// The line that has to come, without its line feed, the lines of the last records if a case tells them, each with its line feed,
+/// The line that has to come, without its line feed, the lines of the last records if a case names them, each with its line feed,
 /// and the exit status that belongs to it.
 #[derive(Clone, Copy, Debug)]
 pub struct Expected<'a> {
@@ -41,7 +41,7 @@ pub struct Expected<'a> {
 impl Answer {
     /// Whether the answer is the expected one.
     pub fn is(&self, expected: Expected<'_>) -> bool
-        ensures { IsTrue result ↔ IsWanted (told_by self.now.line.items self.now.last.items self.now.status) (wanted_by expected.entry.line.now (option_map (λ lines. lines.now) expected.entry.last) expected.entry.status) }
+        ensures { IsTrue result ↔ IsWanted (reported_by self.now.line.items self.now.last.items self.now.status) (wanted_by expected.entry.line.now (option_map (λ lines. lines.now) expected.entry.last) expected.entry.status) }
     {
         self.line.as_slice() == expected.line
             && has_lines(&self.last, expected.last)
@@ -72,7 +72,7 @@ pub fn answer_to<T>(
 ) -> Result<Answer, AllocError>
 where
     T: Threads + Wait + Sync + Copy + Send + 'static,
-    ensures { IfOk result (λ answer. IsToldOf manner.settings (texts_of config.now (map (λ recording. recording.items) recordings.now) order.now) options.now (told_by answer.line.items answer.last.items answer.status)) }
+    ensures { IfOk result (λ answer. IsReportOf manner.settings (texts_of config.now (map (λ recording. recording.items) recordings.now) order.now) options.now (reported_by answer.line.items answer.last.items answer.status)) }
 {
     let readers = readers_of(alloc, recordings)?;
     let relations = relations_of(alloc, options)?;

@@ -15,7 +15,7 @@ pub struct Section<'a> {
 }
 
 /// The sections of an archive, in its order. What stands before the first heading is a comment.
-#[tactic(auto, using(crate::proofs::Texts::behind_is_shorter))]
+#[tactic(auto, using(crate::proofs::Texts::after_is_shorter))]
 pub fn sections(alloc: Global, archive: &[u8]) -> Result<Vec<Section<'_>>, AllocError> {
     let mut found = Vec::new(alloc);
     let (_, mut left) = up_to_heading(archive);
@@ -42,7 +42,7 @@ fn heading_of(line: &[u8]) -> Option<&[u8]>
 }
 
 // The lines before the first heading, and the text from there on.
-#[tactic(auto, using(crate::proofs::Texts::behind_is_shorter))]
+#[tactic(auto, using(crate::proofs::Texts::after_is_shorter))]
 fn up_to_heading(text: &[u8]) -> (&[u8], &[u8])
     ensures { text.now ≡ result.0.now ++ result.1.now }
 {

@@ -38,7 +38,7 @@ pub enum CaseFault {
     Memory,
 }
 
-/// The texts of a check, and what has to come of them, as the sections so far tell it.
+/// The texts of a check, and what has to come of them, as the sections so far say it.
 #[derive(Drop)]
 pub struct Case<'a> {
     alloc: Global,
@@ -54,7 +54,7 @@ pub struct Case<'a> {
 }
 
 impl<'a> Case<'a> {
-    /// A case that no section has told anything of: an empty configuration and no recording.
+    /// A case of which no section has said anything: an empty configuration and no recording.
     pub fn new(alloc: Global) -> Case<'a> {
         Case {
             alloc,
@@ -138,12 +138,12 @@ impl<'a> Case<'a> {
     }
 
     /// The options that ask for rules, in the order in which their rules are numbered.
-    #[tactic(auto, using(crate::proofs::Texts::behind_is_shorter))]
+    #[tactic(auto, using(crate::proofs::Texts::after_is_shorter))]
     pub fn rules(&self) -> Result<Vec<RuleOption>, CaseFault> {
         let (mut max_elapsed, mut forbidden) = (None, None);
         let mut left = self.rules;
         while !left.is_empty() {
-            let (line, behind) = split_line(left);
+            let (line, after) = split_line(left);
             let (option, value) = split_word(line);
             let text = if option == b"max-elapsed".as_slice() {
                 &mut max_elapsed
@@ -155,7 +155,7 @@ impl<'a> Case<'a> {
             if text.replace(value).is_some() {
                 return Err(CaseFault::NoRules);
             }
-            left = behind;
+            left = after;
         }
         let given = RuleOptions::read(max_elapsed, forbidden).ok_or(CaseFault::NoRules)?;
         Ok(given.in_order(self.alloc)?)
@@ -166,7 +166,7 @@ impl<'a> Case<'a> {
         self.named
     }
 
-    /// What has to come of the whole texts. None where only cuts are told.
+    /// What has to come of the whole texts. None where only cuts are given.
     pub fn expected(&self) -> Result<Option<Expected<'a>>, CaseFault> {
         match (self.report, self.cuts) {
             (Some(report), _) => {
@@ -191,12 +191,12 @@ impl<'a> Case<'a> {
     }
 
     /// What has to come where the recording of core 0 is cut.
-    #[tactic(auto, using(crate::proofs::Texts::behind_is_shorter))]
+    #[tactic(auto, using(crate::proofs::Texts::after_is_shorter))]
     pub fn cuts(&self) -> Result<Vec<Cut<'a>>, CaseFault> {
         let mut cuts: Vec<Cut<'a>> = Vec::new(self.alloc);
         let mut left = self.cuts.unwrap_or(&[]);
         while !left.is_empty() {
-            let (line, behind) = split_line(left);
+            let (line, after) = split_line(left);
             let cut = cut_of(line)?;
             if let Some(Cut { bytes, .. }) = cuts.last() {
                 if *bytes >= cut.bytes {
@@ -204,7 +204,7 @@ impl<'a> Case<'a> {
                 }
             }
             cuts.push(cut)?;
-            left = behind;
+            left = after;
         }
         Ok(cuts)
     }

@@ -41,16 +41,16 @@ fn replace_line(text: &mut Vec<u8>, number: usize, lines: &[u8]) -> Result<(), E
     if from.is_empty() {
         return Err(EditFault::NoSuchLine);
     }
-    let (_, behind) = split_line(from);
+    let (_, after) = split_line(from);
     let mut made = Vec::new(*text.allocator());
     made.extend_from_slice(before)?;
     made.extend_from_slice(lines)?;
-    made.extend_from_slice(behind)?;
+    made.extend_from_slice(after)?;
     *text = made;
     Ok(())
 }
 
-// Puts lines so many times behind a text. Each `@` in them is the number of the line that it stands in.
+// Puts lines so many times after a text. Each `@` in them is the number of the line that it stands in.
 fn push_times(text: &mut Vec<u8>, count: usize, lines: &[u8]) -> Result<(), AllocError> {
     let mut number = line_count(text);
     for _ in 0..count {
@@ -64,7 +64,7 @@ fn push_times(text: &mut Vec<u8>, count: usize, lines: &[u8]) -> Result<(), Allo
     Ok(())
 }
 
-// Puts a byte behind a text, or for `@` this number.
+// Puts a byte after a text, or for `@` this number.
 fn push_numbered(text: &mut Vec<u8>, byte: u8, number: usize) -> Result<(), AllocError> {
     if byte == b'@' {
         text.extend_from_slice(Buffer::new().format(number).as_bytes())?;
@@ -74,8 +74,8 @@ fn push_numbered(text: &mut Vec<u8>, byte: u8, number: usize) -> Result<(), Allo
     Ok(())
 }
 
-// Where the line of this number begins: at the end of the text for the line behind its last.
-#[tactic(auto, using(crate::proofs::Texts::behind_is_shorter))]
+// Where the line of this number begins: at the end of the text for the line after its last.
+#[tactic(auto, using(crate::proofs::Texts::after_is_shorter))]
 fn line_start(text: &[u8], number: usize) -> Option<usize>
     ensures { IfSome result (λ start. start ≤ length text.now) }
 {

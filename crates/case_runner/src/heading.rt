@@ -15,7 +15,7 @@ const LAST_SETTING: u64 = 1_000_000;
 /// What the lines of a section are.
 #[derive(Clone, Copy, Debug)]
 pub enum Heading<'a> {
-    /// `case NAME`: a comment; the sections behind it, up to the next case, are the case's own.
+    /// `case NAME`: a comment; the sections after it, up to the next case, are the case's own.
     Case(&'a [u8]),
     /// `config.toml`, `core0.csv` and on, `order.csv`: a text of the check, or a change in one.
     Text(TextName, Change),
@@ -27,7 +27,7 @@ pub enum Heading<'a> {
     Depth(usize),
     /// `report`: the line that has to come.
     Report,
-    /// `last`: the lines of the last records, which have to come behind it.
+    /// `last`: the lines of the last records, which have to come after it.
     Last,
     /// `status`: the exit status that belongs to it.
     Status,
@@ -53,9 +53,9 @@ pub enum Change {
     Whole,
     /// `line N`: they stand in the place of that line.
     Line(usize),
-    /// `from line N`: they stand in the place of that line and all behind it.
+    /// `from line N`: they stand in the place of that line and all after it.
     FromLine(usize),
-    /// `N times`: they stand so many times behind the text, and each `@` in them is the number of its line.
+    /// `N times`: they stand so many times after the text, and each `@` in them is the number of its line.
     Times(usize),
 }
 
@@ -106,7 +106,7 @@ impl TextName {
 }
 
 impl Change {
-    // The change of the words behind a file's name.
+    // The change of the words after a file's name.
     fn of(words: &[u8]) -> Option<Change> {
         if words.is_empty() {
             return Some(Change::Whole);

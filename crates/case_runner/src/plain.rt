@@ -36,26 +36,50 @@ pub fn answer_at_once<T>(
 where
     T: Threads + Wait + Sync + Copy + Send + 'static,
 {
-    let config = match Config::read(alloc, config) {
-        Ok(config) if config.cores() as usize == recordings.len() => config,
-        _ => {
-            return Ok(Answer {
-                line: Vec::new(alloc),
-                last: Vec::new(alloc),
-                status: 2,
-            });
+    let found = match Config::read(alloc, config) {
+        Ok(config) => {
+            let found = verdict_under(rt, alloc, &config, recordings, order, options);
+            // Its parts are dropped in one place.
+            drop(config);
+            found?
         }
+        Err(_) => None,
     };
-    let Ok(intake) = Intake::open(rt, alloc, readers_of(alloc, recordings)?, DEPTH) else {
-        return Err(AllocError);
+    let Some(verdict) = found else {
+        return Ok(Answer {
+            line: Vec::new(alloc),
+            last: Vec::new(alloc),
+            status: 2,
+        });
     };
-    let records = records_of(rt, alloc, intake, order)?;
-    let outcome = Ok(verdict_over(alloc, &config, &records, options)?);
+    let outcome = Ok(verdict);
     Ok(Answer {
         line: line_of(alloc, &outcome)?,
         last: Vec::new(alloc),
         status: status_of(&outcome),
     })
+}
+
+// The verdict under this configuration, or None where it has another number of cores.
+fn verdict_under<T>(
+    rt: T,
+    alloc: Global,
+    config: &Config,
+    recordings: &[Vec<u8>],
+    order: &[u8],
+    options: &[RuleOption],
+) -> Result<Option<Verdict>, AllocError>
+where
+    T: Threads + Wait + Sync + Copy + Send + 'static,
+{
+    if config.cores() as usize != recordings.len() {
+        return Ok(None);
+    }
+    let Ok(intake) = Intake::open(rt, alloc, readers_of(alloc, recordings)?, DEPTH) else {
+        return Err(AllocError);
+    };
+    let records = records_of(rt, alloc, intake, order)?;
+    Ok(Some(verdict_over(alloc, config, &records, options)?))
 }
 
 // All records that this certificate places, whatever refuses the rest.

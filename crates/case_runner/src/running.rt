@@ -23,13 +23,13 @@ use std::thread::Threads;
 /// Why a run ends before its last case.
 #[derive(Clone, Copy, Debug, PartialEq, Eq)]
 pub enum RunFault {
-    /// What was to be told could not be written.
+    /// What was to be reported could not be written.
     Unwritten,
     /// Memory was refused.
     Memory,
 }
 
-/// Runs the cases of these files. Tells each case that fails and why, and at last how many there were.
+/// Runs the cases of these files. Reports each case that fails and why, and at last how many there were.
 ///
 /// Whether there was a case, and all were answered as expected.
 pub fn run_files<R, W>(rt: R, output: &mut W, names: &[String]) -> Result<bool, RunFault>
@@ -86,11 +86,11 @@ where
         tally.count(false);
         put_parts(output, &[file, b": has no case\n"])?;
     }
-    while let Some((first, behind)) = left.split_first() {
-        let (own, rest) = up_to_case(behind);
+    while let Some((first, after)) = left.split_first() {
+        let (own, rest) = up_to_case(after);
         let outcome = run_case(rt, alloc, base, own);
         tally.count(matches!(outcome, Ok(None)));
-        tell(output, &[file, b": ", first.heading, b": "], outcome)?;
+        put_outcome(output, &[file, b": ", first.heading, b": "], outcome)?;
         left = rest;
     }
     Ok(())
@@ -326,8 +326,8 @@ impl<'b> Texts<'b> {
     }
 }
 
-// Tells what is wrong with a case, if something is.
-fn tell<W: Sink>(
+// Puts out what is wrong with a case, if something is.
+fn put_outcome<W: Sink>(
     output: &mut W,
     place: &[&[u8]],
     outcome: Result<Option<Difference<'_>>, CaseFault>,
@@ -336,7 +336,7 @@ fn tell<W: Sink>(
         Ok(None) => Ok(()),
         Ok(Some(difference)) => {
             put_parts(output, place)?;
-            tell_difference(output, &difference)
+            put_difference(output, &difference)
         }
         Err(CaseFault::Memory) => Err(RunFault::Memory),
         Err(fault) => {
@@ -347,7 +347,7 @@ fn tell<W: Sink>(
     }
 }
 
-fn tell_difference<W: Sink>(output: &mut W, difference: &Difference<'_>) -> Result<(), RunFault> {
+fn put_difference<W: Sink>(output: &mut W, difference: &Difference<'_>) -> Result<(), RunFault> {
     if let Some(bytes) = difference.cut {
         put_parts(
             output,
@@ -368,9 +368,9 @@ fn tell_difference<W: Sink>(output: &mut W, difference: &Difference<'_>) -> Resu
     put_answer(output, difference.found.status, &difference.found.line)?;
     put_all(output, b"\n")?;
     if let Some(lines) = difference.expected.last {
-        put_all(output, b"expected behind it:\n")?;
+        put_all(output, b"expected after it:\n")?;
         put_all(output, lines)?;
-        put_all(output, b"found behind it:\n")?;
+        put_all(output, b"found after it:\n")?;
         put_all(output, &difference.found.last)?;
     }
     Ok(())
