@@ -66,6 +66,24 @@ fn missed() -> Verdict {
     }
 }
 
+// A recording under these rules, by `check_with_last`.
+fn with_last<T>(
+    rt: T,
+    alloc: Global,
+    text: &'static str,
+    rules: &[Rule],
+    last: &mut Last,
+) -> Result<Result<Verdict, CheckFault>, AllocError>
+where
+    T: Threads + Wait + Sync + Copy + Send + 'static,
+{
+    let readers = vec![in alloc; text.as_bytes()]?;
+    let (config, order) = (CONFIG.as_bytes(), ORDER.as_bytes());
+    Ok(check_with_last(
+        rt, alloc, config, readers, order, rules, SETTINGS, &Open, last,
+    ))
+}
+
 #[test]
 fn last_records_are_left(rt: HostRuntime) -> Result<(), Fail> {
     let alloc = rt.alloc();
@@ -74,17 +92,7 @@ fn last_records_are_left(rt: HostRuntime) -> Result<(), Fail> {
         (MISSED, missed(), 8),
         (RECORDING, Verdict::Yes { records: 13 }, 0),
     ] {
-        let answer = check_with_last(
-            rt,
-            alloc,
-            CONFIG.as_bytes(),
-            vec![in alloc; text.as_bytes()]?,
-            ORDER.as_bytes(),
-            &[],
-            SETTINGS,
-            &Open,
-            &mut last,
-        );
+        let answer = with_last(rt, alloc, text, &[], &mut last)?;
         assert_eq!(rt; answer, Ok(outcome));
         assert_eq!(rt; last.len(), count);
         assert!(rt; last.get(count).is_none());
@@ -105,20 +113,7 @@ fn last_records_are_left(rt: HostRuntime) -> Result<(), Fail> {
 fn the_earliest_comes_first(rt: HostRuntime) -> Result<(), Fail> {
     let alloc = rt.alloc();
     let mut last = Last::new(alloc)?;
-    let answer = check_with_last(
-        rt,
-        alloc,
-        CONFIG.as_bytes(),
-        vec![in alloc; MISSED.as_bytes()]?,
-        ORDER.as_bytes(),
-        &[],
-        Settings {
-            workers: 1,
-            depth: 64,
-        },
-        &Open,
-        &mut last,
-    );
+    let answer = with_last(rt, alloc, MISSED, &[], &mut last)?;
     assert_eq!(rt; answer, Ok(missed()));
     let earliest = LastItem {
         place: Place::new(2),
@@ -158,25 +153,6 @@ where
     Ok(check_in_rounds(rt, alloc, config, readers, order, rules, SETTINGS, &Open, 5))
 }
 
-// The same, by `check_with_last`.
-fn with_last<T>(
-    rt: T,
-    alloc: Global,
-    rules: &[Rule],
-) -> Result<Result<Verdict, CheckFault>, AllocError>
-where
-    T: Threads + Wait + Sync + Copy + Send + 'static,
-{
-    let readers = vec![in alloc; RECORDING.as_bytes()]?;
-    let (config, order) = (CONFIG.as_bytes(), ORDER.as_bytes());
-    let Ok(mut last) = Last::new(alloc) else {
-        return Err(AllocError);
-    };
-    Ok(check_with_last(
-        rt, alloc, config, readers, order, rules, SETTINGS, &Open, &mut last,
-    ))
-}
-
 // The records of a recording, in its own order.
 fn records_of<T>(rt: T, alloc: Global, text: &'static str) -> Option<Vec<Ordered>>
 where
@@ -205,14 +181,15 @@ fn at_once<T>(rt: T, alloc: Global, text: &'static str, rules: &[Rule]) -> Optio
 where
     T: Threads + Wait + Copy + Send + 'static,
 {
-    let Ok(config) = Config::read(alloc, CONFIG.as_bytes()) else {
-        return None;
-    };
-    if config.cores() != 1 {
-        return None;
-    }
     let records = records_of(rt, alloc, text)?;
-    check_plain(alloc, &config, &records, rules).ok()
+    let config = Config::read(alloc, CONFIG.as_bytes()).ok()?;
+    let verdict = if config.cores() == 1 {
+        check_plain(alloc, &config, &records, rules).ok()
+    } else {
+        None
+    };
+    drop(config);
+    verdict
 }
 
 #[test]
@@ -232,6 +209,7 @@ fn each_call_tests_rules(rt: HostRuntime) -> Result<(), Fail> {
         pos: Place::new(12),
         rule: 0,
     };
+    let mut last = Last::new(alloc)?;
     for (ticks, verdict) in [(1i64, broken), (2, Verdict::Yes { records: 13 })] {
         let relation = Relation::Less(Field::Elapsed, ticks + 1);
         let rules = vec![in alloc; rule!(alloc, relation)]?;
@@ -242,7 +220,7 @@ fn each_call_tests_rules(rt: HostRuntime) -> Result<(), Fail> {
             "check_in_rounds"
         );
         assert_eq!(rt;
-            with_last(rt, alloc, &rules)?,
+            with_last(rt, alloc, RECORDING, &rules, &mut last)?,
             Ok(verdict),
             "check_with_last"
         );
