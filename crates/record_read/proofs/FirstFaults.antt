@@ -1,4 +1,4 @@
--- A row that is no record's is read with the fault of its first faulty field.
+-- A row that is no record is read with the fault of its first faulty field.
 use Rattle.std.proofs.Common.{◌≡◌, ◌^◌, ◌<◌, ◌∙◌, ◌≤◌, ℕ, zero, suc, ℤ, pos, List, [], ◌∷◌, Bool, true, false, Option, Some, None, Result, Ok, Err, length, refl, sym, ap, subst, inl, inr, nat_le, nat_lt, nat_eq, arith, if◌then◌else◌, ◌==◌}
 use Rattle.std.specs.Prelude.{◌≢◌, ◌-◌}
 use Rattle.std.specs.Option.{ok_or}
@@ -502,6 +502,6 @@ row_fails format next fields =
     other : (length fields == field_count format) ≡ false → length fields ≢ field_count format
     other is = eqb-false (length fields) (field_count format) is
 
--- a row that is no record's is read with the fault of its first faulty field, and with no other
+-- a row that is no record is read with the fault of its first faulty field, and with no other
 pub first_faults_decide : FirstFaultsDecide
 first_faults_decide format next fields fault = ((row_fails format next fields).to fault, (row_fails format next fields).from fault)

@@ -1,4 +1,4 @@
--- The fault of a row that is no record's: that of the first faulty field from left to right. Each field is judged by what it may hold.
+-- The fault of a row that is no record: the fault of its first faulty field, from left to right. Each field is judged by what it may hold.
 use Rattle.std.specs.Prelude.{◌≡◌, ◌≢◌, ◌⊎◌, ◌≤◌, ◌-◌, ℕ, ℤ, List, [], ◌∷◌, Bool, true, false, Ok, IsTrue, codes, length, nat_le}
 use Rattle.hex.specs.Hex.{decode_of}
 use Rattle.csv_rows.specs.Stream.{Fields}
@@ -19,7 +19,7 @@ use Rattle.record_read.specs.Grammar.{AreEmpty, Columns, GoesWith, HoldsArgument
 -- the fault of one field
 
 infixr 10 ◌or_else◌
--- the fault of several fields: that of the first one, or else, where this one has none, that of the others
+-- the fault of several fields: the first one's, or else, where this one has none, the others'
 abbrev pub ◌or_else◌ : (RowFault → Type 0) → (RowFault → Type 0) → RowFault → Type 0
 ◌or_else◌ First Others fault = First fault ⊎ (((other : RowFault) → ¬ First other) × Others fault)
 
@@ -27,26 +27,26 @@ abbrev pub ◌or_else◌ : (RowFault → Type 0) → (RowFault → Type 0) → R
 abbrev pub HoldsNone : {A : Type 0} → RowFault → (List ℕ → A → Type 0) → List ℕ → RowFault → Type 0
 HoldsNone bad Holds text fault = ((value : _) → ¬ Holds text value) × (fault ≡ bad)
 
--- a field that must be filled: it is empty, or holds nothing of what it may hold
+-- a field that must be filled: the fault says that it is empty, or that it holds nothing of what it may hold
 abbrev pub MustHold : {A : Type 0} → RowFault → (List ℕ → A → Type 0) → List ℕ → RowFault → Type 0
 MustHold bad Holds text fault = ((text ≡ []) × (fault ≡ FieldNotForKind)) ⊎ ((text ≢ []) × HoldsNone bad Holds text fault)
 
--- fields of which one is filled, and all must be empty
+-- fields that must be empty, of which one is filled
 abbrev pub MustBeEmpty : List (List ℕ) → RowFault → Type 0
 MustBeEmpty texts fault = (¬ AreEmpty texts) × (fault ≡ FieldNotForKind)
 
--- an argument's field: filled where the service takes it, and else empty
+-- the field of an argument: filled where the service takes it, and else empty
 abbrev pub MustHoldIf : {A : Type 0} → Bool → RowFault → (List ℕ → A → Type 0) → List ℕ → RowFault → Type 0
 MustHoldIf true bad Holds text fault = MustHold bad Holds text fault
 MustHoldIf false bad Holds text fault = MustBeEmpty (text ∷ []) fault
 
--- bytes in hexadecimal, as many as they may be: the digits are none, or their bytes are too many or too few
+-- bytes in hexadecimal: the text is no such digits, or has more or fewer bytes than it may have
 abbrev pub MustBeBytes : (ℕ → Type 0) → List ℕ → RowFault → Type 0
 MustBeBytes MayBe text fault =
     (((bytes : List ℕ) → decode_of text ≢ Ok bytes) × (fault ≡ BadHex))
     ⊎ ((bytes : List ℕ) × (decode_of text ≡ Ok bytes) × (¬ MayBe (length bytes)) × (fault ≡ BadLength))
 
--- a message's field: as many bytes as go with the length argument where the service takes a message, and else empty
+-- the field of a message: as many bytes as go with the length argument where the service takes a message, and else empty
 abbrev pub MustBeMessageIf : Bool → ℤ → List ℕ → RowFault → Type 0
 MustBeMessageIf true argument text fault = MustBeBytes (GoesWith argument) text fault
 MustBeMessageIf false argument text fault = MustBeEmpty (text ∷ []) fault
@@ -136,7 +136,7 @@ ReturnFault format row =
     or_else HoldsNone BadNumber (MayHold HoldsSigned) row.val2
     or_else HoldsNone BadNumber (MayHold HoldsSigned) row.val3
 
--- the number of the process of a dispatch: it stands just where the partition does
+-- the process number of a dispatch: filled exactly where the partition is
 abbrev pub DispatchedFault : Columns → RowFault → Type 0
 DispatchedFault row fault =
     ((row.part ≡ []) × MustBeEmpty (row.proc ∷ []) fault)
@@ -163,8 +163,8 @@ FaultOf kind.Ret format row fault = ReturnFault format row fault
 FaultOf kind.Disp format row fault = DispatchFault row fault
 FaultOf kind.Tick format row fault = TickFault row fault
 
--- the row of this number, in a recording of this format, has this fault: the recording has too many rows, or else the row other fields
--- than the format, or else its first faulty field has the fault
+-- the row of this number, in a recording of this format, has this fault: the recording has too many rows; or else the row has more or
+-- fewer fields than the format; or else the fault is that of its first faulty field
 abbrev pub IsFirstFault : Format → ℕ → Fields → RowFault → Type 0
 IsFirstFault format next fields =
     (λ fault. (most_records ≤ next) × (fault ≡ TooMany))
