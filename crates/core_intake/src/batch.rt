@@ -1,6 +1,6 @@
 // What passes in one send.
 
-ghost use Rattle.std.specs.Prelude.{◌≡◌, ◌≤◌, IfSome, false, is_err};
+ghost use Rattle.std.specs.Prelude.{◌≡◌, ◌≤◌, IfSome, None, false, is_err};
 ghost use Rattle.std.specs.VecDeque.{deque_len};
 ghost use Rattle.csv_rows.specs.Source.{Gives};
 ghost use Rattle.record_read.specs.Steps.{IsOutside};
@@ -16,7 +16,7 @@ use std::collections::VecDeque;
 use std::sync::Wait;
 use std::sync::atomic::{AtomicBool, Ordering};
 
-/// Records of a recording in their order, and how the recording ends where it ends behind these.
+/// Records of a recording in their order, and how the recording ends where it ends after these.
 #[derive(Drop)]
 pub struct Batch {
     pub records: VecDeque<Record>,
@@ -24,7 +24,7 @@ pub struct Batch {
 }
 
 impl Batch {
-    /// The next records of a recording, at most `length`, and fewer where it ends. They stand in a room that came back, where one
+    /// The next records of a recording, `length` of them, and fewer where it ends. They are in a room that came back, where one
     /// did. None where the flag says to stop, between two rows or in a read that gave up for it.
     pub fn read<R: TextSource, T: Wait>(
         rt: &T,
@@ -37,6 +37,7 @@ impl Batch {
         requires going { source.old.stopped ≡ false }
         ensures read { IfSome result (λ batch. IsRead R.can_fail source.old batch source.new) }
         ensures short { IfSome result (λ batch. deque_len batch.records ≤ length) }
+        ensures full { IfSome result (λ batch. batch.end ≡ None → deque_len batch.records ≡ length) }
     {
         let Ok(mut records) = room_for(rt, alloc, rooms, length) else {
             return Some(Batch {
@@ -68,7 +69,7 @@ impl Batch {
     }
 }
 
-// The next answer of a recording. None where a read of it gave up: that is no failure of the reader, and it is told to nobody.
+// The next answer of a recording. None where a read of it gave up: that is no failure of the reader, and it is reported to nobody.
 fn next_answer<R: TextSource>(
     source: &mut RowSource<Stoppable<'_, R>>,
 ) -> Option<Result<Option<Record>, RowFault>>

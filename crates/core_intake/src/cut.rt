@@ -1,6 +1,6 @@
 // How a channel is cut into batches.
 
-ghost use Rattle.std.specs.Prelude.{◌≤◌, ◌<◌, ◌*◌};
+ghost use Rattle.std.specs.Prelude.{◌≤◌, ◌<◌, ◌+◌, ◌*◌};
 
 // The most records of a batch: more would make no send cheaper for each of them.
 const LONGEST: usize = 256;
@@ -18,6 +18,7 @@ pub fn cut_of(depth: usize) -> Cut
     requires some { 0 < depth }
     ensures slots { 0 < result.slots }
     ensures bound { result.length * result.slots ≤ depth }
+    ensures most { depth < result.length * result.slots + result.length }
 {
     let length = depth.min(LONGEST);
     Cut {

@@ -63,7 +63,9 @@ impl Hand {
     }
 
     /// The room in which the batch came.
-    pub fn into_room(self) -> VecDeque<Record> {
+    pub fn into_room(self) -> VecDeque<Record>
+        ensures { self ≡ [] → result.items ≡ [] }
+    {
         let Hand { records, end: _ } = self;
         records
     }

@@ -15,14 +15,16 @@ pub struct Options<'a, G> {
     pub settings: Settings,
     /// What sees claims and posts.
     pub gate: &'a G,
-    size: usize,
+    /// How many records a round holds at most, from 1 to 4,096.
+    pub size: usize,
     ghost is_size: { (1 ≤ size) × (size ≤ 4096) },
 }
 
 impl<'a, G> Options<'a, G> {
     /// These settings and this gate, with rounds of 4,096 records.
     pub fn new(settings: Settings, gate: &'a G) -> Options<'a, G>
-        ensures { result.settings ≡ settings }
+        ensures settings { result.settings ≡ settings }
+        ensures size { result.size ≡ 4096 }
     {
         Options {
             settings,
@@ -35,20 +37,14 @@ impl<'a, G> Options<'a, G> {
     pub fn in_rounds(self, size: usize) -> Options<'a, G>
         requires least { 1 ≤ size }
         requires most { size ≤ 4096 }
-        ensures { result.settings ≡ self.entry.settings }
+        ensures settings { result.settings ≡ self.entry.settings }
+        ensures gate { result.gate ≡ self.entry.gate }
+        ensures size { result.size ≡ size }
     {
         Options {
             settings: self.settings,
             gate: self.gate,
             size,
         }
-    }
-
-    /// How many records a round holds at most.
-    pub fn size(&self) -> usize
-        ensures least { 1 ≤ result }
-        ensures most { result ≤ 4096 }
-    {
-        self.size
     }
 }

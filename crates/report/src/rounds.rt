@@ -55,7 +55,7 @@ pub fn judge_all<
 {
     let workers = options.settings.workers;
     let gate = options.gate;
-    let size = options.size();
+    let size = options.size;
     last.clear();
     let Ok(mut judge) = Judge::start(alloc, config) else {
         return Err(CheckFault::Memory);
