@@ -9,5 +9,5 @@ returns g c = λ none.
     inr (
       relations,
       c.in-Ok.ensures,
-      subst (λ (settings : Settings). AnswersWith c.args.inputs relations settings c.check_relations.result c.check_relations.new.last) c.new-options.ensures c.check_relations.ensures,
+      subst (λ (settings : Settings). AnswersWith c.args.inputs relations settings c.check_relations.result c.check_relations.new.last) c.new-options.ensures.settings c.check_relations.ensures,
     )

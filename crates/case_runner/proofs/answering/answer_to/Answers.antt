@@ -12,7 +12,7 @@ returns g c =
     let items = c.check_relations-outcome.new.last in
     let given : Given = given_by c.args.config.now (map (λ reader. cursor_remaining (λ text. Some text.items) reader) c.in_ok-readers.readers.items) false (Some c.args.order.now) false in
     let answers : AnswersWith given relations c.args.manner.settings outcome items =
-    subst (λ (settings : Settings). AnswersWith given relations settings outcome items) (c.in_rounds-options.ensures ∙ c.new-2.ensures)
+    subst (λ (settings : Settings). AnswersWith given relations settings outcome items) (c.in_rounds-options.ensures.settings ∙ c.new-2.ensures.settings)
     (subst (λ (one : Given). AnswersWith one relations c.in_rounds-options.result.settings outcome items) c.new-inputs.ensures c.check_relations-outcome.ensures) in
     let written : c.write_last.new.w.taken.items ≡ last_lines items = search rules in
     record {

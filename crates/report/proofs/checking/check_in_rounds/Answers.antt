@@ -13,6 +13,6 @@ returns g c =
     let relations = relations_of c.args.rules.now in
     let given : Given = given_by c.args.config.now (map (λ reader. g.R.TextSource.remaining reader) c.args.readers.items) g.R.TextSource.can_fail (g.C.TextSource.remaining c.args.cert) g.C.TextSource.can_fail in (
       c.check_inputs.new.last,
-      subst (λ (settings : Settings). AnswersWith given relations settings c.check_inputs.result c.check_inputs.new.last) (c.in_rounds-options.ensures ∙ c.new-2.ensures)
+      subst (λ (settings : Settings). AnswersWith given relations settings c.check_inputs.result c.check_inputs.new.last) (c.in_rounds-options.ensures.settings ∙ c.new-2.ensures.settings)
           (subst (λ (one : Given). AnswersWith one relations c.in_rounds-options.result.settings c.check_inputs.result c.check_inputs.new.last) c.new-inputs.ensures c.check_inputs.ensures),
     )

@@ -8,5 +8,5 @@ pub returns : goal.returns
 returns g c =
     let relations = relations_of c.args.rules.now in
     let given : Given = given_by c.args.config.now (map (λ reader. g.R.TextSource.remaining reader) c.args.readers.items) g.R.TextSource.can_fail (g.C.TextSource.remaining c.args.cert) g.C.TextSource.can_fail in
-    subst (λ (settings : Settings). AnswersWith given relations settings c.check_inputs.result c.check_inputs.new.last) c.new-options.ensures
+    subst (λ (settings : Settings). AnswersWith given relations settings c.check_inputs.result c.check_inputs.new.last) c.new-options.ensures.settings
     (subst (λ (one : Given). AnswersWith one relations c.new-options.result.settings c.check_inputs.result c.check_inputs.new.last) c.new-inputs.ensures c.check_inputs.ensures)
