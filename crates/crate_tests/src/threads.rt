@@ -1,5 +1,7 @@
 // Workers that judge beside one another, and recordings that are read beside one another, in a whole check.
 
+ghost use Rattle.std.specs.Prelude.{◌≤◌};
+
 use crate::gates::{Meeting, Pair};
 use crate::texts::{BOTH, CONFIG, MODULE, RECEIVER, SENDER, asking, in_turn};
 use csv_rows::Watched;
