@@ -1,6 +1,7 @@
 -- What is made of a command line that the parser takes is what the words of it give.
-use Rattle.std.proofs.Common.{◌≡◌, ◌∙◌, ℕ, List, Option, Some, None, Ok, true, ap, ap₂, codes, option_and_then, refl, subst}
+use Rattle.std.proofs.Common.{◌≡◌, ◌∙◌, ℕ, List, Option, Some, None, Ok, Err, true, ap, ap₂, codes, inl, inr, option_and_then, refl, subst, sym}
 use Rattle.std.specs.Option.{ok_or}
+use Rattle.std.specs.Prelude.{IfErr, IsErrAnd, Result}
 use Rattle.clap.proofs.OnLiterals.{clap_on_literals}
 use Rattle.clap.proofs.WalkLemmas.{first_value-rows, one_text-rows, raw_values-rows}
 use Rattle.clap.specs.Simple.{HasMatchesOf}
@@ -12,7 +13,9 @@ use Rattle.rule_options.specs.Options.{values_of}
 use Rattle.apexcheck.specs.CommandLine.{command_line, found_in}
 use Rattle.apexcheck.specs.Settings.{settings_of}
 use Rattle.apexcheck.specs.Words.{AreNamed, AsksFor, Tells}
+use Rattle.apexcheck.specs.Wrong.{IsIncomplete, LacksFiles}
 use Rattle.apexcheck.specs.declared.usage.FilesAsked.{FilesAsked}
+use Rattle.apexcheck.specs.declared.usage.UsageFault.{UsageFault}
 use Rattle.apexcheck.specs.declared.usage.UsageFault.TheVariants as UsageFault
 
 -- the parser's own account of the matches is for command lines like this one
@@ -53,3 +56,42 @@ asks_for matches given asked is names options settings last quiet = record {
 
     one : (id : List ℕ) → one_text (found_of matches) id ≡ one_of id given
     one id = one_text-rows (found_of matches) id ∙ ap (one_of id) is
+
+-- an option's want is no value
+none_of : {A E : Type 0} (given : Option A) (fault e : E) → Err e ≡ ok_or given fault → given ≡ None
+none_of None fault e is = refl
+none_of (Some found) fault e is = cc
+
+-- a file that the parser did not find is none of the words
+pub lacks_files : (matches : ArgMatches) (given : List Row) → rows_of (found_of matches) ≡ given → LacksFiles (found_of matches) → IsIncomplete given
+lacks_files matches given is (inl config) = inl (sym (first_value-rows (found_of matches) (codes "config") ∙ ap (first_of (codes "config")) is) ∙ config)
+lacks_files matches given is (inr (inl order)) = inr (inl (sym (first_value-rows (found_of matches) (codes "order") ∙ ap (first_of (codes "order")) is) ∙ order))
+lacks_files matches given is (inr (inr cores)) = inr (inr (inl (sym (raw_values-rows (found_of matches) (codes "core") ∙ ap (all_of (codes "core")) is) ∙ cores)))
+
+-- nor are values that the rules' options cannot have
+pub lacks_options : (matches : ArgMatches) (given : List Row) (fault : UsageFault) → rows_of (found_of matches) ≡ given
+    → Err fault ≡ ok_or (values_of (first_value (found_of matches) (codes "max-elapsed")) (first_value (found_of matches) (codes "forbid"))) UsageFault.Usage
+    → IsIncomplete given
+lacks_options matches given fault is refused =
+    inr (inr (inr (inl (sym (ap₂ values_of (first (codes "max-elapsed")) (first (codes "forbid"))) ∙ none_of _ UsageFault.Usage fault refused))))
+  where
+    first : (id : List ℕ) → first_value (found_of matches) id ≡ first_of id given
+    first id = first_value-rows (found_of matches) id ∙ ap (first_of id) is
+
+-- nor are values that the settings cannot have
+pub lacks_settings : (matches : ArgMatches) (given : List Row) (fault : UsageFault) → rows_of (found_of matches) ≡ given
+    → Err fault
+    ≡ ok_or (option_and_then (λ workers. settings_of workers (first_value (found_of matches) (codes "depth"))) (first_value (found_of matches) (codes "workers"))) UsageFault.Usage
+    → IsIncomplete given
+lacks_settings matches given fault is refused =
+    inr (inr (inr (inr (sym (ap₂ (λ depth text. option_and_then (λ workers. settings_of workers depth) text) (first (codes "depth")) (first (codes "workers")))
+    ∙ none_of _ UsageFault.Usage fault refused))))
+  where
+    first : (id : List ℕ) → first_value (found_of matches) id ≡ first_of id given
+    first id = first_value-rows (found_of matches) id ∙ ap (first_of id) is
+
+-- what holds of the error that a result has
+pub of_error : {Value Fault : Type 0} (Same Fact : Fault → Type 0) → ((fault : Fault) → Same fault → Fact fault) → (result : Result Value Fault) → IsErrAnd result Same
+    → IfErr result Fact
+of_error Same Fact then (Ok value) is = tt
+of_error Same Fact then (Err fault) is = then fault is

@@ -4,3 +4,4 @@ pub mod Files
 pub mod Ruled
 pub mod Settings
 pub mod Words
+pub mod Wrong

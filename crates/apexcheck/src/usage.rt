@@ -1,16 +1,19 @@
 // The words of the command line.
 
-ghost use Rattle.std.specs.Prelude.{◌≡◌, ◌<◌, ◌≤◌, IfOk, None, Ok, Some, codes, false, length, map, option_and_then, option_map, string_bytes, true};
+ghost use Rattle.std.specs.Prelude.{◌≡◌, ◌<◌, ◌≤◌, IfErr, IfOk, IsTrue, None, Ok, Some, codes, false, length, map, option_and_then, option_map, string_bytes, true};
 ghost use Rattle.std.specs.Option.{ok_or};
+ghost use Rattle.clap.specs.Takes.{takes};
+ghost use Rattle.clap.specs.Walk.{rows_of};
 ghost use Rattle.clap.specs.Words.{app_of, first_value, found_of, one_text, rule_of};
 ghost use Rattle.rule_options.specs.Options.{values_of};
 ghost use Rattle.apexcheck.specs.CommandLine.{command_line, flag_of, found_in, option_of, recordings};
 ghost use Rattle.apexcheck.specs.Settings.{settings_of};
 ghost use Rattle.apexcheck.specs.Words.{AreNamed, AsksFor, AsksForFiles, asks_version};
+ghost use Rattle.apexcheck.specs.Wrong.{IsWrong, LacksFiles};
 
 use crate::settings::read_settings;
 use clap::error::ErrorKind;
-use clap::{Arg, ArgAction, ArgMatches, Command, Error};
+use clap::{Arg, ArgAction, ArgMatches, Command};
 use input_explanation::tell_command_line;
 use report::Settings;
 use rule_options::RuleOptions;
@@ -119,6 +122,7 @@ fn read_words(alloc: Global, words: &[String]) -> Result<Asked, UsageFault>
     ensures stored { length words.now ≤ 1 → result ≡ Ok Asked.StoredRun }
     ensures version { asks_version (map string_bytes words.now) ≡ true → result ≡ Ok Asked.Version }
     ensures files { 1 < length words.now → asks_version (map string_bytes words.now) ≡ false → IfOk result (AsksForFiles (found_in (map string_bytes words.now))) }
+    ensures refused { IfErr result (λ fault. fault ≡ UsageFault.Usage → IsWrong (map string_bytes words.now)) }
 {
     match words {
         [] | [_] => Ok(Asked::StoredRun),
@@ -139,16 +143,18 @@ fn is_version(words: &[String]) -> bool
 
 // A run over files, as the words ask for it. The first word is the program's own name.
 fn run_over_files(alloc: Global, words: &[String]) -> Result<Asked, UsageFault>
-    ensures { IfOk result (AsksForFiles (found_in (map string_bytes words.now))) }
+    ensures asked { IfOk result (AsksForFiles (found_in (map string_bytes words.now))) }
+    ensures refused { IfErr result (λ fault. fault ≡ UsageFault.Usage → IsWrong (map string_bytes words.now)) }
 {
     Ok(Asked::Files(files_asked(alloc, words)?))
 }
 
 // The files, the rules and the settings that the words ask for.
 fn files_asked(alloc: Global, words: &[String]) -> Result<FilesAsked, UsageFault>
-    ensures { IfOk result (AsksFor (found_in (map string_bytes words.now))) }
+    ensures asked { IfOk result (AsksFor (found_in (map string_bytes words.now))) }
+    ensures refused { IfErr result (λ fault. fault ≡ UsageFault.Usage → IsWrong (map string_bytes words.now)) }
 {
-    let matches = command(alloc)?.try_get_matches_from(words)?;
+    let matches = parsed(alloc, words)?;
     Ok(FilesAsked {
         names: file_names(alloc, &matches)?,
         options: rule_options(&matches)?,
@@ -156,6 +162,23 @@ fn files_asked(alloc: Global, words: &[String]) -> Result<FilesAsked, UsageFault
         last: asks_last(&matches),
         quiet: asks_quiet(&matches),
     })
+}
+
+// What the parser finds in the words.
+fn parsed<'a>(alloc: Global, words: &'a [String]) -> Result<ArgMatches<'a>, UsageFault>
+    ensures found { IfOk result (λ matches. rows_of (found_of matches) ≡ found_in (map string_bytes words.now)) }
+    ensures refused { IfErr result (λ fault. fault ≡ UsageFault.Usage → ¬ IsTrue (takes command_line (map string_bytes words.now))) }
+{
+    let Ok(command) = command(alloc) else {
+        return Err(UsageFault::Memory);
+    };
+    match command.try_get_matches_from(words) {
+        Ok(matches) => Ok(matches),
+        Err(e) => match e.kind() {
+            ErrorKind::OutOfMemory => Err(UsageFault::Memory),
+            _ => Err(UsageFault::Usage),
+        },
+    }
 }
 
 // The values of the options that say how the check is carried out.
@@ -206,18 +229,44 @@ fn text_of<'a>(matches: &ArgMatches<'a>, name: &str) -> Option<&'a [u8]>
 
 // The files that a command line names.
 fn file_names(alloc: Global, matches: &ArgMatches<'_>) -> Result<FileNames, UsageFault>
-    ensures { IfOk result (AreNamed (found_of matches.now)) }
+    ensures named { IfOk result (AreNamed (found_of matches.now)) }
+    ensures refused { IfErr result (λ fault. fault ≡ UsageFault.Usage → LacksFiles (found_of matches.now)) }
 {
-    let (Some(config), Some(order), Some(cores)) = (
-        matches.get_str("config"),
-        matches.get_str("order"),
-        matches.get_strs("core"),
-    ) else {
+    let Some(config) = matches.get_str("config") else {
         return Err(UsageFault::Usage);
+    };
+    let Some(order) = matches.get_str("order") else {
+        return Err(UsageFault::Usage);
+    };
+    let Some(cores) = matches.get_strs("core") else {
+        return Err(UsageFault::Usage);
+    };
+    match owned_names(alloc, config, matches.get_str("rules"), order, cores) {
+        Ok(names) => Ok(names),
+        Err(_) => Err(UsageFault::Memory),
+    }
+}
+
+// Names of files of their own.
+fn owned_names(
+    alloc: Global,
+    config: &str,
+    rules: Option<&str>,
+    order: &str,
+    cores: &[&str],
+) -> Result<FileNames, AllocError>
+    ensures config { IfOk result (λ names. string_bytes names.config ≡ config.now) }
+    ensures rules { IfOk result (λ names. option_map string_bytes names.rules ≡ option_map (λ name. name.now) rules.entry) }
+    ensures order { IfOk result (λ names. string_bytes names.order ≡ order.now) }
+    ensures cores { IfOk result (λ names. map string_bytes names.cores.items ≡ map (λ name. name.now) cores.now) }
+{
+    let rules = match rules {
+        Some(name) => Some(String::from_str(alloc, name)?),
+        None => None,
     };
     Ok(FileNames {
         config: String::from_str(alloc, config)?,
-        rules: rules_name(alloc, matches)?,
+        rules,
         order: String::from_str(alloc, order)?,
         cores: owned(alloc, cores)?,
     })
@@ -232,16 +281,6 @@ fn owned(alloc: Global, texts: &[&str]) -> Result<Vec<String>, AllocError>
         owned.push(String::from_str(alloc, text)?)?;
     }
     Ok(owned)
-}
-
-// The name of the file of rules, if one is named.
-fn rules_name(alloc: Global, matches: &ArgMatches<'_>) -> Result<Option<String>, UsageFault>
-    ensures { IfOk result (λ name. option_map string_bytes name ≡ first_value (found_of matches.now) (codes "rules")) }
-{
-    match matches.get_str("rules") {
-        Some(name) => Ok(Some(String::from_str(alloc, name)?)),
-        None => Ok(None),
-    }
 }
 
 // The words of a run over files: no option twice, and CORE once or more.
@@ -292,14 +331,5 @@ fn flag<'a>(alloc: Global, name: &'static str) -> Arg<'a>
 impl From<AllocError> for UsageFault {
     fn from(_: AllocError) -> UsageFault {
         UsageFault::Memory
-    }
-}
-
-impl From<Error> for UsageFault {
-    fn from(e: Error) -> UsageFault {
-        match e.kind() {
-            ErrorKind::OutOfMemory => UsageFault::Memory,
-            _ => UsageFault::Usage,
-        }
     }
 }
