@@ -50,7 +50,7 @@ fn replace_line(text: &mut Vec<u8>, number: usize, lines: &[u8]) -> Result<(), E
     Ok(())
 }
 
-// Puts lines so many times after a text. Each `@` in them is the number of the line that it stands in.
+// Puts lines so many times after a text. Each `@` in them is the number of its line.
 fn push_times(text: &mut Vec<u8>, count: usize, lines: &[u8]) -> Result<(), AllocError> {
     let mut number = line_count(text);
     for _ in 0..count {

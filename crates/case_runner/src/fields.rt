@@ -8,7 +8,7 @@ pub const LINE_FEED: u8 = b'\n';
 /// What ends a word.
 pub const SPACE: u8 = b' ';
 
-/// The part before the first byte that is `end`, and what stands after that byte. Where there is none, the whole text
+/// The part before the first byte that is `end`, and what follows that byte. Where there is none, the whole text
 /// and nothing.
 pub fn split_at_byte(text: &[u8], end: u8) -> (&[u8], &[u8])
     ensures { IsSplit end text.now result.0.now result.1.now }
@@ -28,7 +28,7 @@ pub fn split_line(text: &[u8]) -> (&[u8], &[u8])
     split_at_byte(text, LINE_FEED)
 }
 
-/// The first word of a line, and what stands after the space that ends it.
+/// The first word of a line, and what follows the space that ends it.
 pub fn split_word(line: &[u8]) -> (&[u8], &[u8])
     ensures { IsSplit SPACE line.now result.0.now result.1.now }
 {

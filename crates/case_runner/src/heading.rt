@@ -53,9 +53,9 @@ pub enum Change {
     Whole,
     /// `line N`: they stand in the place of that line.
     Line(usize),
-    /// `from line N`: they stand in the place of that line and all after it.
+    /// `from line N`: they replace that line and all after it.
     FromLine(usize),
-    /// `N times`: they stand so many times after the text, and each `@` in them is the number of its line.
+    /// `N times`: they are appended to the text so many times, and each `@` in them is the number of its line.
     Times(usize),
 }
 
