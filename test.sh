@@ -1,10 +1,10 @@
 #!/usr/bin/env bash
-# All tests, after the line of the kit that runs them: that each wrong body applies; the program on one example through real
-# files; every proof, every wrong body of the gate's set, every test and the program as two compilers build it; the program as
-# its users run it, and on hostile texts and files; each allocation refused in turn that a waiting set makes for its first entry;
-# and so each of the program's, without rules, with options that ask for rules, with a rules file, with a message between
-# partitions, and with several who wait at a blackboard. At the end come the costs of each crate. The last line is
-# `N passed, 0 failed`.
+# All tests, after the line of the kit that runs them: that each wrong body applies; that docs/FORMATS.md lists the services of
+# the table; the program on one example through real files; every proof, every wrong body of the gate's set, every test and the
+# program as two compilers build it; the program as its users run it, and on hostile texts and files; each allocation refused in
+# turn that a waiting set makes for its first entry; and so each of the program's, without rules, with options that ask for
+# rules, with a rules file, with a message between partitions, and with several who wait at a blackboard. At the end come the
+# costs of each crate. The last line is `N passed, 0 failed`.
 #
 # `bash test.sh quick` shows without a proof, in minutes, that everything works. `bash audit.sh` tries all wrong bodies.
 set -euo pipefail
@@ -16,6 +16,7 @@ case "${*:-}" in
 esac
 rt version
 .ci/wrong_bodies_apply
+.ci/services_are_listed
 report=$(bash examples/run timed_wait)
 echo "$report"
 if [ "$report" != "$(cat examples/timed_wait/expected.txt)" ]; then

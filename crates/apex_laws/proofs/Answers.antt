@@ -9,7 +9,7 @@ use Rattle.apex_machine.specs.declared.state.Wait.TheVariants as wait
 use Rattle.apex_machine.specs.Answer.{Answer, done, waiting, waking}
 use Rattle.apex_machine.specs.Arguments.{is_over}
 use Rattle.apex_machine.specs.DueTimes.{is_released, is_suspension, next_release}
-use Rattle.apex_machine.specs.Services.{fellow, resuming}
+use Rattle.apex_machine.specs.Services.{peer, resuming}
 use Rattle.apex_machine.specs.State.{created, item_at}
 use Rattle.apex_laws.specs.ProcessLaws.{AnswerIsTheSentence, CreationIsTheSentence}
 use Rattle.apex_laws.specs.ProcessSentences.{IsAtRelease, IsOverOrWaits, IsResuming}
@@ -71,7 +71,7 @@ answer_is_the_sentence now who partition request.PeriodicWait answer =
     over_or_waits (IsAtRelease now (item_at partition.table who.proc)) (is_released now (item_at partition.table who.proc)) answer
     (release_is now (item_at partition.table who.proc)) (release_by now (item_at partition.table who.proc))
 answer_is_the_sentence now who partition (request.Resume process) answer =
-    (resuming_says (fellow who process) (created partition.table process) answer, resuming_by (fellow who process) (created partition.table process) answer)
+    (resuming_says (peer who process) (created partition.table process) answer, resuming_by (peer who process) (created partition.table process) answer)
 answer_is_the_sentence now who partition _ answer = (λ gives. gives, λ gives. gives)
 
 pub creation_is_the_sentence : CreationIsTheSentence

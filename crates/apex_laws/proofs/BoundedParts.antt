@@ -1,6 +1,7 @@
 -- The numbers of a partition stay bounded, by its own demands.
 use Rattle.std.proofs.Common.{◌≡◌, ◌⊎◌, ℕ, ◌+◌, ◌<◌, ◌≤◌, List, [], ◌∷◌, ◌++◌, Bool, true, false, cond, nat_eq, nat_lt, ◌&&◌, ℤ, pos, negsuc, Option, Some, None, option_map, refl, sym, ap, subst, ◌∙◌, inl, inr, arith, true≢false}
 use Rattle.std.proofs.lemmas.Bool.{and_parts, cases_Bool, eqb-true, leb-true}
+use Rattle.apex_types.specs.declared.object_kind.ObjectKind.TheVariants as kind
 use Rattle.apex_types.specs.declared.code.Code.{Code}
 use Rattle.apex_types.specs.declared.record.Body.{Body}
 use Rattle.apex_types.specs.declared.record.Body.TheVariants.{Call, Ret, Disp, Tick}
@@ -20,7 +21,7 @@ use Rattle.apex_machine.specs.declared.state.Wait.{Wait}
 use Rattle.apex_machine.specs.declared.state.Wait.TheVariants as wait
 use Rattle.apex_machine.specs.declared.state.WaitingSet.{WaitingSet}
 use Rattle.apex_machine.specs.declared.state.WaitingSet.TheVariants as set
-use Rattle.apex_machine.specs.After.{adjusted, called, caller_after, caller_with, created_by, each_set, is_done, numbered, objects_by, own_partition, partition_by, returned, roused, ticked}
+use Rattle.apex_machine.specs.After.{adjusted, called, caller_after, caller_with, created_by, each_set, is_done, numbered, objects_by, own_partition, partition_by, returned, ticked, with_sets, woken_if_named}
 use Rattle.apex_machine.specs.Answer.{done, waiting}
 use Rattle.apex_machine.specs.Arguments.{is_number, natural_of, period_given}
 use Rattle.apex_machine.specs.Configuration.{Configuration, first_core, period_of}
@@ -28,7 +29,7 @@ use Rattle.apex_machine.specs.Demands.{AllHold, WakesHere, call_demands, outcome
 use Rattle.apex_machine.specs.DueTimes.{NamesThoseDue, due_by, entry_wait, falls_due, is_released, is_suspension, next_release, release_after, waits_for_normal}
 use Rattle.apex_machine.specs.Objects.{acquired, acquired_again, acquired_from, handed_on, is_owner, mutex_released, not_acquired, released_once}
 use Rattle.apex_machine.specs.Ports.{channel_of}
-use Rattle.apex_machine.specs.Processes.{by_mutex, gift_of, new_process, on_ownership, release_reached, release_taken, released, set_by, started, stopped, woken_by}
+use Rattle.apex_machine.specs.Processes.{by_mutex, message_handed_over, new_process, on_ownership, release_reached, release_taken, released, set_by, started, stopped, woken_by}
 use Rattle.apex_machine.specs.ServiceConditions.{condition_codes}
 use Rattle.apex_machine.specs.Services.{answer_of}
 use Rattle.apex_machine.specs.State.{Mutex, Partition, Table, change_at, cold_partition, each_item, first_processes, given_object, initialising_process, is_named, item_at, names_one_of, time_of}
@@ -43,7 +44,7 @@ use Rattle.apex_laws.proofs.SoundParts.{Stands, named_wait, own_holds}
 use Rattle.apex_laws.proofs.Tables.{at_each}
 use Rattle.apex_laws.proofs.Waiters.{all_weaker}
 use Rattle.apex_laws.proofs.Wakes.{answer_wakes, nobody}
-use Rattle.apex_laws.proofs.Whos.{not_named}
+use Rattle.apex_laws.proofs.WaitersOf.{not_named}
 use Rattle.apex_laws.proofs.Woken.{created_is}
 
 -- lists of processes and objects
@@ -146,7 +147,7 @@ used_counts configuration place who claimed _ partition all = counts_later place
 -- a change of the waiting sets leaves the counts
 sets_count : (most : ℕ) (change : WaitingSet → List Entry → List Entry) (partition : Partition) → AllFound (CountsTo most) partition.mutexes → AllFound (CountsTo most) (each_set change partition).mutexes
 sets_count most change partition all =
-    each_has (CountsTo most) (λ number found. record found { waiters = change (set.MutexWaiters number) found.waiters }) partition.mutexes (λ number found at. all number found at)
+    each_has (CountsTo most) (with_sets kind.Mutex change) partition.mutexes (λ number found at. all number found at)
 
 -- the mutexes of a partition after a record
 counts_after : (configuration : Configuration) (cores : List CoreState) (place core number : ℕ) (body : Body) (partition : Partition) → AllFound (CountsTo place) partition.mutexes
@@ -160,7 +161,7 @@ counts_after configuration cores place core number (Ret ret) partition all =
       | false ↦ counts_later place partition.mutexes all
     ]
 counts_after configuration cores place core number (Call call) partition all =
-    let foreign : ℕ → Process → Process = λ other process. roused place call (record { part = number; proc = other }) process in
+    let foreign : ℕ → Process → Process = λ other process. woken_if_named place call (record { part = number; proc = other }) process in
     elim (nat_eq call.who.part number) as (λ own. AllFound (CountsTo (place + 1)) (cond own
     (own_partition (restart_of call) configuration cores place core call partition) (record partition { table = each_item foreign partition.table })).mutexes) [
       | true ↦ own_case (λ next. AllFound (CountsTo (place + 1)) next.mutexes) configuration cores place core call partition
@@ -252,10 +253,10 @@ waiter_ends table wanted number x waits at =
 woken_keeps : (place : ℕ) (message : List ℕ) (x : Process) → EndsNoRelease x.wait → KeepsRelease x (woken_by place message x)
 woken_keeps place message x ends = (ends.1 x.last_release, refl)
 
-roused_keeps : (place : ℕ) (call : CallRecord) (who : Who) (x : Process) → (is_named who call.claim.woken ≡ true → EndsNoRelease x.wait) → KeepsRelease x (roused place call who x)
-roused_keeps place call who x ends =
-    elim (is_named who call.claim.woken) as (λ named. is_named who call.claim.woken ≡ named → KeepsRelease x (cond named (woken_by place (gift_of call.request) x) x)) [
-      | true ↦ λ named. woken_keeps place (gift_of call.request) x (ends named)
+woken_if_named_keeps : (place : ℕ) (call : CallRecord) (who : Who) (x : Process) → (is_named who call.claim.woken ≡ true → EndsNoRelease x.wait) → KeepsRelease x (woken_if_named place call who x)
+woken_if_named_keeps place call who x ends =
+    elim (is_named who call.claim.woken) as (λ named. is_named who call.claim.woken ≡ named → KeepsRelease x (cond named (woken_by place (message_handed_over call.request) x) x)) [
+      | true ↦ λ named. woken_keeps place (message_handed_over call.request) x (ends named)
       | false ↦ λ not_named. (refl, refl)
     ] refl
 
@@ -362,9 +363,9 @@ called_bounded configuration number place now cores partition call sound own mos
           (let both = own_ends number place now period cores partition call.who call.request call.claim sound (condition_codes configuration call.who partition call.request)
           (channel_of partition call.request) hold who own named x at in
           adjusted_ends both.0 both.1) in
-          let rest : (stopping : Bool) → IsBounded (place + 1) (cond stopping (stopped changed) (roused place call who changed)) = λ stopping. elim stopping as (λ gone. IsBounded (place + 1) (cond gone (stopped changed) (roused place call who changed))) [
+          let rest : (stopping : Bool) → IsBounded (place + 1) (cond stopping (stopped changed) (woken_if_named place call who changed)) = λ stopping. elim stopping as (λ passed. IsBounded (place + 1) (cond passed (stopped changed) (woken_if_named place call who changed))) [
             | true ↦ bounded_later place changed kept
-            | false ↦ bounded_later place (roused place call who changed) (bounded_kept place changed (roused place call who changed) (roused_keeps place call who changed ends) kept)
+            | false ↦ bounded_later place (woken_if_named place call who changed) (bounded_kept place changed (woken_if_named place call who changed) (woken_if_named_keeps place call who changed ends) kept)
           ] in
           rw other (rest (stops call who))
     ]
@@ -434,8 +435,7 @@ start_bounded entered core place most = by entered
     by : (started : Mode) → AllFound (IsBounded most) (first_processes started core place)
     by mode.Idle = λ process x at. (let no : ◌≡◌ {A = Option Process} None (Some x) = at in cc)
     by mode.ColdStart = initialising
-    by mode.WarmStart = initialising
-    by mode.Normal = initialising
+    by _ = initialising
 
 -- the table of a partition after a record
 bounded_after : (configuration : Configuration) (number : ℕ) (cores : List CoreState) (partition : Partition) (place core : ℕ) (body : Body)
@@ -457,7 +457,7 @@ bounded_after configuration number cores partition place core (Call call) sound 
     let Fact = IsBounded (place + 1) in
     let now = time_of cores core in
     let period = period_of configuration call.who.part in
-    let foreign : ℕ → Process → Process = λ other process. roused place call (record { part = number; proc = other }) process in
+    let foreign : ℕ → Process → Process = λ other process. woken_if_named place call (record { part = number; proc = other }) process in
     elim (nat_eq call.who.part number) as (λ own. nat_eq call.who.part number ≡ own → AllFound Fact (cond own
     (own_partition (restart_of call) configuration cores place core call partition) (record partition { table = each_item foreign partition.table })).table) [
       | true ↦ λ own.
@@ -472,7 +472,7 @@ bounded_after configuration number cores partition place core (Call call) sound 
           let demands = subst (λ one. AllHold (call_demands one configuration number cores partition core call)) elsewhere hold in
           each_has Fact foreign partition.table
           (λ process x at. bounded_later place (foreign process x) (bounded_kept place x (foreign process x)
-          (roused_keeps place call (record { part = number; proc = process }) x
+          (woken_if_named_keeps place call (record { part = number; proc = process }) x
           (λ named. foreign_ends call.request call.claim.chan number partition.table call.claim.woken demands.1.0 (record { part = number; proc = process }) refl named x at))
           (all process x at)))
     ] refl

@@ -3,6 +3,7 @@ use Rattle.std.proofs.Common.{◌≡◌, ◌⊎◌, ℕ, ◌<◌, ℤ, pos, List
 use Rattle.std.specs.Prelude.{◌<ℤ◌, IsTrue}
 use Rattle.apex_types.specs.declared.code.Code.{Code}
 use Rattle.apex_types.specs.declared.code.Code.TheVariants as code
+use Rattle.apex_types.specs.declared.limits.TheConstants.{GREATEST_MAXIMUM, LONGEST_MESSAGE, MOST_MESSAGES}
 use Rattle.apex_types.specs.declared.object_kind.ObjectKind.TheVariants as kind
 use Rattle.apex_types.specs.declared.record.Who.{Who}
 use Rattle.apex_types.specs.declared.request.Request.{Request}
@@ -287,8 +288,8 @@ module _ (configuration : Configuration) (who : Who) (partition : Partition) whe
       (each_of_both _ _ (Holds asked)
       (creation_says asked (is_taken (λ (buffer : Buffer). buffer.name) name partition.buffers) _ tt
       (named_tells (λ (buffer : Buffer). buffer.name) name partition.buffers).0 (at_most_tells (object_limit configuration (λ limits. limits.buffers) who.part) (length partition.buffers)).0)
-      (number_fails asked (is_size size) (IsSize size) code.InvalidParam (between_tells 1 8192 size) HasCondition.create_buffer_size))
-      (number_fails asked (is_capacity capacity) (IsFrom (pos 1) (pos 1024) capacity) code.InvalidParam (between_tells 1 1024 capacity) HasCondition.create_buffer_capacity))
+      (number_fails asked (is_size size) (IsSize size) code.InvalidParam (between_tells 1 LONGEST_MESSAGE size) HasCondition.create_buffer_size))
+      (number_fails asked (is_capacity capacity) (IsFrom (pos 1) (pos MOST_MESSAGES) capacity) code.InvalidParam (between_tells 1 MOST_MESSAGES capacity) HasCondition.create_buffer_capacity))
       (number_fails asked (is_discipline discipline) (IsDiscipline discipline) code.InvalidParam (between_tells 0 1 discipline) HasCondition.create_buffer_discipline)
   says (request.SendBuffer buffer length time_out message) =
       let asked : Request = request.SendBuffer buffer length time_out message in
@@ -304,7 +305,7 @@ module _ (configuration : Configuration) (who : Who) (partition : Partition) whe
       (creation_says asked (is_taken (λ (blackboard : Blackboard). blackboard.name) name partition.blackboards) _ tt
       (named_tells (λ (blackboard : Blackboard). blackboard.name) name partition.blackboards).0
       (at_most_tells (object_limit configuration (λ limits. limits.blackboards) who.part) (length partition.blackboards)).0)
-      (number_fails asked (is_size size) (IsSize size) code.InvalidParam (between_tells 1 8192 size) HasCondition.create_blackboard_size)
+      (number_fails asked (is_size size) (IsSize size) code.InvalidParam (between_tells 1 LONGEST_MESSAGE size) HasCondition.create_blackboard_size)
   says (request.DisplayBlackboard blackboard length message) =
       message_says (request.DisplayBlackboard blackboard length message) partition.blackboards blackboard length (λ found. found.size) (λ names. names) HasCondition.display_empty HasCondition.display_long
   says (request.ReadBlackboard blackboard time_out) = object_says (request.ReadBlackboard blackboard time_out) partition.blackboards blackboard time_out (λ names. names) refl refl
@@ -317,7 +318,7 @@ module _ (configuration : Configuration) (who : Who) (partition : Partition) whe
       (creation_says asked (is_taken (λ (semaphore : Semaphore). semaphore.name) name partition.semaphores) _ tt
       (named_tells (λ (semaphore : Semaphore). semaphore.name) name partition.semaphores).0
       (at_most_tells (object_limit configuration (λ limits. limits.semaphores) who.part) (length partition.semaphores)).0)
-      (number_fails asked (is_maximum maximum) (IsFrom (pos 1) (pos 32767) maximum) code.InvalidParam (between_tells 1 32767 maximum) HasCondition.create_semaphore_maximum))
+      (number_fails asked (is_maximum maximum) (IsFrom (pos 1) (pos GREATEST_MAXIMUM) maximum) code.InvalidParam (between_tells 1 GREATEST_MAXIMUM maximum) HasCondition.create_semaphore_maximum))
       (number_fails asked (suits_maximum maximum value) (IsFrom (pos 0) maximum value) code.InvalidParam (value_tells maximum value) HasCondition.create_semaphore_value))
       (number_fails asked (is_discipline discipline) (IsDiscipline discipline) code.InvalidParam (between_tells 0 1 discipline) HasCondition.create_semaphore_discipline)
   says (request.WaitSemaphore semaphore time_out) = object_says (request.WaitSemaphore semaphore time_out) partition.semaphores semaphore time_out (λ names. names) refl refl

@@ -10,6 +10,7 @@ use Rattle.std.proofs.Math.Nat.{mul-mod_left}
 use Rattle.std.proofs.lemmas.Nat.{div-add-mod'}
 use Rattle.apex_types.specs.declared.discipline.Discipline.{Discipline}
 use Rattle.apex_types.specs.declared.discipline.Discipline.TheVariants as discipline
+use Rattle.apex_types.specs.declared.limits.TheConstants.{GREATEST_PRIORITY}
 use Rattle.apex_types.specs.declared.object_kind.ObjectKind.{ObjectKind}
 use Rattle.apex_types.specs.declared.object_kind.ObjectKind.TheVariants as kind
 use Rattle.apex_types.specs.declared.record.Who.{Who}
@@ -106,8 +107,8 @@ between_tells least greatest (pos n) =
 between_tells least greatest (negsuc n) = (λ holds. absurd (true≢false (sym holds)), λ fact. absurd fact.0.le)
 
 pub priority_tells : (given : ℤ) → Tells (is_priority given) (IsPriority given)
-priority_tells (pos n) = between_tells 1 239 (pos n)
-priority_tells (negsuc n) = between_tells 1 239 (negsuc n)
+priority_tells (pos n) = between_tells 1 GREATEST_PRIORITY (pos n)
+priority_tells (negsuc n) = between_tells 1 GREATEST_PRIORITY (negsuc n)
 
 -- a mode of 0 to 3
 pub mode_tells : (given : ℤ) → Tells (is_mode given) (IsFrom (pos 0) (pos 3) given)
@@ -206,7 +207,7 @@ value_tells (negsuc greatest) (negsuc n) = (λ holds. absurd (true≢false (sym 
 
 -- lists
 
--- an element is the head of a list or stands behind it
+-- an element is the head of a list or comes after it
 pub stands_cases : {X : Type 0} → (x y : X) (xs : List X) → Contains (x ∷ xs) y → (y ≡ x) ⊎ Contains xs y
 stands_cases x y xs stands =
     All-contains (λ one. (one ≡ x) ⊎ Contains xs one) (x ∷ xs) y
@@ -368,14 +369,12 @@ suspended_tells process =
 pub cold_start_tells : (current : Mode) → Tells (is_cold_start current) (current ≡ mode.ColdStart)
 cold_start_tells mode.ColdStart = (λ holds. refl, λ fact. refl)
 cold_start_tells mode.Idle = (λ holds. absurd (true≢false (sym holds)), λ fact. ap is_cold_start fact)
-cold_start_tells mode.WarmStart = (λ holds. absurd (true≢false (sym holds)), λ fact. ap is_cold_start fact)
-cold_start_tells mode.Normal = (λ holds. absurd (true≢false (sym holds)), λ fact. ap is_cold_start fact)
+cold_start_tells _ = (λ holds. absurd (true≢false (sym holds)), λ fact. ap is_cold_start fact)
 
 pub normal_tells : (current : Mode) → Tells (is_normal current) (current ≡ mode.Normal)
 normal_tells mode.Normal = (λ holds. refl, λ fact. refl)
 normal_tells mode.Idle = (λ holds. absurd (true≢false (sym holds)), λ fact. ap is_normal fact)
-normal_tells mode.ColdStart = (λ holds. absurd (true≢false (sym holds)), λ fact. ap is_normal fact)
-normal_tells mode.WarmStart = (λ holds. absurd (true≢false (sym holds)), λ fact. ap is_normal fact)
+normal_tells _ = (λ holds. absurd (true≢false (sym holds)), λ fact. ap is_normal fact)
 
 -- the caller
 pub caller_tells : (test : Process → Bool) (Fact : Process → Type 0) → ((process : Process) → Tells (test process) (Fact process))

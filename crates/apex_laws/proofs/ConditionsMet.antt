@@ -4,6 +4,7 @@ use Rattle.std.specs.Prelude.{◌<ℤ◌}
 use Rattle.std.proofs.lemmas.Bool.{and_from}
 use Rattle.apex_types.specs.declared.code.Code.{Code}
 use Rattle.apex_types.specs.declared.code.Code.TheVariants as code
+use Rattle.apex_types.specs.declared.limits.TheConstants.{GREATEST_MAXIMUM, LONGEST_MESSAGE, MOST_MESSAGES}
 use Rattle.apex_types.specs.declared.object_kind.ObjectKind.TheVariants as kind
 use Rattle.apex_types.specs.declared.record.Who.{Who}
 use Rattle.apex_types.specs.declared.request.Request.{Request}
@@ -332,22 +333,22 @@ module _ (configuration : Configuration) (who : Who) (partition : Partition) whe
       in_later _ _ code.InvalidMode (in_when (is_warm_start_mode next && is_cold_start partition.mode) code.InvalidMode
       (and_from _ _ ((tests.warm_start_mode_tells next).1 two) ((tests.cold_start_tells partition.mode).1 cold)))
   met (HasCondition.create_buffer_size {size = size} other) =
-      in_first _ _ code.InvalidParam (in_first _ _ code.InvalidParam (in_later _ _ code.InvalidParam (fails_met (is_size size) (IsSize size) code.InvalidParam (tests.between_tells 1 8192 size) other)))
+      in_first _ _ code.InvalidParam (in_first _ _ code.InvalidParam (in_later _ _ code.InvalidParam (fails_met (is_size size) (IsSize size) code.InvalidParam (tests.between_tells 1 LONGEST_MESSAGE size) other)))
   met (HasCondition.create_buffer_capacity {capacity = capacity} other) =
       in_first _ _ code.InvalidParam (in_later _ _ code.InvalidParam
-      (fails_met (is_capacity capacity) (IsFrom (pos 1) (pos 1024) capacity) code.InvalidParam (tests.between_tells 1 1024 capacity) other))
+      (fails_met (is_capacity capacity) (IsFrom (pos 1) (pos MOST_MESSAGES) capacity) code.InvalidParam (tests.between_tells 1 MOST_MESSAGES capacity) other))
   met (HasCondition.create_buffer_discipline {given = given} other) = in_later _ _ code.InvalidParam (discipline_met given other)
   met (HasCondition.send_buffer_empty {length = length} empty) =
       in_first _ _ code.InvalidParam (in_first _ _ code.InvalidParam (in_later _ _ code.InvalidParam (empty_met length empty)))
   met (HasCondition.send_buffer_long {buffer = buffer} {length = length} found is long) =
       in_first _ _ code.InvalidParam (in_first _ _ code.InvalidParam (long_met partition.buffers buffer length (λ found. found.size) found is long))
   met (HasCondition.create_blackboard_size {size = size} other) =
-      in_later _ _ code.InvalidParam (fails_met (is_size size) (IsSize size) code.InvalidParam (tests.between_tells 1 8192 size) other)
+      in_later _ _ code.InvalidParam (fails_met (is_size size) (IsSize size) code.InvalidParam (tests.between_tells 1 LONGEST_MESSAGE size) other)
   met (HasCondition.display_empty {length = length} empty) = in_later _ _ code.InvalidParam (empty_met length empty)
   met (HasCondition.display_long {blackboard = blackboard} {length = length} found is long) = long_met partition.blackboards blackboard length (λ found. found.size) found is long
   met (HasCondition.create_semaphore_maximum {maximum = maximum} other) =
       in_first _ _ code.InvalidParam (in_first _ _ code.InvalidParam (in_later _ _ code.InvalidParam
-      (fails_met (is_maximum maximum) (IsFrom (pos 1) (pos 32767) maximum) code.InvalidParam (tests.between_tells 1 32767 maximum) other)))
+      (fails_met (is_maximum maximum) (IsFrom (pos 1) (pos GREATEST_MAXIMUM) maximum) code.InvalidParam (tests.between_tells 1 GREATEST_MAXIMUM maximum) other)))
   met (HasCondition.create_semaphore_value {value = value} {maximum = maximum} other) =
       in_first _ _ code.InvalidParam (in_later _ _ code.InvalidParam
       (fails_met (suits_maximum maximum value) (IsFrom (pos 0) maximum value) code.InvalidParam (tests.value_tells maximum value) other))

@@ -35,7 +35,7 @@ use Rattle.apex_laws.proofs.Outcomes.{channel_can, if_due, outcome_holds, throug
 use Rattle.apex_laws.proofs.Parts.{same_time}
 use Rattle.apex_laws.proofs.Waiters.{all_weaker, stands_not}
 use Rattle.apex_laws.proofs.Wakes.{ask_wakes, nobody, read_wakes_nobody, receive_wakes, send_wakes, write_wakes}
-use Rattle.apex_laws.proofs.Whos.{same_itself, some_named}
+use Rattle.apex_laws.proofs.WaitersOf.{same_itself, some_named}
 use Rattle.apex_laws.proofs.Woken.{found, woken}
 
 -- the module
@@ -90,11 +90,11 @@ other_end configuration partitions channel number (request.ReceiveQueuingMessage
 other_end configuration partitions channel number _ who ends stands waits same = waits
 
 -- so a call through a channel wakes nobody of its own partition
-wakes_no_fellow : (configuration : Configuration) (state : State) (now : ℕ) (who : Who) (asked : Request) (claim : Claim) (channel : ℕ) → EndsAreApart configuration
+wakes_no_peer : (configuration : Configuration) (state : State) (now : ℕ) (who : Who) (asked : Request) (claim : Claim) (channel : ℕ) → EndsAreApart configuration
     → AreTied configuration state → condition_codes configuration who (state.partitions who.part) asked ≡ [] → channel_of (state.partitions who.part) asked ≡ Some channel
     → IsThrough channel (suits_use configuration channel who.part (use_of asked) (state.channels channel)) (channel_answer configuration now who.part asked state.channels channel) claim
     → names_one_of who.part claim.woken ≡ false
-wakes_no_fellow configuration state now who asked claim channel ends tied none of through =
+wakes_no_peer configuration state now who asked claim channel ends tied none of through =
     cannot_hold (names_one_of who.part claim.woken) (λ names.
     let one = some_named who.part claim.woken names in
     other_end configuration state.partitions channel who.part asked one.0 ends
@@ -104,7 +104,7 @@ wakes_no_fellow configuration state now who asked claim channel ends tied none o
 -- the partitions
 
 -- what a lawful call claims of its outcome meets the demands of the caller's partition
-fellows : (configuration : Configuration) (state : State) (core : ℕ) (call : CallRecord) → EndsAreApart configuration → AreTied configuration state
+peers : (configuration : Configuration) (state : State) (core : ℕ) (call : CallRecord) → EndsAreApart configuration → AreTied configuration state
     → (codes : List Code) → condition_codes configuration call.who (state.partitions call.who.part) call.request ≡ codes
     → (channel : Option ℕ) → channel_of (state.partitions call.who.part) call.request ≡ channel
     → HasOutcome codes channel (answer_of (time_of state.cores core) call.who (state.partitions call.who.part) call.request)
@@ -112,16 +112,16 @@ fellows : (configuration : Configuration) (state : State) (core : ℕ) (call : C
     (channel_answer configuration (time_of state.cores core) call.who.part call.request state.channels) call.claim
     → AllHold (outcome_demands codes channel call.who.part call.request
     (answer_of (time_of state.cores core) call.who (state.partitions call.who.part) call.request) call.claim)
-fellows configuration state core call ends tied (code ∷ codes) is channel of has =
+peers configuration state core call ends tied (code ∷ codes) is channel of has =
     outcome_holds (code ∷ codes) channel call.who.part call.request (answer_of (time_of state.cores core) call.who (state.partitions call.who.part) call.request)
     (λ number. suits_use configuration number call.who.part (use_of call.request) (state.channels number)) (channel_answer configuration (time_of state.cores core) call.who.part call.request state.channels) call.claim
     (λ other suited. channel_can configuration (time_of state.cores core) other call.who.part call.request (state.channels other) suited)
     (λ other some through. (let nobody : call.claim.woken ≡ [] = has.woken in ap (names_one_of call.who.part) nobody)) has
-fellows configuration state core call ends tied [] is channel of has =
+peers configuration state core call ends tied [] is channel of has =
     outcome_holds [] channel call.who.part call.request (answer_of (time_of state.cores core) call.who (state.partitions call.who.part) call.request)
     (λ number. suits_use configuration number call.who.part (use_of call.request) (state.channels number)) (channel_answer configuration (time_of state.cores core) call.who.part call.request state.channels) call.claim
     (λ other suited. channel_can configuration (time_of state.cores core) other call.who.part call.request (state.channels other) suited)
-    (λ other some through. wakes_no_fellow configuration state (time_of state.cores core) call.who call.request call.claim other ends tied is (of ∙ some) through) has
+    (λ other some through. wakes_no_peer configuration state (time_of state.cores core) call.who call.request call.claim other ends tied is (of ∙ some) through) has
 
 -- the partition of the caller
 own_call_demanded : (configuration : Configuration) (state : State) (core : ℕ) (call : CallRecord) → EndsAreApart configuration → AreTied configuration state
@@ -138,7 +138,7 @@ own_call_demanded configuration state core call ends tied law =
             law.profile,
             (
               law.prio,
-              fellows configuration state core call ends tied (condition_codes configuration call.who (state.partitions call.who.part) call.request) refl
+              peers configuration state core call ends tied (condition_codes configuration call.who (state.partitions call.who.part) call.request) refl
                   (channel_of (state.partitions call.who.part) call.request) refl law.outcome,
             ),
           ),
@@ -285,8 +285,7 @@ channel_demanded : (configuration : Configuration) (state : State) (core : ℕ) 
     → AllHold (channel_demands configuration (time_of state.cores core) number (state.channels number) body)
 channel_demanded configuration state core (Call call) tied law number = used_demanded configuration state core call tied law number (is_channel number call.claim.chan) refl
 channel_demanded configuration state core (Disp who) tied law number = tt
-channel_demanded configuration state core (Tick woken) tied law number = tt
-channel_demanded configuration state core (Ret ret) tied law number = tt
+channel_demanded configuration state core _ tied law number = tt
 
 -- a lawful record meets the demands of each piece that it touches
 pub demanded : (configuration : Configuration) (state : State) (ordered : Ordered) → EndsAreApart configuration → AreTied configuration state

@@ -2,7 +2,7 @@
 use Rattle.std.proofs.Common.{◌≡◌, ℕ, ◌≤◌, List, [], ◌∷◌, ◌++◌, Bool, true, false, cond, nat_eq, nat_le, nat_lt, Option, Some, None, ℤ, pos, negsuc, is_some, is_none, refl, sym, ap, subst, ◌∙◌, ◌&&◌}
 use Rattle.std.proofs.lemmas.Bool.{and_parts, eqb-true, leb-true, ltb-true}
 use Rattle.std.proofs.lemmas.List.{append-nil}
-use Rattle.apex_types.specs.Bounds.{greatest_number}
+use Rattle.apex_types.specs.declared.limits.TheConstants.{GREATEST_NUMBER}
 use Rattle.apex_types.specs.declared.code.Code.{Code}
 use Rattle.apex_types.specs.declared.record.Body.{Body}
 use Rattle.apex_types.specs.declared.record.Body.TheVariants.{Call, Ret, Disp, Tick}
@@ -12,7 +12,7 @@ use Rattle.apex_types.specs.declared.request.Request.{Request}
 use Rattle.apex_types.specs.declared.request.Request.TheVariants as request
 use Rattle.apex_machine.specs.declared.state.CoreState.{CoreState}
 use Rattle.apex_machine.specs.declared.state.Process.{Process}
-use Rattle.apex_machine.specs.After.{called, created_by, is_done, numbered, own_partition, partition_by, returned, roused, ticked}
+use Rattle.apex_machine.specs.After.{called, created_by, is_done, numbered, own_partition, partition_by, returned, woken_if_named, ticked}
 use Rattle.apex_machine.specs.Answer.{HasValue, is_new}
 use Rattle.apex_machine.specs.Configuration.{Configuration, first_core, period_of}
 use Rattle.apex_machine.specs.Ports.{channel_of, suits_use, use_of}
@@ -38,7 +38,7 @@ nothing (Some item) none = cc
 pub record IsNew {Item : Type 0} (items : List (ℕ × Item)) (claimed : Option ℤ) : Type 0 where
   pub number : ℕ
   pub is : claimed ≡ Some (pos number)
-  pub within : (1 ≤ number) × (number ≤ greatest_number)
+  pub within : (1 ≤ number) × (number ≤ GREATEST_NUMBER)
   pub none : item_at items number ≡ None
 
 -- the test says so
@@ -46,9 +46,9 @@ pub new_is : {Item : Type 0} (items : List (ℕ × Item)) (claimed : Option ℤ)
 new_is items None new = cc
 new_is items (Some (negsuc n)) new = cc
 new_is items (Some (pos n)) new =
-    let first = and_parts (nat_lt 0 n) (nat_le n greatest_number && is_none (item_at items n)) new in
-    let second = and_parts (nat_le n greatest_number) (is_none (item_at items n)) first.1 in
-    record { number = n; is = refl; within = (ltb-true 0 n first.0, leb-true n greatest_number second.0); none = nothing (item_at items n) second.1 }
+    let first = and_parts (nat_lt 0 n) (nat_le n GREATEST_NUMBER && is_none (item_at items n)) new in
+    let second = and_parts (nat_le n GREATEST_NUMBER) (is_none (item_at items n)) first.1 in
+    record { number = n; is = refl; within = (ltb-true 0 n first.0, leb-true n GREATEST_NUMBER second.0); none = nothing (item_at items n) second.1 }
 
 -- one more under a number that was new
 pub distinct_new : {Item : Type 0} (items : List (ℕ × Item)) (claimed : Option ℤ) (item : Item) → are_distinct items ≡ true
@@ -101,7 +101,7 @@ distinct_by configuration cores place core number (Ret ret) partition claims dis
       | false ↦ distinct
     ]
 distinct_by configuration cores place core number (Call call) partition claims distinct =
-    let foreign : ℕ → Process → Process = λ other process. roused place call (record { part = number; proc = other }) process in
+    let foreign : ℕ → Process → Process = λ other process. woken_if_named place call (record { part = number; proc = other }) process in
     elim (nat_eq call.who.part number) as (λ own. nat_eq call.who.part number ≡ own → are_distinct (cond own
     (own_partition (restart_of call) configuration cores place core call partition) (record partition { table = each_item foreign partition.table })).table ≡ true) [
       | true ↦ λ own. own_case (λ next. are_distinct next.table ≡ true) configuration cores place core call partition

@@ -1,18 +1,20 @@
 -- Each waiting set of a partition changed, object by object.
 use Rattle.std.proofs.Common.{◌≡◌, ℕ, List, [], ◌∷◌, ◌++◌, Bool, true, false, cond, not, nat_eq, ℤ, pos, negsuc, Option, Some, None, is_some, refl, sym, ap, subst, ◌∙◌, inl, inr, true≢false}
 use Rattle.std.proofs.lemmas.Bool.{and_parts, cases_Bool, eqb-true}
+use Rattle.apex_types.specs.declared.object_kind.ObjectKind.{ObjectKind}
+use Rattle.apex_types.specs.declared.object_kind.ObjectKind.TheVariants as kind
 use Rattle.apex_machine.specs.declared.state.Entry.{Entry}
 use Rattle.apex_machine.specs.declared.state.WaitingSet.{WaitingSet}
 use Rattle.apex_machine.specs.declared.state.WaitingSet.TheVariants as set
-use Rattle.apex_machine.specs.After.{each_set, numbered}
-use Rattle.apex_machine.specs.State.{Blackboard, Buffer, Event, Mutex, Partition, Semaphore, change_at, each_item, item_at}
+use Rattle.apex_machine.specs.After.{each_set, numbered, with_sets}
+use Rattle.apex_machine.specs.State.{Blackboard, Buffer, Event, Mutex, ObjectOf, Partition, Semaphore, change_at, each_item, item_at, objects_of}
 use Rattle.apex_laws.specs.Laws.{are_distinct, entries_at, entries_in}
 use Rattle.apex_laws.specs.PartLaws.{HasDistinctObjects, is_of_channel}
 use Rattle.apex_laws.proofs.Booleans.{is_itself}
 
 -- lists of objects
 
--- what is found behind an object of another number is found in front of it too
+-- what is found after an object of another number is found in front of it too
 pub found_here : {Object : Type 0} (entry : ℕ × Object) (entries : List (ℕ × Object)) (number : ℕ) (object : Object) → is_some (item_at entries entry.0) ≡ false → item_at entries number ≡ Some object
     → item_at (entry ∷ entries) number ≡ Some object
 found_here {Object} entry entries number object distinct at =
@@ -118,131 +120,99 @@ pub leaves_found : {Object : Type 0} (entries_of : Object → List Entry) (chang
     → change (entries_in entries_of found) ≡ entries_in entries_of found → change (entries_of object) ≡ entries_of object
 leaves_found entries_of change found object at leaves = becomes_found entries_of change (λ entries. entries) found object at leaves
 
--- the sets of one object changed
-abbrev pub of_buffer : (WaitingSet → List Entry → List Entry) → ℕ → Buffer → Buffer
-of_buffer change number found = record found { senders = change (set.BufferSenders number) found.senders; receivers = change (set.BufferReceivers number) found.receivers }
+-- a fact about each set of the object of a kind and number
+abbrev pub OnSets : ObjectKind → ℕ → (WaitingSet → Type 0) → Type 0
+OnSets kind.Buffer number Fact = Fact (set.BufferSenders number) × Fact (set.BufferReceivers number)
+OnSets kind.Blackboard number Fact = Fact (set.BlackboardReaders number)
+OnSets kind.Semaphore number Fact = Fact (set.SemaphoreWaiters number)
+OnSets kind.Event number Fact = Fact (set.EventWaiters number)
+OnSets kind.Mutex number Fact = Fact (set.MutexWaiters number)
+OnSets _ number Fact = Unit {0}
 
-abbrev pub of_blackboard : (WaitingSet → List Entry → List Entry) → ℕ → Blackboard → Blackboard
-of_blackboard change number found = record found { readers = change (set.BlackboardReaders number) found.readers }
+-- a weaker fact
+pub weaker_on : (kind : ObjectKind) (number : ℕ) (Fact Weaker : WaitingSet → Type 0) → ((wanted : WaitingSet) → Fact wanted → Weaker wanted) → OnSets kind number Fact → OnSets kind number Weaker
+weaker_on kind.Buffer number Fact Weaker by is = (by (set.BufferSenders number) is.0, by (set.BufferReceivers number) is.1)
+weaker_on kind.Blackboard number Fact Weaker by is = by (set.BlackboardReaders number) is
+weaker_on kind.Semaphore number Fact Weaker by is = by (set.SemaphoreWaiters number) is
+weaker_on kind.Event number Fact Weaker by is = by (set.EventWaiters number) is
+weaker_on kind.Mutex number Fact Weaker by is = by (set.MutexWaiters number) is
+weaker_on _ number Fact Weaker by is = tt
 
-abbrev pub of_semaphore : (WaitingSet → List Entry → List Entry) → ℕ → Semaphore → Semaphore
-of_semaphore change number found = record found { waiters = change (set.SemaphoreWaiters number) found.waiters }
+-- it holds where it holds of every set that is no channel's
+pub on_sets : (kind : ObjectKind) (number : ℕ) (Fact : WaitingSet → Type 0) → ((wanted : WaitingSet) → is_of_channel wanted ≡ false → Fact wanted) → OnSets kind number Fact
+on_sets kind.Buffer number Fact all = (all (set.BufferSenders number) refl, all (set.BufferReceivers number) refl)
+on_sets kind.Blackboard number Fact all = all (set.BlackboardReaders number) refl
+on_sets kind.Semaphore number Fact all = all (set.SemaphoreWaiters number) refl
+on_sets kind.Event number Fact all = all (set.EventWaiters number) refl
+on_sets kind.Mutex number Fact all = all (set.MutexWaiters number) refl
+on_sets _ number Fact all = tt
 
-abbrev pub of_event : (WaitingSet → List Entry → List Entry) → ℕ → Event → Event
-of_event change number found = record found { waiters = change (set.EventWaiters number) found.waiters }
+-- two changes that agree on the sets of an object agree on the object
+pub sets_agree : (kind : ObjectKind) (change through : WaitingSet → List Entry → List Entry) (partition : Partition) (number : ℕ) (found : ObjectOf kind)
+    → item_at (objects_of partition kind) number ≡ Some found
+    → OnSets kind number (λ wanted. change wanted (entries_at partition wanted) ≡ through wanted (entries_at partition wanted))
+    → with_sets kind change number found ≡ with_sets kind through number found
+sets_agree kind.Buffer change through partition number found at agree =
+    let senders = becomes_found (λ (one : Buffer). one.senders) (change (set.BufferSenders number)) (through (set.BufferSenders number)) (item_at partition.buffers number) found at agree.0 in
+    let receivers = becomes_found (λ (one : Buffer). one.receivers) (change (set.BufferReceivers number)) (through (set.BufferReceivers number)) (item_at partition.buffers number) found at agree.1 in
+    λ i. record found { senders = senders i; receivers = receivers i }
+sets_agree kind.Blackboard change through partition number found at agree =
+    ap (λ readers. record found { readers = readers })
+    (becomes_found (λ (one : Blackboard). one.readers) (change (set.BlackboardReaders number)) (through (set.BlackboardReaders number)) (item_at partition.blackboards number) found at agree)
+sets_agree kind.Semaphore change through partition number found at agree =
+    ap (λ waiters. record found { waiters = waiters })
+    (becomes_found (λ (one : Semaphore). one.waiters) (change (set.SemaphoreWaiters number)) (through (set.SemaphoreWaiters number)) (item_at partition.semaphores number) found at agree)
+sets_agree kind.Event change through partition number found at agree =
+    ap (λ waiters. record found { waiters = waiters })
+    (becomes_found (λ (one : Event). one.waiters) (change (set.EventWaiters number)) (through (set.EventWaiters number)) (item_at partition.events number) found at agree)
+sets_agree kind.Mutex change through partition number found at agree =
+    ap (λ waiters. record found { waiters = waiters })
+    (becomes_found (λ (one : Mutex). one.waiters) (change (set.MutexWaiters number)) (through (set.MutexWaiters number)) (item_at partition.mutexes number) found at agree)
+sets_agree _ change through partition number found at agree = refl
 
-abbrev pub of_mutex : (WaitingSet → List Entry → List Entry) → ℕ → Mutex → Mutex
-of_mutex change number found = record found { waiters = change (set.MutexWaiters number) found.waiters }
+-- an object with its sets as they are
+pub sets_kept : (kind : ObjectKind) (number : ℕ) (found : ObjectOf kind) → with_sets kind (λ wanted entries. entries) number found ≡ found
+sets_kept kind.Buffer number found = refl
+sets_kept _ number found = refl
 
 -- an object whose sets a change leaves
-pub buffer_stays : (change : WaitingSet → List Entry → List Entry) (partition : Partition) (number : ℕ) (found : Buffer) → item_at partition.buffers number ≡ Some found
-    → Leaves change partition (set.BufferSenders number) → Leaves change partition (set.BufferReceivers number) → of_buffer change number found ≡ found
-buffer_stays change partition number found at senders receivers =
-    let senders_stay : change (set.BufferSenders number) found.senders ≡ found.senders =
-    leaves_found (λ (one : Buffer). one.senders) (change (set.BufferSenders number)) (item_at partition.buffers number) found at senders in
-    let receivers_stay : change (set.BufferReceivers number) found.receivers ≡ found.receivers =
-    leaves_found (λ (one : Buffer). one.receivers) (change (set.BufferReceivers number)) (item_at partition.buffers number) found at receivers in
-    λ i. record found { senders = senders_stay i; receivers = receivers_stay i }
-
-pub blackboard_stays : (change : WaitingSet → List Entry → List Entry) (partition : Partition) (number : ℕ) (found : Blackboard) → item_at partition.blackboards number ≡ Some found
-    → Leaves change partition (set.BlackboardReaders number) → of_blackboard change number found ≡ found
-blackboard_stays change partition number found at leaves =
-    ap (λ readers. record found { readers = readers })
-    (leaves_found (λ (one : Blackboard). one.readers) (change (set.BlackboardReaders number)) (item_at partition.blackboards number) found at leaves)
-
-pub semaphore_stays : (change : WaitingSet → List Entry → List Entry) (partition : Partition) (number : ℕ) (found : Semaphore) → item_at partition.semaphores number ≡ Some found
-    → Leaves change partition (set.SemaphoreWaiters number) → of_semaphore change number found ≡ found
-semaphore_stays change partition number found at leaves =
-    ap (λ waiters. record found { waiters = waiters })
-    (leaves_found (λ (one : Semaphore). one.waiters) (change (set.SemaphoreWaiters number)) (item_at partition.semaphores number) found at leaves)
-
-pub event_stays : (change : WaitingSet → List Entry → List Entry) (partition : Partition) (number : ℕ) (found : Event) → item_at partition.events number ≡ Some found
-    → Leaves change partition (set.EventWaiters number) → of_event change number found ≡ found
-event_stays change partition number found at leaves =
-    ap (λ waiters. record found { waiters = waiters })
-    (leaves_found (λ (one : Event). one.waiters) (change (set.EventWaiters number)) (item_at partition.events number) found at leaves)
-
-pub mutex_stays : (change : WaitingSet → List Entry → List Entry) (partition : Partition) (number : ℕ) (found : Mutex) → item_at partition.mutexes number ≡ Some found
-    → Leaves change partition (set.MutexWaiters number) → of_mutex change number found ≡ found
-mutex_stays change partition number found at leaves =
-    ap (λ waiters. record found { waiters = waiters })
-    (leaves_found (λ (one : Mutex). one.waiters) (change (set.MutexWaiters number)) (item_at partition.mutexes number) found at leaves)
+pub object_stays : (kind : ObjectKind) (change : WaitingSet → List Entry → List Entry) (partition : Partition) (number : ℕ) (found : ObjectOf kind)
+    → item_at (objects_of partition kind) number ≡ Some found → OnSets kind number (Leaves change partition) → with_sets kind change number found ≡ found
+object_stays kind change partition number found at leaves =
+    sets_agree kind change (λ wanted entries. entries) partition number found at leaves ∙ sets_kept kind number found
 
 -- the objects of a kind whose sets a change leaves
-pub buffers_stay : (change : WaitingSet → List Entry → List Entry) (partition : Partition) → HasDistinctObjects partition
-    → ((number : ℕ) → Leaves change partition (set.BufferSenders number)) → ((number : ℕ) → Leaves change partition (set.BufferReceivers number))
-    → each_item (of_buffer change) partition.buffers ≡ partition.buffers
-buffers_stay change partition has senders receivers =
-    all_stay (of_buffer change) partition.buffers has.buffers (λ number found at. buffer_stays change partition number found at (senders number) (receivers number))
-
-pub blackboards_stay : (change : WaitingSet → List Entry → List Entry) (partition : Partition) → HasDistinctObjects partition
-    → ((number : ℕ) → Leaves change partition (set.BlackboardReaders number)) → each_item (of_blackboard change) partition.blackboards ≡ partition.blackboards
-blackboards_stay change partition has leaves =
-    all_stay (of_blackboard change) partition.blackboards has.blackboards (λ number found at. blackboard_stays change partition number found at (leaves number))
-
-pub semaphores_stay : (change : WaitingSet → List Entry → List Entry) (partition : Partition) → HasDistinctObjects partition
-    → ((number : ℕ) → Leaves change partition (set.SemaphoreWaiters number)) → each_item (of_semaphore change) partition.semaphores ≡ partition.semaphores
-semaphores_stay change partition has leaves =
-    all_stay (of_semaphore change) partition.semaphores has.semaphores (λ number found at. semaphore_stays change partition number found at (leaves number))
-
-pub events_stay : (change : WaitingSet → List Entry → List Entry) (partition : Partition) → HasDistinctObjects partition
-    → ((number : ℕ) → Leaves change partition (set.EventWaiters number)) → each_item (of_event change) partition.events ≡ partition.events
-events_stay change partition has leaves =
-    all_stay (of_event change) partition.events has.events (λ number found at. event_stays change partition number found at (leaves number))
-
-pub mutexes_stay : (change : WaitingSet → List Entry → List Entry) (partition : Partition) → HasDistinctObjects partition
-    → ((number : ℕ) → Leaves change partition (set.MutexWaiters number)) → each_item (of_mutex change) partition.mutexes ≡ partition.mutexes
-mutexes_stay change partition has leaves =
-    all_stay (of_mutex change) partition.mutexes has.mutexes (λ number found at. mutex_stays change partition number found at (leaves number))
+pub objects_stay : (kind : ObjectKind) (change : WaitingSet → List Entry → List Entry) (partition : Partition) → HasDistinctObjects partition
+    → ((number : ℕ) → OnSets kind number (Leaves change partition)) → each_item (with_sets kind change) (objects_of partition kind) ≡ objects_of partition kind
+objects_stay kind change partition has leaves =
+    all_stay (with_sets kind change) (objects_of partition kind) (has kind) (λ number found at. object_stays kind change partition number found at (leaves number))
 
 -- a change that leaves every set
 pub sets_stay : (change : WaitingSet → List Entry → List Entry) (partition : Partition) → HasDistinctObjects partition
     → ((wanted : WaitingSet) → is_of_channel wanted ≡ false → Leaves change partition wanted) → each_set change partition ≡ partition
 sets_stay change partition has leaves =
-    let buffers = buffers_stay change partition has (λ number. leaves (set.BufferSenders number) refl) (λ number. leaves (set.BufferReceivers number) refl) in
-    let blackboards = blackboards_stay change partition has (λ number. leaves (set.BlackboardReaders number) refl) in
-    let semaphores = semaphores_stay change partition has (λ number. leaves (set.SemaphoreWaiters number) refl) in
-    let events = events_stay change partition has (λ number. leaves (set.EventWaiters number) refl) in
-    let mutexes = mutexes_stay change partition has (λ number. leaves (set.MutexWaiters number) refl) in
-    λ i. record partition { buffers = buffers i; blackboards = blackboards i; semaphores = semaphores i; events = events i; mutexes = mutexes i }
+    let stay : (kind : ObjectKind) → each_item (with_sets kind change) (objects_of partition kind) ≡ objects_of partition kind =
+    λ kind. objects_stay kind change partition has (λ number. on_sets kind number (Leaves change partition) leaves) in
+    λ i. record partition { buffers = stay kind.Buffer i; blackboards = stay kind.Blackboard i; semaphores = stay kind.Semaphore i; events = stay kind.Event i; mutexes = stay kind.Mutex i }
 
 -- two changes that agree on every set of a partition agree on the partition
 pub each_set_as : (change other : WaitingSet → List Entry → List Entry) (partition : Partition) → HasDistinctObjects partition
     → ((wanted : WaitingSet) → is_of_channel wanted ≡ false → change wanted (entries_at partition wanted) ≡ other wanted (entries_at partition wanted))
     → each_set change partition ≡ each_set other partition
 each_set_as change other partition has same =
-    let buffers = each_as (of_buffer change) (of_buffer other) partition.buffers has.buffers (λ number found at.
-    (let senders = becomes_found (λ (one : Buffer). one.senders) (change (set.BufferSenders number)) (other (set.BufferSenders number)) (item_at partition.buffers number) found at
-    (same (set.BufferSenders number) refl) in
-    let receivers = becomes_found (λ (one : Buffer). one.receivers) (change (set.BufferReceivers number)) (other (set.BufferReceivers number)) (item_at partition.buffers number) found at
-    (same (set.BufferReceivers number) refl) in
-    λ i. record found { senders = senders i; receivers = receivers i })) in
-    let blackboards = each_as (of_blackboard change) (of_blackboard other) partition.blackboards has.blackboards (λ number found at.
-    ap (λ readers. record found { readers = readers })
-    (becomes_found (λ (one : Blackboard). one.readers) (change (set.BlackboardReaders number)) (other (set.BlackboardReaders number)) (item_at partition.blackboards number) found at
-    (same (set.BlackboardReaders number) refl))) in
-    let semaphores = each_as (of_semaphore change) (of_semaphore other) partition.semaphores has.semaphores (λ number found at.
-    ap (λ waiters. record found { waiters = waiters })
-    (becomes_found (λ (one : Semaphore). one.waiters) (change (set.SemaphoreWaiters number)) (other (set.SemaphoreWaiters number)) (item_at partition.semaphores number) found at
-    (same (set.SemaphoreWaiters number) refl))) in
-    let events = each_as (of_event change) (of_event other) partition.events has.events (λ number found at.
-    ap (λ waiters. record found { waiters = waiters })
-    (becomes_found (λ (one : Event). one.waiters) (change (set.EventWaiters number)) (other (set.EventWaiters number)) (item_at partition.events number) found at
-    (same (set.EventWaiters number) refl))) in
-    let mutexes = each_as (of_mutex change) (of_mutex other) partition.mutexes has.mutexes (λ number found at.
-    ap (λ waiters. record found { waiters = waiters })
-    (becomes_found (λ (one : Mutex). one.waiters) (change (set.MutexWaiters number)) (other (set.MutexWaiters number)) (item_at partition.mutexes number) found at
-    (same (set.MutexWaiters number) refl))) in
-    λ i. record partition { buffers = buffers i; blackboards = blackboards i; semaphores = semaphores i; events = events i; mutexes = mutexes i }
+    let agree : (kind : ObjectKind) → each_item (with_sets kind change) (objects_of partition kind) ≡ each_item (with_sets kind other) (objects_of partition kind) =
+    λ kind. each_as (with_sets kind change) (with_sets kind other) (objects_of partition kind) (has kind) (λ number found at. sets_agree kind change other partition number found at
+    (on_sets kind number (λ wanted. change wanted (entries_at partition wanted) ≡ other wanted (entries_at partition wanted)) same)) in
+    λ i. record partition { buffers = agree kind.Buffer i; blackboards = agree kind.Blackboard i; semaphores = agree kind.Semaphore i; events = agree kind.Event i; mutexes = agree kind.Mutex i }
 
 -- one change of each set after another
 pub each_set_each : (first second : WaitingSet → List Entry → List Entry) (partition : Partition)
     → each_set second (each_set first partition) ≡ each_set (λ wanted entries. second wanted (first wanted entries)) partition
 each_set_each first second partition =
     λ i. record partition {
-      buffers = each_each (of_buffer first) (of_buffer second) partition.buffers i;
-      blackboards = each_each (of_blackboard first) (of_blackboard second) partition.blackboards i;
-      semaphores = each_each (of_semaphore first) (of_semaphore second) partition.semaphores i;
-      events = each_each (of_event first) (of_event second) partition.events i;
-      mutexes = each_each (of_mutex first) (of_mutex second) partition.mutexes i;
+      buffers = each_each (with_sets kind.Buffer first) (with_sets kind.Buffer second) partition.buffers i;
+      blackboards = each_each (with_sets kind.Blackboard first) (with_sets kind.Blackboard second) partition.blackboards i;
+      semaphores = each_each (with_sets kind.Semaphore first) (with_sets kind.Semaphore second) partition.semaphores i;
+      events = each_each (with_sets kind.Event first) (with_sets kind.Event second) partition.events i;
+      mutexes = each_each (with_sets kind.Mutex first) (with_sets kind.Mutex second) partition.mutexes i;
     }

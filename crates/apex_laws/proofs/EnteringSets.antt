@@ -20,7 +20,7 @@ use Rattle.apex_machine.specs.Objects.{acquired, at_maximum, board_read, buffer_
 use Rattle.apex_machine.specs.Ports.{channel_of}
 use Rattle.apex_machine.specs.Queue.{Messages, appended, not_yet, received, sent}
 use Rattle.apex_machine.specs.ServiceConditions.{condition_codes}
-use Rattle.apex_machine.specs.Services.{answer_by, answer_of, fellow, resuming}
+use Rattle.apex_machine.specs.Services.{answer_by, answer_of, peer, resuming}
 use Rattle.apex_machine.specs.State.{Mutex, Partition, created, given_object, is_named, item_at, names_one_of, time_of}
 use Rattle.apex_machine.specs.Waiting.{ends_wait, enters, entry_of, first_waiter, is_no_error, is_target, is_the_set, is_waiting, set_after, set_of, stop_of, stops, without}
 use Rattle.apex_laws.specs.Laws.{entries_at}
@@ -34,7 +34,7 @@ use Rattle.apex_laws.proofs.OtherSets.{stops_nobody}
 use Rattle.apex_laws.proofs.SoundParts.{Stands, demands_none}
 use Rattle.apex_laws.proofs.Waiters.{none_leaves, without_same}
 use Rattle.apex_laws.proofs.Wakes.{acquire_wakes, board_wakes, done_or_waiting, event_wakes, unmet_wakes, wait_wakes}
-use Rattle.apex_laws.proofs.Whos.{not_named}
+use Rattle.apex_laws.proofs.WaitersOf.{not_named}
 
 -- answers
 
@@ -106,7 +106,7 @@ quiet_answer now who partition (request.AcquireMutex mutex time_out) =
 quiet_answer now who partition (request.ReleaseMutex mutex) =
     quiet_by (given_object partition.mutexes mutex) (λ found. (mutex_released (first_waiter found.discipline found.waiters) found).answer)
     (λ found. quiet_release (first_waiter found.discipline found.waiters) found)
-quiet_answer now who partition (request.Resume process) = quiet_resume (fellow who process) (created partition.table process)
+quiet_answer now who partition (request.Resume process) = quiet_resume (peer who process) (created partition.table process)
 quiet_answer now who partition (request.SuspendSelf time_out) = λ off. done_or_waiting (is_over time_out)
 quiet_answer now who partition (request.TimedWait delay) = λ off. done_or_waiting (is_over delay)
 quiet_answer now who partition request.PeriodicWait = λ off. done_or_waiting (is_released now (item_at partition.table who.proc))

@@ -16,7 +16,7 @@ use Rattle.apex_machine.specs.declared.state.Mode.TheVariants as mode
 use Rattle.apex_machine.specs.declared.state.Process.{Process}
 use Rattle.apex_machine.specs.declared.state.WaitingSet.{WaitingSet}
 use Rattle.apex_machine.specs.declared.state.WaitingSet.TheVariants as set
-use Rattle.apex_machine.specs.After.{after, each_set, is_done, objects_by, own_partition, partition_by, returned, roused, ticked}
+use Rattle.apex_machine.specs.After.{after, each_set, is_done, objects_by, own_partition, partition_by, returned, woken_if_named, ticked}
 use Rattle.apex_machine.specs.Arguments.{natural_of}
 use Rattle.apex_machine.specs.Configuration.{Configuration, first_core}
 use Rattle.apex_machine.specs.Demands.{stands_in}
@@ -38,7 +38,7 @@ use Rattle.apex_laws.proofs.Standing.{Entering, who_waits}
 use Rattle.apex_laws.proofs.SetsAfter.{called_sets, same_sets}
 use Rattle.apex_laws.proofs.Stays.{step_tied}
 use Rattle.apex_laws.proofs.WaitSets.{found_set}
-use Rattle.apex_laws.proofs.Whos.{same_is, same_itself}
+use Rattle.apex_laws.proofs.WaitersOf.{same_is, same_itself}
 use Rattle.apex_laws.proofs.Woken.{found}
 
 -- who stands in a set after a record
@@ -52,7 +52,7 @@ stands_without leaves who (entry ∷ entries) stays stands =
           rw one (first_holds (is_same who entry.who) (stands_in who (without leaves entries)) same)
       | inr differs ↦
           let rest = stands_without leaves who entries stays (other_holds (is_same who entry.who) (stands_in who entries) stands differs) in
-          elim (leaves entry.who) as (λ gone. stands_in who (cond gone (without leaves entries) (entry ∷ without leaves entries)) ≡ true) [
+          elim (leaves entry.who) as (λ passed. stands_in who (cond passed (without leaves entries) (entry ∷ without leaves entries)) ≡ true) [
             | true ↦ rest
             | false ↦ later_holds (is_same who entry.who) (stands_in who (without leaves entries)) rest
           ]
@@ -91,8 +91,7 @@ entering_stands : (place : ℕ) (body : Body) (who : Who) (wanted : WaitingSet) 
 entering_stands place (Call call) who wanted entries is =
     subst (λ one. stands_in one (set_after place (Call call) wanted entries) ≡ true) (sym is.0) (set_takes place call wanted entries is.1)
 entering_stands place (Disp one) who wanted entries is = absurd is
-entering_stands place (Ret ret) who wanted entries is = absurd is
-entering_stands place (Tick woken) who wanted entries is = absurd is
+entering_stands place _ who wanted entries is = absurd is
 
 -- the sets of a partition
 
@@ -234,7 +233,7 @@ partition_stands configuration cores place core (Call call) partition who wanted
       | inl goes ↦
           let objects : Partition = cond (is_done call.claim.out) (objects_by configuration call.who call.claim.val call.request partition) partition in
           let used = used_stands who configuration call partition wanted (before goes.1) in
-          let foreign : ℕ → Process → Process = λ other process. roused place call (record { part = who.part; proc = other }) process in
+          let foreign : ℕ → Process → Process = λ other process. woken_if_named place call (record { part = who.part; proc = other }) process in
           elim (nat_eq call.who.part who.part) as (λ own. nat_eq call.who.part who.part ≡ own → stands_in who (entries_at (cond own
           (own_partition (restart_of call) configuration cores place core call partition) (record partition { table = each_item foreign partition.table })) wanted) ≡ true) [
             | true ↦ λ own. rw (not_restarted call who (sym (eqb-true call.who.part who.part own)) goes.0) (subst (λ entries. stands_in who entries ≡ true) (sym (called_sets configuration cores place core call partition wanted))
@@ -277,24 +276,9 @@ next_stands configuration state ordered tied stand law who (set.ChannelSenders c
     channel_stands configuration state ordered.pos ordered.core ordered.rec.body tied law who (set.ChannelSenders channel) (state.channels channel).senders (stand who (set.ChannelSenders channel)) waits
 next_stands configuration state ordered tied stand law who (set.ChannelReceivers channel) waits =
     channel_stands configuration state ordered.pos ordered.core ordered.rec.body tied law who (set.ChannelReceivers channel) (state.channels channel).receivers (stand who (set.ChannelReceivers channel)) waits
-next_stands configuration state ordered tied stand law who (set.BufferSenders number) waits =
-    object_stands configuration state.cores ordered.pos ordered.core ordered.rec.body (state.partitions who.part) who (set.BufferSenders number)
-    (calls_ready configuration state ordered.core ordered.rec.body tied law who.part) refl (stand who (set.BufferSenders number)) waits
-next_stands configuration state ordered tied stand law who (set.BufferReceivers number) waits =
-    object_stands configuration state.cores ordered.pos ordered.core ordered.rec.body (state.partitions who.part) who (set.BufferReceivers number)
-    (calls_ready configuration state ordered.core ordered.rec.body tied law who.part) refl (stand who (set.BufferReceivers number)) waits
-next_stands configuration state ordered tied stand law who (set.BlackboardReaders number) waits =
-    object_stands configuration state.cores ordered.pos ordered.core ordered.rec.body (state.partitions who.part) who (set.BlackboardReaders number)
-    (calls_ready configuration state ordered.core ordered.rec.body tied law who.part) refl (stand who (set.BlackboardReaders number)) waits
-next_stands configuration state ordered tied stand law who (set.SemaphoreWaiters number) waits =
-    object_stands configuration state.cores ordered.pos ordered.core ordered.rec.body (state.partitions who.part) who (set.SemaphoreWaiters number)
-    (calls_ready configuration state ordered.core ordered.rec.body tied law who.part) refl (stand who (set.SemaphoreWaiters number)) waits
-next_stands configuration state ordered tied stand law who (set.EventWaiters number) waits =
-    object_stands configuration state.cores ordered.pos ordered.core ordered.rec.body (state.partitions who.part) who (set.EventWaiters number)
-    (calls_ready configuration state ordered.core ordered.rec.body tied law who.part) refl (stand who (set.EventWaiters number)) waits
-next_stands configuration state ordered tied stand law who (set.MutexWaiters number) waits =
-    object_stands configuration state.cores ordered.pos ordered.core ordered.rec.body (state.partitions who.part) who (set.MutexWaiters number)
-    (calls_ready configuration state ordered.core ordered.rec.body tied law who.part) refl (stand who (set.MutexWaiters number)) waits
+next_stands configuration state ordered tied stand law who wanted waits =
+    object_stands configuration state.cores ordered.pos ordered.core ordered.rec.body (state.partitions who.part) who wanted
+    (calls_ready configuration state ordered.core ordered.rec.body tied law who.part) refl (stand who wanted) waits
 
 step_stands : (configuration : Configuration) (state : State) (ordered : Ordered) (next : State)
     → AreTied configuration state → WaitersStand state → Step configuration state ordered next → WaitersStand next

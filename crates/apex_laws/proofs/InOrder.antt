@@ -23,7 +23,7 @@ use Rattle.apex_laws.proofs.Demanded.{caller_stands_not}
 use Rattle.apex_laws.proofs.SetsAfter.{IsElsewhere, one_set_after}
 use Rattle.apex_laws.proofs.Stays.{step_tied}
 use Rattle.apex_laws.proofs.Waiters.{all_push, all_weaker, all_without}
-use Rattle.apex_laws.proofs.Whos.{same_is, same_itself}
+use Rattle.apex_laws.proofs.WaitersOf.{same_is, same_itself}
 
 -- one set
 
@@ -31,7 +31,7 @@ use Rattle.apex_laws.proofs.Whos.{same_is, same_itself}
 pairs_without : (Fact : Entry → Entry → Type 0) (leaves : Who → Bool) (entries : List Entry) → AllPairs Fact entries → AllPairs Fact (without leaves entries)
 pairs_without Fact leaves [] all = tt
 pairs_without Fact leaves (entry ∷ entries) all =
-    elim (leaves entry.who) as (λ gone. AllPairs Fact (cond gone (without leaves entries) (entry ∷ without leaves entries))) [
+    elim (leaves entry.who) as (λ passed. AllPairs Fact (cond passed (without leaves entries) (entry ∷ without leaves entries))) [
       | true ↦ pairs_without Fact leaves entries all.1
       | false ↦ (all_without (Fact entry) (Fact entry) leaves (λ other stays fact. fact) entries all.0, pairs_without Fact leaves entries all.1)
     ]
@@ -115,8 +115,7 @@ new_here : (configuration : Configuration) (state : State) (core : ℕ) (body : 
     → AllEntries (IsTied Home wanted state.partitions) entries → EntersNew body entries
 new_here configuration state core (Call call) tied law Home wanted entries all = caller_stands_not configuration state core call tied law Home wanted entries all
 new_here configuration state core (Disp who) tied law Home wanted entries all = tt
-new_here configuration state core (Tick woken) tied law Home wanted entries all = tt
-new_here configuration state core (Ret ret) tied law Home wanted entries all = tt
+new_here configuration state core _ tied law Home wanted entries all = tt
 
 -- a set of a partition after a record, if its own caller stands in it not yet
 pub set_stays_in_order : (configuration : Configuration) (cores : List CoreState) (count place core number : ℕ) (body : Body) (partition : Partition) (wanted : WaitingSet) → place ≡ count
@@ -159,13 +158,7 @@ run_in_order configuration (ordered ∷ others) state final tied order run =
 
 cold_in_order : (configuration : Configuration) (number : ℕ) (wanted : WaitingSet) → IsInOrder 0 (entries_at ((cold_state configuration).partitions number) wanted)
 cold_in_order configuration number (set.BufferSenders object) = none_in_order 0
-cold_in_order configuration number (set.BufferReceivers object) = none_in_order 0
-cold_in_order configuration number (set.BlackboardReaders object) = none_in_order 0
-cold_in_order configuration number (set.SemaphoreWaiters object) = none_in_order 0
-cold_in_order configuration number (set.EventWaiters object) = none_in_order 0
-cold_in_order configuration number (set.MutexWaiters object) = none_in_order 0
-cold_in_order configuration number (set.ChannelSenders channel) = none_in_order 0
-cold_in_order configuration number (set.ChannelReceivers channel) = none_in_order 0
+cold_in_order configuration number _ = none_in_order 0
 
 pub stays_in_order : StaysInOrder
 stays_in_order = (

@@ -1,4 +1,4 @@
--- Runs and findings over one list of records behind another.
+-- Runs and findings over one list of records after another.
 use Rattle.std.proofs.Common.{◌≡◌, ◌⊎◌, List, [], ◌∷◌, ◌++◌, Bool, true, false, IsTrue, Option, Some, None, refl, sym, ap, subst, ◌∙◌, inl, inr}
 use Rattle.apex_types.specs.declared.record.Ordered.{Ordered}
 use Rattle.apex_machine.specs.Configuration.{Configuration}
@@ -34,13 +34,13 @@ runs_join configuration piece old first second final = (
 
 -- findings, record by record
 
--- what is found behind a record over which the piece goes is found from there
+-- what is found after a record over which the piece goes is found from there
 goes_finding : (touched : Bool) (configuration : Configuration) (old : Part) (ordered : Ordered) (next : Part) (More : Part → Type 0) (found : Option Refusal)
     → Goes touched configuration old ordered next → More next → FindsNext touched configuration old ordered More found
 goes_finding true configuration old ordered next More found step more = inl (next, step, more)
 goes_finding false configuration old ordered next More found stays more = subst More stays more
 
--- what is found at a record and behind it: the piece goes over the record, or refuses it
+-- what is found at a record and after it: the piece goes over the record, or refuses it
 found_next : (touched : Bool) (configuration : Configuration) (old : Part) (ordered : Ordered) (More : Part → Type 0) (found : Option Refusal)
     → FindsNext touched configuration old ordered More found
     → ((next : Part) × Goes touched configuration old ordered next × More next)
@@ -119,7 +119,7 @@ nothing_found_is_a_run configuration piece old records = (
   λ run. run_finds_nothing configuration piece old records run.0 run.1,
 )
 
--- findings over one list behind another
+-- findings over one list after another
 
 find_parts : (configuration : Configuration) (piece : Piece) (old : Part) (first second : List Ordered) (found : Option Refusal)
     → Finds configuration piece old (first ++ second) found

@@ -15,7 +15,7 @@ use Rattle.apex_machine.specs.declared.state.Process.{Process}
 use Rattle.apex_machine.specs.declared.state.Wait.{Wait}
 use Rattle.apex_machine.specs.declared.state.Wait.TheVariants as wait
 use Rattle.apex_machine.specs.declared.state.WaitingSet.{WaitingSet}
-use Rattle.apex_machine.specs.After.{adjusted, called, caller_after, created_by, is_done, partition_by, returned, roused, ticked}
+use Rattle.apex_machine.specs.After.{adjusted, called, caller_after, created_by, is_done, partition_by, returned, woken_if_named, ticked}
 use Rattle.apex_machine.specs.Arguments.{is_number, natural_of}
 use Rattle.apex_machine.specs.ProcessConditions.{start_codes}
 use Rattle.apex_machine.specs.Configuration.{Configuration, first_core, period_of}
@@ -36,7 +36,7 @@ use Rattle.apex_laws.proofs.Codes.{are_errors, done_is_lawful}
 use Rattle.apex_laws.proofs.Ends.{no_condition}
 use Rattle.apex_laws.proofs.Restarts.{not_named, not_restarted, not_stopped, waiting_goes_on}
 use Rattle.apex_laws.proofs.Tables.{at_each}
-use Rattle.apex_laws.proofs.Whos.{same_who}
+use Rattle.apex_laws.proofs.WaitersOf.{same_who}
 use Rattle.apex_laws.proofs.Woken.{found}
 
 -- a process that waits
@@ -282,7 +282,7 @@ keeps_waiting configuration cores place core (Call call) partition who wanted re
           rw (own, not_restarted call who (sym here) stays) (goes_on wanted (item_at (each_item change table ++ created_by (first_core configuration call.who.part) call call.request) who.proc)
           (change who.proc old.process) is new.0 new.1)
       | inr foreign ↦
-          let change : ℕ → Process → Process = λ number process. roused place call (record { part = who.part; proc = number }) process in
+          let change : ℕ → Process → Process = λ number process. woken_if_named place call (record { part = who.part; proc = number }) process in
           let named : is_named who call.claim.woken ≡ false = not_named call who stays in
           let is : item_at (each_item change table) who.proc ≡ Some (change who.proc old.process) = at_each change table who.proc ∙ ap (option_map (change who.proc)) old.stands in
           let same : change who.proc old.process ≡ old.process = rw named refl in

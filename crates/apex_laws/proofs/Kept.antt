@@ -16,24 +16,24 @@ pub keeps_only : (Leaves : Who → Type 0) (leaves : Who → Bool) → ((who : W
 keeps_only Leaves leaves goes stays [] = refl
 keeps_only Leaves leaves goes stays (entry ∷ entries) =
     let rest = keeps_only Leaves leaves goes stays entries in
-    elim (leaves entry.who) as (λ gone. leaves entry.who ≡ gone → KeepsOnly Leaves (entry ∷ entries) (cond gone (without leaves entries) (entry ∷ without leaves entries))) [
-      | true ↦ λ gone. inl (goes entry.who gone, rest)
+    elim (leaves entry.who) as (λ passed. leaves entry.who ≡ passed → KeepsOnly Leaves (entry ∷ entries) (cond passed (without leaves entries) (entry ∷ without leaves entries))) [
+      | true ↦ λ passed. inl (goes entry.who passed, rest)
       | false ↦ λ kept. inr (without leaves entries, stays entry.who kept, refl, rest)
     ] refl
 
 -- and they are no others
 pub only_kept : (leaves : Who → Bool) (entries new : List Entry) → KeepsOnly (λ who. IsTrue (leaves who)) entries new → new ≡ without leaves entries
 only_kept leaves [] new kept = kept
-only_kept leaves (entry ∷ entries) new (inl gone) = rw gone.0 (only_kept leaves entries new gone.1)
+only_kept leaves (entry ∷ entries) new (inl passed) = rw passed.0 (only_kept leaves entries new passed.1)
 only_kept leaves (entry ∷ entries) new (inr stays) =
-    let not_gone : leaves entry.who ≡ false = elim (cases_Bool (leaves entry.who)) [ inl gone ↦ absurd (stays.1 gone) | inr not_gone ↦ not_gone ] in
-    stays.2 ∙ ap (λ rest. entry ∷ rest) (only_kept leaves entries stays.0 stays.3) ∙ sym (ap (λ gone. cond gone (without leaves entries) (entry ∷ without leaves entries)) not_gone)
+    let not_passed : leaves entry.who ≡ false = elim (cases_Bool (leaves entry.who)) [ inl passed ↦ absurd (stays.1 passed) | inr not_passed ↦ not_passed ] in
+    stays.2 ∙ ap (λ rest. entry ∷ rest) (only_kept leaves entries stays.0 stays.3) ∙ sym (ap (λ passed. cond passed (without leaves entries) (entry ∷ without leaves entries)) not_passed)
 
 -- a set after a call
 pub set_says : (place : ℕ) (call : CallRecord) (wanted : WaitingSet) (old new : List Entry) → new ≡ set_after place (Call call) wanted old → IsSetAfterCall place call wanted old new
 set_says place call wanted old new is = record {
   rest = without (ends_wait call) old;
-  kept = keeps_only (λ who. IsTrue (ends_wait call who)) (ends_wait call) (λ who gone. gone) (λ who stays gone. true≢false (sym gone ∙ stays)) old;
+  kept = keeps_only (λ who. IsTrue (ends_wait call who)) (ends_wait call) (λ who passed. passed) (λ who stays passed. true≢false (sym passed ∙ stays)) old;
   entered = elim (enters call wanted) as (λ here. enters call wanted ≡ here → new ≡ cond here (without (ends_wait call) old ++ entry_of place call ∷ []) (without (ends_wait call) old)
       → (IsTrue (enters call wanted) × (new ≡ without (ends_wait call) old ++ entry_of place call ∷ [])) ⊎ (IsFalse (enters call wanted) × (new ≡ without (ends_wait call) old))) [
         | true ↦ λ here is. inl (here, is)

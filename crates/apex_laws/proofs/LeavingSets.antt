@@ -7,6 +7,7 @@ use Rattle.apex_types.specs.declared.record.Call.{Call as CallRecord}
 use Rattle.apex_types.specs.declared.record.Claim.{Claim}
 use Rattle.apex_types.specs.declared.record.Return.{Return}
 use Rattle.apex_types.specs.declared.record.Who.{Who}
+use Rattle.apex_types.specs.declared.object_kind.ObjectKind.TheVariants as kind
 use Rattle.apex_types.specs.declared.request.Request.{Request}
 use Rattle.apex_types.specs.declared.request.Request.TheVariants as request
 use Rattle.apex_machine.specs.declared.state.Entry.{Entry}
@@ -21,7 +22,7 @@ use Rattle.apex_machine.specs.Arguments.{natural_of}
 use Rattle.apex_machine.specs.Demands.{AllHold, outcome_demands}
 use Rattle.apex_machine.specs.Ports.{channel_of}
 use Rattle.apex_machine.specs.ServiceConditions.{condition_codes}
-use Rattle.apex_machine.specs.Services.{answer_of, fellow}
+use Rattle.apex_machine.specs.Services.{answer_of, peer}
 use Rattle.apex_machine.specs.State.{Blackboard, Buffer, Event, Mutex, Partition, Semaphore, each_item, is_named, is_same, item_at, time_of}
 use Rattle.apex_machine.specs.Waiting.{ends_wait, is_in, is_no_error, is_same_set, is_target, restart_by, restart_of, set_after, stop_of, waits_at}
 use Rattle.apex_laws.specs.Laws.{AllEntries, entries_at}
@@ -31,11 +32,11 @@ use Rattle.apex_laws.proofs.Booleans.{cannot_hold, neither_first, neither_later}
 use Rattle.apex_laws.proofs.Restarts.{restarts_none}
 use Rattle.apex_laws.proofs.OtherSets.{enters_no_other}
 use Rattle.apex_laws.proofs.EachSet.{Leaves, becomes_found, leaves_found, sets_stay}
-use Rattle.apex_laws.proofs.PartObjects.{blackboard_changes, buffer_changes, event_changes, mutex_changes, same_if, semaphore_changes}
+use Rattle.apex_laws.proofs.PartObjects.{one_of_kind_changes, same_if}
 use Rattle.apex_laws.proofs.SoundParts.{Stands}
 use Rattle.apex_laws.proofs.Waiters.{none_leaves, without_same}
 use Rattle.apex_laws.proofs.WaitSets.{set_itself}
-use Rattle.apex_laws.proofs.Whos.{same_is}
+use Rattle.apex_laws.proofs.WaitersOf.{same_is}
 use Rattle.apex_laws.proofs.Woken.{created_is}
 
 -- ticks
@@ -71,7 +72,7 @@ pub one_set_alone : (change : WaitingSet → List Entry → List Entry) (through
     → change wanted (entries_at partition wanted) ≡ through (entries_at partition wanted) → ((other : WaitingSet) → is_same_set wanted other ≡ false → Leaves change partition other)
     → each_set change partition ≡ with_set wanted through partition
 one_set_alone change through partition (set.BufferSenders number) has becomes leaves =
-    buffer_changes change partition false number (λ found. found) _ has
+    one_of_kind_changes kind.Buffer change partition false number (λ found. found) _ has
     (λ found at. (let senders : change (set.BufferSenders number) found.senders ≡ through found.senders =
     becomes_found (λ (one : Buffer). one.senders) (change (set.BufferSenders number)) through (item_at partition.buffers number) found at becomes in
     let receivers : change (set.BufferReceivers number) found.receivers ≡ found.receivers =
@@ -79,7 +80,7 @@ one_set_alone change through partition (set.BufferSenders number) has becomes le
     λ i. record found { senders = senders i; receivers = receivers i }))
     (λ other off. leaves other (neither_first _ _ off))
 one_set_alone change through partition (set.BufferReceivers number) has becomes leaves =
-    buffer_changes change partition false number (λ found. found) _ has
+    one_of_kind_changes kind.Buffer change partition false number (λ found. found) _ has
     (λ found at. (let senders : change (set.BufferSenders number) found.senders ≡ found.senders =
     leaves_found (λ (one : Buffer). one.senders) (change (set.BufferSenders number)) (item_at partition.buffers number) found at (leaves (set.BufferSenders number) refl) in
     let receivers : change (set.BufferReceivers number) found.receivers ≡ through found.receivers =
@@ -87,19 +88,19 @@ one_set_alone change through partition (set.BufferReceivers number) has becomes 
     λ i. record found { senders = senders i; receivers = receivers i }))
     (λ other off. leaves other (neither_later _ _ off))
 one_set_alone change through partition (set.BlackboardReaders number) has becomes leaves =
-    blackboard_changes change partition false number (λ found. found) _ has
+    one_of_kind_changes kind.Blackboard change partition false number (λ found. found) _ has
     (λ found at. ap (λ readers. record found { readers = readers })
     (becomes_found (λ (one : Blackboard). one.readers) (change (set.BlackboardReaders number)) through (item_at partition.blackboards number) found at becomes)) leaves
 one_set_alone change through partition (set.SemaphoreWaiters number) has becomes leaves =
-    semaphore_changes change partition false number (λ found. found) _ has
+    one_of_kind_changes kind.Semaphore change partition false number (λ found. found) _ has
     (λ found at. ap (λ waiters. record found { waiters = waiters })
     (becomes_found (λ (one : Semaphore). one.waiters) (change (set.SemaphoreWaiters number)) through (item_at partition.semaphores number) found at becomes)) leaves
 one_set_alone change through partition (set.EventWaiters number) has becomes leaves =
-    event_changes change partition false number (λ found. found) _ has
+    one_of_kind_changes kind.Event change partition false number (λ found. found) _ has
     (λ found at. ap (λ waiters. record found { waiters = waiters })
     (becomes_found (λ (one : Event). one.waiters) (change (set.EventWaiters number)) through (item_at partition.events number) found at becomes)) leaves
 one_set_alone change through partition (set.MutexWaiters number) has becomes leaves =
-    mutex_changes change partition false number (λ found. found) _ has
+    one_of_kind_changes kind.Mutex change partition false number (λ found. found) _ has
     (λ found at. ap (λ waiters. record found { waiters = waiters })
     (becomes_found (λ (one : Mutex). one.waiters) (change (set.MutexWaiters number)) through (item_at partition.mutexes number) found at becomes)) leaves
 one_set_alone change through partition (set.ChannelSenders channel) has becomes leaves = sets_stay change partition has (λ other off. leaves other (off_channel channel other off))
@@ -122,10 +123,10 @@ stop_names (code ∷ codes) number asked claim hold who = ap (is_named who) hold
 
 -- it ends the wait of its target alone
 stop_ends : (call : CallRecord) (process : ℤ) (number : ℕ) (who : Who) → process ≡ pos number → call.request ≡ request.Stop process → is_no_error call.claim.out ≡ true
-    → is_named who call.claim.woken ≡ false → ends_wait call who ≡ is_same who (fellow call.who process)
+    → is_named who call.claim.woken ≡ false → ends_wait call who ≡ is_same who (peer call.who process)
 stop_ends call process number who at asked no_error not_named =
-    let stopped : (nat_eq who.part call.who.part && is_target (Some process) who.proc) ≡ is_same who (fellow call.who process) =
-    subst (λ one. (nat_eq who.part call.who.part && is_target (Some one) who.proc) ≡ is_same who (fellow call.who one)) (sym at) refl in
+    let stopped : (nat_eq who.part call.who.part && is_target (Some process) who.proc) ≡ is_same who (peer call.who process) =
+    subst (λ one. (nat_eq who.part call.who.part && is_target (Some one) who.proc) ≡ is_same who (peer call.who one)) (sym at) refl in
     let no_restart : restart_of call ≡ None = ap (λ one. restart_by one call.claim.out) asked in
     (λ i. restarts_none call who.part no_restart i || (not_named i || (no_error i && (nat_eq who.part call.who.part && is_target (stop_of (asked i)) who.proc)))) ∙ stopped
 
@@ -150,7 +151,7 @@ one_leaves change partition who _ has becomes leaves = sets_stay change partitio
 pub stopped_leaves : StoppedLeaves
 stopped_leaves configuration number place core cores partition call is process asked no_error target found =
     let change = set_after place (Call call) in
-    let who = fellow call.who process in
+    let who = peer call.who process in
     let at = created_is partition.table process target found in
     let own = subst (λ one. AllHold (outcome_demands (condition_codes configuration call.who partition one) (channel_of partition one) number one
     (answer_of (time_of cores core) call.who partition one) call.claim)) asked is.demands.1.1.1.1.1 in

@@ -5,7 +5,7 @@ pub mod Ready
 pub mod Entries
 pub mod Foremost
 pub mod Tables
-pub mod Whos
+pub mod WaitersOf
 pub mod Cores
 pub mod Waiters
 pub mod WaitSets

@@ -5,6 +5,7 @@ use Rattle.std.specs.Str.{bytes_eq}
 use Rattle.std.proofs.lemmas.Slice.Eq.{bytes_eq-Decides}
 use Rattle.std.proofs.lemmas.Bool.{cases_Bool, eqb-true}
 use Rattle.std.proofs.lemmas.List.Elements.{All-contains, Contains-append_left, Contains-append_right, Contains-push}
+use Rattle.apex_types.specs.declared.limits.TheConstants.{GREATEST_NUMBER}
 use Rattle.apex_machine.specs.Answer.{is_new}
 use Rattle.apex_machine.specs.State.{Blackboard, Buffer, Event, Mutex, Port, Semaphore, Table, is_free, item_at}
 use Rattle.apex_machine.specs.Names.{number_named}
@@ -124,12 +125,12 @@ new_tells objects is_free tells None = (λ holds. absurd (true≢false (sym hold
 new_tells objects is_free tells (Some (negsuc n)) =
     (λ holds. absurd (true≢false (sym holds)), λ fact. let one : ◌≡◌ {A = Option ℤ} (Some (negsuc n)) (Some (pos fact.number)) = fact.is in cc)
 new_tells {Object} objects is_free tells (Some (pos n)) =
-    let all = tells_both (nat_lt 0 n) (nat_le n 2147483647 && is_free n) (0 < n) ((n ≤ 2147483647) × ((object : Object) → ¬ Contains objects (n, object)))
+    let all = tells_both (nat_lt 0 n) (nat_le n GREATEST_NUMBER && is_free n) (0 < n) ((n ≤ GREATEST_NUMBER) × ((object : Object) → ¬ Contains objects (n, object)))
     (below_tells 0 n)
-    (tells_both (nat_le n 2147483647) (is_free n) (n ≤ 2147483647) ((object : Object) → ¬ Contains objects (n, object)) (at_most_tells n 2147483647) (tells n)) in (
+    (tells_both (nat_le n GREATEST_NUMBER) (is_free n) (n ≤ GREATEST_NUMBER) ((object : Object) → ¬ Contains objects (n, object)) (at_most_tells n GREATEST_NUMBER) (tells n)) in (
       λ holds. let facts = all.0 holds in record { number = n; is = refl; least = facts.0; greatest = facts.1.0; free = facts.1.1 },
       λ fact. let same : fact.number ≡ n = (let one : ◌≡◌ {A = Option ℤ} (Some (pos n)) (Some (pos fact.number)) = fact.is in cc) in
-          all.1 (subst (λ one. 0 < one) same fact.least, (subst (λ one. one ≤ 2147483647) same fact.greatest, subst (λ one. (object : Object) → ¬ Contains objects (one, object)) same fact.free)),
+          all.1 (subst (λ one. 0 < one) same fact.least, (subst (λ one. one ≤ GREATEST_NUMBER) same fact.greatest, subst (λ one. (object : Object) → ¬ Contains objects (one, object)) same fact.free)),
     )
 
 -- nothing is found

@@ -1,12 +1,13 @@
 -- The waiting sets of a partition's objects, when its objects change.
 use Rattle.std.proofs.Common.{◌≡◌, ℕ, List, [], ◌∷◌, ◌++◌, Bool, true, false, cond, nat_eq, nat_lt, ℤ, pos, negsuc, Option, Some, None, is_some, option_map, refl, sym, subst}
+use Rattle.apex_types.specs.declared.object_kind.ObjectKind.TheVariants as kind
 use Rattle.apex_types.specs.declared.record.Who.{Who}
 use Rattle.apex_types.specs.declared.request.Request.{Request}
 use Rattle.apex_types.specs.declared.request.Request.TheVariants as request
 use Rattle.apex_machine.specs.declared.state.Entry.{Entry}
 use Rattle.apex_machine.specs.declared.state.WaitingSet.{WaitingSet}
 use Rattle.apex_machine.specs.declared.state.WaitingSet.TheVariants as set
-use Rattle.apex_machine.specs.After.{each_set, new_blackboard, new_buffer, new_event, new_mutex, new_semaphore, numbered, objects_by}
+use Rattle.apex_machine.specs.After.{each_set, new_blackboard, new_buffer, new_event, new_mutex, new_semaphore, numbered, objects_by, with_sets}
 use Rattle.apex_machine.specs.Arguments.{natural_of}
 use Rattle.apex_machine.specs.Configuration.{Configuration}
 use Rattle.apex_machine.specs.Objects.{acquired, acquired_again, acquired_from, buffer_received, buffer_sent, cleared, displayed, event_reset, event_set, handed_on, mutex_released, not_acquired, released_once, semaphore_waited, signalled}
@@ -44,26 +45,20 @@ stands_at partition (set.ChannelReceivers channel) = false
 pub each_set_holds : (Holds : List Entry → Type 0) (change : WaitingSet → List Entry → List Entry) (partition : Partition) (wanted : WaitingSet) → (stands_at partition wanted ≡ false → Holds [])
     → Holds (change wanted (entries_at partition wanted)) → Holds (entries_at (each_set change partition) wanted)
 each_set_holds Holds change partition (set.BufferSenders number) absent all =
-    entries_of_each Holds (λ (one : Buffer). one.senders) (λ other found. record found {
-      senders = change (set.BufferSenders other) found.senders;
-      receivers = change (set.BufferReceivers other) found.receivers;
-    }) (change (set.BufferSenders number)) number (λ one. refl) partition.buffers absent all
+    entries_of_each Holds (λ (one : Buffer). one.senders) (with_sets kind.Buffer change) (change (set.BufferSenders number)) number (λ one. refl) partition.buffers absent all
 each_set_holds Holds change partition (set.BufferReceivers number) absent all =
-    entries_of_each Holds (λ (one : Buffer). one.receivers) (λ other found. record found {
-      senders = change (set.BufferSenders other) found.senders;
-      receivers = change (set.BufferReceivers other) found.receivers;
-    }) (change (set.BufferReceivers number)) number (λ one. refl) partition.buffers absent all
+    entries_of_each Holds (λ (one : Buffer). one.receivers) (with_sets kind.Buffer change) (change (set.BufferReceivers number)) number (λ one. refl) partition.buffers absent all
 each_set_holds Holds change partition (set.BlackboardReaders number) absent all =
-    entries_of_each Holds (λ (one : Blackboard). one.readers) (λ other found. record found { readers = change (set.BlackboardReaders other) found.readers })
+    entries_of_each Holds (λ (one : Blackboard). one.readers) (with_sets kind.Blackboard change)
     (change (set.BlackboardReaders number)) number (λ one. refl) partition.blackboards absent all
 each_set_holds Holds change partition (set.SemaphoreWaiters number) absent all =
-    entries_of_each Holds (λ (one : Semaphore). one.waiters) (λ other found. record found { waiters = change (set.SemaphoreWaiters other) found.waiters })
+    entries_of_each Holds (λ (one : Semaphore). one.waiters) (with_sets kind.Semaphore change)
     (change (set.SemaphoreWaiters number)) number (λ one. refl) partition.semaphores absent all
 each_set_holds Holds change partition (set.EventWaiters number) absent all =
-    entries_of_each Holds (λ (one : Event). one.waiters) (λ other found. record found { waiters = change (set.EventWaiters other) found.waiters })
+    entries_of_each Holds (λ (one : Event). one.waiters) (with_sets kind.Event change)
     (change (set.EventWaiters number)) number (λ one. refl) partition.events absent all
 each_set_holds Holds change partition (set.MutexWaiters number) absent all =
-    entries_of_each Holds (λ (one : Mutex). one.waiters) (λ other found. record found { waiters = change (set.MutexWaiters other) found.waiters })
+    entries_of_each Holds (λ (one : Mutex). one.waiters) (with_sets kind.Mutex change)
     (change (set.MutexWaiters number)) number (λ one. refl) partition.mutexes absent all
 each_set_holds Holds change partition (set.ChannelSenders channel) absent all = absent refl
 each_set_holds Holds change partition (set.ChannelReceivers channel) absent all = absent refl

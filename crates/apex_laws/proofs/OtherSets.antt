@@ -28,7 +28,7 @@ use Rattle.apex_laws.proofs.Untouched.{set_stays}
 use Rattle.apex_laws.proofs.Waiters.{all_weaker}
 use Rattle.apex_laws.proofs.Wakes.{answer_wakes, nobody}
 use Rattle.apex_laws.proofs.WaitSets.{one_set, same_set_is}
-use Rattle.apex_laws.proofs.Whos.{not_named}
+use Rattle.apex_laws.proofs.WaitersOf.{not_named}
 use Rattle.apex_laws.proofs.Woken.{created_is, suspended_waits_not}
 
 -- who enters

@@ -1,6 +1,8 @@
 -- A call changes the one object that it names.
 use Rattle.std.proofs.Common.{◌≡◌, ℕ, List, [], ◌++◌, Bool, true, false, cond, nat_eq, ℤ, Option, Some, refl, sym, ap, ◌∙◌, true≢false}
 use Rattle.std.proofs.lemmas.Bool.{eq-eqb, eqb-true}
+use Rattle.apex_types.specs.declared.object_kind.ObjectKind.{ObjectKind}
+use Rattle.apex_types.specs.declared.object_kind.ObjectKind.TheVariants as kind
 use Rattle.apex_types.specs.declared.record.Body.TheVariants.{Call}
 use Rattle.apex_types.specs.declared.record.Call.{Call as CallRecord}
 use Rattle.apex_types.specs.declared.request.Request.{Request}
@@ -8,12 +10,12 @@ use Rattle.apex_types.specs.declared.request.Request.TheVariants as request
 use Rattle.apex_machine.specs.declared.state.Entry.{Entry}
 use Rattle.apex_machine.specs.declared.state.WaitingSet.{WaitingSet}
 use Rattle.apex_machine.specs.declared.state.WaitingSet.TheVariants as set
-use Rattle.apex_machine.specs.After.{each_set, is_done, is_valid, new_blackboard, new_buffer, new_event, new_mutex, new_queuing_port, new_sampling_port, new_semaphore, numbered, objects_by}
+use Rattle.apex_machine.specs.After.{each_set, is_done, is_valid, new_blackboard, new_buffer, new_event, new_mutex, new_queuing_port, new_sampling_port, new_semaphore, numbered, objects_by, with_sets}
 use Rattle.apex_machine.specs.Arguments.{natural_of}
 use Rattle.apex_machine.specs.Channels.{queuing_port, sampling_port}
 use Rattle.apex_machine.specs.Configuration.{Configuration}
 use Rattle.apex_machine.specs.Objects.{acquired, buffer_received, buffer_sent, cleared, displayed, event_reset, event_set, mutex_released, semaphore_waited, signalled}
-use Rattle.apex_machine.specs.State.{Blackboard, Buffer, Event, Mutex, Partition, Port, Semaphore, change_at, each_item, item_at}
+use Rattle.apex_machine.specs.State.{Blackboard, Event, Mutex, ObjectOf, Partition, Port, change_at, each_item, item_at, objects_of}
 use Rattle.apex_machine.specs.Queue.{Messages}
 use Rattle.apex_machine.specs.Waiting.{first_waiter, is_same_set, set_after}
 use Rattle.apex_laws.specs.PartLaws.{HasDistinctObjects, is_of_buffer, is_set_used}
@@ -21,136 +23,109 @@ use Rattle.apex_laws.specs.PartObjects.{OneObjectChanges, objects_changed}
 use Rattle.apex_laws.proofs.Booleans.{cannot_hold, neither}
 use Rattle.apex_laws.proofs.Objects.{acquire_keeps, release_keeps}
 use Rattle.apex_laws.proofs.OtherSets.{enters_no_other, other_sets_stay}
-use Rattle.apex_laws.proofs.EachSet.{Leaves, all_stay_with, blackboard_stays, blackboards_stay, buffer_stays, buffers_stay, event_stays, events_stay, leaves_found, mutex_stays, mutexes_stay, of_blackboard, of_buffer, of_event, of_mutex, of_semaphore, one_changes, put_if, semaphore_stays, semaphores_stay, sets_stay}
+use Rattle.apex_laws.proofs.EachSet.{Leaves, OnSets, all_stay_with, each_itself, leaves_found, object_stays, objects_stay, on_sets, one_changes, put_if, sets_stay, weaker_on}
 
 -- a change of each set, and of the objects of one kind
 abbrev LeavesUnused : (WaitingSet → List Entry → List Entry) → Partition → Request → Type 0
 LeavesUnused change partition asked = (wanted : WaitingSet) → is_set_used asked wanted ≡ false → Leaves change partition wanted
 
-buffers_alone : (change : WaitingSet → List Entry → List Entry) (partition : Partition) (done : Bool) (after new : List (ℕ × Buffer)) → HasDistinctObjects partition
-    → ((number : ℕ) → Leaves change partition (set.BlackboardReaders number)) → ((number : ℕ) → Leaves change partition (set.SemaphoreWaiters number))
-    → ((number : ℕ) → Leaves change partition (set.EventWaiters number)) → ((number : ℕ) → Leaves change partition (set.MutexWaiters number))
-    → each_item (of_buffer change) (cond done after partition.buffers) ≡ new
-    → each_set change (cond done (record partition { buffers = after }) partition) ≡ record partition { buffers = new }
-buffers_alone change partition done after new has readers semaphores events mutexes becomes =
-    let boards = blackboards_stay change partition has readers in
-    let semaphores = semaphores_stay change partition has semaphores in
-    let events = events_stay change partition has events in
-    let mutexes = mutexes_stay change partition has mutexes in
-    ap (each_set change) (put_if done (λ (one : List (ℕ × Buffer)). record partition { buffers = one }) after partition.buffers partition refl)
-    ∙ (λ i. record partition { buffers = becomes i; blackboards = boards i; semaphores = semaphores i; events = events i; mutexes = mutexes i })
+-- a partition with other objects of a kind
+abbrev pub with_objects : (kind : ObjectKind) → List (ℕ × ObjectOf kind) → Partition → Partition
+with_objects kind.Buffer objects partition = record partition { buffers = objects }
+with_objects kind.Blackboard objects partition = record partition { blackboards = objects }
+with_objects kind.Semaphore objects partition = record partition { semaphores = objects }
+with_objects kind.Event objects partition = record partition { events = objects }
+with_objects kind.Mutex objects partition = record partition { mutexes = objects }
+with_objects kind.SamplingPort objects partition = record partition { sampling_ports = objects }
+with_objects kind.QueuingPort objects partition = record partition { queuing_ports = objects }
 
-blackboards_alone : (change : WaitingSet → List Entry → List Entry) (partition : Partition) (done : Bool) (after new : List (ℕ × Blackboard)) → HasDistinctObjects partition
-    → ((number : ℕ) → Leaves change partition (set.BufferSenders number)) → ((number : ℕ) → Leaves change partition (set.BufferReceivers number))
-    → ((number : ℕ) → Leaves change partition (set.SemaphoreWaiters number)) → ((number : ℕ) → Leaves change partition (set.EventWaiters number))
-    → ((number : ℕ) → Leaves change partition (set.MutexWaiters number)) → each_item (of_blackboard change) (cond done after partition.blackboards) ≡ new
-    → each_set change (cond done (record partition { blackboards = after }) partition) ≡ record partition { blackboards = new }
-blackboards_alone change partition done after new has senders receivers semaphores events mutexes becomes =
-    let buffers = buffers_stay change partition has senders receivers in
-    let semaphores = semaphores_stay change partition has semaphores in
-    let events = events_stay change partition has events in
-    let mutexes = mutexes_stay change partition has mutexes in
-    ap (each_set change) (put_if done (λ (one : List (ℕ × Blackboard)). record partition { blackboards = one }) after partition.blackboards partition refl)
-    ∙ (λ i. record partition { buffers = buffers i; blackboards = becomes i; semaphores = semaphores i; events = events i; mutexes = mutexes i })
+-- whether two kinds are the same
+abbrev pub same_kind : ObjectKind → ObjectKind → Bool
+same_kind kind.Buffer kind.Buffer = true
+same_kind kind.Blackboard kind.Blackboard = true
+same_kind kind.Semaphore kind.Semaphore = true
+same_kind kind.Event kind.Event = true
+same_kind kind.Mutex kind.Mutex = true
+same_kind kind.SamplingPort kind.SamplingPort = true
+same_kind kind.QueuingPort kind.QueuingPort = true
+same_kind _ _ = false
 
-semaphores_alone : (change : WaitingSet → List Entry → List Entry) (partition : Partition) (done : Bool) (after new : List (ℕ × Semaphore)) → HasDistinctObjects partition
-    → ((number : ℕ) → Leaves change partition (set.BufferSenders number)) → ((number : ℕ) → Leaves change partition (set.BufferReceivers number))
-    → ((number : ℕ) → Leaves change partition (set.BlackboardReaders number)) → ((number : ℕ) → Leaves change partition (set.EventWaiters number))
-    → ((number : ℕ) → Leaves change partition (set.MutexWaiters number)) → each_item (of_semaphore change) (cond done after partition.semaphores) ≡ new
-    → each_set change (cond done (record partition { semaphores = after }) partition) ≡ record partition { semaphores = new }
-semaphores_alone change partition done after new has senders receivers readers events mutexes becomes =
-    let buffers = buffers_stay change partition has senders receivers in
-    let boards = blackboards_stay change partition has readers in
-    let events = events_stay change partition has events in
-    let mutexes = mutexes_stay change partition has mutexes in
-    ap (each_set change) (put_if done (λ (one : List (ℕ × Semaphore)). record partition { semaphores = one }) after partition.semaphores partition refl)
-    ∙ (λ i. record partition { buffers = buffers i; blackboards = boards i; semaphores = becomes i; events = events i; mutexes = mutexes i })
-
-events_alone : (change : WaitingSet → List Entry → List Entry) (partition : Partition) (done : Bool) (after new : List (ℕ × Event)) → HasDistinctObjects partition
-    → ((number : ℕ) → Leaves change partition (set.BufferSenders number)) → ((number : ℕ) → Leaves change partition (set.BufferReceivers number))
-    → ((number : ℕ) → Leaves change partition (set.BlackboardReaders number)) → ((number : ℕ) → Leaves change partition (set.SemaphoreWaiters number))
-    → ((number : ℕ) → Leaves change partition (set.MutexWaiters number)) → each_item (of_event change) (cond done after partition.events) ≡ new
-    → each_set change (cond done (record partition { events = after }) partition) ≡ record partition { events = new }
-events_alone change partition done after new has senders receivers readers semaphores mutexes becomes =
-    let buffers = buffers_stay change partition has senders receivers in
-    let boards = blackboards_stay change partition has readers in
-    let semaphores = semaphores_stay change partition has semaphores in
-    let mutexes = mutexes_stay change partition has mutexes in
-    ap (each_set change) (put_if done (λ (one : List (ℕ × Event)). record partition { events = one }) after partition.events partition refl)
-    ∙ (λ i. record partition { buffers = buffers i; blackboards = boards i; semaphores = semaphores i; events = becomes i; mutexes = mutexes i })
-
-mutexes_alone : (change : WaitingSet → List Entry → List Entry) (partition : Partition) (done : Bool) (after new : List (ℕ × Mutex)) → HasDistinctObjects partition
-    → ((number : ℕ) → Leaves change partition (set.BufferSenders number)) → ((number : ℕ) → Leaves change partition (set.BufferReceivers number))
-    → ((number : ℕ) → Leaves change partition (set.BlackboardReaders number)) → ((number : ℕ) → Leaves change partition (set.SemaphoreWaiters number))
-    → ((number : ℕ) → Leaves change partition (set.EventWaiters number)) → each_item (of_mutex change) (cond done after partition.mutexes) ≡ new
-    → each_set change (cond done (record partition { mutexes = after }) partition) ≡ record partition { mutexes = new }
-mutexes_alone change partition done after new has senders receivers readers semaphores events becomes =
-    let buffers = buffers_stay change partition has senders receivers in
-    let boards = blackboards_stay change partition has readers in
-    let semaphores = semaphores_stay change partition has semaphores in
-    let events = events_stay change partition has events in
-    ap (each_set change) (put_if done (λ (one : List (ℕ × Mutex)). record partition { mutexes = one }) after partition.mutexes partition refl)
-    ∙ (λ i. record partition { buffers = buffers i; blackboards = boards i; semaphores = semaphores i; events = events i; mutexes = becomes i })
+-- where the objects of one kind become these, and those of the others stay, so does the partition
+kind_alone : (kind : ObjectKind) (change : WaitingSet → List Entry → List Entry) (partition : Partition) (done : Bool) (after new : List (ℕ × ObjectOf kind))
+    → each_item (with_sets kind change) (cond done after (objects_of partition kind)) ≡ new
+    → ((other : ObjectKind) → same_kind kind other ≡ false → each_item (with_sets other change) (objects_of partition other) ≡ objects_of partition other)
+    → each_set change (cond done (with_objects kind after partition) partition) ≡ with_objects kind new partition
+kind_alone kind.Buffer change partition done after new becomes stay =
+    ap (each_set change) (put_if done (λ objects. with_objects kind.Buffer objects partition) after partition.buffers partition refl)
+    ∙ (λ i. record partition { buffers = becomes i; blackboards = stay kind.Blackboard refl i; semaphores = stay kind.Semaphore refl i; events = stay kind.Event refl i; mutexes = stay kind.Mutex refl i })
+kind_alone kind.Blackboard change partition done after new becomes stay =
+    ap (each_set change) (put_if done (λ objects. with_objects kind.Blackboard objects partition) after partition.blackboards partition refl)
+    ∙ (λ i. record partition { buffers = stay kind.Buffer refl i; blackboards = becomes i; semaphores = stay kind.Semaphore refl i; events = stay kind.Event refl i; mutexes = stay kind.Mutex refl i })
+kind_alone kind.Semaphore change partition done after new becomes stay =
+    ap (each_set change) (put_if done (λ objects. with_objects kind.Semaphore objects partition) after partition.semaphores partition refl)
+    ∙ (λ i. record partition { buffers = stay kind.Buffer refl i; blackboards = stay kind.Blackboard refl i; semaphores = becomes i; events = stay kind.Event refl i; mutexes = stay kind.Mutex refl i })
+kind_alone kind.Event change partition done after new becomes stay =
+    ap (each_set change) (put_if done (λ objects. with_objects kind.Event objects partition) after partition.events partition refl)
+    ∙ (λ i. record partition { buffers = stay kind.Buffer refl i; blackboards = stay kind.Blackboard refl i; semaphores = stay kind.Semaphore refl i; events = becomes i; mutexes = stay kind.Mutex refl i })
+kind_alone kind.Mutex change partition done after new becomes stay =
+    ap (each_set change) (put_if done (λ objects. with_objects kind.Mutex objects partition) after partition.mutexes partition refl)
+    ∙ (λ i. record partition { buffers = stay kind.Buffer refl i; blackboards = stay kind.Blackboard refl i; semaphores = stay kind.Semaphore refl i; events = stay kind.Event refl i; mutexes = becomes i })
+kind_alone kind.SamplingPort change partition done after new becomes stay =
+    ap (each_set change) (put_if done (λ objects. with_objects kind.SamplingPort objects partition) after partition.sampling_ports partition refl)
+    ∙ (λ i. record partition { buffers = stay kind.Buffer refl i; blackboards = stay kind.Blackboard refl i; semaphores = stay kind.Semaphore refl i; events = stay kind.Event refl i; mutexes = stay kind.Mutex refl i; sampling_ports = (sym (each_itself (cond done after partition.sampling_ports)) ∙ becomes) i })
+kind_alone kind.QueuingPort change partition done after new becomes stay =
+    ap (each_set change) (put_if done (λ objects. with_objects kind.QueuingPort objects partition) after partition.queuing_ports partition refl)
+    ∙ (λ i. record partition { buffers = stay kind.Buffer refl i; blackboards = stay kind.Blackboard refl i; semaphores = stay kind.Semaphore refl i; events = stay kind.Event refl i; mutexes = stay kind.Mutex refl i; queuing_ports = (sym (each_itself (cond done after partition.queuing_ports)) ∙ becomes) i })
 
 -- another number is another number
 apart : (one other : ℕ) → nat_eq one other ≡ false → nat_eq other one ≡ false
 apart one other differs = cannot_hold (nat_eq other one) (λ same. true≢false (sym (eq-eqb one other (sym (eqb-true other one same))) ∙ differs))
 
--- the change of one object of a kind, where every set but its own is left
-pub buffer_changes : (change : WaitingSet → List Entry → List Entry) (partition : Partition) (done : Bool) (number : ℕ) (rule new : Buffer → Buffer) → HasDistinctObjects partition
-    → ((found : Buffer) → item_at partition.buffers number ≡ Some found → of_buffer change number (cond done (rule found) found) ≡ new found)
-    → ((wanted : WaitingSet) → is_of_buffer number wanted ≡ false → Leaves change partition wanted)
-    → each_set change (cond done (record partition { buffers = change_at number rule partition.buffers }) partition) ≡ record partition { buffers = change_at number new partition.buffers }
-buffer_changes change partition done number rule new has becomes leaves =
-    buffers_alone change partition done (change_at number rule partition.buffers) (change_at number new partition.buffers) has
-    (λ other. leaves (set.BlackboardReaders other) refl) (λ other. leaves (set.SemaphoreWaiters other) refl) (λ other. leaves (set.EventWaiters other) refl) (λ other. leaves (set.MutexWaiters other) refl)
-    (one_changes done rule new (of_buffer change) number partition.buffers has.buffers becomes
-    (λ other found differs at. buffer_stays change partition other found at
-    (leaves (set.BufferSenders other) (neither _ _ (apart other number differs) refl)) (leaves (set.BufferReceivers other) (apart other number differs))))
+-- whether a set is one of the object of this kind and number
+abbrev pub is_set_of : ObjectKind → ℕ → WaitingSet → Bool
+is_set_of kind.Buffer number wanted = is_of_buffer number wanted
+is_set_of kind.Blackboard number wanted = is_same_set (set.BlackboardReaders number) wanted
+is_set_of kind.Semaphore number wanted = is_same_set (set.SemaphoreWaiters number) wanted
+is_set_of kind.Event number wanted = is_same_set (set.EventWaiters number) wanted
+is_set_of kind.Mutex number wanted = is_same_set (set.MutexWaiters number) wanted
+is_set_of _ number wanted = false
 
-pub blackboard_changes : (change : WaitingSet → List Entry → List Entry) (partition : Partition) (done : Bool) (number : ℕ) (rule new : Blackboard → Blackboard) → HasDistinctObjects partition
-    → ((found : Blackboard) → item_at partition.blackboards number ≡ Some found → of_blackboard change number (cond done (rule found) found) ≡ new found)
-    → ((wanted : WaitingSet) → is_same_set (set.BlackboardReaders number) wanted ≡ false → Leaves change partition wanted)
-    → each_set change (cond done (record partition { blackboards = change_at number rule partition.blackboards }) partition) ≡ record partition { blackboards = change_at number new partition.blackboards }
-blackboard_changes change partition done number rule new has becomes leaves =
-    blackboards_alone change partition done (change_at number rule partition.blackboards) (change_at number new partition.blackboards) has
-    (λ other. leaves (set.BufferSenders other) refl) (λ other. leaves (set.BufferReceivers other) refl) (λ other. leaves (set.SemaphoreWaiters other) refl)
-    (λ other. leaves (set.EventWaiters other) refl) (λ other. leaves (set.MutexWaiters other) refl)
-    (one_changes done rule new (of_blackboard change) number partition.blackboards has.blackboards becomes
-    (λ other found differs at. blackboard_stays change partition other found at (leaves (set.BlackboardReaders other) (apart other number differs))))
+-- the sets of an object of another number are not its
+of_another : (kind : ObjectKind) (number another : ℕ) → nat_eq another number ≡ false → OnSets kind another (λ wanted. is_set_of kind number wanted ≡ false)
+of_another kind.Buffer number another differs = (neither _ _ (apart another number differs) refl, apart another number differs)
+of_another kind.Blackboard number another differs = apart another number differs
+of_another kind.Semaphore number another differs = apart another number differs
+of_another kind.Event number another differs = apart another number differs
+of_another kind.Mutex number another differs = apart another number differs
+of_another _ number another differs = tt
 
-pub semaphore_changes : (change : WaitingSet → List Entry → List Entry) (partition : Partition) (done : Bool) (number : ℕ) (rule new : Semaphore → Semaphore) → HasDistinctObjects partition
-    → ((found : Semaphore) → item_at partition.semaphores number ≡ Some found → of_semaphore change number (cond done (rule found) found) ≡ new found)
-    → ((wanted : WaitingSet) → is_same_set (set.SemaphoreWaiters number) wanted ≡ false → Leaves change partition wanted)
-    → each_set change (cond done (record partition { semaphores = change_at number rule partition.semaphores }) partition) ≡ record partition { semaphores = change_at number new partition.semaphores }
-semaphore_changes change partition done number rule new has becomes leaves =
-    semaphores_alone change partition done (change_at number rule partition.semaphores) (change_at number new partition.semaphores) has
-    (λ other. leaves (set.BufferSenders other) refl) (λ other. leaves (set.BufferReceivers other) refl) (λ other. leaves (set.BlackboardReaders other) refl)
-    (λ other. leaves (set.EventWaiters other) refl) (λ other. leaves (set.MutexWaiters other) refl)
-    (one_changes done rule new (of_semaphore change) number partition.semaphores has.semaphores becomes
-    (λ other found differs at. semaphore_stays change partition other found at (leaves (set.SemaphoreWaiters other) (apart other number differs))))
+-- nor are those of an object of another kind
+of_other : (kind other : ObjectKind) (number another : ℕ) → same_kind kind other ≡ false → OnSets other another (λ wanted. is_set_of kind number wanted ≡ false)
+of_other kind.Buffer kind.Buffer number another differs = absurd (true≢false differs)
+of_other _ kind.Buffer number another differs = (refl, refl)
+of_other kind.Blackboard kind.Blackboard number another differs = absurd (true≢false differs)
+of_other _ kind.Blackboard number another differs = refl
+of_other kind.Semaphore kind.Semaphore number another differs = absurd (true≢false differs)
+of_other _ kind.Semaphore number another differs = refl
+of_other kind.Event kind.Event number another differs = absurd (true≢false differs)
+of_other _ kind.Event number another differs = refl
+of_other kind.Mutex kind.Mutex number another differs = absurd (true≢false differs)
+of_other _ kind.Mutex number another differs = refl
+of_other _ _ number another differs = tt
 
-pub event_changes : (change : WaitingSet → List Entry → List Entry) (partition : Partition) (done : Bool) (number : ℕ) (rule new : Event → Event) → HasDistinctObjects partition
-    → ((found : Event) → item_at partition.events number ≡ Some found → of_event change number (cond done (rule found) found) ≡ new found)
-    → ((wanted : WaitingSet) → is_same_set (set.EventWaiters number) wanted ≡ false → Leaves change partition wanted)
-    → each_set change (cond done (record partition { events = change_at number rule partition.events }) partition) ≡ record partition { events = change_at number new partition.events }
-event_changes change partition done number rule new has becomes leaves =
-    events_alone change partition done (change_at number rule partition.events) (change_at number new partition.events) has
-    (λ other. leaves (set.BufferSenders other) refl) (λ other. leaves (set.BufferReceivers other) refl) (λ other. leaves (set.BlackboardReaders other) refl)
-    (λ other. leaves (set.SemaphoreWaiters other) refl) (λ other. leaves (set.MutexWaiters other) refl)
-    (one_changes done rule new (of_event change) number partition.events has.events becomes
-    (λ other found differs at. event_stays change partition other found at (leaves (set.EventWaiters other) (apart other number differs))))
-
-pub mutex_changes : (change : WaitingSet → List Entry → List Entry) (partition : Partition) (done : Bool) (number : ℕ) (rule new : Mutex → Mutex) → HasDistinctObjects partition
-    → ((found : Mutex) → item_at partition.mutexes number ≡ Some found → of_mutex change number (cond done (rule found) found) ≡ new found)
-    → ((wanted : WaitingSet) → is_same_set (set.MutexWaiters number) wanted ≡ false → Leaves change partition wanted)
-    → each_set change (cond done (record partition { mutexes = change_at number rule partition.mutexes }) partition) ≡ record partition { mutexes = change_at number new partition.mutexes }
-mutex_changes change partition done number rule new has becomes leaves =
-    mutexes_alone change partition done (change_at number rule partition.mutexes) (change_at number new partition.mutexes) has
-    (λ other. leaves (set.BufferSenders other) refl) (λ other. leaves (set.BufferReceivers other) refl) (λ other. leaves (set.BlackboardReaders other) refl)
-    (λ other. leaves (set.SemaphoreWaiters other) refl) (λ other. leaves (set.EventWaiters other) refl)
-    (one_changes done rule new (of_mutex change) number partition.mutexes has.mutexes becomes
-    (λ other found differs at. mutex_stays change partition other found at (leaves (set.MutexWaiters other) (apart other number differs))))
+-- the change of one object, where every set but its own is left
+pub one_of_kind_changes : (kind : ObjectKind) (change : WaitingSet → List Entry → List Entry) (partition : Partition) (done : Bool) (number : ℕ) (rule new : ObjectOf kind → ObjectOf kind)
+    → HasDistinctObjects partition
+    → ((found : ObjectOf kind) → item_at (objects_of partition kind) number ≡ Some found → with_sets kind change number (cond done (rule found) found) ≡ new found)
+    → ((wanted : WaitingSet) → is_set_of kind number wanted ≡ false → Leaves change partition wanted)
+    → each_set change (cond done (with_objects kind (change_at number rule (objects_of partition kind)) partition) partition)
+    ≡ with_objects kind (change_at number new (objects_of partition kind)) partition
+one_of_kind_changes kind change partition done number rule new has becomes leaves =
+    kind_alone kind change partition done (change_at number rule (objects_of partition kind)) (change_at number new (objects_of partition kind))
+    (one_changes done rule new (with_sets kind change) number (objects_of partition kind) (has kind) becomes
+    (λ another found differs at. object_stays kind change partition another found at (weaker_on kind another _ (Leaves change partition) leaves (of_another kind number another differs))))
+    (λ other differs. objects_stay other change partition has
+    (λ another. weaker_on other another _ (Leaves change partition) leaves (of_other kind other number another differs)))
 
 -- a mutex whose rule leaves its waiters
 mutex_becomes : (change : List Entry → List Entry) (done : Bool) (ruled found : Mutex) → ruled.waiters ≡ found.waiters
@@ -171,6 +146,26 @@ created_stay : {Object : Type 0} (change : ℕ → Object → Object) (done : Bo
 created_stay change true objects claimed new stays all = all_stay_with change objects claimed new stays all
 created_stay change false objects claimed new stays all = all
 
+-- a creation, which leaves every set
+one_of_kind_created : (kind : ObjectKind) (change : WaitingSet → List Entry → List Entry) (partition : Partition) (done : Bool) (claimed : Option ℤ) (new : ObjectOf kind) → HasDistinctObjects partition
+    → ((number : ℕ) → with_sets kind change number new ≡ new) → ((wanted : WaitingSet) → Leaves change partition wanted)
+    → each_set change (cond done (with_objects kind (objects_of partition kind ++ numbered claimed new) partition) partition)
+    ≡ with_objects kind (cond done (objects_of partition kind ++ numbered claimed new) (objects_of partition kind)) partition
+one_of_kind_created kind change partition done claimed new has empty leaves =
+    kind_alone kind change partition done (objects_of partition kind ++ numbered claimed new) (cond done (objects_of partition kind ++ numbered claimed new) (objects_of partition kind))
+    (created_stay (with_sets kind change) done (objects_of partition kind) claimed new empty (stay kind)) (λ other differs. stay other)
+  where
+    stay : (other : ObjectKind) → each_item (with_sets other change) (objects_of partition other) ≡ objects_of partition other
+    stay other = objects_stay other change partition has (λ number. on_sets other number (Leaves change partition) (λ wanted off. leaves wanted))
+
+-- other ports, where every set is left
+ports_change : (kind : ObjectKind) (change : WaitingSet → List Entry → List Entry) (partition : Partition) (done : Bool) (after : List (ℕ × ObjectOf kind)) → HasDistinctObjects partition
+    → each_item (with_sets kind change) (cond done after (objects_of partition kind)) ≡ cond done after (objects_of partition kind) → ((wanted : WaitingSet) → Leaves change partition wanted)
+    → each_set change (cond done (with_objects kind after partition) partition) ≡ with_objects kind (cond done after (objects_of partition kind)) partition
+ports_change kind change partition done after has itself leaves =
+    kind_alone kind change partition done after (cond done after (objects_of partition kind)) itself
+    (λ other differs. objects_stay other change partition has (λ number. on_sets other number (Leaves change partition) (λ wanted off. leaves wanted)))
+
 -- each request
 
 -- the objects and sets after a call, by what its sets become
@@ -182,30 +177,30 @@ changed_by : (configuration : Configuration) (place : ℕ) (call : CallRecord) (
 changed_by configuration place call partition (request.SendBuffer buffer length time_out message) has leaves empty =
     let change = set_after place (Call call) in
     let done = is_done call.claim.out in
-    buffer_changes change partition done (natural_of buffer) _ _ has
-    (λ found at. ap (of_buffer change (natural_of buffer))
+    one_of_kind_changes kind.Buffer change partition done (natural_of buffer) _ _ has
+    (λ found at. ap (with_sets kind.Buffer change (natural_of buffer))
     (put_if done (λ (messages : Messages). record found { messages = messages }) (buffer_sent message time_out found).next found.messages found refl)) leaves
 changed_by configuration place call partition (request.ReceiveBuffer buffer time_out) has leaves empty =
     let change = set_after place (Call call) in
     let done = is_done call.claim.out in
-    buffer_changes change partition done (natural_of buffer) _ _ has
-    (λ found at. ap (of_buffer change (natural_of buffer))
+    one_of_kind_changes kind.Buffer change partition done (natural_of buffer) _ _ has
+    (λ found at. ap (with_sets kind.Buffer change (natural_of buffer))
     (put_if done (λ (messages : Messages). record found { messages = messages }) (buffer_received time_out found).next found.messages found refl)) leaves
 changed_by configuration place call partition (request.DisplayBlackboard blackboard length message) has leaves empty =
     let change = set_after place (Call call) in
     let done = is_done call.claim.out in
-    blackboard_changes change partition done (natural_of blackboard) _ _ has
-    (λ found at. ap (of_blackboard change (natural_of blackboard))
+    one_of_kind_changes kind.Blackboard change partition done (natural_of blackboard) _ _ has
+    (λ found at. ap (with_sets kind.Blackboard change (natural_of blackboard))
     (put_if done (λ (one : Option (List ℕ)). record found { message = one }) (displayed message found.readers).next found.message found refl)) leaves
 changed_by configuration place call partition (request.ReadBlackboard blackboard time_out) has leaves empty =
     let change = set_after place (Call call) in
     ap (each_set change) (same_if (is_done call.claim.out) partition)
-    ∙ blackboard_changes change partition false (natural_of blackboard) (λ found. found) _ has (λ found at. refl) leaves
+    ∙ one_of_kind_changes kind.Blackboard change partition false (natural_of blackboard) (λ found. found) _ has (λ found at. refl) leaves
 changed_by configuration place call partition (request.ClearBlackboard blackboard) has leaves empty =
     let change = set_after place (Call call) in
     let done = is_done call.claim.out in
-    blackboard_changes change partition done (natural_of blackboard) _ _ has
-    (λ found at. ap (of_blackboard change (natural_of blackboard))
+    one_of_kind_changes kind.Blackboard change partition done (natural_of blackboard) _ _ has
+    (λ found at. ap (with_sets kind.Blackboard change (natural_of blackboard))
     (put_if done (λ (one : Option (List ℕ)). record found { message = one }) cleared.next found.message found refl)
     ∙ ap (λ readers. record found { message = cond done cleared.next found.message; readers = readers })
     (leaves_found (λ (one : Blackboard). one.readers) (change (set.BlackboardReaders (natural_of blackboard))) (item_at partition.blackboards (natural_of blackboard)) found at
@@ -213,114 +208,79 @@ changed_by configuration place call partition (request.ClearBlackboard blackboar
 changed_by configuration place call partition (request.WaitSemaphore semaphore time_out) has leaves empty =
     let change = set_after place (Call call) in
     let done = is_done call.claim.out in
-    semaphore_changes change partition done (natural_of semaphore) _ _ has
-    (λ found at. ap (of_semaphore change (natural_of semaphore))
+    one_of_kind_changes kind.Semaphore change partition done (natural_of semaphore) _ _ has
+    (λ found at. ap (with_sets kind.Semaphore change (natural_of semaphore))
     (put_if done (λ (one : ℕ). record found { value = one }) (semaphore_waited time_out found.value).next found.value found refl)) leaves
 changed_by configuration place call partition (request.SignalSemaphore semaphore) has leaves empty =
     let change = set_after place (Call call) in
     let done = is_done call.claim.out in
-    semaphore_changes change partition done (natural_of semaphore) _ _ has
-    (λ found at. ap (of_semaphore change (natural_of semaphore))
+    one_of_kind_changes kind.Semaphore change partition done (natural_of semaphore) _ _ has
+    (λ found at. ap (with_sets kind.Semaphore change (natural_of semaphore))
     (put_if done (λ (one : ℕ). record found { value = one }) (signalled found.maximum (first_waiter found.discipline found.waiters) found.value).next found.value found refl)) leaves
 changed_by configuration place call partition (request.SetEvent event) has leaves empty =
     let change = set_after place (Call call) in
     let done = is_done call.claim.out in
-    event_changes change partition done (natural_of event) _ _ has
-    (λ found at. ap (of_event change (natural_of event)) (put_if done (λ (one : Bool). record found { up = one }) (event_set found.waiters).next found.up found refl)) leaves
+    one_of_kind_changes kind.Event change partition done (natural_of event) _ _ has
+    (λ found at. ap (with_sets kind.Event change (natural_of event)) (put_if done (λ (one : Bool). record found { up = one }) (event_set found.waiters).next found.up found refl)) leaves
 changed_by configuration place call partition (request.ResetEvent event) has leaves empty =
     let change = set_after place (Call call) in
     let done = is_done call.claim.out in
-    event_changes change partition done (natural_of event) _ _ has
-    (λ found at. ap (of_event change (natural_of event)) (put_if done (λ (one : Bool). record found { up = one }) event_reset.next found.up found refl)
+    one_of_kind_changes kind.Event change partition done (natural_of event) _ _ has
+    (λ found at. ap (with_sets kind.Event change (natural_of event)) (put_if done (λ (one : Bool). record found { up = one }) event_reset.next found.up found refl)
     ∙ ap (λ waiters. record found { up = cond done event_reset.next found.up; waiters = waiters })
     (leaves_found (λ (one : Event). one.waiters) (change (set.EventWaiters (natural_of event))) (item_at partition.events (natural_of event)) found at
     (leaves (set.EventWaiters (natural_of event)) refl))) (λ wanted off. leaves wanted refl)
 changed_by configuration place call partition (request.WaitEvent event time_out) has leaves empty =
     let change = set_after place (Call call) in
     ap (each_set change) (same_if (is_done call.claim.out) partition)
-    ∙ event_changes change partition false (natural_of event) (λ found. found) _ has (λ found at. refl) leaves
+    ∙ one_of_kind_changes kind.Event change partition false (natural_of event) (λ found. found) _ has (λ found at. refl) leaves
 changed_by configuration place call partition (request.AcquireMutex mutex time_out) has leaves empty =
     let change = set_after place (Call call) in
     let done = is_done call.claim.out in
-    mutex_changes change partition done (natural_of mutex) _ _ has
+    one_of_kind_changes kind.Mutex change partition done (natural_of mutex) _ _ has
     (λ found at. mutex_becomes (change (set.MutexWaiters (natural_of mutex))) done (acquired call.who.proc time_out found).next found
     (acquire_keeps call.who.proc time_out found.owner found)) leaves
 changed_by configuration place call partition (request.ReleaseMutex mutex) has leaves empty =
     let change = set_after place (Call call) in
     let done = is_done call.claim.out in
-    mutex_changes change partition done (natural_of mutex) _ _ has
+    one_of_kind_changes kind.Mutex change partition done (natural_of mutex) _ _ has
     (λ found at. mutex_becomes (change (set.MutexWaiters (natural_of mutex))) done (mutex_released (first_waiter found.discipline found.waiters) found).next found
     (release_keeps (first_waiter found.discipline found.waiters) found)) leaves
 changed_by configuration place call partition (request.CreateBuffer name size capacity discipline) has leaves empty =
     let change = set_after place (Call call) in
-    let done = is_done call.claim.out in
     let new = new_buffer name size capacity discipline in
-    let after = partition.buffers ++ numbered call.claim.val new in
-    buffers_alone change partition done after _ has (λ other. leaves (set.BlackboardReaders other) refl) (λ other. leaves (set.SemaphoreWaiters other) refl)
-    (λ other. leaves (set.EventWaiters other) refl) (λ other. leaves (set.MutexWaiters other) refl)
-    (created_stay (of_buffer change) done partition.buffers call.claim.val new
+    one_of_kind_created kind.Buffer change partition (is_done call.claim.out) call.claim.val new has
     (λ number. (let senders = empty (set.BufferSenders number) refl in let receivers = empty (set.BufferReceivers number) refl in λ i. record new { senders = senders i; receivers = receivers i }))
-    (buffers_stay change partition has (λ other. leaves (set.BufferSenders other) refl) (λ other. leaves (set.BufferReceivers other) refl)))
+    (λ wanted. leaves wanted refl)
 changed_by configuration place call partition (request.CreateBlackboard name size) has leaves empty =
     let change = set_after place (Call call) in
-    let done = is_done call.claim.out in
     let new = new_blackboard name size in
-    let after = partition.blackboards ++ numbered call.claim.val new in
-    blackboards_alone change partition done after _ has (λ other. leaves (set.BufferSenders other) refl) (λ other. leaves (set.BufferReceivers other) refl)
-    (λ other. leaves (set.SemaphoreWaiters other) refl) (λ other. leaves (set.EventWaiters other) refl) (λ other. leaves (set.MutexWaiters other) refl)
-    (created_stay (of_blackboard change) done partition.blackboards call.claim.val new (λ number. ap (λ readers. record new { readers = readers }) (empty (set.BlackboardReaders number) refl))
-    (blackboards_stay change partition has (λ other. leaves (set.BlackboardReaders other) refl)))
+    one_of_kind_created kind.Blackboard change partition (is_done call.claim.out) call.claim.val new has
+    (λ number. ap (λ readers. record new { readers = readers }) (empty (set.BlackboardReaders number) refl)) (λ wanted. leaves wanted refl)
 changed_by configuration place call partition (request.CreateSemaphore name value maximum discipline) has leaves empty =
     let change = set_after place (Call call) in
-    let done = is_done call.claim.out in
     let new = new_semaphore name value maximum discipline in
-    let after = partition.semaphores ++ numbered call.claim.val new in
-    semaphores_alone change partition done after _ has (λ other. leaves (set.BufferSenders other) refl) (λ other. leaves (set.BufferReceivers other) refl)
-    (λ other. leaves (set.BlackboardReaders other) refl) (λ other. leaves (set.EventWaiters other) refl) (λ other. leaves (set.MutexWaiters other) refl)
-    (created_stay (of_semaphore change) done partition.semaphores call.claim.val new (λ number. ap (λ waiters. record new { waiters = waiters }) (empty (set.SemaphoreWaiters number) refl))
-    (semaphores_stay change partition has (λ other. leaves (set.SemaphoreWaiters other) refl)))
+    one_of_kind_created kind.Semaphore change partition (is_done call.claim.out) call.claim.val new has
+    (λ number. ap (λ waiters. record new { waiters = waiters }) (empty (set.SemaphoreWaiters number) refl)) (λ wanted. leaves wanted refl)
 changed_by configuration place call partition (request.CreateEvent name) has leaves empty =
     let change = set_after place (Call call) in
-    let done = is_done call.claim.out in
     let new = new_event name in
-    let after = partition.events ++ numbered call.claim.val new in
-    events_alone change partition done after _ has (λ other. leaves (set.BufferSenders other) refl) (λ other. leaves (set.BufferReceivers other) refl)
-    (λ other. leaves (set.BlackboardReaders other) refl) (λ other. leaves (set.SemaphoreWaiters other) refl) (λ other. leaves (set.MutexWaiters other) refl)
-    (created_stay (of_event change) done partition.events call.claim.val new (λ number. ap (λ waiters. record new { waiters = waiters }) (empty (set.EventWaiters number) refl))
-    (events_stay change partition has (λ other. leaves (set.EventWaiters other) refl)))
+    one_of_kind_created kind.Event change partition (is_done call.claim.out) call.claim.val new has
+    (λ number. ap (λ waiters. record new { waiters = waiters }) (empty (set.EventWaiters number) refl)) (λ wanted. leaves wanted refl)
 changed_by configuration place call partition (request.CreateMutex name priority discipline) has leaves empty =
     let change = set_after place (Call call) in
-    let done = is_done call.claim.out in
     let new = new_mutex name priority discipline in
-    let after = partition.mutexes ++ numbered call.claim.val new in
-    mutexes_alone change partition done after _ has (λ other. leaves (set.BufferSenders other) refl) (λ other. leaves (set.BufferReceivers other) refl)
-    (λ other. leaves (set.BlackboardReaders other) refl) (λ other. leaves (set.SemaphoreWaiters other) refl) (λ other. leaves (set.EventWaiters other) refl)
-    (created_stay (of_mutex change) done partition.mutexes call.claim.val new (λ number. ap (λ waiters. record new { waiters = waiters }) (empty (set.MutexWaiters number) refl))
-    (mutexes_stay change partition has (λ other. leaves (set.MutexWaiters other) refl)))
+    one_of_kind_created kind.Mutex change partition (is_done call.claim.out) call.claim.val new has
+    (λ number. ap (λ waiters. record new { waiters = waiters }) (empty (set.MutexWaiters number) refl)) (λ wanted. leaves wanted refl)
 changed_by configuration place call partition (request.CreateSamplingPort name size direction refresh) has leaves empty =
-    let after = partition.sampling_ports ++ new_sampling_port name call.claim.val (sampling_port configuration call.who.part name) in
-    let stays = sets_stay (set_after place (Call call)) partition has (λ wanted off. leaves wanted refl) in
-    elim (is_done call.claim.out) as (λ done. each_set (set_after place (Call call)) (cond done (record partition { sampling_ports = after }) partition)
-    ≡ record partition { sampling_ports = cond done after partition.sampling_ports }) [
-      | true ↦ ap (λ (one : Partition). record one { sampling_ports = after }) stays
-      | false ↦ stays
-    ]
+    ports_change kind.SamplingPort (set_after place (Call call)) partition (is_done call.claim.out)
+    (partition.sampling_ports ++ new_sampling_port name call.claim.val (sampling_port configuration call.who.part name)) has (each_itself _) (λ wanted. leaves wanted refl)
 changed_by configuration place call partition (request.CreateQueuingPort name size capacity both) has leaves empty =
-    let after = partition.queuing_ports ++ new_queuing_port name call.claim.val (queuing_port configuration call.who.part name) in
-    let stays = sets_stay (set_after place (Call call)) partition has (λ wanted off. leaves wanted refl) in
-    elim (is_done call.claim.out) as (λ done. each_set (set_after place (Call call)) (cond done (record partition { queuing_ports = after }) partition)
-    ≡ record partition { queuing_ports = cond done after partition.queuing_ports }) [
-      | true ↦ ap (λ (one : Partition). record one { queuing_ports = after }) stays
-      | false ↦ stays
-    ]
+    ports_change kind.QueuingPort (set_after place (Call call)) partition (is_done call.claim.out)
+    (partition.queuing_ports ++ new_queuing_port name call.claim.val (queuing_port configuration call.who.part name)) has (each_itself _) (λ wanted. leaves wanted refl)
 changed_by configuration place call partition (request.ReadSamplingMessage port) has leaves empty =
-    let after = change_at (natural_of port) (λ (found : Port). record found { valid = is_valid call.claim.val }) partition.sampling_ports in
-    let stays = sets_stay (set_after place (Call call)) partition has (λ wanted off. leaves wanted refl) in
-    elim (is_done call.claim.out) as (λ done. each_set (set_after place (Call call)) (cond done (record partition { sampling_ports = after }) partition)
-    ≡ record partition { sampling_ports = cond done after partition.sampling_ports }) [
-      | true ↦ ap (λ (one : Partition). record one { sampling_ports = after }) stays
-      | false ↦ stays
-    ]
+    ports_change kind.SamplingPort (set_after place (Call call)) partition (is_done call.claim.out)
+    (change_at (natural_of port) (λ (found : Port). record found { valid = is_valid call.claim.val }) partition.sampling_ports) has (each_itself _) (λ wanted. leaves wanted refl)
 changed_by configuration place call partition (request.SendQueuingMessage port length time_out message) has leaves empty =
     ap (each_set (set_after place (Call call))) (same_if (is_done call.claim.out) partition) ∙ sets_stay (set_after place (Call call)) partition has (λ wanted off. leaves wanted off)
 changed_by configuration place call partition (request.ReceiveQueuingMessage port time_out) has leaves empty =

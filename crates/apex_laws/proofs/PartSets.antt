@@ -22,7 +22,7 @@ use Rattle.apex_laws.proofs.Records.{sets_changed}
 use Rattle.apex_laws.proofs.SoundParts.{sets_distinct}
 use Rattle.apex_laws.proofs.TickLeaves.{without_none, without_without}
 use Rattle.apex_laws.proofs.Waiters.{all_without, none_leaves, without_same}
-use Rattle.apex_laws.proofs.Whos.{same_is}
+use Rattle.apex_laws.proofs.WaitersOf.{same_is}
 
 -- calls
 

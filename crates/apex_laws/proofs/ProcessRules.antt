@@ -104,8 +104,7 @@ entry_by period now own entry above (IsEntry.periodic of time some first is) =
 normal_is : (current : Mode) → is_normal current ≡ true → current ≡ mode.Normal
 normal_is mode.Normal is = refl
 normal_is mode.Idle is = absurd (true≢false (sym is))
-normal_is mode.ColdStart is = absurd (true≢false (sym is))
-normal_is mode.WarmStart is = absurd (true≢false (sym is))
+normal_is _ is = absurd (true≢false (sym is))
 
 -- a process that is started
 started_says : (place period now : ℕ) (current : Mode) (old new : Process) → 0 < period → new ≡ started place period now current old → IsStarted place period now current old new
@@ -212,8 +211,7 @@ has_due (wait.Suspended (Some time)) now due = (time, refl, leb-true time now du
 has_due (wait.Suspended None) now due = absurd (true≢false (sym due))
 has_due (wait.At set (Some time)) now due = (time, refl, leb-true time now due)
 has_due (wait.At set None) now due = absurd (true≢false (sym due))
-has_due wait.Nothing now due = absurd (true≢false (sym due))
-has_due wait.NormalMode now due = absurd (true≢false (sym due))
+has_due _ now due = absurd (true≢false (sym due))
 
 -- the time of a wait has come
 come : (time due now : ℕ) → time ≡ due → time ≤ now → nat_le due now ≡ true
@@ -227,8 +225,7 @@ reached (wait.Suspended (Some due)) time now has below = come time due now has b
 reached (wait.Suspended None) time now has below = absurd has
 reached (wait.At set (Some due)) time now has below = come time due now has below
 reached (wait.At set None) time now has below = absurd has
-reached wait.Nothing time now has below = absurd has
-reached wait.NormalMode time now has below = absurd has
+reached _ time now has below = absurd has
 
 pub due_is_the_sentence : DueIsTheSentence
 due_is_the_sentence core now process = (
@@ -303,10 +300,7 @@ woken_says : (place : ℕ) (message : List ℕ) (old new : Process) (one : Wait)
 woken_says place message old new (wait.Suspended due) at waits is = IsWoken.suspension due at (is ∙ woken_from place message old (wait.Suspended due) at)
 woken_says place message old new (wait.At set due) at waits is = IsWoken.object set due at (is ∙ woken_from place message old (wait.At set due) at)
 woken_says place message old new wait.Nothing at waits is = absurd waits
-woken_says place message old new wait.NormalMode at waits is = absurd waits
-woken_says place message old new (wait.FirstRelease due) at waits is = absurd waits
-woken_says place message old new (wait.Until due) at waits is = absurd waits
-woken_says place message old new (wait.PeriodicRelease due) at waits is = absurd waits
+woken_says place message old new _ at waits is = absurd waits
 
 woken_back : (place : ℕ) (message : List ℕ) (old new : Process) → IsWoken place message old new → new ≡ woken_by place message old
 woken_back place message old new (IsWoken.suspension due at is) = is ∙ sym (woken_from place message old (wait.Suspended due) at)

@@ -1,6 +1,7 @@
 -- What dispatches, ticks, returns and refused calls do is what the sentences say.
 use Rattle.std.proofs.Common.{◌≡◌, ℕ, ◌+◌, List, [], ◌∷◌, length, true, false, cond, nat_eq, Option, Some, None, option_map, IsTrue, refl, sym, ap, subst, ◌∙◌, inl, inr, true≢false}
 use Rattle.std.proofs.lemmas.Bool.{cases_Bool, eqb-true}
+use Rattle.apex_types.specs.declared.object_kind.ObjectKind.TheVariants as kind
 use Rattle.apex_types.specs.declared.record.Body.TheVariants.{Ret, Disp, Tick}
 use Rattle.apex_types.specs.declared.record.Who.{Who}
 use Rattle.apex_machine.specs.declared.state.CoreState.{CoreState}
@@ -8,7 +9,7 @@ use Rattle.apex_machine.specs.declared.state.Entry.{Entry}
 use Rattle.apex_machine.specs.declared.state.Process.{Process}
 use Rattle.apex_machine.specs.declared.state.WaitingSet.{WaitingSet}
 use Rattle.apex_machine.specs.declared.state.WaitingSet.TheVariants as set
-use Rattle.apex_machine.specs.After.{each_set, partition_by, returned, ticked}
+use Rattle.apex_machine.specs.After.{each_set, partition_by, returned, ticked, with_sets}
 use Rattle.apex_machine.specs.Configuration.{Configuration, has_partition}
 use Rattle.apex_machine.specs.Processes.{released}
 use Rattle.apex_machine.specs.State.{Blackboard, Buffer, Event, Mutex, Partition, Semaphore, State, Table, each_item, is_named, is_same, item_at, occupant_of, time_of}
@@ -26,7 +27,7 @@ use Rattle.apex_laws.proofs.ProcessRules.{due_is_the_sentence, release_is_the_se
 use Rattle.apex_laws.proofs.SetsAfter.{same_sets}
 use Rattle.apex_laws.proofs.Steps.{lawful_body, next_channel, next_cores, next_partition}
 use Rattle.apex_laws.proofs.Tables.{at_each}
-use Rattle.apex_laws.proofs.Whos.{due_stands, same_is, same_who}
+use Rattle.apex_laws.proofs.WaitersOf.{due_stands, same_is, same_who}
 
 -- dispatches
 
@@ -147,26 +148,20 @@ entries_changed {Object} entries_of change through number none is objects =
 pub sets_changed : (change : WaitingSet → List Entry → List Entry) (partition : Partition) → ((wanted : WaitingSet) → change wanted [] ≡ []) → (wanted : WaitingSet)
     → entries_at (each_set change partition) wanted ≡ change wanted (entries_at partition wanted)
 sets_changed change partition none (set.BufferSenders number) =
-    entries_changed (λ (one : Buffer). one.senders) (λ other found. record found {
-      senders = change (set.BufferSenders other) found.senders;
-      receivers = change (set.BufferReceivers other) found.receivers;
-    }) (change (set.BufferSenders number)) number (none (set.BufferSenders number)) (λ one. refl) partition.buffers
+    entries_changed (λ (one : Buffer). one.senders) (with_sets kind.Buffer change) (change (set.BufferSenders number)) number (none (set.BufferSenders number)) (λ one. refl) partition.buffers
 sets_changed change partition none (set.BufferReceivers number) =
-    entries_changed (λ (one : Buffer). one.receivers) (λ other found. record found {
-      senders = change (set.BufferSenders other) found.senders;
-      receivers = change (set.BufferReceivers other) found.receivers;
-    }) (change (set.BufferReceivers number)) number (none (set.BufferReceivers number)) (λ one. refl) partition.buffers
+    entries_changed (λ (one : Buffer). one.receivers) (with_sets kind.Buffer change) (change (set.BufferReceivers number)) number (none (set.BufferReceivers number)) (λ one. refl) partition.buffers
 sets_changed change partition none (set.BlackboardReaders number) =
-    entries_changed (λ (one : Blackboard). one.readers) (λ other found. record found { readers = change (set.BlackboardReaders other) found.readers })
+    entries_changed (λ (one : Blackboard). one.readers) (with_sets kind.Blackboard change)
     (change (set.BlackboardReaders number)) number (none (set.BlackboardReaders number)) (λ one. refl) partition.blackboards
 sets_changed change partition none (set.SemaphoreWaiters number) =
-    entries_changed (λ (one : Semaphore). one.waiters) (λ other found. record found { waiters = change (set.SemaphoreWaiters other) found.waiters })
+    entries_changed (λ (one : Semaphore). one.waiters) (with_sets kind.Semaphore change)
     (change (set.SemaphoreWaiters number)) number (none (set.SemaphoreWaiters number)) (λ one. refl) partition.semaphores
 sets_changed change partition none (set.EventWaiters number) =
-    entries_changed (λ (one : Event). one.waiters) (λ other found. record found { waiters = change (set.EventWaiters other) found.waiters })
+    entries_changed (λ (one : Event). one.waiters) (with_sets kind.Event change)
     (change (set.EventWaiters number)) number (none (set.EventWaiters number)) (λ one. refl) partition.events
 sets_changed change partition none (set.MutexWaiters number) =
-    entries_changed (λ (one : Mutex). one.waiters) (λ other found. record found { waiters = change (set.MutexWaiters other) found.waiters })
+    entries_changed (λ (one : Mutex). one.waiters) (with_sets kind.Mutex change)
     (change (set.MutexWaiters number)) number (none (set.MutexWaiters number)) (λ one. refl) partition.mutexes
 sets_changed change partition none (set.ChannelSenders channel) = sym (none (set.ChannelSenders channel))
 sets_changed change partition none (set.ChannelReceivers channel) = sym (none (set.ChannelReceivers channel))

@@ -17,7 +17,7 @@ use Rattle.apex_machine.specs.declared.state.Entry.{Entry}
 use Rattle.apex_machine.specs.declared.state.Process.{Process}
 use Rattle.apex_machine.specs.declared.state.WaitingSet.{WaitingSet}
 use Rattle.apex_machine.specs.declared.state.WaitingSet.TheVariants as set
-use Rattle.apex_machine.specs.After.{called, created_by, each_set, is_channel, is_done, mode_by, objects_by, objects_called, own_partition, partition_called, roused}
+use Rattle.apex_machine.specs.After.{called, created_by, each_set, is_channel, is_done, mode_by, objects_by, objects_called, own_partition, partition_called, woken_if_named}
 use Rattle.apex_machine.specs.Configuration.{Configuration, first_core, period_of}
 use Rattle.apex_machine.specs.Ports.{channel_effect, use_of}
 use Rattle.apex_machine.specs.Processes.{caller_after, caller_with, outcome_of, release_taken, renews}
@@ -34,7 +34,7 @@ use Rattle.apex_laws.proofs.Codes.{are_errors, no_error_is_done, not_done}
 use Rattle.apex_laws.proofs.Emptied.{sets_same}
 use Rattle.apex_laws.proofs.Records.{stays_each, turns_each}
 use Rattle.apex_laws.proofs.Steps.{lawful_body, next_channel, next_cores, next_partition}
-use Rattle.apex_laws.proofs.Whos.{free_stands, same_who}
+use Rattle.apex_laws.proofs.WaitersOf.{free_stands, same_who}
 
 -- what a refused call says
 
@@ -133,27 +133,27 @@ caller_is place now period cores partition call process not_so = rw (is_itself c
 -- another partition, where the call names nobody
 
 -- its table, with those woken that the call names
-abbrev pub roused_table : ℕ → CallRecord → ℕ → Table → Table
-roused_table place call number table = each_item (λ other process. roused place call (record { part = number; proc = other }) process) table
+abbrev pub woken_if_named_table : ℕ → CallRecord → ℕ → Table → Table
+woken_if_named_table place call number table = each_item (λ other process. woken_if_named place call (record { part = number; proc = other }) process) table
 
 foreign_stays : (configuration : Configuration) (place core : ℕ) (call : CallRecord) → call.claim.woken ≡ [] → (state next : State) (other : Who)
     → next.partitions other.part ≡ cond (nat_eq call.who.part other.part) (own_partition (restart_of call) configuration state.cores place core call (state.partitions other.part))
-    (record (state.partitions other.part) { table = roused_table place call other.part (state.partitions other.part).table })
+    (record (state.partitions other.part) { table = woken_if_named_table place call other.part (state.partitions other.part).table })
     → nat_eq call.who.part other.part ≡ false → process_in next other ≡ process_in state other
 foreign_stays configuration place core call nobody state next other is elsewhere =
     let there = is ∙ ap (λ test. cond test (own_partition (restart_of call) configuration state.cores place core call (state.partitions other.part))
-    (record (state.partitions other.part) { table = roused_table place call other.part (state.partitions other.part).table })) elsewhere in
+    (record (state.partitions other.part) { table = woken_if_named_table place call other.part (state.partitions other.part).table })) elsewhere in
     ap (λ (found : Partition). item_at found.table other.proc) there
-    ∙ stays_each (λ number process. roused place call (record { part = other.part; proc = number }) process) (state.partitions other.part).table other.proc
+    ∙ stays_each (λ number process. woken_if_named place call (record { part = other.part; proc = number }) process) (state.partitions other.part).table other.proc
     (λ process at. (let named : is_named other call.claim.woken ≡ false = ap (is_named other) nobody in rw named refl))
 
 pub foreign_rest : (configuration : Configuration) (place core : ℕ) (call : CallRecord) (state next : State) (number : ℕ)
     → next.partitions number ≡ cond (nat_eq call.who.part number) (own_partition (restart_of call) configuration state.cores place core call (state.partitions number))
-    (record (state.partitions number) { table = roused_table place call number (state.partitions number).table })
+    (record (state.partitions number) { table = woken_if_named_table place call number (state.partitions number).table })
     → nat_eq call.who.part number ≡ false → next.partitions number ≡ record (state.partitions number) { table = (next.partitions number).table }
 foreign_rest configuration place core call state next number is elsewhere =
     let there = is ∙ ap (λ test. cond test (own_partition (restart_of call) configuration state.cores place core call (state.partitions number))
-    (record (state.partitions number) { table = roused_table place call number (state.partitions number).table })) elsewhere in
+    (record (state.partitions number) { table = woken_if_named_table place call number (state.partitions number).table })) elsewhere in
     there ∙ ap (λ (found : Partition). let back : Partition = record (state.partitions number) { table = found.table } in back) (sym there)
 
 pub refusal_is_the_sentence : RefusalIsTheSentence
@@ -175,7 +175,7 @@ refusal_is_the_sentence configuration state ordered call next step is some =
     let more = created_by (first_core configuration call.who.part) call call.request in
     let own : next.partitions call.who.part ≡ partition_called configuration state.cores place core call (state.partitions call.who.part) =
     partitions call.who.part ∙ ap (λ test. cond test (own_partition (restart_of call) configuration state.cores place core call (state.partitions call.who.part))
-    (record (state.partitions call.who.part) { table = each_item (λ other process. roused place call (record { part = call.who.part; proc = other }) process) table })) (is_itself call.who.part)
+    (record (state.partitions call.who.part) { table = each_item (λ other process. woken_if_named place call (record { part = call.who.part; proc = other }) process) table })) (is_itself call.who.part)
     ∙ ap (λ one. own_partition one configuration state.cores place core call (state.partitions call.who.part)) (not_done_goes_on call not_so) in
     let all : each_item change table ++ more ≡ each_item change table = ap (λ rest. each_item change table ++ rest) (none_created (first_core configuration call.who.part) call call.request not_so) ∙ append-nil (each_item change table) in
     record {

@@ -17,7 +17,7 @@ use Rattle.apex_machine.specs.declared.state.Mode.TheVariants as mode
 use Rattle.apex_machine.specs.declared.state.Process.{Process}
 use Rattle.apex_machine.specs.declared.state.WaitingSet.{WaitingSet}
 use Rattle.apex_machine.specs.declared.state.WaitingSet.TheVariants as set
-use Rattle.apex_machine.specs.After.{is_channel, own_partition, roused}
+use Rattle.apex_machine.specs.After.{is_channel, own_partition, woken_if_named}
 use Rattle.apex_machine.specs.Arguments.{restart_given}
 use Rattle.apex_machine.specs.Configuration.{Configuration, first_core}
 use Rattle.apex_machine.specs.Ports.{channel_effect, channel_of, use_of}
@@ -30,10 +30,10 @@ use Rattle.apex_laws.specs.RecordLaws.{RestartIsTheSentence}
 use Rattle.apex_laws.specs.RecordSentences.{IsInitialising, IsRestartOf, IsStart, KeepsOnly, Restarts}
 use Rattle.apex_laws.proofs.Booleans.{cannot_hold, is_itself, not_first}
 use Rattle.apex_laws.proofs.Kept.{keeps_only}
-use Rattle.apex_laws.proofs.RefusedCalls.{roused_table}
+use Rattle.apex_laws.proofs.RefusedCalls.{woken_if_named_table}
 use Rattle.apex_laws.proofs.Restarts.{goes_on, restart_ends, restarts_other}
 use Rattle.apex_laws.proofs.Steps.{lawful_body, next_channel, next_cores, next_partition}
-use Rattle.apex_laws.proofs.Untouched.{each_stays, not_roused}
+use Rattle.apex_laws.proofs.Untouched.{each_stays, not_woken_if_named}
 
 -- which calls restart a partition
 
@@ -98,8 +98,7 @@ alone core place = (
 starts : (mode : Mode) (core place : ℕ) → IsStart mode core place (first_processes mode core place)
 starts mode.Idle core place = λ number. refl
 starts mode.ColdStart core place = alone core place
-starts mode.WarmStart core place = alone core place
-starts mode.Normal core place = alone core place
+starts _ core place = alone core place
 
 -- the sets of channels
 
@@ -111,9 +110,9 @@ restarted_set place call mode wanted entries is stops nobody =
     rw enters_not (keeps_only (λ who. who.part ≡ call.who.part) (ends_wait call) goes stays entries)
   where
     goes : (who : Who) → ends_wait call who ≡ true → who.part ≡ call.who.part
-    goes who gone = elim (cases_Bool (nat_eq who.part call.who.part)) [
+    goes who passed = elim (cases_Bool (nat_eq who.part call.who.part)) [
       | inl here ↦ eqb-true who.part call.who.part here
-      | inr there ↦ absurd (true≢false (sym gone ∙ goes_on call who (restarts_other call who.part there) (nobody who) (not_first (is_no_error call.claim.out) _ (ap is_no_error stops))))
+      | inr there ↦ absurd (true≢false (sym passed ∙ goes_on call who (restarts_other call who.part there) (nobody who) (not_first (is_no_error call.claim.out) _ (ap is_no_error stops))))
     ]
 
     stays : (who : Who) → ends_wait call who ≡ false → ¬ (who.part ≡ call.who.part)
@@ -137,7 +136,7 @@ says configuration state ordered call mode next step is restarted =
     let channels = next_channel configuration state ordered next (Call call) step is in
     let own : next.partitions part ≡ started_partition mode configuration part place =
     partitions part
-    ∙ ap (λ test. cond test (own_partition (restart_of call) configuration state.cores place core call partition) (record partition { table = roused_table place call part partition.table })) (is_itself part)
+    ∙ ap (λ test. cond test (own_partition (restart_of call) configuration state.cores place core call partition) (record partition { table = woken_if_named_table place call part partition.table })) (is_itself part)
     ∙ ap (λ one. own_partition one configuration state.cores place core call partition) restarted in
     record {
       mode = ap (λ (one : Partition). one.mode) own;
@@ -153,10 +152,10 @@ says configuration state ordered call mode next step is restarted =
           let foreign : nat_eq part number ≡ false = cannot_hold (nat_eq part number) (λ same. there (sym (eqb-true part number same))) in
           partitions number
           ∙ ap (λ test. cond test (own_partition (restart_of call) configuration state.cores place core call (state.partitions number))
-          (record (state.partitions number) { table = roused_table place call number (state.partitions number).table })) foreign
+          (record (state.partitions number) { table = woken_if_named_table place call number (state.partitions number).table })) foreign
           ∙ ap (λ (table : Table). let other : Partition = record (state.partitions number) { table = table } in other)
-          (each_stays (λ other process. roused place call (record { part = number; proc = other }) process) (state.partitions number).table
-          (λ other process. not_roused place call (record { part = number; proc = other }) process (quiet.nobody (record { part = number; proc = other }))));
+          (each_stays (λ other process. woken_if_named place call (record { part = number; proc = other }) process) (state.partitions number).table
+          (λ other process. not_woken_if_named place call (record { part = number; proc = other }) process (quiet.nobody (record { part = number; proc = other }))));
       contents = λ number. ap (λ (one : Channel). one.content) (channels number)
           ∙ ap (λ test. cond test (channel_effect configuration (time_of state.cores core) number call.who.part (use_of call.request) (state.channels number)).next (state.channels number).content)
           (ap (is_channel number) quiet.no_channel);

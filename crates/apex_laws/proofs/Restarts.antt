@@ -106,20 +106,12 @@ restart_ends call who mode is here = rw (is, eq-eqb who.part call.who.part here)
 -- its processes have distinct numbers
 pub start_distinct : (mode : Mode) (core place : ℕ) → are_distinct (first_processes mode core place) ≡ true
 start_distinct mode.Idle core place = refl
-start_distinct mode.ColdStart core place = refl
-start_distinct mode.WarmStart core place = refl
-start_distinct mode.Normal core place = refl
+start_distinct _ core place = refl
 
 -- its sets are empty
 pub start_set : (mode : Mode) (configuration : Configuration) (number place : ℕ) (wanted : WaitingSet) → entries_at (started_partition mode configuration number place) wanted ≡ []
 start_set mode configuration number place (set.BufferSenders object) = refl
-start_set mode configuration number place (set.BufferReceivers object) = refl
-start_set mode configuration number place (set.BlackboardReaders object) = refl
-start_set mode configuration number place (set.SemaphoreWaiters object) = refl
-start_set mode configuration number place (set.EventWaiters object) = refl
-start_set mode configuration number place (set.MutexWaiters object) = refl
-start_set mode configuration number place (set.ChannelSenders channel) = refl
-start_set mode configuration number place (set.ChannelReceivers channel) = refl
+start_set mode configuration number place _ = refl
 
 -- nobody waits in it
 first_waits_not : (core place process : ℕ) (wanted : WaitingSet) → waits_at wanted (item_at ((0, initialising_process core place) ∷ []) process) ≡ true → ⊥
@@ -132,5 +124,4 @@ first_waits_not core place process wanted waits =
 pub start_waits_not : (mode : Mode) (core place process : ℕ) (wanted : WaitingSet) → waits_at wanted (item_at (first_processes mode core place) process) ≡ true → ⊥
 start_waits_not mode.Idle core place process wanted waits = true≢false (sym waits)
 start_waits_not mode.ColdStart core place process wanted waits = first_waits_not core place process wanted waits
-start_waits_not mode.WarmStart core place process wanted waits = first_waits_not core place process wanted waits
-start_waits_not mode.Normal core place process wanted waits = first_waits_not core place process wanted waits
+start_waits_not _ core place process wanted waits = first_waits_not core place process wanted waits

@@ -8,7 +8,7 @@ use Rattle.apex_machine.specs.declared.state.Entry.{Entry}
 use Rattle.apex_machine.specs.declared.state.Process.{Process}
 use Rattle.apex_machine.specs.declared.state.WaitingSet.{WaitingSet}
 use Rattle.apex_machine.specs.declared.state.WaitingSet.TheVariants as set
-use Rattle.apex_machine.specs.After.{each_set, is_done, objects_by, objects_called, own_partition, partition_by, partition_called, returned, roused, ticked}
+use Rattle.apex_machine.specs.After.{each_set, is_done, objects_by, objects_called, own_partition, partition_by, partition_called, returned, woken_if_named, ticked}
 use Rattle.apex_machine.specs.Configuration.{Configuration}
 use Rattle.apex_machine.specs.State.{Partition, Table, each_item, is_named}
 use Rattle.apex_machine.specs.Waiting.{ends_wait, enters, entry_of, restart_of, set_after, without}
@@ -43,24 +43,12 @@ each_entry Fact Then place (Call call) wanted stays entering entries all =
 -- a partition's table and mode say nothing of its sets
 pub same_sets : (partition : Partition) (table : Table) (wanted : WaitingSet) → entries_at (record partition { table = table }) wanted ≡ entries_at partition wanted
 same_sets partition table (set.BufferSenders number) = refl
-same_sets partition table (set.BufferReceivers number) = refl
-same_sets partition table (set.BlackboardReaders number) = refl
-same_sets partition table (set.SemaphoreWaiters number) = refl
-same_sets partition table (set.EventWaiters number) = refl
-same_sets partition table (set.MutexWaiters number) = refl
-same_sets partition table (set.ChannelSenders number) = refl
-same_sets partition table (set.ChannelReceivers number) = refl
+same_sets partition table _ = refl
 
 pub called_sets : (configuration : Configuration) (cores : List CoreState) (place core : ℕ) (call : CallRecord) (partition : Partition) (wanted : WaitingSet)
     → entries_at (partition_called configuration cores place core call partition) wanted ≡ entries_at (objects_called configuration place call partition) wanted
 called_sets configuration cores place core call partition (set.BufferSenders number) = refl
-called_sets configuration cores place core call partition (set.BufferReceivers number) = refl
-called_sets configuration cores place core call partition (set.BlackboardReaders number) = refl
-called_sets configuration cores place core call partition (set.SemaphoreWaiters number) = refl
-called_sets configuration cores place core call partition (set.EventWaiters number) = refl
-called_sets configuration cores place core call partition (set.MutexWaiters number) = refl
-called_sets configuration cores place core call partition (set.ChannelSenders number) = refl
-called_sets configuration cores place core call partition (set.ChannelReceivers number) = refl
+called_sets configuration cores place core call partition _ = refl
 
 -- the objects of the caller's partition that a call uses or creates, before their sets change
 pub used_sets : (Holds : List Entry → Type 0) (configuration : Configuration) (call : CallRecord) (partition : Partition) (wanted : WaitingSet) → Holds (entries_at partition wanted)
@@ -92,8 +80,8 @@ one_set_after Before After configuration cores place core number (Tick woken) pa
     subst After (sym (same_sets (each_set (set_after place (Tick woken)) partition) (each_item (ticked place number woken) partition.table) wanted))
     (each_set_has After nobody (set_after place (Tick woken)) partition wanted (change (λ none. none) (entries_at partition wanted) before))
 one_set_after Before After configuration cores place core number (Call call) partition wanted nobody change foreign before =
-    let roused_here : ℕ → Process → Process = λ other process. roused place call (record { part = number; proc = other }) process in
-    let table = each_item roused_here partition.table in
+    let woken_if_named_here : ℕ → Process → Process = λ other process. woken_if_named place call (record { part = number; proc = other }) process in
+    let table = each_item woken_if_named_here partition.table in
     elim (nat_eq call.who.part number) as (λ own. nat_eq call.who.part number ≡ own → After (entries_at (cond own
     (own_partition (restart_of call) configuration cores place core call partition) (record partition { table = table })) wanted)) [
       | true ↦ λ own.

@@ -2,6 +2,7 @@
 use Rattle.std.proofs.Common.{◌≡◌, ℕ, suc, ◌+◌, ◌<◌, ◌≤◌, List, [], ◌∷◌, ◌++◌, true, false, cond, nat_eq, ℤ, Option, Some, None, IsTrue, refl, sym, ap, subst, ◌∙◌, inl, inr, arith, true≢false}
 use Rattle.std.proofs.lemmas.Bool.{cases_Bool, eqb-true}
 use Rattle.std.proofs.lemmas.List.{append-nil}
+use Rattle.apex_types.specs.declared.object_kind.ObjectKind.TheVariants as kind
 use Rattle.apex_types.specs.declared.code.Code.{Code}
 use Rattle.apex_types.specs.declared.record.Body.{Body}
 use Rattle.apex_types.specs.declared.record.Body.TheVariants.{Call, Ret, Disp, Tick}
@@ -17,7 +18,7 @@ use Rattle.apex_machine.specs.declared.state.Mode.TheVariants as mode
 use Rattle.apex_machine.specs.declared.state.Process.{Process}
 use Rattle.apex_machine.specs.declared.state.WaitingSet.{WaitingSet}
 use Rattle.apex_machine.specs.declared.state.WaitingSet.TheVariants as set
-use Rattle.apex_machine.specs.After.{each_set, is_done, new_blackboard, new_buffer, new_event, new_mutex, new_queuing_port, new_sampling_port, new_semaphore, objects_by, objects_called, own_partition, partition_by, returned, roused, ticked}
+use Rattle.apex_machine.specs.After.{each_set, is_done, new_blackboard, new_buffer, new_event, new_mutex, new_queuing_port, new_sampling_port, new_semaphore, objects_by, objects_called, own_partition, partition_called, partition_by, returned, woken_if_named, ticked}
 use Rattle.apex_machine.specs.Answer.{Answer, HasValue, is_new}
 use Rattle.apex_machine.specs.Channels.{QueuingPort, SamplingPort, queuing_port, sampling_port}
 use Rattle.apex_machine.specs.Configuration.{Configuration, first_core}
@@ -25,7 +26,7 @@ use Rattle.apex_machine.specs.Demands.{AllHold, AllWaitAt, WakesHere, call_deman
 use Rattle.apex_machine.specs.Ports.{channel_of}
 use Rattle.apex_machine.specs.ServiceConditions.{condition_codes}
 use Rattle.apex_machine.specs.Services.{answer_of}
-use Rattle.apex_machine.specs.State.{Blackboard, Buffer, Event, Mutex, Partition, Port, Semaphore, Table, cold_partition, each_item, is_free, is_named, is_same, item_at, started_partition, time_of}
+use Rattle.apex_machine.specs.State.{Blackboard, Buffer, Event, Mutex, Partition, Port, Semaphore, Table, cold_partition, each_item, is_free, is_named, is_same, item_at, objects_of, started_partition, time_of}
 use Rattle.apex_machine.specs.Waiting.{ends_wait, restart_of, set_after, waits_at}
 use Rattle.apex_laws.specs.Laws.{AllEntries, IsInOrder, are_distinct, entries_at}
 use Rattle.apex_laws.specs.PartLaws.{HasDistinctObjects, IsSoundPart, PartStaysSound, RunningStandsNowhere}
@@ -42,7 +43,7 @@ use Rattle.apex_laws.proofs.Standing.{not_stopped, other_partition}
 use Rattle.apex_laws.proofs.Tables.{distinct_each}
 use Rattle.apex_laws.proofs.Waiters.{all_weaker, stands_not}
 use Rattle.apex_laws.proofs.WaitSets.{one_set}
-use Rattle.apex_laws.proofs.Whos.{same_is}
+use Rattle.apex_laws.proofs.WaitersOf.{same_is}
 
 -- own calls, by their demands
 
@@ -132,94 +133,36 @@ foreign_stays configuration number core cores partition call elsewhere hold want
 
 -- a partition with other processes, another mode, or other objects of one kind
 with_table : (partition : Partition) (mode : Mode) (table : Table) → HasDistinctObjects partition → HasDistinctObjects (record partition { mode = mode; table = table })
-with_table partition mode table has = record {
-  buffers = has.buffers;
-  blackboards = has.blackboards;
-  semaphores = has.semaphores;
-  events = has.events;
-  mutexes = has.mutexes;
-  sampling_ports = has.sampling_ports;
-  queuing_ports = has.queuing_ports;
-}
+with_table partition mode table has kind.Buffer = has kind.Buffer
+with_table partition mode table has other = has other
 
 with_buffers : (partition : Partition) (buffers : List (ℕ × Buffer)) → HasDistinctObjects partition → are_distinct buffers ≡ true → HasDistinctObjects (record partition { buffers = buffers })
-with_buffers partition buffers has distinct = record {
-  buffers = distinct;
-  blackboards = has.blackboards;
-  semaphores = has.semaphores;
-  events = has.events;
-  mutexes = has.mutexes;
-  sampling_ports = has.sampling_ports;
-  queuing_ports = has.queuing_ports;
-}
+with_buffers partition buffers has distinct kind.Buffer = distinct
+with_buffers partition buffers has distinct other = has other
 
-with_blackboards : (partition : Partition) (blackboards : List (ℕ × Blackboard)) → HasDistinctObjects partition → are_distinct blackboards ≡ true
-    → HasDistinctObjects (record partition { blackboards = blackboards })
-with_blackboards partition blackboards has distinct = record {
-  buffers = has.buffers;
-  blackboards = distinct;
-  semaphores = has.semaphores;
-  events = has.events;
-  mutexes = has.mutexes;
-  sampling_ports = has.sampling_ports;
-  queuing_ports = has.queuing_ports;
-}
+with_blackboards : (partition : Partition) (blackboards : List (ℕ × Blackboard)) → HasDistinctObjects partition → are_distinct blackboards ≡ true → HasDistinctObjects (record partition { blackboards = blackboards })
+with_blackboards partition blackboards has distinct kind.Blackboard = distinct
+with_blackboards partition blackboards has distinct other = has other
 
-with_semaphores : (partition : Partition) (semaphores : List (ℕ × Semaphore)) → HasDistinctObjects partition → are_distinct semaphores ≡ true
-    → HasDistinctObjects (record partition { semaphores = semaphores })
-with_semaphores partition semaphores has distinct = record {
-  buffers = has.buffers;
-  blackboards = has.blackboards;
-  semaphores = distinct;
-  events = has.events;
-  mutexes = has.mutexes;
-  sampling_ports = has.sampling_ports;
-  queuing_ports = has.queuing_ports;
-}
+with_semaphores : (partition : Partition) (semaphores : List (ℕ × Semaphore)) → HasDistinctObjects partition → are_distinct semaphores ≡ true → HasDistinctObjects (record partition { semaphores = semaphores })
+with_semaphores partition semaphores has distinct kind.Semaphore = distinct
+with_semaphores partition semaphores has distinct other = has other
 
 with_events : (partition : Partition) (events : List (ℕ × Event)) → HasDistinctObjects partition → are_distinct events ≡ true → HasDistinctObjects (record partition { events = events })
-with_events partition events has distinct = record {
-  buffers = has.buffers;
-  blackboards = has.blackboards;
-  semaphores = has.semaphores;
-  events = distinct;
-  mutexes = has.mutexes;
-  sampling_ports = has.sampling_ports;
-  queuing_ports = has.queuing_ports;
-}
+with_events partition events has distinct kind.Event = distinct
+with_events partition events has distinct other = has other
 
 with_mutexes : (partition : Partition) (mutexes : List (ℕ × Mutex)) → HasDistinctObjects partition → are_distinct mutexes ≡ true → HasDistinctObjects (record partition { mutexes = mutexes })
-with_mutexes partition mutexes has distinct = record {
-  buffers = has.buffers;
-  blackboards = has.blackboards;
-  semaphores = has.semaphores;
-  events = has.events;
-  mutexes = distinct;
-  sampling_ports = has.sampling_ports;
-  queuing_ports = has.queuing_ports;
-}
+with_mutexes partition mutexes has distinct kind.Mutex = distinct
+with_mutexes partition mutexes has distinct other = has other
 
 with_sampling_ports : (partition : Partition) (ports : List (ℕ × Port)) → HasDistinctObjects partition → are_distinct ports ≡ true → HasDistinctObjects (record partition { sampling_ports = ports })
-with_sampling_ports partition ports has distinct = record {
-  buffers = has.buffers;
-  blackboards = has.blackboards;
-  semaphores = has.semaphores;
-  events = has.events;
-  mutexes = has.mutexes;
-  sampling_ports = distinct;
-  queuing_ports = has.queuing_ports;
-}
+with_sampling_ports partition ports has distinct kind.SamplingPort = distinct
+with_sampling_ports partition ports has distinct other = has other
 
 with_queuing_ports : (partition : Partition) (ports : List (ℕ × Port)) → HasDistinctObjects partition → are_distinct ports ≡ true → HasDistinctObjects (record partition { queuing_ports = ports })
-with_queuing_ports partition ports has distinct = record {
-  buffers = has.buffers;
-  blackboards = has.blackboards;
-  semaphores = has.semaphores;
-  events = has.events;
-  mutexes = has.mutexes;
-  sampling_ports = has.sampling_ports;
-  queuing_ports = distinct;
-}
+with_queuing_ports partition ports has distinct kind.QueuingPort = distinct
+with_queuing_ports partition ports has distinct other = has other
 
 -- a created port has a new number
 sampling_port_new : (ports : List (ℕ × Port)) (name : List ℕ) (claimed : Option ℤ) (found : Option SamplingPort) → are_distinct ports ≡ true → is_new (is_free ports) claimed ≡ true
@@ -236,62 +179,49 @@ queuing_port_new ports name claimed (Some port) distinct new = distinct_new port
 used_distinct : (configuration : Configuration) (now : ℕ) (who : Who) (claimed : Option ℤ) (asked : Request) (partition : Partition) → HasDistinctObjects partition
     → (channel_of partition asked ≡ None → HasValue (answer_of now who partition asked).val claimed) → HasDistinctObjects (objects_by configuration who claimed asked partition)
 used_distinct configuration now who claimed (request.CreateBuffer name size capacity discipline) partition has value =
-    with_buffers partition _ has (distinct_new partition.buffers claimed (new_buffer name size capacity discipline) has.buffers (value refl))
+    with_buffers partition _ has (distinct_new partition.buffers claimed (new_buffer name size capacity discipline) (has kind.Buffer) (value refl))
 used_distinct configuration now who claimed (request.SendBuffer buffer length time_out message) partition has value =
-    with_buffers partition _ has (distinct_each _ partition.buffers ∙ has.buffers)
+    with_buffers partition _ has (distinct_each _ partition.buffers ∙ (has kind.Buffer))
 used_distinct configuration now who claimed (request.ReceiveBuffer buffer time_out) partition has value =
-    with_buffers partition _ has (distinct_each _ partition.buffers ∙ has.buffers)
+    with_buffers partition _ has (distinct_each _ partition.buffers ∙ (has kind.Buffer))
 used_distinct configuration now who claimed (request.CreateBlackboard name size) partition has value =
-    with_blackboards partition _ has (distinct_new partition.blackboards claimed (new_blackboard name size) has.blackboards (value refl))
+    with_blackboards partition _ has (distinct_new partition.blackboards claimed (new_blackboard name size) (has kind.Blackboard) (value refl))
 used_distinct configuration now who claimed (request.DisplayBlackboard blackboard length message) partition has value =
-    with_blackboards partition _ has (distinct_each _ partition.blackboards ∙ has.blackboards)
+    with_blackboards partition _ has (distinct_each _ partition.blackboards ∙ (has kind.Blackboard))
 used_distinct configuration now who claimed (request.ClearBlackboard blackboard) partition has value =
-    with_blackboards partition _ has (distinct_each _ partition.blackboards ∙ has.blackboards)
+    with_blackboards partition _ has (distinct_each _ partition.blackboards ∙ (has kind.Blackboard))
 used_distinct configuration now who claimed (request.CreateSemaphore name initial maximum discipline) partition has value =
-    with_semaphores partition _ has (distinct_new partition.semaphores claimed (new_semaphore name initial maximum discipline) has.semaphores (value refl))
+    with_semaphores partition _ has (distinct_new partition.semaphores claimed (new_semaphore name initial maximum discipline) (has kind.Semaphore) (value refl))
 used_distinct configuration now who claimed (request.WaitSemaphore semaphore time_out) partition has value =
-    with_semaphores partition _ has (distinct_each _ partition.semaphores ∙ has.semaphores)
+    with_semaphores partition _ has (distinct_each _ partition.semaphores ∙ (has kind.Semaphore))
 used_distinct configuration now who claimed (request.SignalSemaphore semaphore) partition has value =
-    with_semaphores partition _ has (distinct_each _ partition.semaphores ∙ has.semaphores)
+    with_semaphores partition _ has (distinct_each _ partition.semaphores ∙ (has kind.Semaphore))
 used_distinct configuration now who claimed (request.CreateEvent name) partition has value =
-    with_events partition _ has (distinct_new partition.events claimed (new_event name) has.events (value refl))
-used_distinct configuration now who claimed (request.SetEvent event) partition has value = with_events partition _ has (distinct_each _ partition.events ∙ has.events)
-used_distinct configuration now who claimed (request.ResetEvent event) partition has value = with_events partition _ has (distinct_each _ partition.events ∙ has.events)
+    with_events partition _ has (distinct_new partition.events claimed (new_event name) (has kind.Event) (value refl))
+used_distinct configuration now who claimed (request.SetEvent event) partition has value = with_events partition _ has (distinct_each _ partition.events ∙ (has kind.Event))
+used_distinct configuration now who claimed (request.ResetEvent event) partition has value = with_events partition _ has (distinct_each _ partition.events ∙ (has kind.Event))
 used_distinct configuration now who claimed (request.CreateMutex name priority discipline) partition has value =
-    with_mutexes partition _ has (distinct_new partition.mutexes claimed (new_mutex name priority discipline) has.mutexes (value refl))
-used_distinct configuration now who claimed (request.AcquireMutex mutex time_out) partition has value = with_mutexes partition _ has (distinct_each _ partition.mutexes ∙ has.mutexes)
-used_distinct configuration now who claimed (request.ReleaseMutex mutex) partition has value = with_mutexes partition _ has (distinct_each _ partition.mutexes ∙ has.mutexes)
+    with_mutexes partition _ has (distinct_new partition.mutexes claimed (new_mutex name priority discipline) (has kind.Mutex) (value refl))
+used_distinct configuration now who claimed (request.AcquireMutex mutex time_out) partition has value = with_mutexes partition _ has (distinct_each _ partition.mutexes ∙ (has kind.Mutex))
+used_distinct configuration now who claimed (request.ReleaseMutex mutex) partition has value = with_mutexes partition _ has (distinct_each _ partition.mutexes ∙ (has kind.Mutex))
 used_distinct configuration now who claimed (request.CreateSamplingPort name size direction refresh) partition has value =
-    with_sampling_ports partition _ has (sampling_port_new partition.sampling_ports name claimed (sampling_port configuration who.part name) has.sampling_ports (value refl))
+    with_sampling_ports partition _ has (sampling_port_new partition.sampling_ports name claimed (sampling_port configuration who.part name) (has kind.SamplingPort) (value refl))
 used_distinct configuration now who claimed (request.CreateQueuingPort name size capacity both) partition has value =
-    with_queuing_ports partition _ has (queuing_port_new partition.queuing_ports name claimed (queuing_port configuration who.part name) has.queuing_ports (value refl))
+    with_queuing_ports partition _ has (queuing_port_new partition.queuing_ports name claimed (queuing_port configuration who.part name) (has kind.QueuingPort) (value refl))
 used_distinct configuration now who claimed (request.ReadSamplingMessage port) partition has value =
-    with_sampling_ports partition _ has (distinct_each _ partition.sampling_ports ∙ has.sampling_ports)
+    with_sampling_ports partition _ has (distinct_each _ partition.sampling_ports ∙ (has kind.SamplingPort))
 used_distinct configuration now who claimed _ partition has value = has
 
 -- a change of each set leaves the numbers
 pub sets_distinct : (change : WaitingSet → List Entry → List Entry) (partition : Partition) → HasDistinctObjects partition → HasDistinctObjects (each_set change partition)
-sets_distinct change partition has = record {
-  buffers = distinct_each _ partition.buffers ∙ has.buffers;
-  blackboards = distinct_each _ partition.blackboards ∙ has.blackboards;
-  semaphores = distinct_each _ partition.semaphores ∙ has.semaphores;
-  events = distinct_each _ partition.events ∙ has.events;
-  mutexes = distinct_each _ partition.mutexes ∙ has.mutexes;
-  sampling_ports = has.sampling_ports;
-  queuing_ports = has.queuing_ports;
-}
+sets_distinct change partition has kind.SamplingPort = has kind.SamplingPort
+sets_distinct change partition has kind.QueuingPort = has kind.QueuingPort
+sets_distinct change partition has other = distinct_each _ (objects_of partition other) ∙ has other
 
 -- the objects of a partition as it starts: none
 start_has_distinct : (entered : Mode) (configuration : Configuration) (number place : ℕ) → HasDistinctObjects (started_partition entered configuration number place)
-start_has_distinct entered configuration number place = record {
-  buffers = refl;
-  blackboards = refl;
-  semaphores = refl;
-  events = refl;
-  mutexes = refl;
-  sampling_ports = refl;
-  queuing_ports = refl;
-}
+start_has_distinct entered configuration number place kind.Buffer = refl
+start_has_distinct entered configuration number place _ = refl
 
 -- the objects of a partition after a record
 objects_distinct : (configuration : Configuration) (cores : List CoreState) (place core number : ℕ) (body : Body) (partition : Partition)
@@ -305,11 +235,13 @@ objects_distinct configuration cores place core number (Ret ret) partition claim
       | false ↦ has
     ]
 objects_distinct configuration cores place core number (Call call) partition claims has =
-    let foreign : ℕ → Process → Process = λ other process. roused place call (record { part = number; proc = other }) process in
+    let foreign : ℕ → Process → Process = λ other process. woken_if_named place call (record { part = number; proc = other }) process in
     let now = time_of cores core in
+    let after : Partition = partition_called configuration cores place core call partition in
     elim (nat_eq call.who.part number) as (λ own. nat_eq call.who.part number ≡ own → HasDistinctObjects (cond own
     (own_partition (restart_of call) configuration cores place core call partition) (record partition { table = each_item foreign partition.table }))) [
-      | true ↦ λ own. own_case HasDistinctObjects configuration cores place core call partition (λ none. with_table (objects_called configuration place call partition) _ _ (sets_distinct (set_after place (Call call)) _
+      | true ↦ λ own. own_case HasDistinctObjects configuration cores place core call partition (λ none. with_table (objects_called configuration place call partition) after.mode after.table (sets_distinct (set_after place (Call call))
+          (cond (is_done call.claim.out) (objects_by configuration call.who call.claim.val call.request partition) partition)
           (elim (is_done call.claim.out) as (λ done. is_done call.claim.out ≡ done
           → HasDistinctObjects (cond done (objects_by configuration call.who call.claim.val call.request partition) partition)) [
             | true ↦ λ done. used_distinct configuration now call.who call.claim.val call.request partition has (claims own done)

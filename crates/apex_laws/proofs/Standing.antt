@@ -13,12 +13,12 @@ use Rattle.apex_machine.specs.declared.state.CoreState.{CoreState}
 use Rattle.apex_machine.specs.declared.state.Process.{Process}
 use Rattle.apex_machine.specs.declared.state.Wait.TheVariants as wait
 use Rattle.apex_machine.specs.declared.state.WaitingSet.{WaitingSet}
-use Rattle.apex_machine.specs.After.{adjusted, called, caller_after, created_by, is_done, numbered, own_partition, partition_by, returned, roused, ticked}
+use Rattle.apex_machine.specs.After.{adjusted, called, caller_after, created_by, is_done, numbered, own_partition, partition_by, returned, woken_if_named, ticked}
 use Rattle.apex_machine.specs.Arguments.{is_number, natural_of}
 use Rattle.apex_machine.specs.Conditions.{is_normal}
 use Rattle.apex_machine.specs.Configuration.{Configuration, first_core, period_of}
 use Rattle.apex_machine.specs.DueTimes.{due_of_call, entry_wait, time_out_of, wait_in, wait_of, waits_for_normal}
-use Rattle.apex_machine.specs.Processes.{by_mutex, caller_with, gift_of, new_process, released, set_by, started, stopped, woken_by}
+use Rattle.apex_machine.specs.Processes.{by_mutex, caller_with, message_handed_over, new_process, released, set_by, started, stopped, woken_by}
 use Rattle.apex_machine.specs.State.{Mutex, Partition, Table, each_item, given_object, is_named, item_at, time_of}
 use Rattle.apex_machine.specs.Waiting.{ends_wait, enters, is_in, is_no_error, is_target, is_the_set, is_waiting, restart_of, set_of, stop_of, stops, waits_at}
 use Rattle.apex_laws.proofs.Booleans.{cannot_hold, not_first, not_second}
@@ -27,7 +27,7 @@ use Rattle.apex_laws.proofs.Keeps.{CallsReady, found_changed, leaves, mutex_aliv
 use Rattle.apex_laws.proofs.Restarts.{goes_on, own_case, restarts_none, restarts_other, start_waits_not}
 use Rattle.apex_laws.proofs.Tables.{at_each}
 use Rattle.apex_laws.proofs.WholeCalls.{found_behind}
-use Rattle.apex_laws.proofs.Whos.{same_who}
+use Rattle.apex_laws.proofs.WaitersOf.{same_who}
 use Rattle.apex_laws.proofs.Woken.{found}
 
 -- what a call sets in a process makes it wait in no set
@@ -82,10 +82,10 @@ ended_not : (alive : Bool) → (alive && false) ≡ true → ⊥
 ended_not alive waits = true≢false (sym (and_parts alive false waits).1)
 
 -- a process that a call may have woken, and still waits
-roused_back : (place : ℕ) (call : CallRecord) (who : Who) (x : Process) (wanted : WaitingSet) → waits_at wanted (Some (roused place call who x)) ≡ true
+woken_if_named_back : (place : ℕ) (call : CallRecord) (who : Who) (x : Process) (wanted : WaitingSet) → waits_at wanted (Some (woken_if_named place call who x)) ≡ true
     → (is_named who call.claim.woken ≡ false) × (waits_at wanted (Some x) ≡ true)
-roused_back place call who x wanted waits =
-    elim (is_named who call.claim.woken) as (λ named. waits_at wanted (Some (cond named (woken_by place (gift_of call.request) x) x)) ≡ true → (named ≡ false) × (waits_at wanted (Some x) ≡ true)) [
+woken_if_named_back place call who x wanted waits =
+    elim (is_named who call.claim.woken) as (λ named. waits_at wanted (Some (cond named (woken_by place (message_handed_over call.request) x) x)) ≡ true → (named ≡ false) × (waits_at wanted (Some x) ≡ true)) [
       | true ↦ λ waits. absurd (ended_not x.alive waits)
       | false ↦ λ waits. (refl, waits)
     ] waits
@@ -130,12 +130,12 @@ called_back place now period cores partition call number x wanted none waits =
     let Fact : Type 0 = ((nat_eq number call.who.proc ≡ true) × (waits_at wanted (Some (caller_after place now call changed)) ≡ true))
     ⊎ ((ends_wait call who ≡ false) × (waits_at wanted (Some x) ≡ true)) in
     elim (nat_eq number call.who.proc) as (λ own. nat_eq number call.who.proc ≡ own
-    → waits_at wanted (Some (cond own (caller_after place now call changed) (cond (stops call who) (stopped changed) (roused place call who changed)))) ≡ true → Fact) [
+    → waits_at wanted (Some (cond own (caller_after place now call changed) (cond (stops call who) (stopped changed) (woken_if_named place call who changed)))) ≡ true → Fact) [
       | true ↦ λ own waits. inl (own, waits)
-      | false ↦ λ other waits. elim (stops call who) as (λ gone. stops call who ≡ gone → waits_at wanted (Some (cond gone (stopped changed) (roused place call who changed))) ≡ true → Fact) [
-        | true ↦ λ gone waits. absurd (true≢false (sym waits))
+      | false ↦ λ other waits. elim (stops call who) as (λ passed. stops call who ≡ passed → waits_at wanted (Some (cond passed (stopped changed) (woken_if_named place call who changed))) ≡ true → Fact) [
+        | true ↦ λ passed waits. absurd (true≢false (sym waits))
         | false ↦ λ stays waits.
-            let back = roused_back place call who changed wanted waits in
+            let back = woken_if_named_back place call who changed wanted waits in
             inr (goes_on call who (restarts_none call call.who.part none) back.0 stays, adjusted_back place period cores partition call number x wanted back.1)
       ] refl waits
     ] refl waits
@@ -220,7 +220,7 @@ who_waits configuration cores place core (Call call) partition who wanted ready 
     let now = time_of cores core in
     let period = period_of configuration call.who.part in
     let added = created_by (first_core configuration call.who.part) call call.request in
-    let foreign : ℕ → Process → Process = λ number process. roused place call (record { part = who.part; proc = number }) process in
+    let foreign : ℕ → Process → Process = λ number process. woken_if_named place call (record { part = who.part; proc = number }) process in
     let after : Bool → Table = λ own. (cond own (own_partition (restart_of call) configuration cores place core call partition) (record partition { table = each_item foreign table })).table in
     elim (cases_Bool (nat_eq call.who.part who.part)) [
       | inl own ↦
@@ -245,7 +245,7 @@ who_waits configuration cores place core (Call call) partition who wanted ready 
       | inr elsewhere ↦
           let in_table : waits_at wanted (item_at (each_item foreign table) who.proc) ≡ true = subst (λ test. waits_at wanted (item_at (after test) who.proc) ≡ true) elsewhere waits in
           each_back Fact foreign table who.proc wanted
-          (λ x at waits. (let back = roused_back place call who x wanted waits in
+          (λ x at waits. (let back = woken_if_named_back place call who x wanted waits in
           let stays : stops call who ≡ false = not_stopped call who elsewhere in
           inl (goes_on call who (restarts_other call who.part (other_partition call.who.part who.part elsewhere)) back.0 stays, subst (λ one. waits_at wanted one ≡ true) (sym at) back.1))) in_table
     ]

@@ -13,7 +13,7 @@ use Rattle.apex_machine.specs.declared.state.Entry.{Entry}
 use Rattle.apex_machine.specs.declared.state.Process.{Process}
 use Rattle.apex_machine.specs.declared.state.WaitingSet.{WaitingSet}
 use Rattle.apex_machine.specs.declared.state.WaitingSet.TheVariants as set
-use Rattle.apex_machine.specs.After.{is_done, objects_by, own_partition, partition_by, partition_called, returned, roused}
+use Rattle.apex_machine.specs.After.{is_done, objects_by, own_partition, partition_by, partition_called, returned, woken_if_named}
 use Rattle.apex_machine.specs.Arguments.{natural_of}
 use Rattle.apex_machine.specs.Channels.{is_receiver, is_sender}
 use Rattle.apex_machine.specs.Configuration.{Configuration}
@@ -206,8 +206,7 @@ enters_at_source configuration state core (Call call) tied law number = λ here.
     (found_set (set.ChannelSenders number) (set_of call.request call.claim.chan) (and_parts (is_waiting call.claim.out) (is_the_set (set.ChannelSenders number) (set_of call.request call.claim.chan)) here).1)
     (λ channel is. home_of configuration state core call tied law channel is)
 enters_at_source configuration state core (Disp who) tied law number = tt
-enters_at_source configuration state core (Tick woken) tied law number = tt
-enters_at_source configuration state core (Ret ret) tied law number = tt
+enters_at_source configuration state core _ tied law number = tt
 
 enters_at_destination : (configuration : Configuration) (state : State) (core : ℕ) (body : Body) → AreTied configuration state → IsLawfulBody configuration state core body
     → (number : ℕ) → EntersAtHome body (λ home. IsTrue (is_receiver configuration number home)) (set.ChannelReceivers number)
@@ -216,8 +215,7 @@ enters_at_destination configuration state core (Call call) tied law number = λ 
     (found_set (set.ChannelReceivers number) (set_of call.request call.claim.chan) (and_parts (is_waiting call.claim.out) (is_the_set (set.ChannelReceivers number) (set_of call.request call.claim.chan)) here).1)
     (λ channel is. home_of configuration state core call tied law channel is)
 enters_at_destination configuration state core (Disp who) tied law number = tt
-enters_at_destination configuration state core (Tick woken) tied law number = tt
-enters_at_destination configuration state core (Ret ret) tied law number = tt
+enters_at_destination configuration state core _ tied law number = tt
 
 -- the ports
 
@@ -242,7 +240,7 @@ ports_by configuration state place core (Ret ret) number all =
     elim (nat_eq ret.who.part number) as (λ own. AllPorts (λ port. IsAtEnd configuration number port.direction port.channel) (cond own
     (record (state.partitions number) { table = each_item (returned ret.who.proc) (state.partitions number).table }) (state.partitions number)).queuing_ports) [ true ↦ all | false ↦ all ]
 ports_by configuration state place core (Call call) number all =
-    let foreign : ℕ → Process → Process = λ other process. roused place call (record { part = number; proc = other }) process in
+    let foreign : ℕ → Process → Process = λ other process. woken_if_named place call (record { part = number; proc = other }) process in
     elim (nat_eq call.who.part number) as (λ own. nat_eq call.who.part number ≡ own → AllPorts (λ port. IsAtEnd configuration number port.direction port.channel) (cond own
     (own_partition (restart_of call) configuration state.cores place core call (state.partitions number))
     (record (state.partitions number) { table = each_item foreign (state.partitions number).table })).queuing_ports) [
@@ -282,13 +280,7 @@ run_tied configuration (ordered ∷ others) state final tied run =
 -- no entry stands in a set of a cold partition
 cold_sets : (configuration : Configuration) (number : ℕ) (wanted : WaitingSet) (Fact : Entry → Type 0) → AllEntries Fact (entries_at ((cold_state configuration).partitions number) wanted)
 cold_sets configuration number (set.BufferSenders object) Fact = tt
-cold_sets configuration number (set.BufferReceivers object) Fact = tt
-cold_sets configuration number (set.BlackboardReaders object) Fact = tt
-cold_sets configuration number (set.SemaphoreWaiters object) Fact = tt
-cold_sets configuration number (set.EventWaiters object) Fact = tt
-cold_sets configuration number (set.MutexWaiters object) Fact = tt
-cold_sets configuration number (set.ChannelSenders channel) Fact = tt
-cold_sets configuration number (set.ChannelReceivers channel) Fact = tt
+cold_sets configuration number _ Fact = tt
 
 -- the cold state is tied
 pub cold_tied : (configuration : Configuration) → AreTied configuration (cold_state configuration)

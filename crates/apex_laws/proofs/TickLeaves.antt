@@ -16,7 +16,7 @@ use Rattle.apex_laws.proofs.Booleans.{cannot_hold, first_holds, later_holds, oth
 use Rattle.apex_laws.proofs.EachSet.{each_set_as, each_set_each, sets_stay}
 use Rattle.apex_laws.proofs.LeavingSets.{one_leaves}
 use Rattle.apex_laws.proofs.SoundParts.{Stands, sets_distinct}
-use Rattle.apex_laws.proofs.Whos.{same_is, same_itself, same_who}
+use Rattle.apex_laws.proofs.WaitersOf.{same_is, same_itself, same_who}
 
 -- leaving one after another
 
@@ -29,8 +29,8 @@ without_none (entry ∷ entries) = ap (λ others. entry ∷ others) (without_non
 pub without_without : (first second : Who → Bool) (entries : List Entry) → without second (without first entries) ≡ without (λ who. first who || second who) entries
 without_without first second [] = refl
 without_without first second (entry ∷ entries) =
-    elim (first entry.who) as (λ gone. without second (cond gone (without first entries) (entry ∷ without first entries))
-    ≡ cond (gone || second entry.who) (without (λ who. first who || second who) entries) (entry ∷ without (λ who. first who || second who) entries)) [
+    elim (first entry.who) as (λ passed. without second (cond passed (without first entries) (entry ∷ without first entries))
+    ≡ cond (passed || second entry.who) (without (λ who. first who || second who) entries) (entry ∷ without (λ who. first who || second who) entries)) [
       | true ↦ without_without first second entries
       | false ↦ ap (λ others. cond (second entry.who) others (entry ∷ others)) (without_without first second entries)
     ]

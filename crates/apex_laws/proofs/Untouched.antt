@@ -13,7 +13,7 @@ use Rattle.apex_machine.specs.declared.state.Entry.{Entry}
 use Rattle.apex_machine.specs.declared.state.Process.{Process}
 use Rattle.apex_machine.specs.declared.state.WaitingSet.{WaitingSet}
 use Rattle.apex_machine.specs.declared.state.WaitingSet.TheVariants as set
-use Rattle.apex_machine.specs.After.{after, content_by, cores_by, is_channel, partition_by, roused}
+use Rattle.apex_machine.specs.After.{after, content_by, cores_by, is_channel, partition_by, woken_if_named}
 use Rattle.apex_machine.specs.Channels.{is_at_end, is_receiver, is_sender, samples}
 use Rattle.apex_machine.specs.Configuration.{Configuration}
 use Rattle.apex_machine.specs.Pieces.{ChannelPart, Module, OfChannel, OfPartition, PartitionPart, Piece, part, stops_at_end, times_of, touched_by, touches}
@@ -27,7 +27,7 @@ use Rattle.apex_laws.proofs.Booleans.{is_itself, neither_first, neither_later, n
 use Rattle.apex_laws.proofs.Parts.{times_after}
 use Rattle.apex_laws.proofs.Restarts.{goes_on}
 use Rattle.apex_laws.proofs.Waiters.{none_leaves}
-use Rattle.apex_laws.proofs.Whos.{not_named}
+use Rattle.apex_laws.proofs.WaitersOf.{not_named}
 use Rattle.apex_laws.proofs.Woken.{IsWokenBy, woken}
 
 -- partitions
@@ -38,8 +38,8 @@ each_stays change [] stays = refl
 each_stays change (entry ∷ entries) stays = λ i. (entry.0, stays entry.0 entry.1 i) ∷ each_stays change entries stays i
 
 -- a process that a call doesn't name stays
-pub not_roused : (place : ℕ) (call : CallRecord) (who : Who) (process : Process) → is_named who call.claim.woken ≡ false → roused place call who process ≡ process
-not_roused place call who process not_named = rw not_named refl
+pub not_woken_if_named : (place : ℕ) (call : CallRecord) (who : Who) (process : Process) → is_named who call.claim.woken ≡ false → woken_if_named place call who process ≡ process
+not_woken_if_named place call who process not_named = rw not_named refl
 
 -- a record that doesn't touch a partition leaves it and the cores as they are
 partition_untouched : (configuration : Configuration) (cores : List CoreState) (place core number : ℕ) (body : Body) (partition : Partition)
@@ -50,8 +50,8 @@ partition_untouched configuration cores place core number (Tick woken) partition
 partition_untouched configuration cores place core number (Ret ret) partition off = (refl, rw off refl)
 partition_untouched configuration cores place core number (Call call) partition off =
     let elsewhere : nat_eq call.who.part number ≡ false = neither_first _ _ off in
-    let stays = each_stays (λ other process. roused place call (record { part = number; proc = other }) process) partition.table
-    (λ other process. not_roused place call (record { part = number; proc = other }) process (not_named (record { part = number; proc = other }) call.claim.woken (neither_later _ _ off))) in
+    let stays = each_stays (λ other process. woken_if_named place call (record { part = number; proc = other }) process) partition.table
+    (λ other process. not_woken_if_named place call (record { part = number; proc = other }) process (not_named (record { part = number; proc = other }) call.claim.woken (neither_later _ _ off))) in
     (refl, rw elsewhere (ap (λ (table : Table). record partition { table = table }) stays))
 
 -- channels

@@ -19,8 +19,7 @@ ViewOf state core body (OfChannel number) = None
 
 same_view : (state : State) (ordered : Ordered) (piece : Piece) → view_in (part piece state) ordered ≡ ViewOf state ordered.core ordered.rec.body piece
 same_view state ordered Module = refl
-same_view state ordered (OfPartition number) = refl
-same_view state ordered (OfChannel number) = refl
+same_view state ordered _ = refl
 
 -- the judge's
 judged_view : (state : State) (core : ℕ) (body : Body) → ViewOf state core body (judge_by body) ≡ Some (view_by state core body)

@@ -4,13 +4,13 @@ use Rattle.std.proofs.lemmas.Bool.{cases_Bool}
 use Rattle.apex_types.specs.declared.discipline.Discipline.{Discipline}
 use Rattle.apex_types.specs.declared.record.Who.{Who}
 use Rattle.apex_machine.specs.declared.state.Entry.{Entry}
-use Rattle.apex_machine.specs.Answer.{whos}
+use Rattle.apex_machine.specs.Answer.{waiters_of}
 use Rattle.apex_machine.specs.Demands.{stands_in}
 use Rattle.apex_machine.specs.State.{is_named, is_same}
 use Rattle.apex_machine.specs.Waiting.{first_waiter, precedes, sooner_entry, without}
 use Rattle.apex_laws.specs.Laws.{AllEntries}
 use Rattle.apex_laws.proofs.Booleans.{other_holds}
-use Rattle.apex_laws.proofs.Whos.{same_is}
+use Rattle.apex_laws.proofs.WaitersOf.{same_is}
 
 -- a weaker fact
 pub all_weaker : (Fact Weaker : Entry → Type 0) → ((entry : Entry) → Fact entry → Weaker entry) → (entries : List Entry)
@@ -24,8 +24,8 @@ pub all_without : (Fact Then : Entry → Type 0) (leaves : Who → Bool) → ((e
 all_without Fact Then leaves then [] all = tt
 all_without Fact Then leaves then (entry ∷ entries) all =
     let rest = all_without Fact Then leaves then entries all.1 in
-    elim (leaves entry.who) as (λ gone. leaves entry.who ≡ gone → AllEntries Then (cond gone (without leaves entries) (entry ∷ without leaves entries))) [
-      | true ↦ λ gone. rest
+    elim (leaves entry.who) as (λ passed. leaves entry.who ≡ passed → AllEntries Then (cond passed (without leaves entries) (entry ∷ without leaves entries))) [
+      | true ↦ λ passed. rest
       | false ↦ λ stays. (then entry stays all.0, rest)
     ] refl
 
@@ -72,7 +72,7 @@ only_named Fact one who fact named =
 
 -- a list that names those of a set
 pub all_named : (Fact : Who → Type 0) (entries : List Entry) → AllEntries (λ entry. Fact entry.who) entries → (who : Who)
-    → is_named who (whos entries) ≡ true → Fact who
+    → is_named who (waiters_of entries) ≡ true → Fact who
 all_named Fact [] all who named = absurd (true≢false (sym named))
 all_named Fact (entry ∷ entries) all who named =
     elim (cases_Bool (is_same who entry.who)) [

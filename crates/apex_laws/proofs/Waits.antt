@@ -26,13 +26,7 @@ use Rattle.apex_laws.proofs.WaitSets.{found_set}
 
 set_by : {asked : Request} {chan : Option ℕ} {wanted : WaitingSet} → WaitsIn asked chan wanted → set_of asked chan ≡ Some wanted
 set_by WaitsIn.sends_to_buffer = refl
-set_by WaitsIn.receives_from_buffer = refl
-set_by WaitsIn.reads_blackboard = refl
-set_by WaitsIn.waits_for_semaphore = refl
-set_by WaitsIn.waits_for_event = refl
-set_by WaitsIn.acquires_mutex = refl
-set_by WaitsIn.sends_through = refl
-set_by WaitsIn.receives_through = refl
+set_by _ = refl
 
 -- one set, if it is another
 one_is : (one other : WaitingSet) → ◌≡◌ {A = Option WaitingSet} (Some one) (Some other) → one ≡ other
@@ -80,34 +74,16 @@ entering_is_the_sentence call wanted =
 wait_by : {asked : Request} {chan : Option ℕ} {wanted : WaitingSet} → (now : ℕ) (old : Process) → WaitsIn asked chan wanted
     → wait_of asked chan now old ≡ wait.At wanted (due_of_call (time_out_of asked) now)
 wait_by now old WaitsIn.sends_to_buffer = refl
-wait_by now old WaitsIn.receives_from_buffer = refl
-wait_by now old WaitsIn.reads_blackboard = refl
-wait_by now old WaitsIn.waits_for_semaphore = refl
-wait_by now old WaitsIn.waits_for_event = refl
-wait_by now old WaitsIn.acquires_mutex = refl
-wait_by now old WaitsIn.sends_through = refl
-wait_by now old WaitsIn.receives_through = refl
+wait_by now old _ = refl
 
 due_by_call : {asked : Request} {chan : Option ℕ} {wanted : WaitingSet} → (now : ℕ) (given : ℤ) → WaitsIn asked chan wanted → HasTimeOut asked given
     → due_of_call (time_out_of asked) now ≡ due_time given now
 due_by_call now given WaitsIn.sends_to_buffer same = ap (λ one. due_time one now) (sym same)
-due_by_call now given WaitsIn.receives_from_buffer same = ap (λ one. due_time one now) (sym same)
-due_by_call now given WaitsIn.reads_blackboard same = ap (λ one. due_time one now) (sym same)
-due_by_call now given WaitsIn.waits_for_semaphore same = ap (λ one. due_time one now) (sym same)
-due_by_call now given WaitsIn.waits_for_event same = ap (λ one. due_time one now) (sym same)
-due_by_call now given WaitsIn.acquires_mutex same = ap (λ one. due_time one now) (sym same)
-due_by_call now given WaitsIn.sends_through same = ap (λ one. due_time one now) (sym same)
-due_by_call now given WaitsIn.receives_through same = ap (λ one. due_time one now) (sym same)
+due_by_call now given _ same = ap (λ one. due_time one now) (sym same)
 
 service_by : {asked : Request} {chan : Option ℕ} {wanted : WaitingSet} → WaitsIn asked chan wanted → service_at wanted ≡ service_of asked
 service_by WaitsIn.sends_to_buffer = refl
-service_by WaitsIn.receives_from_buffer = refl
-service_by WaitsIn.reads_blackboard = refl
-service_by WaitsIn.waits_for_semaphore = refl
-service_by WaitsIn.waits_for_event = refl
-service_by WaitsIn.acquires_mutex = refl
-service_by WaitsIn.sends_through = refl
-service_by WaitsIn.receives_through = refl
+service_by _ = refl
 
 -- a process of this core with this wait falls due
 abbrev Due : ℕ → ℕ → Process → Wait → Bool

@@ -16,7 +16,7 @@ use Rattle.apex_machine.specs.Configuration.{Configuration}
 use Rattle.apex_machine.specs.Objects.{acquired, acquired_again, acquired_from, at_maximum, board_read, buffer_received, buffer_sent, displayed, event_set, event_waited, handed_on, mutex_released, not_acquired, raised, released_once, semaphore_waited, signalled}
 use Rattle.apex_machine.specs.Ports.{Ask, Receive, Read, Send, Use, Write, channel_effect, used, reading_of}
 use Rattle.apex_machine.specs.Queue.{Messages, appended, not_yet, received, sent}
-use Rattle.apex_machine.specs.Services.{answer_by, answer_of, fellow, resuming}
+use Rattle.apex_machine.specs.Services.{answer_by, answer_of, peer, resuming}
 use Rattle.apex_machine.specs.State.{Blackboard, Buffer, Channel, Content, Event, Mutex, Partition, Queued, Sampled, Semaphore, Stamped, created, given_object, is_named, item_at}
 use Rattle.apex_machine.specs.Waiting.{first_waiter}
 use Rattle.apex_laws.specs.Laws.{AllEntries, entries_at, entries_in}
@@ -123,7 +123,7 @@ resume_wakes Fact target (Some process) has one named =
 -- a service that uses no channel wakes those who stand in a waiting set that it uses, or suspended themselves
 pub answer_wakes : (Fact : Who → Type 0) (now : ℕ) (who : Who) (partition : Partition) (asked : Request)
     → ((wanted : WaitingSet) → is_set_used asked wanted ≡ true → AllEntries (λ entry. Fact entry.who) (entries_at partition wanted))
-    → ((process : ℤ) (target : Process) → created partition.table process ≡ Some target → is_suspension target.wait ≡ true → Fact (fellow who process))
+    → ((process : ℤ) (target : Process) → created partition.table process ≡ Some target → is_suspension target.wait ≡ true → Fact (peer who process))
     → (one : Who) → is_named one (answer_of now who partition asked).woken ≡ true → Fact one
 answer_wakes Fact now who partition (request.SendBuffer (pos buffer) length time_out message) all suspended one named =
     by_object (Fact one) one (item_at partition.buffers buffer) (λ found. (buffer_sent message time_out found).answer)
@@ -173,7 +173,7 @@ answer_wakes Fact now who partition (request.ReleaseMutex (pos mutex)) all suspe
     (entries_found (λ entry. Fact entry.who) (λ (found : Mutex). found.waiters) (item_at partition.mutexes mutex) found is (all (set.MutexWaiters mutex) (is_itself mutex))) first) one named) named
 answer_wakes Fact now who partition (request.ReleaseMutex (negsuc mutex)) all suspended one named = nobody one [] refl named
 answer_wakes Fact now who partition (request.Resume process) all suspended one named =
-    resume_wakes Fact (fellow who process) (created partition.table process) (λ target found suspends. suspended process target found suspends) one named
+    resume_wakes Fact (peer who process) (created partition.table process) (λ target found suspends. suspended process target found suspends) one named
 answer_wakes Fact now who partition (request.SuspendSelf time_out) all suspended one named = nobody one (cond (is_over time_out) done waiting).woken (done_or_waiting (is_over time_out)) named
 answer_wakes Fact now who partition (request.TimedWait delay) all suspended one named = nobody one (cond (is_over delay) done waiting).woken (done_or_waiting (is_over delay)) named
 answer_wakes Fact now who partition request.PeriodicWait all suspended one named =

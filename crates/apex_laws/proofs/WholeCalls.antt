@@ -18,7 +18,7 @@ use Rattle.apex_machine.specs.declared.state.Wait.{Wait}
 use Rattle.apex_machine.specs.declared.state.Wait.TheVariants as wait
 use Rattle.apex_machine.specs.declared.state.WaitingSet.{WaitingSet}
 use Rattle.apex_machine.specs.declared.state.WaitingSet.TheVariants as set
-use Rattle.apex_machine.specs.After.{adjusted, called, created_by, each_set, is_channel, is_done, numbered, objects_by, objects_called, own_partition, partition_called, roused}
+use Rattle.apex_machine.specs.After.{adjusted, called, created_by, each_set, is_channel, is_done, numbered, objects_by, objects_called, own_partition, partition_called, woken_if_named}
 use Rattle.apex_machine.specs.Answer.{Answer, Effect, HasValues, NamesExactly, done, waking}
 use Rattle.apex_machine.specs.Arguments.{natural_of}
 use Rattle.apex_machine.specs.Channels.{is_receiver, is_sender}
@@ -27,9 +27,9 @@ use Rattle.apex_machine.specs.Configuration.{Configuration, first_core, period_o
 use Rattle.apex_machine.specs.Demands.{CanHave}
 use Rattle.apex_machine.specs.Objects.{at_maximum, displayed, event_set, handed_on, mutex_released, raised, released_once, signalled}
 use Rattle.apex_machine.specs.Ports.{Use, channel_effect, channel_of, suits, suits_use, use_of, used}
-use Rattle.apex_machine.specs.Processes.{caller_after, gift_of, new_process, set_by, stopped, woken_by}
+use Rattle.apex_machine.specs.Processes.{caller_after, message_handed_over, new_process, set_by, stopped, woken_by}
 use Rattle.apex_machine.specs.ServiceConditions.{condition_codes}
-use Rattle.apex_machine.specs.Services.{answer_by, answer_of, fellow, resuming}
+use Rattle.apex_machine.specs.Services.{answer_by, answer_of, peer, resuming}
 use Rattle.apex_machine.specs.State.{Channel, Content, Mutex, Partition, State, Table, created, each_item, given_object, is_named, item_at, time_of}
 use Rattle.apex_machine.specs.Step.{HasCode, HasOutcome, IsLawfulCall, channel_answer}
 use Rattle.apex_machine.specs.Waiting.{first_waiter, is_in, is_waiting, restart_of, set_after, stops, waits_at}
@@ -48,11 +48,11 @@ use Rattle.apex_laws.proofs.Outcomes.{channel_can, through_claimed}
 use Rattle.apex_laws.proofs.Tables.{at_each}
 use Rattle.apex_laws.proofs.ProcessRules.{caller_is_the_sentence, setting_is_the_sentence, waking_is_the_sentence}
 use Rattle.apex_laws.proofs.Records.{stays_each, turns_each}
-use Rattle.apex_laws.proofs.RefusedCalls.{foreign_rest, roused_table}
+use Rattle.apex_laws.proofs.RefusedCalls.{foreign_rest, woken_if_named_table}
 use Rattle.apex_laws.proofs.Steps.{lawful_body, next_channel, next_cores, next_partition}
 use Rattle.apex_laws.proofs.Waiters.{all_weaker}
 use Rattle.apex_laws.proofs.Wakes.{answer_wakes, channel_wakes, nobody}
-use Rattle.apex_laws.proofs.Whos.{free_stands, same_who}
+use Rattle.apex_laws.proofs.WaitersOf.{free_stands, same_who}
 use Rattle.apex_laws.proofs.Woken.{created_is, found}
 
 -- a caller that waits has something to wait for
@@ -115,7 +115,7 @@ own_begun configuration now who partition (request.SetEvent event) process none 
 own_begun configuration now who partition (request.ReleaseMutex mutex) process none waits =
     absurd (by_object_no_wait (given_object partition.mutexes mutex) (λ found. (mutex_released (first_waiter found.discipline found.waiters) found).answer)
     (λ found waits. release_no_wait (first_waiter found.discipline found.waiters) found waits) waits)
-own_begun configuration now who partition (request.Resume process_number) process none waits = absurd (resume_no_wait (fellow who process_number) (created partition.table process_number) waits)
+own_begun configuration now who partition (request.Resume process_number) process none waits = absurd (resume_no_wait (peer who process_number) (created partition.table process_number) waits)
 own_begun configuration now who partition request.StopSelf process none waits = let no : out.Never ≡ out.Waits = waits in cc
 own_begun configuration now who partition (request.SetPartitionMode mode) process none waits = let no : out.Never ≡ out.Waits = waits in cc
 own_begun configuration now who partition _ process none waits = let no : out.Answer code.NoError ≡ out.Waits = waits in cc
@@ -211,11 +211,11 @@ tied_waits Home wanted partitions entries all =
     all_weaker (IsTied Home wanted partitions) (λ entry. OtherAwaited partitions entry.who)
     (λ entry tied old at. in_waits wanted old.wait (and_parts old.alive _ (subst (λ one. waits_at wanted one ≡ true) at tied.1)).1) entries all
 
-fellow_waits : (partitions : ℕ → Partition) (who : Who) (process : ℤ) (target : Process) → created (partitions who.part).table process ≡ Some target → is_suspension target.wait ≡ true
-    → OtherAwaited partitions (fellow who process)
-fellow_waits partitions who process target is suspends old at =
+peer_waits : (partitions : ℕ → Partition) (who : Who) (process : ℤ) (target : Process) → created (partitions who.part).table process ≡ Some target → is_suspension target.wait ≡ true
+    → OtherAwaited partitions (peer who process)
+peer_waits partitions who process target is suspends old at =
     let place = created_is (partitions who.part).table process target is in
-    let number : fellow who process ≡ record { part = who.part; proc = place.0 } = ap (fellow who) place.1 in
+    let number : peer who process ≡ record { part = who.part; proc = place.0 } = ap (peer who) place.1 in
     let both : ◌≡◌ {A = Option Process} (Some target) (Some old) = sym place.2 ∙ sym (ap (found partitions) number) ∙ at in
     let same : target ≡ old = cc in
     subst (λ one. WaitsForOther one.wait) same (suspension_waits target.wait suspends)
@@ -227,7 +227,7 @@ named_waits configuration state now who asked claim tied (code ∷ codes) channe
 named_waits configuration state now who asked claim tied [] None has one named =
     answer_wakes (OtherAwaited state.partitions) now who (state.partitions who.part) asked
     (λ wanted used. tied_waits (λ home. home ≡ who.part) wanted state.partitions (entries_at (state.partitions who.part) wanted) (tied.objects who.part wanted))
-    (λ process target is suspends. fellow_waits state.partitions who process target is suspends)
+    (λ process target is suspends. peer_waits state.partitions who process target is suspends)
     one (sym (has.woken one) ∙ named)
 named_waits configuration state now who asked claim tied [] (Some channel) has one named =
     channel_wakes (OtherAwaited state.partitions) configuration now channel who.part (use_of asked) (state.channels channel)
@@ -252,10 +252,7 @@ not_for_normal : (one : Wait) → WaitsForOther one → waits_for_normal one ≡
 not_for_normal (wait.Suspended due) waits = refl
 not_for_normal (wait.At set due) waits = refl
 not_for_normal wait.Nothing waits = absurd waits
-not_for_normal wait.NormalMode waits = absurd waits
-not_for_normal (wait.FirstRelease time) waits = absurd waits
-not_for_normal (wait.Until time) waits = absurd waits
-not_for_normal (wait.PeriodicRelease time) waits = absurd waits
+not_for_normal _ waits = absurd waits
 
 -- START names nobody
 start_names_nobody : (codes : List Code) (suited : ℕ → Bool) (through : ℕ → Answer) (claim : Claim) → HasOutcome codes None done suited through claim → (one : Who) → is_named one claim.woken ≡ true → ⊥
@@ -295,7 +292,7 @@ objects_are configuration cores place core call partition objects is =
 
 -- what a call adds
 
--- a process that is not among these is found behind them
+-- a process that is not among these is found after them
 pub found_behind : (table more : Table) (number : ℕ) → item_at table number ≡ None → item_at (table ++ more) number ≡ item_at more number
 found_behind [] more number none = refl
 found_behind (entry ∷ entries) more number none =
@@ -385,11 +382,11 @@ call_is_the_sentence configuration state ordered call next above tied order step
     let more = created_by (first_core configuration part) call call.request in
     let sets : ℕ → Process → Process = adjusted place period state.cores partition call in
     let own : next.partitions part ≡ partition_called configuration state.cores place core call partition =
-    partitions part ∙ ap (λ test. cond test (own_partition (restart_of call) configuration state.cores place core call partition) (record partition { table = roused_table place call part table })) (is_itself part)
+    partitions part ∙ ap (λ test. cond test (own_partition (restart_of call) configuration state.cores place core call partition) (record partition { table = woken_if_named_table place call part table })) (is_itself part)
     ∙ ap (λ one. own_partition one configuration state.cores place core call partition) no_restart in
     let arrives : (number : ℕ) (old : Process) → item_at table number ≡ Some old → item_at (next.partitions part).table number ≡ Some (change number old) = λ number old at.
     ap (λ (one : Partition). item_at one.table number) own ∙ found_changed change table more number old at in
-    let fellow_at : (who : Who) → who.part ≡ part → who ≡ record { part = part; proc = who.proc } = λ who here. same_who who (record { part = part; proc = who.proc }) here refl in
+    let peer_at : (who : Who) → who.part ≡ part → who ≡ record { part = part; proc = who.proc } = λ who here. same_who who (record { part = part; proc = who.proc }) here refl in
     let old_at : (who : Who) (old : Process) → who.part ≡ part → process_in state who ≡ Some old → item_at table who.proc ≡ Some old = λ who old here at.
     subst (λ one. item_at (state.partitions one).table who.proc ≡ Some old) here at in
     let new_at : (who : Who) (new : Process) → who.part ≡ part → item_at (next.partitions part).table who.proc ≡ Some new → process_in next who ≡ Some new = λ who new here at.
@@ -404,7 +401,7 @@ call_is_the_sentence configuration state ordered call next above tied order step
         before = caller.1;
         after = arrives call.who.proc caller.0 caller.1
             ∙ ap (λ test. Some (cond test (caller_after place now call (sets call.who.proc caller.0))
-            (cond (stops call (record { part = part; proc = call.who.proc })) (stopped (sets call.who.proc caller.0)) (roused place call (record { part = part; proc = call.who.proc }) (sets call.who.proc caller.0))))) (is_itself call.who.proc);
+            (cond (stops call (record { part = part; proc = call.who.proc })) (stopped (sets call.who.proc caller.0)) (woken_if_named place call (record { part = part; proc = call.who.proc }) (sets call.who.proc caller.0))))) (is_itself call.who.proc);
         change = record {
           set = sets call.who.proc caller.0;
           first = set_first configuration state place call call.who.proc caller.0 (above part);
@@ -418,50 +415,50 @@ call_is_the_sentence configuration state ordered call next above tied order step
         before = at;
         after = new_at who (stopped (sets who.proc old)) here (arrives who.proc old (old_at who old here at)
             ∙ (let other = apart who here differs in
-            let stops_here : stops call (record { part = part; proc = who.proc }) ≡ true = subst (λ one. stops call one ≡ true) (fellow_at who here) stopping in
+            let stops_here : stops call (record { part = part; proc = who.proc }) ≡ true = subst (λ one. stops call one ≡ true) (peer_at who here) stopping in
             rw (other, stops_here) refl));
         change = record { set = sets who.proc old; first = set_first configuration state place call who.proc old (above part); second = refl };
       };
       woken = λ who old here differs at not_stopping named. record {
         old = old;
-        new = woken_by place (gift_of call.request) (sets who.proc old);
+        new = woken_by place (message_handed_over call.request) (sets who.proc old);
         before = at;
-        after = new_at who (woken_by place (gift_of call.request) (sets who.proc old)) here (arrives who.proc old (old_at who old here at)
+        after = new_at who (woken_by place (message_handed_over call.request) (sets who.proc old)) here (arrives who.proc old (old_at who old here at)
             ∙ (let other = apart who here differs in
-            let stops_not : stops call (record { part = part; proc = who.proc }) ≡ false = subst (λ one. stops call one ≡ false) (fellow_at who here) not_stopping in
-            let named_here : is_named (record { part = part; proc = who.proc }) call.claim.woken ≡ true = subst (λ one. is_named one call.claim.woken ≡ true) (fellow_at who here) named in
+            let stops_not : stops call (record { part = part; proc = who.proc }) ≡ false = subst (λ one. stops call one ≡ false) (peer_at who here) not_stopping in
+            let named_here : is_named (record { part = part; proc = who.proc }) call.claim.woken ≡ true = subst (λ one. is_named one call.claim.woken ≡ true) (peer_at who here) named in
             rw (other, stops_not, named_here) refl));
         change = record {
           set = sets who.proc old;
           first = set_first configuration state place call who.proc old (above part);
-          second = (waking_is_the_sentence place (gift_of call.request) (sets who.proc old) (woken_by place (gift_of call.request) (sets who.proc old))
+          second = (waking_is_the_sentence place (message_handed_over call.request) (sets who.proc old) (woken_by place (message_handed_over call.request) (sets who.proc old))
               (named_keeps configuration state place core call law who named who.proc old
               (named_waits configuration state now call.who call.request call.claim tied (condition_codes configuration call.who partition call.request) (channel_of partition call.request) law.outcome who named old at))).0 refl;
         };
       };
-      fellows = λ who old here differs at not_stopping not_named. record {
+      peers = λ who old here differs at not_stopping not_named. record {
         old = old;
         new = sets who.proc old;
         before = at;
         after = new_at who (sets who.proc old) here (arrives who.proc old (old_at who old here at)
             ∙ (let other = apart who here differs in
-            let stops_not : stops call (record { part = part; proc = who.proc }) ≡ false = subst (λ one. stops call one ≡ false) (fellow_at who here) not_stopping in
-            let unnamed : is_named (record { part = part; proc = who.proc }) call.claim.woken ≡ false = subst (λ one. is_named one call.claim.woken ≡ false) (fellow_at who here) not_named in
+            let stops_not : stops call (record { part = part; proc = who.proc }) ≡ false = subst (λ one. stops call one ≡ false) (peer_at who here) not_stopping in
+            let unnamed : is_named (record { part = part; proc = who.proc }) call.claim.woken ≡ false = subst (λ one. is_named one call.claim.woken ≡ false) (peer_at who here) not_named in
             rw (other, stops_not, unnamed) refl));
         change = record { set = sets who.proc old; first = set_first configuration state place call who.proc old (above part); second = refl };
       };
       woken_elsewhere = λ who old there at named.
           let foreign : nat_eq part who.part ≡ false = cannot_hold (nat_eq part who.part) (λ same. there (sym (eqb-true part who.part same))) in
-          let rouse : ℕ → Process → Process = λ number process. roused place call (record { part = who.part; proc = number }) process in
+          let wake_named : ℕ → Process → Process = λ number process. woken_if_named place call (record { part = who.part; proc = number }) process in
           record {
             old = old;
-            new = woken_by place (gift_of call.request) old;
+            new = woken_by place (message_handed_over call.request) old;
             before = at;
             after = ap (λ (one : Partition). item_at one.table who.proc) (partitions who.part)
-                ∙ ap (λ test. item_at (cond test (own_partition (restart_of call) configuration state.cores place core call (state.partitions who.part)) (record (state.partitions who.part) { table = roused_table place call who.part (state.partitions who.part).table })).table who.proc) foreign
-                ∙ turns_each rouse (state.partitions who.part).table who.proc old at
-                ∙ ap (λ test. Some (cond test (woken_by place (gift_of call.request) old) old)) named;
-            change = (waking_is_the_sentence place (gift_of call.request) old (woken_by place (gift_of call.request) old)
+                ∙ ap (λ test. item_at (cond test (own_partition (restart_of call) configuration state.cores place core call (state.partitions who.part)) (record (state.partitions who.part) { table = woken_if_named_table place call who.part (state.partitions who.part).table })).table who.proc) foreign
+                ∙ turns_each wake_named (state.partitions who.part).table who.proc old at
+                ∙ ap (λ test. Some (cond test (woken_by place (message_handed_over call.request) old) old)) named;
+            change = (waking_is_the_sentence place (message_handed_over call.request) old (woken_by place (message_handed_over call.request) old)
                 (named_waits configuration state now call.who call.request call.claim tied (condition_codes configuration call.who partition call.request) (channel_of partition call.request) law.outcome who named old at)).0 refl;
           };
       added = λ number none.
@@ -471,9 +468,9 @@ call_is_the_sentence configuration state ordered call next above tied order step
       elsewhere = λ who there not_named.
           let foreign : nat_eq part who.part ≡ false = cannot_hold (nat_eq part who.part) (λ same. there (sym (eqb-true part who.part same))) in
           ap (λ (one : Partition). item_at one.table who.proc) (partitions who.part)
-          ∙ ap (λ test. item_at (cond test (own_partition (restart_of call) configuration state.cores place core call (state.partitions who.part)) (record (state.partitions who.part) { table = roused_table place call who.part (state.partitions who.part).table })).table who.proc) foreign
-          ∙ stays_each (λ number process. roused place call (record { part = who.part; proc = number }) process) (state.partitions who.part).table who.proc
-          (λ one at. ap (λ test. cond test (woken_by place (gift_of call.request) one) one) not_named);
+          ∙ ap (λ test. item_at (cond test (own_partition (restart_of call) configuration state.cores place core call (state.partitions who.part)) (record (state.partitions who.part) { table = woken_if_named_table place call who.part (state.partitions who.part).table })).table who.proc) foreign
+          ∙ stays_each (λ number process. woken_if_named place call (record { part = who.part; proc = number }) process) (state.partitions who.part).table who.proc
+          (λ one at. ap (λ test. cond test (woken_by place (message_handed_over call.request) one) one) not_named);
       mode = ap (λ (one : Partition). one.mode) own;
       objects = (
         λ done. subst (λ one. ObjectsAre one (objects_by configuration call.who call.claim.val call.request partition)) (sym own)

@@ -16,7 +16,7 @@ use Rattle.apex_machine.specs.Channels.{is_receiver, is_sender}
 use Rattle.apex_machine.specs.DueTimes.{is_suspension}
 use Rattle.apex_machine.specs.Configuration.{Configuration}
 use Rattle.apex_machine.specs.Ports.{suits_use, use_of}
-use Rattle.apex_machine.specs.Services.{answer_of, fellow}
+use Rattle.apex_machine.specs.Services.{answer_of, peer}
 use Rattle.apex_machine.specs.State.{Partition, State, Table, created, is_named, item_at}
 use Rattle.apex_machine.specs.Step.{HasOutcome, channel_answer}
 use Rattle.apex_machine.specs.Waiting.{is_in, waits_at}
@@ -73,12 +73,12 @@ pub suspended_waits_not : (wanted : WaitingSet) (one : Wait) → is_suspension o
 suspended_waits_not wanted (wait.Suspended due) suspends waits = true≢false (sym waits)
 suspended_waits_not wanted _ suspends waits = true≢false (sym suspends)
 
-suspended_fellow : (partitions : ℕ → Partition) (who : Who) (chan : Option ℕ) (process : ℤ) (target : Process) → created (partitions who.part).table process ≡ Some target
-    → is_suspension target.wait ≡ true → IsWokenBy partitions who.part chan (fellow who process)
-suspended_fellow partitions who chan process target is suspends =
+suspended_peer : (partitions : ℕ → Partition) (who : Who) (chan : Option ℕ) (process : ℤ) (target : Process) → created (partitions who.part).table process ≡ Some target
+    → is_suspension target.wait ≡ true → IsWokenBy partitions who.part chan (peer who process)
+suspended_peer partitions who chan process target is suspends =
     let at = created_is (partitions who.part).table process target is in
-    let number : (fellow who process) ≡ record { part = who.part; proc = at.0 } = ap (fellow who) at.1 in
-    let cannot : (wanted : WaitingSet) → waits_at wanted (found partitions (fellow who process)) ≡ true → ⊥ =
+    let number : (peer who process) ≡ record { part = who.part; proc = at.0 } = ap (peer who) at.1 in
+    let cannot : (wanted : WaitingSet) → waits_at wanted (found partitions (peer who process)) ≡ true → ⊥ =
     λ wanted waits.
     let here : waits_at wanted (Some target) ≡ true = subst (λ one. waits_at wanted one ≡ true) at.2 (subst (λ one. waits_at wanted (found partitions one) ≡ true) number waits) in
     suspended_waits_not wanted target.wait suspends (and_parts target.alive _ here).1 in
@@ -109,7 +109,7 @@ woken configuration state now who asked claim tied (code ∷ codes) channel has 
 woken configuration state now who asked claim tied [] None has one named =
     answer_wakes (IsWokenBy state.partitions who.part claim.chan) now who (state.partitions who.part) asked
     (λ wanted used. own_waiter state.partitions who.part wanted claim.chan (entries_at (state.partitions who.part) wanted) refl (tied.objects who.part wanted))
-    (λ process target is suspends. suspended_fellow state.partitions who claim.chan process target is suspends)
+    (λ process target is suspends. suspended_peer state.partitions who claim.chan process target is suspends)
     one (sym (has.woken one) ∙ named)
 woken configuration state now who asked claim tied [] (Some channel) has one named =
     channel_wakes (IsWokenBy state.partitions who.part claim.chan) configuration now channel who.part (use_of asked) (state.channels channel)

@@ -47,16 +47,16 @@ abbrev pub wanting : State
 wanting = play one_partition owning (waits two 20 (request.AcquireMutex (pos 1) (negsuc 0)) ∷ [])
 
 -- the codes for a call in this partition
-abbrev pub told : State → Who → Request → List Code
-told state who asked = codes_for one_partition state who asked
+abbrev pub codes_told : State → Who → Request → List Code
+codes_told state who asked = codes_for one_partition state who asked
 
 -- the codes for a creation of a port, before any other
-abbrev pub told_at_first : ℕ → Request → List Code
-told_at_first partition asked = codes_for two_partitions (cold_state two_partitions) (process_of partition 0) asked
+abbrev pub codes_at_first : ℕ → Request → List Code
+codes_at_first partition asked = codes_for two_partitions (cold_state two_partitions) (process_of partition 0) asked
 
 -- the codes for a call through a port
-abbrev pub told_there : Who → Request → List Code
-told_there who asked = codes_for two_partitions connected who asked
+abbrev pub reported_there : Who → Request → List Code
+reported_there who asked = codes_for two_partitions connected who asked
 
 -- the channel's receivers go by priority, its senders first in first out
 abbrev pub by_ends : Configuration
@@ -79,98 +79,98 @@ waits_later = play one_partition (three_processes (semaphore (pos 0) (pos 1) (po
 -- each of them is computed
 pub record ConditionFacts : Type 0 where
   -- CREATE_PROCESS
-  pub may_create : told furnished initialiser (request.CreateProcess (codes "D") (pos 239) (pos 30)) ≡ []
-  pub name_taken : told furnished initialiser (request.CreateProcess (codes "A") (pos 10) (negsuc 0)) ≡ code.NoAction ∷ []
-  pub no_priority : told furnished initialiser (request.CreateProcess (codes "D") (pos 240) (negsuc 0)) ≡ code.InvalidParam ∷ []
-  pub no_period : told furnished initialiser (request.CreateProcess (codes "D") (pos 10) (negsuc 1)) ≡ code.InvalidParam ∷ []
-  pub no_multiple : told furnished initialiser (request.CreateProcess (codes "D") (pos 10) (pos 15)) ≡ code.InvalidConfig ∷ []
-  pub no_creation_in_normal : told at_work one (request.CreateProcess (codes "D") (pos 10) (negsuc 0)) ≡ code.InvalidMode ∷ []
-  pub no_more_processes : told (play one_partition furnished (aperiodic 0 (codes "D") (pos 4) (pos 10) ∷ [])) initialiser (request.CreateProcess (codes "F") (pos 10) (negsuc 0)) ≡ code.InvalidConfig ∷ []
+  pub may_create : codes_told furnished initialiser (request.CreateProcess (codes "D") (pos 239) (pos 30)) ≡ []
+  pub name_taken : codes_told furnished initialiser (request.CreateProcess (codes "A") (pos 10) (negsuc 0)) ≡ code.NoAction ∷ []
+  pub no_priority : codes_told furnished initialiser (request.CreateProcess (codes "D") (pos 240) (negsuc 0)) ≡ code.InvalidParam ∷ []
+  pub no_period : codes_told furnished initialiser (request.CreateProcess (codes "D") (pos 10) (negsuc 1)) ≡ code.InvalidParam ∷ []
+  pub no_multiple : codes_told furnished initialiser (request.CreateProcess (codes "D") (pos 10) (pos 15)) ≡ code.InvalidConfig ∷ []
+  pub no_creation_in_normal : codes_told at_work one (request.CreateProcess (codes "D") (pos 10) (negsuc 0)) ≡ code.InvalidMode ∷ []
+  pub no_more_processes : codes_told (play one_partition furnished (aperiodic 0 (codes "D") (pos 4) (pos 10) ∷ [])) initialiser (request.CreateProcess (codes "F") (pos 10) (negsuc 0)) ≡ code.InvalidConfig ∷ []
   -- INITIALIZE_PROCESS_CORE_AFFINITY
-  pub may_move : told furnished initialiser (request.InitializeProcessCoreAffinity (pos 1) (pos 0)) ≡ []
-  pub not_its_core : told furnished initialiser (request.InitializeProcessCoreAffinity (pos 1) (pos 1)) ≡ code.InvalidConfig ∷ []
-  pub no_move_in_normal : told at_work one (request.InitializeProcessCoreAffinity (pos 1) (pos 0)) ≡ code.InvalidMode ∷ []
+  pub may_move : codes_told furnished initialiser (request.InitializeProcessCoreAffinity (pos 1) (pos 0)) ≡ []
+  pub not_its_core : codes_told furnished initialiser (request.InitializeProcessCoreAffinity (pos 1) (pos 1)) ≡ code.InvalidConfig ∷ []
+  pub no_move_in_normal : codes_told at_work one (request.InitializeProcessCoreAffinity (pos 1) (pos 0)) ≡ code.InvalidMode ∷ []
   -- START, STOP
-  pub may_start : told at_work one (request.Start (pos 3)) ≡ []
-  pub not_dormant : told at_work one (request.Start (pos 2)) ≡ code.NoAction ∷ []
-  pub not_created : told at_work one (request.Start (pos 4)) ≡ code.InvalidParam ∷ []
-  pub nobodys_start : told at_work one (request.Start (pos 0)) ≡ code.InvalidParam ∷ []
-  pub may_stop : told at_work one (request.Stop (pos 2)) ≡ []
-  pub stops_none : told at_work one (request.Stop (pos 3)) ≡ code.NoAction ∷ []
-  pub stops_itself : told at_work one (request.Stop (pos 1)) ≡ code.InvalidParam ∷ []
+  pub may_start : codes_told at_work one (request.Start (pos 3)) ≡ []
+  pub not_dormant : codes_told at_work one (request.Start (pos 2)) ≡ code.NoAction ∷ []
+  pub not_created : codes_told at_work one (request.Start (pos 4)) ≡ code.InvalidParam ∷ []
+  pub nobodys_start : codes_told at_work one (request.Start (pos 0)) ≡ code.InvalidParam ∷ []
+  pub may_stop : codes_told at_work one (request.Stop (pos 2)) ≡ []
+  pub stops_none : codes_told at_work one (request.Stop (pos 3)) ≡ code.NoAction ∷ []
+  pub stops_itself : codes_told at_work one (request.Stop (pos 1)) ≡ code.InvalidParam ∷ []
   -- SUSPEND, RESUME, SUSPEND_SELF
-  pub may_suspend : told at_work two (request.Suspend (pos 1)) ≡ []
-  pub no_periodic_one : told at_work one (request.Suspend (pos 2)) ≡ code.InvalidMode ∷ []
-  pub no_dormant_one : told at_work one (request.Suspend (pos 3)) ≡ code.InvalidMode ∷ []
-  pub suspended_already : told asleep two (request.Suspend (pos 1)) ≡ code.NoAction ∷ []
-  pub may_resume : told asleep two (request.Resume (pos 1)) ≡ []
-  pub not_suspended : told at_work two (request.Resume (pos 1)) ≡ code.NoAction ∷ []
-  pub resumes_dormant : told at_work one (request.Resume (pos 3)) ≡ code.InvalidMode ∷ []
-  pub may_sleep : told at_work one (request.SuspendSelf (negsuc 0)) ≡ []
-  pub periodic_stays : told at_work two (request.SuspendSelf (negsuc 0)) ≡ code.InvalidMode ∷ []
-  pub owner_stays : told owning one (request.SuspendSelf (negsuc 0)) ≡ code.InvalidMode ∷ []
-  pub no_time_out : told at_work one (request.SuspendSelf (negsuc 1)) ≡ code.InvalidParam ∷ []
+  pub may_suspend : codes_told at_work two (request.Suspend (pos 1)) ≡ []
+  pub no_periodic_one : codes_told at_work one (request.Suspend (pos 2)) ≡ code.InvalidMode ∷ []
+  pub no_dormant_one : codes_told at_work one (request.Suspend (pos 3)) ≡ code.InvalidMode ∷ []
+  pub suspended_already : codes_told asleep two (request.Suspend (pos 1)) ≡ code.NoAction ∷ []
+  pub may_resume : codes_told asleep two (request.Resume (pos 1)) ≡ []
+  pub not_suspended : codes_told at_work two (request.Resume (pos 1)) ≡ code.NoAction ∷ []
+  pub resumes_dormant : codes_told at_work one (request.Resume (pos 3)) ≡ code.InvalidMode ∷ []
+  pub may_sleep : codes_told at_work one (request.SuspendSelf (negsuc 0)) ≡ []
+  pub periodic_stays : codes_told at_work two (request.SuspendSelf (negsuc 0)) ≡ code.InvalidMode ∷ []
+  pub owner_stays : codes_told owning one (request.SuspendSelf (negsuc 0)) ≡ code.InvalidMode ∷ []
+  pub no_time_out : codes_told at_work one (request.SuspendSelf (negsuc 1)) ≡ code.InvalidParam ∷ []
   -- SET_PRIORITY, GET_MY_ID
-  pub may_set : told at_work one (request.SetPriority (pos 2) (pos 1)) ≡ []
-  pub sets_dormant : told at_work one (request.SetPriority (pos 3) (pos 1)) ≡ code.InvalidMode ∷ []
-  pub sets_no_priority : told at_work one (request.SetPriority (pos 2) (pos 0)) ≡ code.InvalidParam ∷ []
-  pub has_no_id : told furnished initialiser request.GetMyId ≡ code.InvalidMode ∷ []
-  pub has_an_id : told at_work one request.GetMyId ≡ []
+  pub may_set : codes_told at_work one (request.SetPriority (pos 2) (pos 1)) ≡ []
+  pub sets_dormant : codes_told at_work one (request.SetPriority (pos 3) (pos 1)) ≡ code.InvalidMode ∷ []
+  pub sets_no_priority : codes_told at_work one (request.SetPriority (pos 2) (pos 0)) ≡ code.InvalidParam ∷ []
+  pub has_no_id : codes_told furnished initialiser request.GetMyId ≡ code.InvalidMode ∷ []
+  pub has_an_id : codes_told at_work one request.GetMyId ≡ []
   -- TIMED_WAIT, PERIODIC_WAIT
-  pub no_delay : told at_work one (request.TimedWait (negsuc 0)) ≡ code.InvalidParam ∷ []
-  pub initialiser_goes_on : told furnished initialiser (request.TimedWait (pos 1)) ≡ code.InvalidMode ∷ []
-  pub owner_goes_on : told owning one (request.TimedWait (pos 1)) ≡ code.InvalidMode ∷ []
-  pub no_period_to_wait : told at_work one request.PeriodicWait ≡ code.InvalidMode ∷ []
-  pub waits_for_its_period : told at_work two request.PeriodicWait ≡ []
+  pub no_delay : codes_told at_work one (request.TimedWait (negsuc 0)) ≡ code.InvalidParam ∷ []
+  pub initialiser_goes_on : codes_told furnished initialiser (request.TimedWait (pos 1)) ≡ code.InvalidMode ∷ []
+  pub owner_goes_on : codes_told owning one (request.TimedWait (pos 1)) ≡ code.InvalidMode ∷ []
+  pub no_period_to_wait : codes_told at_work one request.PeriodicWait ≡ code.InvalidMode ∷ []
+  pub waits_for_its_period : codes_told at_work two request.PeriodicWait ≡ []
   -- SET_PARTITION_MODE
-  pub may_be_normal : told furnished initialiser (request.SetPartitionMode (pos 3)) ≡ []
-  pub is_normal_already : told at_work one (request.SetPartitionMode (pos 3)) ≡ code.NoAction ∷ []
-  pub no_mode : told at_work one (request.SetPartitionMode (pos 4)) ≡ code.InvalidParam ∷ []
-  pub no_warm_start_in_cold_start : told furnished initialiser (request.SetPartitionMode (pos 2)) ≡ code.InvalidMode ∷ []
-  pub may_start_warm : told at_work one (request.SetPartitionMode (pos 2)) ≡ []
-  pub may_start_cold : told furnished initialiser (request.SetPartitionMode (pos 1)) ≡ []
+  pub may_be_normal : codes_told furnished initialiser (request.SetPartitionMode (pos 3)) ≡ []
+  pub is_normal_already : codes_told at_work one (request.SetPartitionMode (pos 3)) ≡ code.NoAction ∷ []
+  pub no_mode : codes_told at_work one (request.SetPartitionMode (pos 4)) ≡ code.InvalidParam ∷ []
+  pub no_warm_start_in_cold_start : codes_told furnished initialiser (request.SetPartitionMode (pos 2)) ≡ code.InvalidMode ∷ []
+  pub may_start_warm : codes_told at_work one (request.SetPartitionMode (pos 2)) ≡ []
+  pub may_start_cold : codes_told furnished initialiser (request.SetPartitionMode (pos 1)) ≡ []
   -- buffers, blackboards
-  pub may_create_buffer : told furnished initialiser (request.CreateBuffer (codes "R") (pos 4) (pos 1) (pos 1)) ≡ []
-  pub buffer_of_nothing : told furnished initialiser (request.CreateBuffer (codes "R") (pos 0) (pos 1) (pos 0)) ≡ code.InvalidParam ∷ []
-  pub no_discipline : told furnished initialiser (request.CreateBuffer (codes "R") (pos 4) (pos 1) (pos 2)) ≡ code.InvalidParam ∷ []
-  pub may_send : told at_work one (request.SendBuffer (pos 1) (pos 4) (negsuc 0) (1 ∷ 2 ∷ 3 ∷ 4 ∷ [])) ≡ []
-  pub too_long : told at_work one (request.SendBuffer (pos 1) (pos 5) (negsuc 0) (1 ∷ 2 ∷ 3 ∷ 4 ∷ 5 ∷ [])) ≡ code.InvalidParam ∷ []
-  pub no_buffer : told at_work one (request.ReceiveBuffer (pos 2) (pos 0)) ≡ code.InvalidParam ∷ []
-  pub owner_may_not_wait : told owning one (request.ReceiveBuffer (pos 1) (pos 5)) ≡ code.InvalidMode ∷ []
-  pub owner_may_look : told owning one (request.ReceiveBuffer (pos 1) (pos 0)) ≡ []
-  pub no_more_blackboards : told furnished initialiser (request.CreateBlackboard (codes "O") (pos 4)) ≡ code.InvalidConfig ∷ []
-  pub too_long_to_display : told at_work one (request.DisplayBlackboard (pos 1) (pos 5) (1 ∷ 2 ∷ 3 ∷ 4 ∷ 5 ∷ [])) ≡ code.InvalidParam ∷ []
-  pub initialiser_may_not_read : told furnished initialiser (request.ReadBlackboard (pos 1) (negsuc 0)) ≡ code.InvalidMode ∷ []
+  pub may_create_buffer : codes_told furnished initialiser (request.CreateBuffer (codes "R") (pos 4) (pos 1) (pos 1)) ≡ []
+  pub buffer_of_nothing : codes_told furnished initialiser (request.CreateBuffer (codes "R") (pos 0) (pos 1) (pos 0)) ≡ code.InvalidParam ∷ []
+  pub no_discipline : codes_told furnished initialiser (request.CreateBuffer (codes "R") (pos 4) (pos 1) (pos 2)) ≡ code.InvalidParam ∷ []
+  pub may_send : codes_told at_work one (request.SendBuffer (pos 1) (pos 4) (negsuc 0) (1 ∷ 2 ∷ 3 ∷ 4 ∷ [])) ≡ []
+  pub too_long : codes_told at_work one (request.SendBuffer (pos 1) (pos 5) (negsuc 0) (1 ∷ 2 ∷ 3 ∷ 4 ∷ 5 ∷ [])) ≡ code.InvalidParam ∷ []
+  pub no_buffer : codes_told at_work one (request.ReceiveBuffer (pos 2) (pos 0)) ≡ code.InvalidParam ∷ []
+  pub owner_may_not_wait : codes_told owning one (request.ReceiveBuffer (pos 1) (pos 5)) ≡ code.InvalidMode ∷ []
+  pub owner_may_look : codes_told owning one (request.ReceiveBuffer (pos 1) (pos 0)) ≡ []
+  pub no_more_blackboards : codes_told furnished initialiser (request.CreateBlackboard (codes "O") (pos 4)) ≡ code.InvalidConfig ∷ []
+  pub too_long_to_display : codes_told at_work one (request.DisplayBlackboard (pos 1) (pos 5) (1 ∷ 2 ∷ 3 ∷ 4 ∷ 5 ∷ [])) ≡ code.InvalidParam ∷ []
+  pub initialiser_may_not_read : codes_told furnished initialiser (request.ReadBlackboard (pos 1) (negsuc 0)) ≡ code.InvalidMode ∷ []
   -- semaphores, events
-  pub above_maximum : told (cold_state one_partition) initialiser (request.CreateSemaphore (codes "S") (pos 2) (pos 1) (pos 0)) ≡ code.InvalidParam ∷ []
-  pub waits_wrongly : told at_work one (request.WaitSemaphore (pos 1) (negsuc 1)) ≡ code.InvalidParam ∷ []
-  pub no_semaphore : told at_work one (request.SignalSemaphore (pos 2)) ≡ code.InvalidParam ∷ []
-  pub no_event : told at_work one (request.SetEvent (negsuc 0)) ≡ code.InvalidParam ∷ []
-  pub owner_awaits_no_event : told owning one (request.WaitEvent (pos 1) (negsuc 0)) ≡ code.InvalidMode ∷ []
+  pub above_maximum : codes_told (cold_state one_partition) initialiser (request.CreateSemaphore (codes "S") (pos 2) (pos 1) (pos 0)) ≡ code.InvalidParam ∷ []
+  pub waits_wrongly : codes_told at_work one (request.WaitSemaphore (pos 1) (negsuc 1)) ≡ code.InvalidParam ∷ []
+  pub no_semaphore : codes_told at_work one (request.SignalSemaphore (pos 2)) ≡ code.InvalidParam ∷ []
+  pub no_event : codes_told at_work one (request.SetEvent (negsuc 0)) ≡ code.InvalidParam ∷ []
+  pub owner_awaits_no_event : codes_told owning one (request.WaitEvent (pos 1) (negsuc 0)) ≡ code.InvalidMode ∷ []
   -- mutexes
-  pub may_acquire : told at_work one (request.AcquireMutex (pos 1) (negsuc 0)) ≡ []
-  pub may_acquire_again : told owning one (request.AcquireMutex (pos 1) (negsuc 0)) ≡ []
-  pub too_high : told (play one_partition at_work (does one (request.SetPriority (pos 2) (pos 60)) ∷ [])) two (request.AcquireMutex (pos 1) (pos 0)) ≡ code.InvalidMode ∷ []
-  pub initialiser_owns_none : told furnished initialiser (request.AcquireMutex (pos 1) (pos 0)) ≡ code.InvalidMode ∷ []
-  pub may_release : told owning one (request.ReleaseMutex (pos 1)) ≡ []
-  pub not_the_owner : told owning two (request.ReleaseMutex (pos 1)) ≡ code.InvalidMode ∷ []
+  pub may_acquire : codes_told at_work one (request.AcquireMutex (pos 1) (negsuc 0)) ≡ []
+  pub may_acquire_again : codes_told owning one (request.AcquireMutex (pos 1) (negsuc 0)) ≡ []
+  pub too_high : codes_told (play one_partition at_work (does one (request.SetPriority (pos 2) (pos 60)) ∷ [])) two (request.AcquireMutex (pos 1) (pos 0)) ≡ code.InvalidMode ∷ []
+  pub initialiser_owns_none : codes_told furnished initialiser (request.AcquireMutex (pos 1) (pos 0)) ≡ code.InvalidMode ∷ []
+  pub may_release : codes_told owning one (request.ReleaseMutex (pos 1)) ≡ []
+  pub not_the_owner : codes_told owning two (request.ReleaseMutex (pos 1)) ≡ code.InvalidMode ∷ []
   -- ports
-  pub sampling_as_configured : told_at_first 1 (request.CreateSamplingPort (codes "S") (pos 4) (pos 1) (pos 5)) ≡ []
-  pub other_refresh : told_at_first 1 (request.CreateSamplingPort (codes "S") (pos 4) (pos 1) (pos 6)) ≡ code.InvalidConfig ∷ []
-  pub any_refresh_at_source : told_at_first 0 (request.CreateSamplingPort (codes "S") (pos 4) (pos 0) (pos 6)) ≡ []
-  pub other_direction : told_at_first 0 (request.CreateSamplingPort (codes "S") (pos 4) (pos 1) (pos 5)) ≡ code.InvalidConfig ∷ []
-  pub no_port_of_that_name : told_at_first 0 (request.CreateSamplingPort (codes "Q") (pos 4) (pos 0) (pos 5)) ≡ code.InvalidConfig ∷ []
-  pub queuing_as_configured : told_at_first 1 (request.CreateQueuingPort (codes "Q") (pos 4) (pos 1) (pos 1)) ≡ []
-  pub other_discipline : told_at_first 1 (request.CreateQueuingPort (codes "Q") (pos 4) (pos 1) (pos 3)) ≡ code.InvalidConfig ∷ []
-  pub other_capacity : told_at_first 0 (request.CreateQueuingPort (codes "Q") (pos 4) (pos 2) (pos 0)) ≡ code.InvalidConfig ∷ []
-  pub may_write : told_there one (request.WriteSamplingMessage (pos 1) (pos 1) (1 ∷ [])) ≡ []
-  pub writes_no_destination : told_there there (request.WriteSamplingMessage (pos 1) (pos 1) (1 ∷ [])) ≡ code.InvalidMode ∷ []
-  pub writes_too_long : told_there one (request.WriteSamplingMessage (pos 1) (pos 5) (1 ∷ 2 ∷ 3 ∷ 4 ∷ 5 ∷ [])) ≡ code.InvalidConfig ∷ []
-  pub reads_no_source : told_there one (request.ReadSamplingMessage (pos 1)) ≡ code.InvalidMode ∷ []
-  pub may_read : told_there there (request.ReadSamplingMessage (pos 1)) ≡ []
-  pub sends_to_no_destination : told_there there (request.SendQueuingMessage (pos 1) (pos 1) (pos 0) (1 ∷ [])) ≡ code.InvalidMode ∷ []
-  pub receives_from_no_source : told_there one (request.ReceiveQueuingMessage (pos 1) (pos 0)) ≡ code.InvalidMode ∷ []
-  pub no_port : told_there one (request.ReceiveQueuingMessage (pos 2) (pos 0)) ≡ code.InvalidParam ∷ []
+  pub sampling_as_configured : codes_at_first 1 (request.CreateSamplingPort (codes "S") (pos 4) (pos 1) (pos 5)) ≡ []
+  pub other_refresh : codes_at_first 1 (request.CreateSamplingPort (codes "S") (pos 4) (pos 1) (pos 6)) ≡ code.InvalidConfig ∷ []
+  pub any_refresh_at_source : codes_at_first 0 (request.CreateSamplingPort (codes "S") (pos 4) (pos 0) (pos 6)) ≡ []
+  pub other_direction : codes_at_first 0 (request.CreateSamplingPort (codes "S") (pos 4) (pos 1) (pos 5)) ≡ code.InvalidConfig ∷ []
+  pub no_port_of_that_name : codes_at_first 0 (request.CreateSamplingPort (codes "Q") (pos 4) (pos 0) (pos 5)) ≡ code.InvalidConfig ∷ []
+  pub queuing_as_configured : codes_at_first 1 (request.CreateQueuingPort (codes "Q") (pos 4) (pos 1) (pos 1)) ≡ []
+  pub other_discipline : codes_at_first 1 (request.CreateQueuingPort (codes "Q") (pos 4) (pos 1) (pos 3)) ≡ code.InvalidConfig ∷ []
+  pub other_capacity : codes_at_first 0 (request.CreateQueuingPort (codes "Q") (pos 4) (pos 2) (pos 0)) ≡ code.InvalidConfig ∷ []
+  pub may_write : reported_there one (request.WriteSamplingMessage (pos 1) (pos 1) (1 ∷ [])) ≡ []
+  pub writes_no_destination : reported_there there (request.WriteSamplingMessage (pos 1) (pos 1) (1 ∷ [])) ≡ code.InvalidMode ∷ []
+  pub writes_too_long : reported_there one (request.WriteSamplingMessage (pos 1) (pos 5) (1 ∷ 2 ∷ 3 ∷ 4 ∷ 5 ∷ [])) ≡ code.InvalidConfig ∷ []
+  pub reads_no_source : reported_there one (request.ReadSamplingMessage (pos 1)) ≡ code.InvalidMode ∷ []
+  pub may_read : reported_there there (request.ReadSamplingMessage (pos 1)) ≡ []
+  pub sends_to_no_destination : reported_there there (request.SendQueuingMessage (pos 1) (pos 1) (pos 0) (1 ∷ [])) ≡ code.InvalidMode ∷ []
+  pub receives_from_no_source : reported_there one (request.ReceiveQueuingMessage (pos 1) (pos 0)) ≡ code.InvalidMode ∷ []
+  pub no_port : reported_there one (request.ReceiveQueuingMessage (pos 2) (pos 0)) ≡ code.InvalidParam ∷ []
   -- the disciplines of a channel's ends
   pub senders_by_source : sending_discipline by_ends 0 ≡ discipline.Fifo
   pub receivers_by_destination : receiving_discipline by_ends 0 ≡ discipline.Priority

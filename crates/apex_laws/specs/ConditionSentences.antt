@@ -1,7 +1,7 @@
 -- The error conditions of the services, in sentences: one case for each condition of each service, with what holds in the caller's
 -- partition and the code. A condition that several services share stands once.
 use Rattle.std.specs.Prelude.{◌≡◌, ◌⊎◌, ℕ, ◌*◌, ◌-◌, ◌<◌, ◌≤◌, ℤ, pos, negsuc, ◌<ℤ◌, ◌≤ℤ◌, List, length, Option, Some, IsTrue, IsFalse, Contains}
-use Rattle.apex_types.specs.Bounds.{greatest_maximum, greatest_priority, longest_message, most_messages}
+use Rattle.apex_types.specs.declared.limits.TheConstants.{GREATEST_MAXIMUM, GREATEST_PRIORITY, LONGEST_MESSAGE, MOST_MESSAGES}
 use Rattle.apex_types.specs.declared.code.Code.{Code}
 use Rattle.apex_types.specs.declared.code.Code.TheVariants as code
 use Rattle.apex_types.specs.declared.discipline.Discipline.{Discipline}
@@ -28,11 +28,11 @@ IsFrom least greatest given = (least ≤ℤ given) × (given ≤ℤ greatest)
 
 -- a priority is 1 to 239
 abbrev pub IsPriority : ℤ → Type 0
-IsPriority given = IsFrom (pos 1) (pos greatest_priority) given
+IsPriority given = IsFrom (pos 1) (pos GREATEST_PRIORITY) given
 
 -- a message size is 1 to 8,192 bytes
 abbrev pub IsSize : ℤ → Type 0
-IsSize given = IsFrom (pos 1) (pos longest_message) given
+IsSize given = IsFrom (pos 1) (pos LONGEST_MESSAGE) given
 
 -- a discipline is 0 or 1
 abbrev pub IsDiscipline : ℤ → Type 0
@@ -293,7 +293,7 @@ module _ (configuration : Configuration) (who : Who) (partition : Partition) whe
     set_mode_warm : {next : ℤ} → next ≡ pos 2 → partition.mode ≡ mode.ColdStart → HasCondition (request.SetPartitionMode next) code.InvalidMode
     -- CREATE_BUFFER: no message size; a number of messages that is not 1 to 1,024; no discipline
     create_buffer_size : {name : List ℕ} {size capacity given : ℤ} → ¬ IsSize size → HasCondition (request.CreateBuffer name size capacity given) code.InvalidParam
-    create_buffer_capacity : {name : List ℕ} {size capacity given : ℤ} → ¬ IsFrom (pos 1) (pos most_messages) capacity
+    create_buffer_capacity : {name : List ℕ} {size capacity given : ℤ} → ¬ IsFrom (pos 1) (pos MOST_MESSAGES) capacity
         → HasCondition (request.CreateBuffer name size capacity given) code.InvalidParam
     create_buffer_discipline : {name : List ℕ} {size capacity given : ℤ} → ¬ IsDiscipline given → HasCondition (request.CreateBuffer name size capacity given) code.InvalidParam
     -- SEND_BUFFER: a message without a byte; one that is longer than the buffer's size
@@ -307,7 +307,7 @@ module _ (configuration : Configuration) (who : Who) (partition : Partition) whe
     display_long : {blackboard length : ℤ} {message : List ℕ} (found : Blackboard) → IsObject partition.blackboards blackboard found → pos found.size <ℤ length
         → HasCondition (request.DisplayBlackboard blackboard length message) code.InvalidParam
     -- CREATE_SEMAPHORE: a maximum that is not 1 to 32,767; a value that is not 0 to the maximum; no discipline
-    create_semaphore_maximum : {name : List ℕ} {value maximum given : ℤ} → ¬ IsFrom (pos 1) (pos greatest_maximum) maximum
+    create_semaphore_maximum : {name : List ℕ} {value maximum given : ℤ} → ¬ IsFrom (pos 1) (pos GREATEST_MAXIMUM) maximum
         → HasCondition (request.CreateSemaphore name value maximum given) code.InvalidParam
     create_semaphore_value : {name : List ℕ} {value maximum given : ℤ} → ¬ IsFrom (pos 0) maximum value
         → HasCondition (request.CreateSemaphore name value maximum given) code.InvalidParam

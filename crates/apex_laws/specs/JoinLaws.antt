@@ -1,18 +1,18 @@
--- The laws on what a piece makes of one list of records behind another.
+-- The laws on what a piece makes of one list of records after another.
 use Rattle.std.specs.Prelude.{◌≡◌, ◌⊎◌, ◌↔◌, List, ◌∷◌, ◌++◌, Option, Some, None}
 use Rattle.apex_types.specs.declared.record.Ordered.{Ordered}
 use Rattle.apex_machine.specs.Configuration.{Configuration}
 use Rattle.apex_machine.specs.Pieces.{Part, Piece}
 use Rattle.apex_machine.specs.Runs.{Finds, PieceRun, Refusal, Refuses}
 
--- a run over one list behind another is a run over the first, and from where it ends a run over the second
+-- a run over one list after another is a run over the first, and from where it ends a run over the second
 abbrev pub RunsJoin : Type 0
 RunsJoin =
     (configuration : Configuration) (piece : Piece) (old : Part) (first second : List Ordered) (final : Part)
     → PieceRun configuration piece old (first ++ second) final
     ↔ ((reached : Part) × PieceRun configuration piece old first reached × PieceRun configuration piece reached second final)
 
--- what a piece finds in one list behind another is what it finds in the first, or else, from where its run over the first
+-- what a piece finds in one list after another is what it finds in the first, or else, from where its run over the first
 -- ends, what it finds in the second
 abbrev pub FindingsJoin : Type 0
 FindingsJoin =
@@ -27,7 +27,7 @@ NothingFoundIsARun =
     (configuration : Configuration) (piece : Piece) (old : Part) (records : List Ordered)
     → Finds configuration piece old records None ↔ ((final : Part) × PieceRun configuration piece old records final)
 
--- a piece finds a refusal exactly where it runs up to a record and refuses that one, whatever stands behind it
+-- a piece finds a refusal exactly where it runs up to a record and refuses that one, whatever comes after it
 abbrev pub FoundIsRefused : Type 0
 FoundIsRefused =
     (configuration : Configuration) (piece : Piece) (old : Part) (records : List Ordered) (refusal : Refusal)

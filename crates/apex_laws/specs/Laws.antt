@@ -88,7 +88,7 @@ StaysTied =
 
 -- the order of the entries in the waiting sets of the states that a run reaches
 
--- a fact about each two entries of a set, of which the second stands behind the first
+-- a fact about each two entries of a set, of which the second comes after the first
 abbrev pub AllPairs : (Entry → Entry → Type 0) → List Entry → Type 0
 AllPairs Fact [] = Unit {0}
 AllPairs Fact (entry ∷ entries) = AllEntries (Fact entry) entries × AllPairs Fact entries

@@ -1,6 +1,6 @@
 -- Processes and objects by their numbers: what is found under a number, and which numbers are new.
 use Rattle.std.specs.Prelude.{◌≡◌, ◌↔◌, ℕ, ◌<◌, ◌≤◌, ℤ, pos, List, Option, Some, None, IsTrue, Contains}
-use Rattle.apex_types.specs.Bounds.{greatest_number}
+use Rattle.apex_types.specs.declared.limits.TheConstants.{GREATEST_NUMBER}
 use Rattle.apex_machine.specs.declared.state.Process.{Process}
 use Rattle.apex_machine.specs.Answer.{HasValue, NewNumber}
 use Rattle.apex_machine.specs.State.{Blackboard, Buffer, Event, Mutex, Port, Semaphore, Table, is_free, item_at}
@@ -52,7 +52,7 @@ pub record IsNewNumber {Object : Type 0} (objects : List (ℕ × Object)) (claim
   pub number : ℕ
   pub is : claimed ≡ Some (pos number)
   pub least : 0 < number
-  pub greatest : number ≤ greatest_number
+  pub greatest : number ≤ GREATEST_NUMBER
   pub free : (object : Object) → ¬ Contains objects (number, object)
 
 -- the value of a creation of an object is a new number of the kind

@@ -6,7 +6,7 @@ use Rattle.apex_types.specs.declared.record.Out.{Out}
 use Rattle.apex_types.specs.declared.record.Out.TheVariants as out
 use Rattle.apex_types.specs.declared.record.Who.{Who}
 use Rattle.apex_machine.specs.declared.state.Entry.{Entry}
-use Rattle.apex_machine.specs.Answer.{Effect, Nothing, Number, whos}
+use Rattle.apex_machine.specs.Answer.{Effect, Nothing, Number, waiters_of}
 use Rattle.apex_machine.specs.Channels.{capacity_of, is_at_destination, is_at_source, receiving_discipline, refresh_of, sending_discipline}
 use Rattle.apex_machine.specs.Configuration.{Configuration}
 use Rattle.apex_machine.specs.Ports.{Ask, Receive, Read, Send, Use, Write, on_queuing, on_sampling}
@@ -51,7 +51,7 @@ pub data IsReceiving (time_out : ℤ) (discipline : Discipline) (senders : List 
 
 -- DISPLAY_BLACKBOARD: the message replaces the last one, and every waiting reader is released
 abbrev pub IsDisplay : List ℕ → List Entry → Effect (Option (List ℕ)) → Type 0
-IsDisplay message readers effect = effect ≡ gives no_error [] (whos readers) (Some message)
+IsDisplay message readers effect = effect ≡ gives no_error [] (waiters_of readers) (Some message)
 
 -- READ_BLACKBOARD: the message that is displayed, which stays; of an empty blackboard it cannot be had
 pub data IsReading (time_out : ℤ) (message : Option (List ℕ)) (effect : Effect (Option (List ℕ))) : Type 0 where
@@ -76,7 +76,7 @@ pub data IsSignal (maximum : ℕ) (discipline : Discipline) (waiters : List Entr
 
 -- SET_EVENT: the event is up, and every waiter is released
 abbrev pub IsSetting : List Entry → Effect Bool → Type 0
-IsSetting waiters effect = effect ≡ gives no_error [] (whos waiters) true
+IsSetting waiters effect = effect ≡ gives no_error [] (waiters_of waiters) true
 
 -- RESET_EVENT: the event is down
 abbrev pub IsResetting : Effect Bool → Type 0
@@ -125,7 +125,7 @@ tells_channel messages waiting = record {
 
 -- a use of a channel of its kind: a sampling channel is written and read; a queuing channel's messages go to the receivers of
 -- its destination port and come from the senders of its source port, each set by its own port's discipline; a partition at one of its ends
--- is told how many wait there
+-- gets how many wait there
 pub data IsUse (configuration : Configuration) (now number partition : ℕ) (channel : Channel) (how : Use) (effect : Effect Content) : Type 0 where
   writes : (message : List ℕ) (last : Option Stamped) (inner : Effect (Option Stamped)) → how ≡ Write message → channel.content ≡ Sampled last → IsWriting now message inner
       → effect ≡ on_sampling inner → IsUse configuration now number partition channel how effect

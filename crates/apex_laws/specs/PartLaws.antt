@@ -1,6 +1,7 @@
 -- The laws on one partition alone, for the piece that holds it: from its own demands, whatever the other pieces do. Each is the
 -- contract of a function in `src/lib.rt`.
 use Rattle.std.specs.Prelude.{◌≡◌, ◌≤◌, ◌<◌, ℕ, ◌+◌, List, [], ◌∷◌, ◌++◌, Option, None, if◌then◌else◌, Bool, true, false, IsTrue, IsFalse, is_some, ◌&&◌, ◌||◌}
+use Rattle.apex_types.specs.declared.object_kind.ObjectKind.{ObjectKind}
 use Rattle.apex_types.specs.declared.record.Body.TheVariants.{Call, Disp, Ret, Tick}
 use Rattle.apex_types.specs.declared.record.Call.{Call as CallRecord}
 use Rattle.apex_types.specs.declared.record.Ordered.{Ordered}
@@ -18,21 +19,15 @@ use Rattle.apex_machine.specs.Demands.{AllHold, IsRunning, own_call_demands, par
 use Rattle.apex_machine.specs.Pieces.{stops_some}
 use Rattle.apex_machine.specs.Ports.{channel_of}
 use Rattle.apex_machine.specs.Services.{answer_of}
-use Rattle.apex_machine.specs.State.{Partition, cold_partition, is_named, item_at, time_of}
+use Rattle.apex_machine.specs.State.{Partition, cold_partition, is_named, item_at, objects_of, time_of}
 use Rattle.apex_machine.specs.Waiting.{enters, entry_of, is_no_error, is_same_set, restart_of, set_after, stop_of, waits_at, without}
 use Rattle.apex_laws.specs.Laws.{AllEntries, IsInOrder, are_distinct, entries_at}
 
 -- a sound partition
 
 -- no two objects or ports of a kind have one number
-pub record HasDistinctObjects (partition : Partition) : Type 0 where
-  pub buffers : IsTrue (are_distinct partition.buffers)
-  pub blackboards : IsTrue (are_distinct partition.blackboards)
-  pub semaphores : IsTrue (are_distinct partition.semaphores)
-  pub events : IsTrue (are_distinct partition.events)
-  pub mutexes : IsTrue (are_distinct partition.mutexes)
-  pub sampling_ports : IsTrue (are_distinct partition.sampling_ports)
-  pub queuing_ports : IsTrue (are_distinct partition.queuing_ports)
+abbrev pub HasDistinctObjects : Partition → Type 0
+HasDistinctObjects partition = (kind : ObjectKind) → IsTrue (are_distinct (objects_of partition kind))
 
 -- whether a waiting set is a channel's
 abbrev pub is_of_channel : WaitingSet → Bool

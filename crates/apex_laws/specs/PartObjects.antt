@@ -19,7 +19,7 @@ use Rattle.apex_machine.specs.Channels.{queuing_port, sampling_port}
 use Rattle.apex_machine.specs.Configuration.{Configuration}
 use Rattle.apex_machine.specs.Objects.{acquired, buffer_received, buffer_sent, cleared, displayed, event_reset, event_set, mutex_released, semaphore_waited, signalled}
 use Rattle.apex_machine.specs.Pieces.{stops_some}
-use Rattle.apex_machine.specs.Services.{fellow}
+use Rattle.apex_machine.specs.Services.{peer}
 use Rattle.apex_machine.specs.State.{Partition, Port, Table, change_at, created, is_named, is_same}
 use Rattle.apex_machine.specs.Waiting.{first_waiter, is_in, is_no_error, set_after, without}
 use Rattle.apex_laws.specs.Laws.{entries_at}
@@ -177,9 +177,9 @@ StoppedLeaves =
     (configuration : Configuration) (number place core : ℕ) (cores : List CoreState) (partition : Partition) (call : CallRecord)
     → IsOwnCall configuration number place core cores partition call → (process : ℤ) → call.request ≡ request.Stop process → IsTrue (is_no_error call.claim.out)
     → (target : Process) → created partition.table process ≡ Some target
-    → ((wanted : WaitingSet) → set_after place (Call call) wanted (entries_at partition wanted) ≡ without_one (fellow call.who process) (entries_at partition wanted))
+    → ((wanted : WaitingSet) → set_after place (Call call) wanted (entries_at partition wanted) ≡ without_one (peer call.who process) (entries_at partition wanted))
     × ((wanted : WaitingSet) → IsFalse (is_in wanted target.wait) → set_after place (Call call) wanted (entries_at partition wanted) ≡ entries_at partition wanted)
-    × (objects_called configuration place call partition ≡ left_by (fellow call.who process) target.wait partition)
+    × (objects_called configuration place call partition ≡ left_by (peer call.who process) target.wait partition)
 
 -- ticks
 

@@ -22,7 +22,7 @@ use Rattle.apex_machine.specs.Objects.{acquired, mutex_released}
 use Rattle.apex_machine.specs.Processes.{outcome_of}
 use Rattle.apex_machine.specs.Answer.{Answer, NewNumber, Number, done, done_with, never, waiting, waking}
 use Rattle.apex_machine.specs.Names.{number_found, number_of}
-use Rattle.apex_machine.specs.Services.{answer_of, fellow}
+use Rattle.apex_machine.specs.Services.{answer_of, peer}
 use Rattle.apex_machine.specs.Statuses.{status_of, telling}
 use Rattle.apex_machine.specs.State.{Mutex, Partition, created, given_object, is_free, item_at, time_of}
 use Rattle.apex_machine.specs.Waiting.{first_waiter, service_at, set_of}
@@ -221,7 +221,7 @@ pub data IsResuming (target : Who) (found : Option Process) (answer : Answer) : 
 abbrev pub IsAnswer : ℕ → Who → Partition → Request → Answer → Type 0
 IsAnswer now who partition request.StopSelf answer = answer ≡ never
 IsAnswer now who partition (request.SuspendSelf time_out) answer = IsOverOrWaits (time_out ≡ pos 0) answer
-IsAnswer now who partition (request.Resume process) answer = IsResuming (fellow who process) (created partition.table process) answer
+IsAnswer now who partition (request.Resume process) answer = IsResuming (peer who process) (created partition.table process) answer
 IsAnswer now who partition request.GetMyId answer = answer ≡ done_with (Number (pos who.proc))
 IsAnswer now who partition (request.TimedWait ticks) answer = IsOverOrWaits (ticks ≡ pos 0) answer
 IsAnswer now who partition request.PeriodicWait answer = IsOverOrWaits (IsAtRelease now (item_at partition.table who.proc)) answer

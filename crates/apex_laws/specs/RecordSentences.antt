@@ -19,7 +19,7 @@ use Rattle.apex_machine.specs.Arguments.{natural_of, period_given}
 use Rattle.apex_machine.specs.Choice.{IsReady}
 use Rattle.apex_machine.specs.Configuration.{Configuration, first_core, has_partition, period_of}
 use Rattle.apex_machine.specs.Ports.{Use, use_of}
-use Rattle.apex_machine.specs.Processes.{gift_of}
+use Rattle.apex_machine.specs.Processes.{message_handed_over}
 use Rattle.apex_machine.specs.State.{Channel, Content, Partition, State, Table, is_named, occupant_of, item_at, time_of}
 use Rattle.apex_machine.specs.Step.{IsAmong}
 use Rattle.apex_machine.specs.Waiting.{ends_wait, enters, entry_of, stops}
@@ -196,11 +196,11 @@ pub record IsCallOf (configuration : Configuration) (place now : ℕ) (call : Ca
   pub stopped : (who : Who) (old : Process) → who.part ≡ call.who.part → ¬ (who ≡ call.who) → process_in state who ≡ Some old → IsTrue (stops call who)
       → Turns (SetAnd configuration state place call who.proc IsStopped) state next who
   pub woken : (who : Who) (old : Process) → who.part ≡ call.who.part → ¬ (who ≡ call.who) → process_in state who ≡ Some old → IsFalse (stops call who)
-      → IsTrue (is_named who call.claim.woken) → Turns (SetAnd configuration state place call who.proc (IsWoken place (gift_of call.request))) state next who
-  pub fellows : (who : Who) (old : Process) → who.part ≡ call.who.part → ¬ (who ≡ call.who) → process_in state who ≡ Some old → IsFalse (stops call who)
+      → IsTrue (is_named who call.claim.woken) → Turns (SetAnd configuration state place call who.proc (IsWoken place (message_handed_over call.request))) state next who
+  pub peers : (who : Who) (old : Process) → who.part ≡ call.who.part → ¬ (who ≡ call.who) → process_in state who ≡ Some old → IsFalse (stops call who)
       → IsFalse (is_named who call.claim.woken) → Turns (SetAnd configuration state place call who.proc IsSame) state next who
   pub woken_elsewhere : (who : Who) (old : Process) → ¬ (who.part ≡ call.who.part) → process_in state who ≡ Some old
-      → IsTrue (is_named who call.claim.woken) → Turns (IsWoken place (gift_of call.request)) state next who
+      → IsTrue (is_named who call.claim.woken) → Turns (IsWoken place (message_handed_over call.request)) state next who
   pub added : (number : ℕ) → item_at (state.partitions call.who.part).table number ≡ None → IsAdded configuration call number (item_at (next.partitions call.who.part).table number)
   pub elsewhere : (who : Who) → ¬ (who.part ≡ call.who.part) → IsFalse (is_named who call.claim.woken) → Stays state next who
   pub mode : (next.partitions call.who.part).mode

@@ -1,5 +1,5 @@
--- The numbers in a view's fields, told by lists: a service, a code or an outcome has the number of its place.
-use Rattle.std.specs.Prelude.{◌≡◌, ◌≤◌, ℕ, ◌-◌, pos, List, [], ◌∷◌, Some}
+-- The numbers in a view's fields, given by lists: a service, a code or an outcome has the number of its place.
+use Rattle.std.specs.Prelude.{◌≡◌, ◌≤◌, ℕ, ◌-◌, pos, List, [], ◌∷◌, Some, map}
 use Rattle.std.specs.List.{slice_get}
 use Rattle.apex_types.specs.declared.code.Code.TheVariants as code
 use Rattle.apex_types.specs.declared.record.Body.{Body}
@@ -7,24 +7,15 @@ use Rattle.apex_types.specs.declared.record.Body.TheVariants.{Call, Ret, Disp, T
 use Rattle.apex_types.specs.declared.record.Out.{Out}
 use Rattle.apex_types.specs.declared.record.Out.TheVariants as out
 use Rattle.apex_types.specs.declared.service.Service.{Service}
-use Rattle.apex_types.specs.declared.service.Service.TheVariants as service
+use Rattle.apex_types.specs.declared.service.TheConstants.{SERVICES}
 use Rattle.apex_machine.specs.State.{State}
-use Rattle.apex_types.specs.Numbers.{out_number, service_number}
+use Rattle.apex_types.specs.Numbers.{out_number}
+use Rattle.apex_types.specs.Services.{service_number}
 use Rattle.apex_machine.specs.Views.{view_by}
 
--- the services by their numbers, from 1 on
+-- the services by their numbers, from 1 on: those of the table
 abbrev pub services_by_number : List Service
-services_by_number =
-    service.CreateProcess ∷ service.InitializeProcessCoreAffinity ∷ service.Start ∷ service.Stop ∷ service.StopSelf ∷ service.Suspend ∷
-    service.SuspendSelf ∷ service.Resume ∷ service.SetPriority ∷ service.GetMyId ∷ service.TimedWait ∷ service.PeriodicWait ∷
-    service.GetTime ∷ service.SetPartitionMode ∷ service.CreateBuffer ∷ service.SendBuffer ∷ service.ReceiveBuffer ∷
-    service.CreateBlackboard ∷ service.DisplayBlackboard ∷ service.ReadBlackboard ∷ service.ClearBlackboard ∷ service.CreateSemaphore ∷
-    service.WaitSemaphore ∷ service.SignalSemaphore ∷ service.CreateEvent ∷ service.SetEvent ∷ service.ResetEvent ∷ service.WaitEvent ∷
-    service.CreateMutex ∷ service.AcquireMutex ∷ service.ReleaseMutex ∷ service.CreateSamplingPort ∷ service.WriteSamplingMessage ∷
-    service.ReadSamplingMessage ∷ service.CreateQueuingPort ∷ service.SendQueuingMessage ∷ service.ReceiveQueuingMessage ∷
-    service.GetBufferId ∷ service.GetBufferStatus ∷ service.GetBlackboardId ∷ service.GetBlackboardStatus ∷ service.GetSemaphoreId ∷
-    service.GetSemaphoreStatus ∷ service.GetEventId ∷ service.GetEventStatus ∷ service.GetMutexId ∷ service.GetMutexStatus ∷
-    service.GetSamplingPortId ∷ service.GetSamplingPortStatus ∷ service.GetQueuingPortId ∷ service.GetQueuingPortStatus ∷ []
+services_by_number = map (λ row. row.service) SERVICES
 
 -- the outcomes by their numbers, from 0 on: the codes, a call that waits, and one that does not return
 abbrev pub outcomes_by_number : List Out

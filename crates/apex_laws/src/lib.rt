@@ -163,12 +163,12 @@ pub fn run_of_each()
     ensures { RunOfEach }
 {}
 
-/// A run over one list of records behind another is a run over the first, and from where it ends a run over the second.
+/// A run over one list of records after another is a run over the first, and from where it ends a run over the second.
 pub fn runs_join()
     ensures { RunsJoin }
 {}
 
-/// What a piece finds in one list of records behind another is what it finds in the first, or else, from where its run over
+/// What a piece finds in one list of records after another is what it finds in the first, or else, from where its run over
 /// the first ends, what it finds in the second.
 pub fn findings_join()
     ensures { FindingsJoin }
@@ -179,7 +179,7 @@ pub fn nothing_found_is_a_run()
     ensures { NothingFoundIsARun }
 {}
 
-/// A piece finds a refusal exactly where it runs up to a record and refuses that one, whatever stands behind it.
+/// A piece finds a refusal exactly where it runs up to a record and refuses that one, whatever comes after it.
 pub fn found_is_refused()
     ensures { FoundIsRefused }
 {}

@@ -3,6 +3,8 @@ use Rattle.std.specs.Prelude.{ℕ, suc, ◌+◌, List, [], ◌∷◌, ◌++◌, 
 use Rattle.std.specs.Option.{option_eq}
 use Rattle.std.specs.Ordering.{int_eq}
 use Rattle.apex_types.specs.declared.code.Code.TheVariants as code
+use Rattle.apex_types.specs.declared.object_kind.ObjectKind.{ObjectKind}
+use Rattle.apex_types.specs.declared.object_kind.ObjectKind.TheVariants as kind
 use Rattle.apex_types.specs.declared.record.Body.{Body}
 use Rattle.apex_types.specs.declared.record.Body.TheVariants.{Call, Ret, Disp, Tick}
 use Rattle.apex_types.specs.declared.record.Call.{Call as CallRecord}
@@ -25,8 +27,8 @@ use Rattle.apex_machine.specs.Configuration.{Configuration, first_core, period_o
 use Rattle.apex_machine.specs.Objects.{acquired, buffer_received, buffer_sent, cleared, displayed, event_reset, event_set, mutex_released, semaphore_waited, signalled}
 use Rattle.apex_machine.specs.Ports.{channel_effect, use_of}
 pub use Rattle.apex_machine.specs.Processes.{caller_after, caller_with, outcome_of, released}
-use Rattle.apex_machine.specs.Processes.{gift_of, new_process, set_by, stopped, woken_by}
-use Rattle.apex_machine.specs.State.{Blackboard, Buffer, Channel, Content, Event, Mutex, Partition, Port, Semaphore, State, Table, at_core, change_at, each_item, is_named, started_partition, time_of}
+use Rattle.apex_machine.specs.Processes.{message_handed_over, new_process, set_by, stopped, woken_by}
+use Rattle.apex_machine.specs.State.{Blackboard, Buffer, Channel, Content, Event, Mutex, ObjectOf, Partition, Port, Semaphore, State, Table, at_core, change_at, each_item, is_named, started_partition, time_of}
 use Rattle.apex_machine.specs.Waiting.{first_waiter, restart_of, set_after, stops}
 
 -- whether a call was carried out: it waits, it does not return, or it answered NO_ERROR
@@ -49,8 +51,8 @@ adjusted place period cores partition call number process =
     if is_done call.claim.out then set_by place period cores partition call.who.proc call.request number process else process
 
 -- a process whose wait a call may have ended
-abbrev pub roused : ℕ → CallRecord → Who → Process → Process
-roused place call who process = if is_named who call.claim.woken then woken_by place (gift_of call.request) process else process
+abbrev pub woken_if_named : ℕ → CallRecord → Who → Process → Process
+woken_if_named place call who process = if is_named who call.claim.woken then woken_by place (message_handed_over call.request) process else process
 
 -- a process of the caller's partition after the call: the caller; a process that it stops; any other, whose wait it may end
 abbrev pub called : ℕ → ℕ → ℕ → List CoreState → Partition → CallRecord → ℕ → Process → Process
@@ -59,7 +61,7 @@ called place now period cores partition call number process =
     let who : Who = record { part = call.who.part; proc = number } in
     if nat_eq number call.who.proc then caller_after place now call changed
     else if stops call who then stopped changed
-    else roused place call who changed
+    else woken_if_named place call who changed
 
 -- what is created, under the number that a call claims
 abbrev pub numbered : {Object : Type 0} → Option ℤ → Object → List (ℕ × Object)
@@ -170,17 +172,26 @@ objects_by configuration who claimed (request.ReadSamplingMessage port) partitio
 }
 objects_by configuration who claimed _ partition = partition
 
+-- the waiting sets of an object of a kind changed; a port has none
+abbrev pub with_sets : (kind : ObjectKind) → (WaitingSet → List Entry → List Entry) → ℕ → ObjectOf kind → ObjectOf kind
+with_sets kind.Buffer change number found = record found {
+  senders = change (set.BufferSenders number) found.senders;
+  receivers = change (set.BufferReceivers number) found.receivers;
+}
+with_sets kind.Blackboard change number found = record found { readers = change (set.BlackboardReaders number) found.readers }
+with_sets kind.Semaphore change number found = record found { waiters = change (set.SemaphoreWaiters number) found.waiters }
+with_sets kind.Event change number found = record found { waiters = change (set.EventWaiters number) found.waiters }
+with_sets kind.Mutex change number found = record found { waiters = change (set.MutexWaiters number) found.waiters }
+with_sets _ change number found = found
+
 -- each waiting set of a partition changed
 abbrev pub each_set : (WaitingSet → List Entry → List Entry) → Partition → Partition
 each_set change partition = record partition {
-  buffers = each_item (λ number found. record found {
-    senders = change (set.BufferSenders number) found.senders;
-    receivers = change (set.BufferReceivers number) found.receivers;
-  }) partition.buffers;
-  blackboards = each_item (λ number found. record found { readers = change (set.BlackboardReaders number) found.readers }) partition.blackboards;
-  semaphores = each_item (λ number found. record found { waiters = change (set.SemaphoreWaiters number) found.waiters }) partition.semaphores;
-  events = each_item (λ number found. record found { waiters = change (set.EventWaiters number) found.waiters }) partition.events;
-  mutexes = each_item (λ number found. record found { waiters = change (set.MutexWaiters number) found.waiters }) partition.mutexes;
+  buffers = each_item (with_sets kind.Buffer change) partition.buffers;
+  blackboards = each_item (with_sets kind.Blackboard change) partition.blackboards;
+  semaphores = each_item (with_sets kind.Semaphore change) partition.semaphores;
+  events = each_item (with_sets kind.Event change) partition.events;
+  mutexes = each_item (with_sets kind.Mutex change) partition.mutexes;
 }
 
 -- partitions
@@ -223,7 +234,7 @@ partition_by configuration cores place core number (Ret ret) partition =
 partition_by configuration cores place core number (Call call) partition =
     if nat_eq call.who.part number
     then own_partition (restart_of call) configuration cores place core call partition
-    else record partition { table = each_item (λ other process. roused place call (record { part = number; proc = other }) process) partition.table }
+    else record partition { table = each_item (λ other process. woken_if_named place call (record { part = number; proc = other }) process) partition.table }
 
 -- a partition after an ordered record
 abbrev pub partition_after : Configuration → List CoreState → ℕ → Ordered → Partition → Partition

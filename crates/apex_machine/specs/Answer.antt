@@ -6,7 +6,7 @@ use Rattle.apex_types.specs.declared.record.Claim.{Claim}
 use Rattle.apex_types.specs.declared.record.Out.{Out}
 use Rattle.apex_types.specs.declared.record.Out.TheVariants as out
 use Rattle.apex_types.specs.declared.record.Who.{Who}
-use Rattle.apex_types.specs.Bounds.{greatest_number}
+use Rattle.apex_types.specs.declared.limits.TheConstants.{GREATEST_NUMBER}
 use Rattle.apex_machine.specs.declared.state.Entry.{Entry}
 use Rattle.apex_machine.specs.State.{is_named}
 use Rattle.apex_machine.specs.Arguments.{is_over}
@@ -65,9 +65,9 @@ pub record Effect (Object : Type 0) : Type 0 where
   pub next : Object
 
 -- those who wait in a set
-abbrev pub whos : List Entry → List Who
-whos [] = []
-whos (entry ∷ entries) = entry.who ∷ whos entries
+abbrev pub waiters_of : List Entry → List Who
+waiters_of [] = []
+waiters_of (entry ∷ entries) = entry.who ∷ waiters_of entries
 
 -- claims of an answer
 
@@ -75,7 +75,7 @@ whos (entry ∷ entries) = entry.who ∷ whos entries
 abbrev pub is_new : (ℕ → Bool) → Option ℤ → Bool
 is_new is_free None = false
 is_new is_free (Some (negsuc n)) = false
-is_new is_free (Some (pos n)) = nat_lt 0 n && (nat_le n greatest_number && is_free n)
+is_new is_free (Some (pos n)) = nat_lt 0 n && (nat_le n GREATEST_NUMBER && is_free n)
 
 -- whether a claimed value is the one that goes with the outcome
 abbrev pub HasValue : Value → Option ℤ → Type 0

@@ -2,7 +2,7 @@
 use Rattle.std.specs.Prelude.{ℕ, zero, suc, ◌%◌, Option, Some, None, Bool, true, false, ℤ, pos, negsuc, ◌&&◌, nat_eq, nat_lt, nat_le}
 use Rattle.apex_types.specs.declared.discipline.Discipline.{Discipline}
 use Rattle.apex_types.specs.declared.discipline.Discipline.TheVariants as discipline
-use Rattle.apex_types.specs.Bounds.{greatest_maximum, greatest_priority, longest_message, most_messages}
+use Rattle.apex_types.specs.declared.limits.TheConstants.{GREATEST_MAXIMUM, GREATEST_PRIORITY, LONGEST_MESSAGE, MOST_MESSAGES}
 use Rattle.apex_machine.specs.declared.state.Direction.{Direction}
 use Rattle.apex_machine.specs.declared.state.Direction.TheVariants as direction
 use Rattle.apex_machine.specs.declared.state.Mode.{Mode}
@@ -30,7 +30,7 @@ is_between least most (negsuc n) = false
 
 -- a priority is 1 to 239   (section 3, process management)
 abbrev pub is_priority : ℤ → Bool
-is_priority priority = is_between 1 greatest_priority priority
+is_priority priority = is_between 1 GREATEST_PRIORITY priority
 
 -- a period is above 0, or -1 for an aperiodic process
 abbrev pub is_period : ℤ → Bool
@@ -91,15 +91,15 @@ is_length (negsuc n) = false
 
 -- a message size is 1 to 8,192
 abbrev pub is_size : ℤ → Bool
-is_size size = is_between 1 longest_message size
+is_size size = is_between 1 LONGEST_MESSAGE size
 
 -- how many messages are held is 1 to 1,024
 abbrev pub is_capacity : ℤ → Bool
-is_capacity capacity = is_between 1 most_messages capacity
+is_capacity capacity = is_between 1 MOST_MESSAGES capacity
 
 -- the greatest value of a semaphore is 1 to 32,767
 abbrev pub is_maximum : ℤ → Bool
-is_maximum maximum = is_between 1 greatest_maximum maximum
+is_maximum maximum = is_between 1 GREATEST_MAXIMUM maximum
 
 -- the value of a semaphore is not below 0, and at most its maximum
 abbrev pub suits_maximum : ℤ → ℤ → Bool

@@ -2,7 +2,7 @@
 use Rattle.std.specs.Prelude.{ℕ, zero, suc, ◌+◌, ◌-◌, List, [], ◌∷◌, Option, Some, None, Bool, true, false, ℤ, nat_eq, nat_lt, if◌then◌else◌}
 use Rattle.apex_types.specs.declared.code.Code.TheVariants as code
 use Rattle.apex_machine.specs.declared.state.Entry.{Entry}
-use Rattle.apex_machine.specs.Answer.{Effect, answering, done, giving, unmet, waking, whos}
+use Rattle.apex_machine.specs.Answer.{Effect, answering, done, giving, unmet, waking, waiters_of}
 use Rattle.apex_machine.specs.Queue.{Messages, received, sent}
 use Rattle.apex_machine.specs.State.{Buffer, Mutex}
 use Rattle.apex_machine.specs.Waiting.{first_waiter}
@@ -21,7 +21,7 @@ buffer_received time_out buffer = received time_out (first_waiter buffer.discipl
 
 -- DISPLAY_BLACKBOARD: the message is on the blackboard, and all who wait for one get it
 abbrev pub displayed : List ℕ → List Entry → Effect (Option (List ℕ))
-displayed message readers = record { answer = waking (whos readers); next = Some message }
+displayed message readers = record { answer = waking (waiters_of readers); next = Some message }
 
 -- READ_BLACKBOARD: the message stays on the blackboard; where there is none the caller waits
 abbrev pub board_read : ℤ → Option (List ℕ) → Effect (Option (List ℕ))
@@ -56,7 +56,7 @@ signalled maximum None value = if nat_lt value maximum then raised value else at
 
 -- SET_EVENT: the event is up, and all who wait for it go on
 abbrev pub event_set : List Entry → Effect Bool
-event_set waiters = record { answer = waking (whos waiters); next = true }
+event_set waiters = record { answer = waking (waiters_of waiters); next = true }
 
 -- RESET_EVENT: the event is down
 abbrev pub event_reset : Effect Bool

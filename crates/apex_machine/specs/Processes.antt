@@ -90,22 +90,22 @@ by_mutex (Some mutex) change number process =
 -- INITIALIZE_PROCESS_CORE_AFFINITY, START, SUSPEND, RESUME and SET_PRIORITY something of their target, SET_PARTITION_MODE
 -- those that wait for NORMAL, ACQUIRE_MUTEX and RELEASE_MUTEX the priority of the owners. Times are those of their own cores
 abbrev pub set_by : ℕ → ℕ → List CoreState → Partition → ℕ → Request → ℕ → Process → Process
-set_by place period cores partition caller (request.InitializeProcessCoreAffinity process core) number x =
-    if is_number process number then record x { affinity = natural_of core } else x
-set_by place period cores partition caller (request.Start process) number x =
-    if is_number process number then started place period (time_of cores x.affinity) partition.mode x else x
-set_by place period cores partition caller (request.Suspend process) number x =
-    if is_number process number then record x { suspended = true } else x
-set_by place period cores partition caller (request.Resume process) number x =
-    if is_number process number then record x { suspended = false; ready_position = place } else x
-set_by place period cores partition caller (request.SetPriority process priority) number x =
-    if is_number process number then record x { current_priority = natural_of priority; ready_position = place } else x
-set_by place period cores partition caller (request.SetPartitionMode next) number x = after_normal place period (time_of cores x.affinity) x
-set_by place period cores partition caller (request.AcquireMutex mutex time_out) number x =
-    by_mutex (given_object partition.mutexes mutex) (λ found. (acquired caller time_out found).next) number x
-set_by place period cores partition caller (request.ReleaseMutex mutex) number x =
-    by_mutex (given_object partition.mutexes mutex) (λ found. (mutex_released (first_waiter found.discipline found.waiters) found).next) number x
-set_by place period cores partition caller _ number x = x
+set_by place period cores partition caller (request.InitializeProcessCoreAffinity given core) number process =
+    if is_number given number then record process { affinity = natural_of core } else process
+set_by place period cores partition caller (request.Start given) number process =
+    if is_number given number then started place period (time_of cores process.affinity) partition.mode process else process
+set_by place period cores partition caller (request.Suspend given) number process =
+    if is_number given number then record process { suspended = true } else process
+set_by place period cores partition caller (request.Resume given) number process =
+    if is_number given number then record process { suspended = false; ready_position = place } else process
+set_by place period cores partition caller (request.SetPriority given priority) number process =
+    if is_number given number then record process { current_priority = natural_of priority; ready_position = place } else process
+set_by place period cores partition caller (request.SetPartitionMode next) number process = after_normal place period (time_of cores process.affinity) process
+set_by place period cores partition caller (request.AcquireMutex mutex time_out) number process =
+    by_mutex (given_object partition.mutexes mutex) (λ found. (acquired caller time_out found).next) number process
+set_by place period cores partition caller (request.ReleaseMutex mutex) number process =
+    by_mutex (given_object partition.mutexes mutex) (λ found. (mutex_released (first_waiter found.discipline found.waiters) found).next) number process
+set_by place period cores partition caller _ number process = process
 
 -- the end of a wait
 
@@ -153,11 +153,11 @@ abbrev pub woken_by : ℕ → List ℕ → Process → Process
 woken_by place message process = wait_ended place (owed (service_of_wait process.wait) code.NoError message) process
 
 -- the message that a call hands to those whose waits it ends
-abbrev pub gift_of : Request → List ℕ
-gift_of (request.SendBuffer buffer length time_out message) = message
-gift_of (request.DisplayBlackboard blackboard length message) = message
-gift_of (request.SendQueuingMessage port length time_out message) = message
-gift_of _ = []
+abbrev pub message_handed_over : Request → List ℕ
+message_handed_over (request.SendBuffer buffer length time_out message) = message
+message_handed_over (request.DisplayBlackboard blackboard length message) = message
+message_handed_over (request.SendQueuingMessage port length time_out message) = message
+message_handed_over _ = []
 
 -- the caller
 

@@ -39,7 +39,7 @@ Refuses configuration piece old before ordered cause =
     (reached : Part) × PieceRun configuration piece old before reached
     × IsTrue (touches configuration piece ordered) × FirstFails (demands configuration reached ordered) cause
 
--- what a piece finds at a record and behind it, by whether the record touches it
+-- what a piece finds at a record and after it, by whether the record touches it
 abbrev pub FindsNext : Bool → Configuration → Part → Ordered → (Part → Type 0) → Option Refusal → Type 0
 FindsNext false configuration old ordered More found = More old
 FindsNext true configuration old ordered More found =

@@ -45,18 +45,18 @@ resuming who None = done
 resuming who (Some process) = if is_suspension process.wait then waking (who ∷ []) else done
 
 -- a process of the caller's partition, by the number that the caller gives
-abbrev pub fellow : Who → ℤ → Who
-fellow who process = record { part = who.part; proc = natural_of process }
+abbrev pub peer : Who → ℤ → Who
+peer who process = record { part = who.part; proc = natural_of process }
 
 -- what each service gives, at its caller's core's time   (section 3): a creation a new number, GET_MY_ID the caller's,
--- GET_TIME the time, GET_BUFFER_ID and its like the number of what has the name, GET_BUFFER_STATUS and its like what is told of
+-- GET_TIME the time, GET_BUFFER_ID and its like the number of what has the name, GET_BUFFER_STATUS and its like what is reported of
 -- the object; a wait with a time-out or a delay of 0 is over at once, PERIODIC_WAIT where the next release is reached; STOP_SELF and
 -- SET_PARTITION_MODE do not return
 abbrev pub answer_of : ℕ → Who → Partition → Request → Answer
 answer_of now who partition (request.CreateProcess name priority period) = done_with (NewNumber (is_free partition.table))
 answer_of now who partition request.StopSelf = never
 answer_of now who partition (request.SuspendSelf time_out) = if is_over time_out then done else waiting
-answer_of now who partition (request.Resume process) = resuming (fellow who process) (created partition.table process)
+answer_of now who partition (request.Resume process) = resuming (peer who process) (created partition.table process)
 answer_of now who partition request.GetMyId = done_with (Number (pos who.proc))
 answer_of now who partition (request.TimedWait delay) = if is_over delay then done else waiting
 answer_of now who partition request.PeriodicWait = if is_released now (item_at partition.table who.proc) then done else waiting

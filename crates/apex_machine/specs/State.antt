@@ -1,6 +1,8 @@
 -- The state of the machine between two records, and the cold state in which every run begins.
 use Rattle.std.specs.Prelude.{ℕ, zero, suc, List, [], ◌∷◌, Option, Some, None, Bool, true, false, ℤ, pos, negsuc, nat_eq, ◌&&◌, ◌||◌, replicate, is_none, is_some, if◌then◌else◌}
 use Rattle.apex_types.specs.declared.discipline.Discipline.{Discipline}
+use Rattle.apex_types.specs.declared.object_kind.ObjectKind.{ObjectKind}
+use Rattle.apex_types.specs.declared.object_kind.ObjectKind.TheVariants as kind
 use Rattle.apex_types.specs.declared.record.Who.{Who}
 use Rattle.apex_machine.specs.declared.state.CoreState.{CoreState}
 use Rattle.apex_machine.specs.declared.state.Direction.{Direction}
@@ -146,6 +148,28 @@ abbrev pub created : Table → ℤ → Option Process
 created table (pos zero) = None
 created table (pos (suc n)) = item_at table (suc n)
 created table (negsuc n) = None
+
+-- objects and ports by their kinds
+
+-- what is created of a kind
+abbrev pub ObjectOf : ObjectKind → Type 0
+ObjectOf kind.Buffer = Buffer
+ObjectOf kind.Blackboard = Blackboard
+ObjectOf kind.Semaphore = Semaphore
+ObjectOf kind.Event = Event
+ObjectOf kind.Mutex = Mutex
+ObjectOf kind.SamplingPort = Port
+ObjectOf kind.QueuingPort = Port
+
+-- all that is created of a kind, under its numbers
+abbrev pub objects_of : Partition → (kind : ObjectKind) → List (ℕ × ObjectOf kind)
+objects_of partition kind.Buffer = partition.buffers
+objects_of partition kind.Blackboard = partition.blackboards
+objects_of partition kind.Semaphore = partition.semaphores
+objects_of partition kind.Event = partition.events
+objects_of partition kind.Mutex = partition.mutexes
+objects_of partition kind.SamplingPort = partition.sampling_ports
+objects_of partition kind.QueuingPort = partition.queuing_ports
 
 -- cores
 

@@ -8,12 +8,12 @@ use Rattle.apex_types.specs.declared.record.Out.TheVariants as out
 use Rattle.apex_machine.specs.declared.state.Status.{Status}
 use Rattle.apex_machine.specs.Answer.{Answer, Nothing, Number, Value}
 use Rattle.apex_machine.specs.Conditions.{codes_for}
-use Rattle.apex_machine.specs.State.{Blackboard, Buffer, Event, Mutex, Partition, Port, Semaphore, given_object}
+use Rattle.apex_machine.specs.State.{Blackboard, Buffer, Event, Mutex, Partition, Port, Semaphore, given_object, objects_of}
 
 -- 1 for what is so, 0 for what isn't
-abbrev pub number_told : Bool → ℕ
-number_told true = 1
-number_told false = 0
+abbrev pub number_reported : Bool → ℕ
+number_reported true = 1
+number_reported false = 0
 
 -- GET_BUFFER_STATUS: how many messages it holds, and how many wait to send or to receive
 abbrev pub buffer_status : Buffer → Status
@@ -21,7 +21,7 @@ buffer_status buffer = record { val = length buffer.messages; val2 = Some (lengt
 
 -- GET_BLACKBOARD_STATUS: whether a message is on it, and how many wait
 abbrev pub blackboard_status : Blackboard → Status
-blackboard_status blackboard = record { val = number_told (is_some blackboard.message); val2 = Some (length blackboard.readers); val3 = None }
+blackboard_status blackboard = record { val = number_reported (is_some blackboard.message); val2 = Some (length blackboard.readers); val3 = None }
 
 -- GET_SEMAPHORE_STATUS: its value, and how many wait
 abbrev pub semaphore_status : Semaphore → Status
@@ -29,20 +29,20 @@ semaphore_status semaphore = record { val = semaphore.value; val2 = Some (length
 
 -- GET_EVENT_STATUS: whether it is up, and how many wait
 abbrev pub event_status : Event → Status
-event_status event = record { val = number_told event.up; val2 = Some (length event.waiters); val3 = None }
+event_status event = record { val = number_reported event.up; val2 = Some (length event.waiters); val3 = None }
 
 -- the number of a mutex's owner, and 0 where it has none; no mutex is owned by the initialising process
-abbrev pub owner_told : Option ℕ → ℕ
-owner_told None = 0
-owner_told (Some owner) = owner
+abbrev pub owner_reported : Option ℕ → ℕ
+owner_reported None = 0
+owner_reported (Some owner) = owner
 
 -- GET_MUTEX_STATUS: its owner, how many wait, and how often it was acquired
 abbrev pub mutex_status : Mutex → Status
-mutex_status mutex = record { val = owner_told mutex.owner; val2 = Some (length mutex.waiters); val3 = Some mutex.count }
+mutex_status mutex = record { val = owner_reported mutex.owner; val2 = Some (length mutex.waiters); val3 = Some mutex.count }
 
 -- GET_SAMPLING_PORT_STATUS: whether its last read gave a valid sample; nobody reads at a source
 abbrev pub sampling_port_status : Port → Status
-sampling_port_status port = record { val = number_told port.valid; val2 = None; val3 = None }
+sampling_port_status port = record { val = number_reported port.valid; val2 = None; val3 = None }
 
 -- the status of the object of a kind that has this number, if it is created; that of a queuing port is its channel's to tell
 abbrev pub status_of : Partition → ObjectKind → ℤ → Option Status
@@ -56,36 +56,30 @@ status_of partition kind.QueuingPort port = None
 
 -- GET_BUFFER_STATUS and its like: a created object or port of the kind
 abbrev pub get_status_codes : Partition → ObjectKind → ℤ → List Code
-get_status_codes partition kind.Buffer buffer = codes_for (given_object partition.buffers buffer) (λ found. [])
-get_status_codes partition kind.Blackboard blackboard = codes_for (given_object partition.blackboards blackboard) (λ found. [])
-get_status_codes partition kind.Semaphore semaphore = codes_for (given_object partition.semaphores semaphore) (λ found. [])
-get_status_codes partition kind.Event event = codes_for (given_object partition.events event) (λ found. [])
-get_status_codes partition kind.Mutex mutex = codes_for (given_object partition.mutexes mutex) (λ found. [])
-get_status_codes partition kind.SamplingPort port = codes_for (given_object partition.sampling_ports port) (λ found. [])
-get_status_codes partition kind.QueuingPort port = codes_for (given_object partition.queuing_ports port) (λ found. [])
+get_status_codes partition kind object = codes_for (given_object (objects_of partition kind) object) (λ found. [])
 
 -- the first number of a status
-abbrev pub first_told : Option Status → Value
-first_told None = Nothing
-first_told (Some status) = Number (pos status.val)
+abbrev pub first_reported : Option Status → Value
+first_reported None = Nothing
+first_reported (Some status) = Number (pos status.val)
 
 -- the second number of a status, if it has one
-abbrev pub second_told : Option Status → Option ℤ
-second_told None = None
-second_told (Some status) = option_map pos status.val2
+abbrev pub second_reported : Option Status → Option ℤ
+second_reported None = None
+second_reported (Some status) = option_map pos status.val2
 
 -- the third number of a status, if it has one
-abbrev pub third_told : Option Status → Option ℤ
-third_told None = None
-third_told (Some status) = option_map pos status.val3
+abbrev pub third_reported : Option Status → Option ℤ
+third_reported None = None
+third_reported (Some status) = option_map pos status.val3
 
 -- the service tells a status at once
 abbrev pub telling : Option Status → Answer
 telling status = record {
   out = out.Answer code.NoError;
-  val = first_told status;
-  val2 = second_told status;
-  val3 = third_told status;
+  val = first_reported status;
+  val2 = second_reported status;
+  val3 = third_reported status;
   bytes = [];
   woken = [];
 }

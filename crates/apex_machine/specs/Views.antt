@@ -7,7 +7,8 @@ use Rattle.apex_types.specs.declared.record.Ordered.{Ordered}
 use Rattle.apex_types.specs.declared.record.Return.{Return}
 use Rattle.apex_types.specs.declared.record.Who.{Who}
 use Rattle.apex_types.specs.declared.view.View.{View}
-use Rattle.apex_types.specs.Numbers.{code_number, out_number, service_number}
+use Rattle.apex_types.specs.Numbers.{code_number, out_number}
+use Rattle.apex_types.specs.Services.{service_number}
 use Rattle.apex_types.specs.Requested.{service_of}
 use Rattle.apex_machine.specs.declared.state.CoreState.{CoreState}
 use Rattle.apex_machine.specs.declared.state.Process.{Process}

@@ -2,7 +2,7 @@
 //!
 //! The folder `specs/` holds them, from the configuration to the run; `docs/SPECIFICATION.md` tells them in words. The
 //! code here is only the plain data of a state: processes with their waits and outcomes, entries of waiting sets, modes, cores,
-//! and what is told of objects.
+//! and what is reported of objects.
 #![tactic(auto)]
 
 mod state;

@@ -1,5 +1,5 @@
-pub mod Bounds
-pub mod ServiceName
+pub mod Format
+pub mod Services
 pub mod Requested
 pub mod CodeName
 pub mod Rising

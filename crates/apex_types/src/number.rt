@@ -1,6 +1,7 @@
 // Numbers of cores, partitions, processes, channels and places. A contract sees each as its number.
 
 ghost use Rattle.std.specs.Prelude.{◌≡◌, ◌<◌, ℕ};
+ghost use Rattle.apex_types.specs.declared.limits.TheConstants.{PLACE_COUNT};
 
 use std::marker::Model;
 
@@ -124,30 +125,27 @@ impl ChanId {
     }
 }
 
-/// A place in the proposed order, from 0. Sixteen cores of 4,294,967,295 records each bound it.
+/// A place in the proposed order, from 0. The most cores with the most records each bound it.
 #[derive(Clone, Copy, Debug, PartialEq, Eq, PartialOrd, Ord, Hash)]
 pub struct Place(u64);
 
 impl Model for Place {
     ghost use Rattle.std.specs.Prelude.{ℕ, ◌<◌};
-    ghost use Rattle.apex_types.specs.Bounds.{place_count};
+    ghost use Rattle.apex_types.specs.declared.limits.TheConstants.{PLACE_COUNT};
 
     ghost Value = { ℕ };
 
     ghost view = { λ place. place.0 };
 
-    ghost invariant = { λ place. place.0 < place_count };
+    ghost invariant = { λ place. place.0 < PLACE_COUNT };
 
     ghost inverse = { λ number. record { 0 = number } };
 }
 
 impl Place {
-    /// How many places there are: the most records that the recordings of a module can have.
-    pub const COUNT: u64 = 68_719_476_720;
-
     /// The place of this number.
     pub fn new(number: u64) -> Place
-        requires { number < Self.COUNT }
+        requires { number < PLACE_COUNT }
         ensures { result ≡ number }
     {
         Place(number)
@@ -156,7 +154,7 @@ impl Place {
     /// The number of the place.
     pub fn number(self) -> u64
         ensures number { result ≡ self }
-        ensures bound { result < Self.COUNT }
+        ensures bound { result < PLACE_COUNT }
     {
         self.0
     }

@@ -38,7 +38,7 @@ impl Model for Woken {
 }
 
 impl Woken {
-    /// The list of these processes, each behind the one before. Takes no memory.
+    /// The list of these processes, each after the one before. Takes no memory.
     pub fn new(named: Vec<Who>) -> Woken
         requires { IsRising named.items }
         ensures { result ≡ named.items }

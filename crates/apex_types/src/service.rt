@@ -1,8 +1,9 @@
-// The services of the APEX interface, by name.
+// The services of the APEX interface: one row for each.
 
 ghost use Rattle.std.specs.Prelude.{◌≡◌};
-ghost use Rattle.apex_types.specs.Numbers.{service_number};
-ghost use Rattle.apex_types.specs.ServiceName.{name_of};
+ghost use Rattle.apex_types.specs.Services.{arguments_of, name_of, row_of, service_number};
+
+use crate::format::Format;
 
 /// A service of ARINC 653 Part 1, known by its name.
 #[derive(Clone, Copy, Debug, PartialEq, Eq)]
@@ -60,122 +61,151 @@ pub enum Service {
     GetQueuingPortStatus,
 }
 
+/// The arguments of a service: the fields that a call of it fills.
+#[derive(Clone, Copy, Debug)]
+pub struct Arguments {
+    /// How many of n1, n2, n3, from the first on.
+    pub numbers: u8,
+    /// Whether a name.
+    pub name: bool,
+    /// Whether a message, of which n2 is the length.
+    pub message: bool,
+}
+
+/// What is known of a service. The type of its name is a parameter, since definitions can cite a constant only where no
+/// struct of it declares a reference.
+#[derive(Clone, Copy)]
+pub struct ServiceRow<Name> {
+    pub service: Service,
+    /// The name under which records give the service, in ASCII.
+    pub name: Name,
+    pub arguments: Arguments,
+    /// The first format of recordings that has the service.
+    pub since: Format,
+}
+
+const NOTHING: Arguments = Arguments {
+    numbers: 0,
+    name: false,
+    message: false,
+};
+
+const NAME: Arguments = Arguments {
+    name: true,
+    ..NOTHING
+};
+
+const MESSAGE: Arguments = Arguments {
+    message: true,
+    ..NOTHING
+};
+
+// A row: the service, its name, how many numbers a call fills, what else it fills, and the first format.
+macro_rules! row {
+    ($service:ident => $name:literal, $numbers:literal, $more:ident, $since:ident) => {
+        ServiceRow {
+            service: Service::$service,
+            name: $name,
+            arguments: Arguments {
+                numbers: $numbers,
+                ..$more
+            },
+            since: Format::$since,
+        }
+    };
+}
+
+/// The services, in the order of the enum. Views and rules know a service by its place here, counted from 1.
+pub const SERVICES: [ServiceRow<&'static [u8]>; 51] = [
+    row!(CreateProcess => b"CREATE_PROCESS", 2, NAME, One),
+    row!(InitializeProcessCoreAffinity => b"INITIALIZE_PROCESS_CORE_AFFINITY", 2, NOTHING, One),
+    row!(Start => b"START", 1, NOTHING, One),
+    row!(Stop => b"STOP", 1, NOTHING, One),
+    row!(StopSelf => b"STOP_SELF", 0, NOTHING, One),
+    row!(Suspend => b"SUSPEND", 1, NOTHING, One),
+    row!(SuspendSelf => b"SUSPEND_SELF", 1, NOTHING, One),
+    row!(Resume => b"RESUME", 1, NOTHING, One),
+    row!(SetPriority => b"SET_PRIORITY", 2, NOTHING, One),
+    row!(GetMyId => b"GET_MY_ID", 0, NOTHING, One),
+    row!(TimedWait => b"TIMED_WAIT", 1, NOTHING, One),
+    row!(PeriodicWait => b"PERIODIC_WAIT", 0, NOTHING, One),
+    row!(GetTime => b"GET_TIME", 0, NOTHING, One),
+    row!(SetPartitionMode => b"SET_PARTITION_MODE", 1, NOTHING, One),
+    row!(CreateBuffer => b"CREATE_BUFFER", 3, NAME, One),
+    row!(SendBuffer => b"SEND_BUFFER", 3, MESSAGE, One),
+    row!(ReceiveBuffer => b"RECEIVE_BUFFER", 2, NOTHING, One),
+    row!(CreateBlackboard => b"CREATE_BLACKBOARD", 1, NAME, One),
+    row!(DisplayBlackboard => b"DISPLAY_BLACKBOARD", 2, MESSAGE, One),
+    row!(ReadBlackboard => b"READ_BLACKBOARD", 2, NOTHING, One),
+    row!(ClearBlackboard => b"CLEAR_BLACKBOARD", 1, NOTHING, One),
+    row!(CreateSemaphore => b"CREATE_SEMAPHORE", 3, NAME, One),
+    row!(WaitSemaphore => b"WAIT_SEMAPHORE", 2, NOTHING, One),
+    row!(SignalSemaphore => b"SIGNAL_SEMAPHORE", 1, NOTHING, One),
+    row!(CreateEvent => b"CREATE_EVENT", 0, NAME, One),
+    row!(SetEvent => b"SET_EVENT", 1, NOTHING, One),
+    row!(ResetEvent => b"RESET_EVENT", 1, NOTHING, One),
+    row!(WaitEvent => b"WAIT_EVENT", 2, NOTHING, One),
+    row!(CreateMutex => b"CREATE_MUTEX", 2, NAME, One),
+    row!(AcquireMutex => b"ACQUIRE_MUTEX", 2, NOTHING, One),
+    row!(ReleaseMutex => b"RELEASE_MUTEX", 1, NOTHING, One),
+    row!(CreateSamplingPort => b"CREATE_SAMPLING_PORT", 3, NAME, One),
+    row!(WriteSamplingMessage => b"WRITE_SAMPLING_MESSAGE", 2, MESSAGE, One),
+    row!(ReadSamplingMessage => b"READ_SAMPLING_MESSAGE", 1, NOTHING, One),
+    row!(CreateQueuingPort => b"CREATE_QUEUING_PORT", 3, NAME, One),
+    row!(SendQueuingMessage => b"SEND_QUEUING_MESSAGE", 3, MESSAGE, One),
+    row!(ReceiveQueuingMessage => b"RECEIVE_QUEUING_MESSAGE", 2, NOTHING, One),
+    row!(GetBufferId => b"GET_BUFFER_ID", 0, NAME, Two),
+    row!(GetBufferStatus => b"GET_BUFFER_STATUS", 1, NOTHING, Two),
+    row!(GetBlackboardId => b"GET_BLACKBOARD_ID", 0, NAME, Two),
+    row!(GetBlackboardStatus => b"GET_BLACKBOARD_STATUS", 1, NOTHING, Two),
+    row!(GetSemaphoreId => b"GET_SEMAPHORE_ID", 0, NAME, Two),
+    row!(GetSemaphoreStatus => b"GET_SEMAPHORE_STATUS", 1, NOTHING, Two),
+    row!(GetEventId => b"GET_EVENT_ID", 0, NAME, Two),
+    row!(GetEventStatus => b"GET_EVENT_STATUS", 1, NOTHING, Two),
+    row!(GetMutexId => b"GET_MUTEX_ID", 0, NAME, Two),
+    row!(GetMutexStatus => b"GET_MUTEX_STATUS", 1, NOTHING, Two),
+    row!(GetSamplingPortId => b"GET_SAMPLING_PORT_ID", 0, NAME, Two),
+    row!(GetSamplingPortStatus => b"GET_SAMPLING_PORT_STATUS", 1, NOTHING, Two),
+    row!(GetQueuingPortId => b"GET_QUEUING_PORT_ID", 0, NAME, Two),
+    row!(GetQueuingPortStatus => b"GET_QUEUING_PORT_STATUS", 1, NOTHING, Two),
+];
+
 impl Service {
+    // The row of the service in the table.
+    #[tactic(auto, unfolding(crate::specs::Services::row_of))]
+    fn row(self) -> &'static ServiceRow<&'static [u8]>
+        ensures name { result.now.name.now ≡ (row_of self).name.now }
+        ensures arguments { result.now.arguments ≡ (row_of self).arguments }
+        ensures since { result.now.since ≡ (row_of self).since }
+    {
+        &SERVICES[self as usize]
+    }
+
     /// The name under which records give the service, in ASCII.
     pub fn name(self) -> &'static [u8]
         ensures { result.now ≡ name_of self }
     {
-        match self {
-            Service::CreateProcess => b"CREATE_PROCESS",
-            Service::InitializeProcessCoreAffinity => b"INITIALIZE_PROCESS_CORE_AFFINITY",
-            Service::Start => b"START",
-            Service::Stop => b"STOP",
-            Service::StopSelf => b"STOP_SELF",
-            Service::Suspend => b"SUSPEND",
-            Service::SuspendSelf => b"SUSPEND_SELF",
-            Service::Resume => b"RESUME",
-            Service::SetPriority => b"SET_PRIORITY",
-            Service::GetMyId => b"GET_MY_ID",
-            Service::TimedWait => b"TIMED_WAIT",
-            Service::PeriodicWait => b"PERIODIC_WAIT",
-            Service::GetTime => b"GET_TIME",
-            Service::SetPartitionMode => b"SET_PARTITION_MODE",
-            Service::CreateBuffer => b"CREATE_BUFFER",
-            Service::SendBuffer => b"SEND_BUFFER",
-            Service::ReceiveBuffer => b"RECEIVE_BUFFER",
-            Service::CreateBlackboard => b"CREATE_BLACKBOARD",
-            Service::DisplayBlackboard => b"DISPLAY_BLACKBOARD",
-            Service::ReadBlackboard => b"READ_BLACKBOARD",
-            Service::ClearBlackboard => b"CLEAR_BLACKBOARD",
-            Service::CreateSemaphore => b"CREATE_SEMAPHORE",
-            Service::WaitSemaphore => b"WAIT_SEMAPHORE",
-            Service::SignalSemaphore => b"SIGNAL_SEMAPHORE",
-            Service::CreateEvent => b"CREATE_EVENT",
-            Service::SetEvent => b"SET_EVENT",
-            Service::ResetEvent => b"RESET_EVENT",
-            Service::WaitEvent => b"WAIT_EVENT",
-            Service::CreateMutex => b"CREATE_MUTEX",
-            Service::AcquireMutex => b"ACQUIRE_MUTEX",
-            Service::ReleaseMutex => b"RELEASE_MUTEX",
-            Service::CreateSamplingPort => b"CREATE_SAMPLING_PORT",
-            Service::WriteSamplingMessage => b"WRITE_SAMPLING_MESSAGE",
-            Service::ReadSamplingMessage => b"READ_SAMPLING_MESSAGE",
-            Service::CreateQueuingPort => b"CREATE_QUEUING_PORT",
-            Service::SendQueuingMessage => b"SEND_QUEUING_MESSAGE",
-            Service::ReceiveQueuingMessage => b"RECEIVE_QUEUING_MESSAGE",
-            Service::GetBufferId => b"GET_BUFFER_ID",
-            Service::GetBufferStatus => b"GET_BUFFER_STATUS",
-            Service::GetBlackboardId => b"GET_BLACKBOARD_ID",
-            Service::GetBlackboardStatus => b"GET_BLACKBOARD_STATUS",
-            Service::GetSemaphoreId => b"GET_SEMAPHORE_ID",
-            Service::GetSemaphoreStatus => b"GET_SEMAPHORE_STATUS",
-            Service::GetEventId => b"GET_EVENT_ID",
-            Service::GetEventStatus => b"GET_EVENT_STATUS",
-            Service::GetMutexId => b"GET_MUTEX_ID",
-            Service::GetMutexStatus => b"GET_MUTEX_STATUS",
-            Service::GetSamplingPortId => b"GET_SAMPLING_PORT_ID",
-            Service::GetSamplingPortStatus => b"GET_SAMPLING_PORT_STATUS",
-            Service::GetQueuingPortId => b"GET_QUEUING_PORT_ID",
-            Service::GetQueuingPortStatus => b"GET_QUEUING_PORT_STATUS",
-        }
+        self.row().name
+    }
+
+    /// The arguments that it takes.
+    pub fn arguments(self) -> Arguments
+        ensures { result ≡ arguments_of self }
+    {
+        self.row().arguments
+    }
+
+    /// The first format of recordings that has it.
+    pub fn since(self) -> Format
+        ensures { result ≡ (row_of self).since }
+    {
+        self.row().since
     }
 
     /// The number by which views tell the service, from 1 on.
     pub fn number(self) -> u8
         ensures { result ≡ service_number self }
     {
-        match self {
-            Service::CreateProcess => 1,
-            Service::InitializeProcessCoreAffinity => 2,
-            Service::Start => 3,
-            Service::Stop => 4,
-            Service::StopSelf => 5,
-            Service::Suspend => 6,
-            Service::SuspendSelf => 7,
-            Service::Resume => 8,
-            Service::SetPriority => 9,
-            Service::GetMyId => 10,
-            Service::TimedWait => 11,
-            Service::PeriodicWait => 12,
-            Service::GetTime => 13,
-            Service::SetPartitionMode => 14,
-            Service::CreateBuffer => 15,
-            Service::SendBuffer => 16,
-            Service::ReceiveBuffer => 17,
-            Service::CreateBlackboard => 18,
-            Service::DisplayBlackboard => 19,
-            Service::ReadBlackboard => 20,
-            Service::ClearBlackboard => 21,
-            Service::CreateSemaphore => 22,
-            Service::WaitSemaphore => 23,
-            Service::SignalSemaphore => 24,
-            Service::CreateEvent => 25,
-            Service::SetEvent => 26,
-            Service::ResetEvent => 27,
-            Service::WaitEvent => 28,
-            Service::CreateMutex => 29,
-            Service::AcquireMutex => 30,
-            Service::ReleaseMutex => 31,
-            Service::CreateSamplingPort => 32,
-            Service::WriteSamplingMessage => 33,
-            Service::ReadSamplingMessage => 34,
-            Service::CreateQueuingPort => 35,
-            Service::SendQueuingMessage => 36,
-            Service::ReceiveQueuingMessage => 37,
-            Service::GetBufferId => 38,
-            Service::GetBufferStatus => 39,
-            Service::GetBlackboardId => 40,
-            Service::GetBlackboardStatus => 41,
-            Service::GetSemaphoreId => 42,
-            Service::GetSemaphoreStatus => 43,
-            Service::GetEventId => 44,
-            Service::GetEventStatus => 45,
-            Service::GetMutexId => 46,
-            Service::GetMutexStatus => 47,
-            Service::GetSamplingPortId => 48,
-            Service::GetSamplingPortStatus => 49,
-            Service::GetQueuingPortId => 50,
-            Service::GetQueuingPortStatus => 51,
-        }
+        self as u8 + 1
     }
 }

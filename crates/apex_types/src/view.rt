@@ -10,7 +10,7 @@ pub enum Field {
     Kind,
     /// The core whose record it is.
     Core,
-    /// The time of that core behind the record, in ticks.
+    /// The time of that core after the record, in ticks.
     Time,
     /// The partition of the process that calls or returns, or is dispatched.
     Part,

@@ -1,4 +1,4 @@
--- A text that stands behind another in one that goes out.
+-- A text that comes after another in one that goes out.
 use Rattle.std.proofs.Common.{◌≡◌, ◌∙◌, ℕ, List, ◌++◌, Option, Some, None, refl, sym, ap, append_assoc}
 use Rattle.sink.specs.Taken.{with_more}
 use Rattle.sink.specs.Written.{IsCut, IsWritten}

@@ -1,4 +1,4 @@
--- The words that the program takes behind its name, as its parser of command lines reads them.
+-- The words that the program takes after its name, as its parser of command lines reads them.
 use Rattle.std.specs.Prelude.{ℕ, List, Some, true, codes}
 use Rattle.clap.specs.Lexer.{usize_max}
 use Rattle.clap.specs.Words.{App, Row, Rule, matches_of, new_app, new_rule, with_rule}
@@ -40,7 +40,7 @@ options_of_a_check = with_rule (with_rule (with_rule (with_rule no_words
     (wanted (option_of (codes "workers"))))
     (option_of (codes "depth"))
 
--- the options for rules, and for what is told
+-- the options for rules, and for what is reported
 abbrev pub options : App
 options = with_rule (with_rule (with_rule (with_rule (with_rule options_of_a_check
     (option_of (codes "max-elapsed")))

@@ -24,9 +24,7 @@ outcome_status_of (Ok (Broken pos rule)) = 1
 outcome_status_of (Err fault.Memory) = 3
 outcome_status_of (Err (fault.Arguments which)) = 2
 outcome_status_of (Err (fault.Config which)) = 2
-outcome_status_of (Err (fault.Cert place which)) = 2
-outcome_status_of (Err (fault.Order place core which)) = 2
-outcome_status_of (Err (fault.Row core seq which)) = 2
+outcome_status_of (Err (fault.Input which)) = 2
 
 -- that of an outcome, 0 for the version, and 2 for what kept the check from being made
 abbrev pub exit_status_of : Ending → ℕ
@@ -55,7 +53,7 @@ abbrev pub lines_behind : Option (List LastItem) → List ℕ
 lines_behind None = []
 lines_behind (Some items) = last_lines items
 
--- the report of an outcome with the last records behind it where they are asked for, the refusal of what kept the check from being
+-- the report of an outcome with the last records after it where they are asked for, the refusal of what kept the check from being
 -- made, or the version
 abbrev pub text_of : Ending → List ℕ
 text_of (Checked outcome last) = report_of outcome ++ lines_behind last
@@ -66,7 +64,7 @@ text_of (BadRule number which) =
     codes "REFUSED rules rule=" ++ (decimal number ++ (codes " fault=" ++ (rule_fault_name which ++ codes "\n")))
 text_of Version = codes "apexcheck 0.1.0\n"
 
--- the end by want of memory before the check, which is the check's own, and behind which nothing is told
+-- the end by want of memory before the check, which is the check's own, and after which nothing is reported
 abbrev pub out_of_memory : Ending
 out_of_memory = Checked (Err fault.Memory) None
 

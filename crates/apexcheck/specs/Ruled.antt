@@ -26,7 +26,7 @@ rules_given (Some text) = rules_of text
 abbrev pub HoldInTurn : List SaidRule → List Relation → Type 0
 HoldInTurn rules relations = (view : View) → map (λ relation. meets relation view) relations ≡ map (λ rule. rule.holds view) rules
 
--- relations say what options ask for, and behind that what rules of a text say
+-- relations say what options ask for, and after that what rules of a text say
 abbrev pub SayBoth : List RuleOption → List SaidRule → List Relation → Type 0
 SayBoth options rules relations =
     (front : List Relation) × (behind : List Relation) × (relations ≡ front ++ behind) × SayInTurn options front × HoldInTurn rules behind

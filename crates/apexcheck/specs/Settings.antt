@@ -1,16 +1,18 @@
 -- The settings that a command line asks for.
 use Rattle.std.specs.Prelude.{ℕ, List, Option, Some, None, option_and_then, option_map}
+use Rattle.apex_types.specs.declared.limits.TheConstants.{GREATEST_OPTION}
 use Rattle.csv_rows.specs.Decimal.{decimal}
 use Rattle.report.specs.declared.settings.Settings.{Settings}
+use Rattle.apexcheck.specs.declared.settings.TheConstants.{USUAL_DEPTH}
 
--- the depth by its text: 64 where there is none
+-- the depth by its text: the usual one where there is none
 abbrev pub depth_of : Option (List ℕ) → Option ℕ
-depth_of None = Some 64
-depth_of (Some text) = decimal 4294967295 text
+depth_of None = Some USUAL_DEPTH
+depth_of (Some text) = decimal GREATEST_OPTION text
 
 -- the workers by their text
 abbrev pub workers_of : List ℕ → Option ℕ
-workers_of text = decimal 4294967295 text
+workers_of text = decimal GREATEST_OPTION text
 
 -- the settings by the text of the workers and that of the depth, if there is one; none where one of them gives no number
 abbrev pub settings_of : List ℕ → Option (List ℕ) → Option Settings

@@ -10,7 +10,7 @@ use Rattle.apexcheck.specs.declared.usage.FileNames.{FileNames}
 use Rattle.apexcheck.specs.declared.usage.FilesAsked.{FilesAsked}
 use Rattle.apexcheck.specs.Settings.{settings_of}
 
--- behind the program's own name stands `--version` alone
+-- after the program's own name stands `--version` alone
 abbrev pub asks_version : List (List ℕ) → Bool
 asks_version (name ∷ word ∷ []) = bytes_eq word (codes "--version")
 asks_version _ = false
@@ -29,7 +29,7 @@ pub record Tells (text : Option (List ℕ)) (given : Bool) : Type 0 where
   pub is_unknown : text ≡ None → given ≡ false
 
 -- what is asked for is what the words give: the files by their options and the recordings in their order, the rules, the settings,
--- and what is told
+-- and what is reported
 pub record AsksFor (given : List Row) (asked : FilesAsked) : Type 0 where
   pub config : Some (string_bytes asked.names.config) ≡ first_of (codes "config") given
   pub rules : option_map string_bytes asked.names.rules ≡ first_of (codes "rules") given

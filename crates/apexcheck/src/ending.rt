@@ -112,7 +112,7 @@ fn name_of_rule_fault(fault: RuleFault) -> &'static [u8]
     }
 }
 
-/// Puts out the text of an end: its line, and behind the report of an outcome the last records where they are asked for. Takes no
+/// Puts out the text of an end: its line, and after the report of an outcome the last records where they are asked for. Takes no
 /// memory.
 ///
 /// # Errors
@@ -134,7 +134,7 @@ pub fn write_ending<W: Sink>(w: &mut W, ending: &Ending) -> Result<(), WriteFaul
     }
 }
 
-// Puts out the report of an outcome, and behind it a line for each of the last records where they are asked for.
+// Puts out the report of an outcome, and after it a line for each of the last records where they are asked for.
 fn write_outcome<W: Sink>(
     w: &mut W,
     outcome: &Result<Verdict, CheckFault>,

@@ -12,6 +12,7 @@ use input_explanation::{
 };
 use module_config::ConfigFault;
 use order_cert::{CertFault, OrderFault};
+use placement::InputFault;
 use record_read::RowFault;
 use report::{ArgumentFault, CheckFault, Verdict};
 use std::alloc::Global;
@@ -42,13 +43,23 @@ pub fn explain<R: Files<File = F> + Eprint, F: Read + Drop>(
             tell(rt, &words);
         }
         Err(CheckFault::Config(fault)) => explain_configuration(rt, alloc, names, *fault),
-        Err(CheckFault::Cert { place, fault }) => explain_cert(rt, alloc, names, *place, *fault),
-        Err(CheckFault::Order { place, core, fault }) => {
+        Err(CheckFault::Input(fault)) => explain_input(rt, alloc, names, fault),
+    }
+}
+
+// Reports where a refused certificate, order or recording is wrong.
+fn explain_input<R: Files<File = F> + Eprint, F: Read + Drop>(
+    rt: &R,
+    alloc: Global,
+    names: &FileNames,
+    fault: &InputFault,
+) {
+    match fault {
+        InputFault::Cert { place, fault } => explain_cert(rt, alloc, names, *place, *fault),
+        InputFault::Order { place, core, fault } => {
             explain_order(rt, alloc, names, *place, *core, *fault);
         }
-        Err(CheckFault::Row { core, seq, fault }) => {
-            explain_row(rt, alloc, names, *core, *seq, *fault);
-        }
+        InputFault::Row { core, seq, fault } => explain_row(rt, alloc, names, *core, *seq, *fault),
     }
 }
 

@@ -2,6 +2,7 @@
 
 ghost use Rattle.std.specs.Prelude.{◌≡◌, ◌≢◌, ◌+◌, IfErr, IfOk, IfSome, is_some, length, take, vec_len};
 ghost use Rattle.std.specs.IoError.{error_kind};
+ghost use Rattle.apex_types.specs.declared.limits.TheConstants.{LONGEST_CONFIGURATION};
 ghost use Rattle.module_config.specs.Reading.{configuration_of};
 ghost use Rattle.rules_file.specs.Reading.{rules_of};
 ghost use Rattle.apexcheck.specs.Files.{AreOpened, EndsAsAsked, IsOfFiles, ending_of};
@@ -12,6 +13,7 @@ use crate::explained::explain;
 use crate::explainer::Explainer;
 use crate::ruled::{check_ruled, read_rules, tell_broken, tell_fields};
 use crate::usage::{FileNames, FilesAsked};
+use apex_types::limits::LONGEST_CONFIGURATION;
 use csv_rows::{TextSource, Watched};
 use report::{Inputs, Last};
 use rules_file::RulesFault;
@@ -22,12 +24,8 @@ use std::io::{ErrorKind, Read};
 use std::sync::Wait;
 use std::thread::Threads;
 
-// The most bytes that a configuration has, and a text of rules. Of a longer one the byte behind them is enough to see that
-// it is longer: `check` and `rules_file::read` refuse it as `TooMany`.
-const LONGEST_TEXT: u64 = 1_048_576;
-
 /// Opens the files of a run and checks what they hold. The configuration is read first, then the text of rules, if one is
-/// named; then the order is opened, then the recordings, core 0 first. The text of rules is judged behind that.
+/// named; then the order is opened, then the recordings, core 0 first. The text of rules is judged after that.
 ///
 /// Where a file can't be opened, or the configuration or the text of rules can't be read, standard error names it and tells
 /// why, and so where the text of rules is refused. Where a rule is broken, standard error tells which. It explains the answer too,
@@ -72,9 +70,9 @@ impl<F: Read + Drop + Send + 'static> Opened<Watched<F>> {
     ) -> Result<Opened<Watched<F>>, OpenFault>
         ensures { IfOk result (AreOpened names.now) }
     {
-        let config = told(rt, &names.config, open_text(rt, alloc, &names.config))?;
+        let config = reported(rt, &names.config, open_text(rt, alloc, &names.config))?;
         let rules = open_rules(rt, alloc, &names.rules)?;
-        let order = Watched::new(told(rt, &names.order, open(rt, &names.order))?);
+        let order = Watched::new(reported(rt, &names.order, open(rt, &names.order))?);
         let cores = open_cores(rt, alloc, &names.cores)?;
         Ok(Opened {
             config,
@@ -154,7 +152,7 @@ fn where_asked(asked: bool, last: Last) -> Option<Last>
     if asked { Some(last) } else { None }
 }
 
-// Tells a person why the text of rules is refused. Want of memory is told by the line alone.
+// Tells a person why the text of rules is refused. Want of memory is reported by the line alone.
 fn tell_refused(rt: &impl Eprint, names: &FileNames, fault: &RulesFault) {
     match (&names.rules, fault) {
         (None, _) | (_, RulesFault::Memory) => {}
@@ -174,7 +172,7 @@ fn open_rules<R: Files<File = F> + Eprint, F: Read + Drop>(
     ensures { IfOk result (λ rules. is_some rules ≡ is_some name.now) }
 {
     match name {
-        Some(name) => Ok(Some(told(rt, name, open_text(rt, alloc, name))?)),
+        Some(name) => Ok(Some(reported(rt, name, open_text(rt, alloc, name))?)),
         None => Ok(None),
     }
 }
@@ -189,7 +187,7 @@ fn open_cores<R: Files<File = F> + Eprint, F: Read + Drop>(
 {
     let mut cores = Vec::new(alloc);
     for name in names {
-        cores.push(Watched::new(told(rt, name, open(rt, name))?))?;
+        cores.push(Watched::new(reported(rt, name, open(rt, name))?))?;
     }
     Ok(cores)
 }
@@ -209,14 +207,16 @@ pub fn open<R: Files<File = F>, F: Read + Drop>(rt: &R, name: &str) -> io::Resul
 }
 
 // The text that a reader gives, or its first bytes where it is longer than a configuration or a text of rules may be: these
-// configure what the whole text does, and say the rules that it does.
+// configure what the whole text does, and say the rules that it does. Of a longer one the byte after the most is enough to
+// see that it is longer: `check` and `rules_file::read` refuse it as `TooMany`. Both have one limit.
 fn read_text<R: Read + Drop>(alloc: Global, reader: R) -> io::Result<Vec<u8>>
-    ensures first { IfOk result (λ read. IfSome (R.remaining reader) (λ text. read.items ≡ take (LONGEST_TEXT + 1) text)) }
+    ensures first { IfOk result (λ read. IfSome (R.remaining reader) (λ text. read.items ≡ take (LONGEST_CONFIGURATION + 1) text)) }
     ensures configures { IfOk result (λ read. IfSome (R.remaining reader) (λ text. configuration_of read.items ≡ configuration_of text)) }
     ensures rules { IfOk result (λ read. IfSome (R.remaining reader) (λ text. rules_of read.items ≡ rules_of text)) }
 {
+    let longest = LONGEST_CONFIGURATION as u64;
     let mut text = Vec::new(alloc);
-    reader.take(LONGEST_TEXT + 1).read_to_end(&mut text)?;
+    reader.take(longest + 1).read_to_end(&mut text)?;
     Ok(text)
 }
 
@@ -229,8 +229,8 @@ enum OpenFault {
     Memory,
 }
 
-// The answer of the system for the file of this name. A refusal other than want of memory is told to a person.
-fn told<T: Drop>(rt: &impl Eprint, name: &str, answer: io::Result<T>) -> Result<T, OpenFault>
+// The answer of the system for the file of this name. A refusal other than want of memory is reported to a person.
+fn reported<T: Drop>(rt: &impl Eprint, name: &str, answer: io::Result<T>) -> Result<T, OpenFault>
     ensures value { IfOk answer (λ value. result ≡ Ok value) }
     ensures memory { IfErr answer (λ e. error_kind e ≡ ErrorKind.OutOfMemory → result ≡ Err OpenFault.Memory) }
     ensures unopened { IfErr answer (λ e. error_kind e ≢ ErrorKind.OutOfMemory → result ≡ Err OpenFault.Unopened) }

@@ -1,10 +1,10 @@
-//! The program: checks recordings against a configuration and a proposed order, and prints one line. Behind a No the last records
+//! The program: checks recordings against a configuration and a proposed order, and prints one line. After a No the last records
 //! before its place follow, where they are asked for.
 //!
 //! Promises: what is printed is the text of how the run ended, and the exit status is the one of that end; where the
 //! output could not be written, the status is the one that says so. A run under options that ask for rules and a text of rules
 //! ends by the text's first refusal, or by the outcome of relations that say what the options ask for and then what the rules
-//! of the text say; behind it stand the last records before the place of a No, where they are asked for, and else nothing.
+//! of the text say; after it stand the last records before the place of a No, where they are asked for, and else nothing.
 #![tactic(auto)]
 
 mod ending;

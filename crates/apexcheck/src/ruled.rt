@@ -31,8 +31,8 @@ pub fn read_rules(alloc: Global, text: Option<&[u8]>) -> Result<Vec<NamedRule>, 
 /// Checks these inputs under rules: those that these options ask for, numbered in their order, and the named ones after them. It
 /// is carried out as the settings say.
 ///
-/// Leaves the last records before the place of a No or of a broken rule in `last`, where none were before, and none behind any other
-/// answer. The witness is told what stands at that place.
+/// Leaves the last records before the place of a No or of a broken rule in `last`, where none were before, and none after any other
+/// answer. The witness receives what is at that place.
 pub fn check_ruled<T, R, C, V>(
     rt: T,
     alloc: Global,
@@ -57,7 +57,7 @@ where
     check_relations(rt, alloc, inputs, relations, options, last, witness)
 }
 
-// The relations that options ask for, and behind them those of rules.
+// The relations that options ask for, and after them those of rules.
 fn all_relations(
     alloc: Global,
     options: &[RuleOption],
@@ -82,7 +82,7 @@ fn relations_in(alloc: Global, rules: &[NamedRule]) -> Result<Vec<Relation>, All
     Ok(relations)
 }
 
-/// Adds the fields of the view to what is told of a broken rule. Where memory is refused nothing is added.
+/// Adds the fields of the view to what is reported of a broken rule. Where memory is refused nothing is added.
 pub fn tell_fields(
     alloc: Global,
     explainer: &mut Explainer,

@@ -1,9 +1,11 @@
 // How the command line says that a check is carried out.
 
 ghost use Rattle.std.specs.Prelude.{◌≡◌, option_map};
+ghost use Rattle.apex_types.specs.declared.limits.TheConstants.{GREATEST_OPTION};
 ghost use Rattle.csv_rows.specs.Decimal.{decimal};
 ghost use Rattle.apexcheck.specs.Settings.{settings_of};
 
+use apex_types::limits::GREATEST_OPTION;
 use csv_rows::read_decimal;
 use report::Settings;
 
@@ -25,9 +27,9 @@ pub fn read_settings(workers: &[u8], depth: Option<&[u8]>) -> Option<Settings>
 
 // The number that a text gives.
 fn read_number(text: &[u8]) -> Option<usize>
-    ensures { result ≡ decimal 4294967295 text.now }
+    ensures { result ≡ decimal GREATEST_OPTION text.now }
 {
-    match read_decimal(text, u32::MAX as u64) {
+    match read_decimal(text, GREATEST_OPTION as u64) {
         Some(number) => Some(number as usize),
         None => None,
     }

@@ -22,7 +22,7 @@ use std::rt::Env;
 use std::{env, io};
 use wording::Words;
 
-/// What a person is told whose command line is refused.
+/// What a person reads whose command line is refused.
 pub const USAGE: &str = "usage: apexcheck --config FILE --order FILE --workers N [--depth N]
                  [--max-elapsed N] [--forbid SERVICE] [--rules FILE] [--last] [--quiet]
                  CORE...
@@ -35,7 +35,7 @@ records are judged, 1 to 64; --depth how many records ahead each file is read, 1
 4096, which is 64 if not given. Neither changes the answer. With --max-elapsed no call may
 return more than N ticks later, with --forbid no call may be of SERVICE, with --rules
 the rules of FILE may not be broken. With --last the last records before the place of a
-No, at most 8, follow its line. Why the answer is no Yes is told on standard error, unless
+No, at most 8, follow its line. Why the answer is no Yes is reported on standard error, unless
 --quiet is given. With no words it checks a run that stands in the program. With --version
 alone it prints its version.";
 
@@ -61,7 +61,7 @@ pub struct FilesAsked {
     pub settings: Settings,
     /// Whether the last records before the place of a No are asked for.
     pub last: bool,
-    /// Whether it is not to be told on standard error why the answer is no Yes.
+    /// Whether standard error is not to explain why the answer is no Yes.
     pub quiet: bool,
 }
 
@@ -103,17 +103,17 @@ pub fn tell_usage(rt: &(impl Env + Eprint + AllocGlobal), alloc: Global, fault: 
     if fault == UsageFault::Memory {
         return;
     }
-    let mut told = Words::new(alloc);
+    let mut reported = Words::new(alloc);
     match env::args(rt) {
         Ok(words) => {
             if let Ok(words) = words.collect::<Vec<String>>(alloc) {
-                tell_command_line(&mut told, words.as_slice());
+                tell_command_line(&mut reported, words.as_slice());
             }
         }
-        Err(_) => told.say("a word is no UTF-8 text"),
+        Err(_) => reported.say("a word is no UTF-8 text"),
     }
     // Standard error only helps a person, so that a failure there changes nothing.
-    let _ = rt.eprintln(format_args!("apexcheck: {}", told.as_str()));
+    let _ = rt.eprintln(format_args!("apexcheck: {}", reported.as_str()));
     let _ = rt.eprintln(USAGE);
 }
 
@@ -131,7 +131,7 @@ fn read_words(alloc: Global, words: &[String]) -> Result<Asked, UsageFault>
     }
 }
 
-// Whether the one word behind the program's own name asks for the version.
+// Whether the one word after the program's own name asks for the version.
 fn is_version(words: &[String]) -> bool
     ensures { result ≡ asks_version (map string_bytes words.now) }
 {

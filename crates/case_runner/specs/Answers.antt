@@ -24,9 +24,7 @@ exit_status_of (Ok (Broken pos rule)) = 1
 exit_status_of (Err fault.Memory) = 3
 exit_status_of (Err (fault.Arguments which)) = 2
 exit_status_of (Err (fault.Config which)) = 2
-exit_status_of (Err (fault.Cert place which)) = 2
-exit_status_of (Err (fault.Order place core which)) = 2
-exit_status_of (Err (fault.Row core seq which)) = 2
+exit_status_of (Err (fault.Input which)) = 2
 
 -- what came of a check: the line without its line feed, the lines of the last records with theirs, and the exit status
 pub record Reported : Type 0 where

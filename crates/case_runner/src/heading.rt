@@ -1,10 +1,8 @@
 // What a heading says.
 
 use crate::fields::split_word;
+use apex_types::limits::MOST_CORES;
 use csv_rows::read_decimal;
-
-/// The greatest number of a core.
-const LAST_CORE: u64 = 15;
 
 /// The greatest number of a line, and of repetitions.
 const LAST_LINE: u64 = 1_000_000;
@@ -101,7 +99,7 @@ impl TextName {
             return Some(TextName::Order);
         }
         let core = name.strip_prefix(b"core")?.strip_suffix(b".csv")?;
-        Some(TextName::Core(read_decimal(core, LAST_CORE)? as usize))
+        Some(TextName::Core(read_decimal(core, MOST_CORES as u64 - 1)? as usize))
     }
 }
 

@@ -1,9 +1,12 @@
 // How a case is checked: in what rounds, by how many workers, and how far ahead its recordings are read.
 
 ghost use Rattle.std.specs.Prelude.{◌≡◌, ◌≤◌, IfSome, None, Some};
+ghost use Rattle.apex_types.specs.declared.limits.TheConstants.{LARGEST_ROUND};
 ghost use Rattle.std.specs.Option.{unwrap_or};
+ghost use Rattle.apex_types.specs.declared.limits.TheConstants.{LARGEST_ROUND};
 ghost use Rattle.report.specs.Outcome.{argument_fault_of};
 
+use apex_types::limits::{GREATEST_DEPTH, LARGEST_ROUND};
 use report::Settings;
 
 /// How many records each round of a check holds.
@@ -19,12 +22,12 @@ impl Rounds {
     /// The most records of such a round.
     pub fn size(self) -> usize
         ensures least { 1 ≤ result }
-        ensures most { result ≤ 4096 }
+        ensures most { result ≤ LARGEST_ROUND }
     {
         match self {
             Rounds::OfOne => 1,
             Rounds::OfSeven => 7,
-            Rounds::OfMost => 4096,
+            Rounds::OfMost => LARGEST_ROUND,
         }
     }
 
@@ -35,7 +38,7 @@ impl Rounds {
         let (workers, depth) = match self {
             Rounds::OfOne => (1, 1),
             Rounds::OfSeven => (2, 2),
-            Rounds::OfMost => (7, 4096),
+            Rounds::OfMost => (7, GREATEST_DEPTH),
         };
         Settings { workers, depth }
     }

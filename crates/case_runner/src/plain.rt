@@ -1,6 +1,7 @@
 // The verdict for texts in memory over all their records at once.
 
 ghost use Rattle.std.specs.Prelude.{◌≤◌, IfOk, length};
+ghost use Rattle.apex_types.specs.declared.limits.TheConstants.{MOST_CORES};
 ghost use Rattle.apex_machine.specs.Runs.{ArePlaced, AreOfCores};
 
 use crate::answering::{Answer, line_of, readers_of, status_of};
@@ -8,7 +9,7 @@ use apex_types::{Ordered, View};
 use core_intake::Intake;
 use module_config::Config;
 use order_cert::CertSource;
-use placement::{Filled, InputFault, Placer};
+use placement::{Filled, Placer};
 use report::Verdict;
 use rule_options::{RuleOption, relations_of};
 use std::alloc::{AllocError, Global};
@@ -90,7 +91,7 @@ fn records_of<T: Threads + Wait + Copy + Send + 'static>(
     order: &[u8],
 ) -> Result<Vec<Ordered>, AllocError>
     requires some { 1 ≤ length intake }
-    requires few { length intake ≤ 16 }
+    requires few { length intake ≤ MOST_CORES }
     ensures placed { IfOk result (λ records. ArePlaced 0 records.items) }
     ensures cores { IfOk result (λ records. AreOfCores (length intake) records.items) }
 {
@@ -99,7 +100,7 @@ fn records_of<T: Threads + Wait + Copy + Send + 'static>(
     let filled = placer.fill(&rt, &mut records, usize::MAX);
     placer.close(&rt);
     match filled {
-        Filled::Full | Filled::Ended(Err(InputFault::Memory)) => Err(AllocError),
+        Filled::Full | Filled::Memory => Err(AllocError),
         Filled::Ended(_) => Ok(records),
     }
 }

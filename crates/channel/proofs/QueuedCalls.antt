@@ -123,7 +123,7 @@ asked_so : (now number source destination : ℕ) (queue : Queue) (call : CallRec
     ∷ asked_demands source destination call.who.part queue call.claim
 asked_so now number source destination queue call port asked configuration is = rw (asked, is.3 call.who.part, is.4 call.who.part) refl
 
--- one that asks and claims what it is told is accepted
+-- one that asks and claims what it is given is accepted
 pub asked_accepted : (now number source destination : ℕ) (queue : Queue) (call : CallRecord) (port : ℤ) → call.request ≡ request.GetStatus kind.QueuingPort port
     → IsFalse (stands_in call.who queue.senders.entries || stands_in call.who queue.receivers.entries)
     → AllHold (asked_demands source destination call.who.part queue call.claim) → Accepts now call (queuing_held number source destination queue)

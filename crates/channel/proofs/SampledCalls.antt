@@ -45,7 +45,7 @@ pub write_refused : (result : Result (Unit {0}) ObjFault) (now refresh : ℕ) (l
     → IfErr result (λ fault. (number : ℕ) → RefusesCall now call (sampling_held number refresh last) fault)
 write_refused result now refresh last call port length message asked refused =
     IfErr-weaker result (Refuses (answer_demands (written now message).answer call.claim)) _
-    (λ fault told number configuration is. rw asked (later_refused _ _ (answer_demands (written now message).answer call.claim) fault refl refl told)) refused
+    (λ fault reported number configuration is. rw asked (later_refused _ _ (answer_demands (written now message).answer call.claim) fault refl refl reported)) refused
 
 -- reading
 
@@ -70,4 +70,4 @@ pub read_refused : (result : Result (Unit {0}) ObjFault) (now refresh : ℕ) (la
     → IfErr result (λ fault. (number : ℕ) → RefusesCall now call (sampling_held number refresh last) fault)
 read_refused result now refresh last call port asked refused =
     IfErr-weaker result (Refuses (answer_demands (sampled now refresh last).answer call.claim)) _
-    (λ fault told number configuration is. rw (asked, is) (later_refused _ _ (answer_demands (sampled now refresh last).answer call.claim) fault refl refl told)) refused
+    (λ fault reported number configuration is. rw (asked, is) (later_refused _ _ (answer_demands (sampled now refresh last).answer call.claim) fault refl refl reported)) refused

@@ -28,12 +28,12 @@ and_false false = refl
 pub same_number : (n : ℕ) → nat_eq n n ≡ true
 same_number n = grind (arith, nat_tests)
 
--- a refusal by the demands behind one that holds
+-- a refusal by the demands after one that holds
 pub next_refused : (first : Demand) (demands : List {1} Demand) (fault : ObjFault) → first.holds → Refuses demands fault → Refuses (first ∷ demands) fault
 next_refused first demands (Unlawful cause) one refused = inr (one, refused)
 next_refused first demands Memory one holds = (one, holds)
 
--- a refusal by the demands behind two that hold
+-- a refusal by the demands after two that hold
 pub later_refused : (first second : Demand) (demands : List {1} Demand) (fault : ObjFault) → first.holds → second.holds → Refuses demands fault
     → Refuses (first ∷ second ∷ demands) fault
 later_refused first second demands (Unlawful cause) one other refused = inr (one, inr (other, refused))

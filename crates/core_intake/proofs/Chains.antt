@@ -10,9 +10,9 @@ use Rattle.record_read.specs.declared.fault.RowFault.{RowFault}
 use Rattle.record_read.specs.declared.fault.RowFault.TheVariants.{Memory, Read}
 use Rattle.record_read.specs.Row.{Item}
 use Rattle.record_read.specs.Steps.{IsOutside}
-use Rattle.core_intake.specs.Told.{Answer, AreAnswers, has_ended, is_last}
+use Rattle.core_intake.specs.Answered.{Answer, AreAnswers, has_ended, is_last}
 use Rattle.core_intake.specs.declared.batch.Batch.{Batch}
-use Rattle.core_intake.specs.Batches.{GoesOn, IsRead, all_answers, answers_in, answers_of, before, end_of, records_told}
+use Rattle.core_intake.specs.Batches.{GoesOn, IsRead, all_answers, answers_in, answers_of, before, end_of, records_answered}
 
 some_is_none : {A : Type 0} {x : A} → ◌≡◌ {A = Option A} (Some x) None → ⊥
 some_is_none e = cc e
@@ -65,37 +65,37 @@ any_memory can_fail None = one_answer can_fail None None (Err Memory) tt
 any_memory can_fail (Some items) = one_answer can_fail (Some items) None (Err Memory) (inl (inr refl))
 
 -- an answer of a source, where it is this one
-abbrev pub Told : Bool → Option (List Item) → Answer → Option (List Item) → Type 0
-Told can_fail left answer next = IfSome left (λ items. Gives (IsOutside can_fail) items answer next)
+abbrev pub Answered : Bool → Option (List Item) → Answer → Option (List Item) → Type 0
+Answered can_fail left answer next = IfSome left (λ items. Gives (IsOutside can_fail) items answer next)
 
--- what a source gave is what one gives that can fail only if this one told no failure in vain
-pub told_of : (can_fail : Bool) (left next : Option (List Item)) (answer : Answer) → (answer ≡ Err Read → can_fail ≡ true) → Told true left answer next → Told can_fail left answer next
-told_of can_fail None next answer fails gives = tt
-told_of can_fail (Some items) next (Ok None) fails gives = gives
-told_of can_fail (Some items) next (Ok (Some rec)) fails gives = gives
-told_of can_fail (Some items) next (Err fault) fails (inl (inl is)) = inl (inl (is.0, fails (ap Err is.0)))
-told_of can_fail (Some items) next (Err fault) fails (inl (inr memory)) = inl (inr memory)
-told_of can_fail (Some items) next (Err fault) fails (inr row) = inr row
+-- what a source gave is what one gives that can fail only if this one reported no failure in vain
+pub reported_of : (can_fail : Bool) (left next : Option (List Item)) (answer : Answer) → (answer ≡ Err Read → can_fail ≡ true) → Answered true left answer next → Answered can_fail left answer next
+reported_of can_fail None next answer fails gives = tt
+reported_of can_fail (Some items) next (Ok None) fails gives = gives
+reported_of can_fail (Some items) next (Ok (Some rec)) fails gives = gives
+reported_of can_fail (Some items) next (Err fault) fails (inl (inl is)) = inl (inl (is.0, fails (ap Err is.0)))
+reported_of can_fail (Some items) next (Err fault) fails (inl (inr memory)) = inl (inr memory)
+reported_of can_fail (Some items) next (Err fault) fails (inr row) = inr row
 
 -- one record more was read
-pub reads_more : (can_fail : Bool) (old now new : Option (List Item)) (records after : List Record) (rec : Record) (answer : Answer) → Leads can_fail old (records_told records) now
-    → Told can_fail now answer new → answer ≡ Ok (Some rec) → after ≡ records ++ rec ∷ [] → Leads can_fail old (records_told after) new
+pub reads_more : (can_fail : Bool) (old now new : Option (List Item)) (records after : List Record) (rec : Record) (answer : Answer) → Leads can_fail old (records_answered records) now
+    → Answered can_fail now answer new → answer ≡ Ok (Some rec) → after ≡ records ++ rec ∷ [] → Leads can_fail old (records_answered after) new
 reads_more can_fail old now new records after rec answer leads gives is more later are =
-    let whole : (records_told after ++ later) ≡ records_told records ++ (Ok (Some rec) ∷ later) =
-    ap (λ all. records_told all ++ later) more ∙ ap (λ all. all ++ later) (map-append _ records (rec ∷ [])) ∙ append_assoc (records_told records) (Ok (Some rec) ∷ []) later in
-    subst (AreAnswers can_fail old) (sym whole) (leads (Ok (Some rec) ∷ later) (new, subst (λ told. Told can_fail now told new) is gives, (λ last. absurd (true≢false (sym last))), are))
+    let whole : (records_answered after ++ later) ≡ records_answered records ++ (Ok (Some rec) ∷ later) =
+    ap (λ all. records_answered all ++ later) more ∙ ap (λ all. all ++ later) (map-append _ records (rec ∷ [])) ∙ append_assoc (records_answered records) (Ok (Some rec) ∷ []) later in
+    subst (AreAnswers can_fail old) (sym whole) (leads (Ok (Some rec) ∷ later) (new, subst (λ answered. Answered can_fail now answered new) is gives, (λ last. absurd (true≢false (sym last))), are))
 
--- the recording ends behind these records
-pub reads_last : (can_fail : Bool) (old now next : Option (List Item)) (records : List Record) (end : Result (Unit {0}) RowFault) (answer : Answer) → Leads can_fail old (records_told records) now
-    → Told can_fail now answer next → end_of (Some end) ≡ answer ∷ [] → (later : List Answer) → later ≡ [] → AreAnswers can_fail old (answers_of records (Some end) ++ later)
+-- the recording ends after these records
+pub reads_last : (can_fail : Bool) (old now next : Option (List Item)) (records : List Record) (end : Result (Unit {0}) RowFault) (answer : Answer) → Leads can_fail old (records_answered records) now
+    → Answered can_fail now answer next → end_of (Some end) ≡ answer ∷ [] → (later : List Answer) → later ≡ [] → AreAnswers can_fail old (answers_of records (Some end) ++ later)
 reads_last can_fail old now next records end answer leads gives is later none =
     subst (λ behind. AreAnswers can_fail old (answers_of records (Some end) ++ behind)) (sym none)
     (subst (AreAnswers can_fail old) (sym (append-nil (answers_of records (Some end))))
-    (subst (λ last. AreAnswers can_fail old (records_told records ++ last)) (sym is) (leads (answer ∷ []) (one_answer can_fail now next answer gives))))
+    (subst (λ last. AreAnswers can_fail old (records_answered records ++ last)) (sym is) (leads (answer ∷ []) (one_answer can_fail now next answer gives))))
 
 -- the recording ended at this answer
 pub ends_read : (can_fail : Bool) (old new : Source Item) (now next : Option (List Item)) (records : List Record) (batch : Batch) (end : Result (Unit {0}) RowFault) (answer : Answer)
-    → batch.records.items ≡ records → batch.end ≡ Some end → Leads can_fail old.left (records_told records) now → Told can_fail now answer next → end_of (Some end) ≡ answer ∷ [] → IsRead can_fail old batch new
+    → batch.records.items ≡ records → batch.end ≡ Some end → Leads can_fail old.left (records_answered records) now → Answered can_fail now answer next → end_of (Some end) ≡ answer ∷ [] → IsRead can_fail old batch new
 ends_read can_fail old new now next records batch end answer held ended leads gives is = record {
   answers = λ later goes.
       let none : later ≡ [] = subst (λ (e : Option (Result (Unit {0}) RowFault)). GoesOn can_fail e new.left later) ended goes in
@@ -140,7 +140,7 @@ no_end (Some end) some = absurd (true≢false some)
 pub takes_one : (given hand' : List Answer) (answer : Answer) (received : List Answer) → given ++ answer ∷ hand' ≡ received → before hand' received ≡ given ++ answer ∷ []
 takes_one given hand' answer received e = before_is (given ++ answer ∷ []) hand' received (append_assoc given (answer ∷ []) hand' ∙ e)
 
--- what is at hand then is what stands behind what was given
+-- what is at hand then is what comes after what was given
 pub splits_on : (given hand' : List Answer) (answer : Answer) (received : List Answer) → given ++ answer ∷ hand' ≡ received → before hand' received ++ hand' ≡ received
 splits_on given hand' answer received e = ap (λ all. all ++ hand') (takes_one given hand' answer received e) ∙ append_assoc given (answer ∷ []) hand' ∙ e
 

@@ -7,7 +7,7 @@ use Rattle.record_read.specs.declared.fault.RowFault.{RowFault}
 use Rattle.record_read.specs.Row.{Item}
 use Rattle.core_intake.specs.declared.batch.Batch.{Batch}
 use Rattle.core_intake.specs.declared.rule.Log.{Log}
-use Rattle.core_intake.specs.Told.{Answer, AreAnswers}
+use Rattle.core_intake.specs.Answered.{Answer, AreAnswers}
 use Rattle.core_intake.specs.Relay.{log}
 use Rattle.atomic_table.specs.declared.badge.Badge.{Badge}
 use Rattle.crossbeam_channel.specs.declared.flavors.array.Rows.{Rows}
@@ -24,12 +24,12 @@ end_of (Some (Ok ended)) = Ok None ∷ []
 end_of (Some (Err fault)) = Err fault ∷ []
 
 -- the answers that tell these records
-abbrev pub records_told : List Record → List Answer
-records_told records = map (λ rec. Ok (Some rec)) records
+abbrev pub records_answered : List Record → List Answer
+records_answered records = map (λ rec. Ok (Some rec)) records
 
--- the answers of these records, and the end behind them
+-- the answers of these records, and the end after them
 abbrev pub answers_of : List Record → Option (Result (Unit {0}) RowFault) → List Answer
-answers_of records end = records_told records ++ end_of end
+answers_of records end = records_answered records ++ end_of end
 
 -- the answers of a batch
 abbrev pub answers_in : Batch → List Answer
@@ -43,7 +43,7 @@ all_answers batches = flat_map answers_in batches
 abbrev pub before : List Answer → List Answer → List Answer
 before last all = take (length all - length last) all
 
--- what may come behind a batch: nothing where it has an end, and else the answers of what is left
+-- what may come after a batch: nothing where it has an end, and else the answers of what is left
 abbrev pub GoesOn : Bool → Option (Result (Unit {0}) RowFault) → Option (List Item) → List Answer → Type 0
 GoesOn can_fail None left later = AreAnswers can_fail left later
 GoesOn can_fail (Some end) left later = later ≡ []
@@ -53,7 +53,7 @@ pub record IsRead (can_fail : Bool) (old : Source Item) (batch : Batch) (new : S
   pub answers : (later : List Answer) → GoesOn can_fail batch.end new.left later → AreAnswers can_fail old.left (answers_in batch ++ later)
   pub going : batch.end ≡ None → new.stopped ≡ false
 
--- an answer was taken of those that stood behind the ones given, of what was received and what was at hand
+-- an answer was taken of those that came after the ones given, of what was received and what was at hand
 abbrev pub IsTaken : List Batch → List Answer → Answer → List Batch → List Answer → Type 0
 IsTaken received hand answer received_now hand_now =
     (given : List Answer) → given ++ hand ≡ all_answers received → given ++ answer ∷ hand_now ≡ all_answers received_now

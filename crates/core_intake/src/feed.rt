@@ -5,7 +5,7 @@ ghost use Rattle.crossbeam_channel.specs.Claims.{view, IsSeatAt};
 ghost use Rattle.crossbeam_channel.specs.Ends.{sends_on};
 ghost use Rattle.record_read.specs.Row.{records_of};
 ghost use Rattle.core_intake.specs.Relay.{log};
-ghost use Rattle.core_intake.specs.Told.{AreAnswers};
+ghost use Rattle.core_intake.specs.Answered.{AreAnswers};
 ghost use Rattle.core_intake.specs.Batches.{WasFed, all_answers};
 
 use crate::batch::Batch;

@@ -20,7 +20,7 @@ pub struct Hand {
 
 impl Model for Hand {
     ghost use Rattle.std.specs.Prelude.{List};
-    ghost use Rattle.core_intake.specs.Told.{Answer};
+    ghost use Rattle.core_intake.specs.Answered.{Answer};
     ghost use Rattle.core_intake.specs.Batches.{answers_of};
 
     ghost Value = { List Answer };

@@ -1,8 +1,9 @@
 // The recordings of all cores.
 
 ghost use Rattle.std.specs.Prelude.{◌≡◌, ◌≤◌, ◌<◌, ◌↔◌, [], All, Err, IfOk, None, Ok, false, true, length, map, option_map, slice_set};
+ghost use Rattle.apex_types.specs.declared.limits.TheConstants.{GREATEST_DEPTH};
 ghost use Rattle.record_read.specs.Row.{records_of};
-ghost use Rattle.core_intake.specs.Told.{IsHonest, after, has_ended, told, told_at};
+ghost use Rattle.core_intake.specs.Answered.{IsHonest, after, has_ended, answered, answered_at};
 
 use crate::fault::IntakeFault;
 use crate::lane::Lane;
@@ -14,18 +15,18 @@ use std::marker::Model;
 use std::sync::Wait;
 use std::thread::Threads;
 
-/// The recordings of all cores, each read by a thread of its own. Contracts see what is told of each core, in order.
+/// The recordings of all cores, each read by a thread of its own. Contracts see what is answered of each core, in order.
 ///
-/// It can only be given up by `close`, so that no thread is left behind, and what they told is known in the end.
+/// It can only be given up by `close`, so that no thread is left behind, and what they answered is known in the end.
 pub struct Intake<R: TextSource> {
     lanes: Vec<Lane<R>>,
 }
 
 impl<R: TextSource> Model for Intake<R> {
     ghost use Rattle.std.specs.Prelude.{List};
-    ghost use Rattle.core_intake.specs.Told.{Told};
+    ghost use Rattle.core_intake.specs.Answered.{Answered};
 
-    ghost Value = { List Told };
+    ghost Value = { List Answered };
 
     ghost view = { λ intake. intake.lanes.items };
 }
@@ -42,8 +43,8 @@ impl<R: TextSource + Drop + Send + 'static> Intake<R> {
         readers: Vec<R>,
         depth: usize,
     ) -> Result<Intake<R>, IntakeFault>
-        requires most { depth ≤ 4096 }
-        ensures open { IfOk result (λ intake. intake ≡ map (λ reader. told (option_map records_of (R.remaining reader)) []) readers.items) }
+        requires most { depth ≤ GREATEST_DEPTH }
+        ensures open { IfOk result (λ intake. intake ≡ map (λ reader. answered (option_map records_of (R.remaining reader)) []) readers.items) }
         ensures no_depth { result ≡ Err IntakeFault.NoDepth ↔ depth ≡ 0 }
     {
         if depth == 0 {
@@ -71,13 +72,13 @@ impl<R: TextSource> Intake<R> {
         self.lanes.len()
     }
 
-    /// The next record of a core, or None behind the last; waits until its thread tells. Behind a fault, as behind the end, every
+    /// The next record of a core, or None after the last; waits until its thread tells. After a fault, as after the end, every
     /// call answers None. Memory also where the thread was refused room for a batch.
     pub fn next_of<T: Wait>(&mut self, rt: &T, core: usize) -> Result<Option<Record>, RowFault>
         requires core { core < length self.old }
-        ensures gives { has_ended (told_at self.old core).given ≡ false → self.new ≡ slice_set self.old core (after (told_at self.old core) result) }
-        ensures ended { has_ended (told_at self.old core).given ≡ true → result ≡ Ok None }
-        ensures stays { has_ended (told_at self.old core).given ≡ true → self.new ≡ self.old }
+        ensures gives { has_ended (answered_at self.old core).given ≡ false → self.new ≡ slice_set self.old core (after (answered_at self.old core) result) }
+        ensures ended { has_ended (answered_at self.old core).given ≡ true → result ≡ Ok None }
+        ensures stays { has_ended (answered_at self.old core).given ≡ true → self.new ≡ self.old }
         ensures count { length self.new ≡ length self.old }
     {
         self.lanes[core].next(rt)

@@ -4,7 +4,7 @@ ghost use Rattle.std.specs.Prelude.{◌≡◌, ◌<◌, [], ◌∷◌, ◌++◌,
 ghost use Rattle.crossbeam_channel.specs.Claims.{view, IsSeatAt};
 ghost use Rattle.crossbeam_channel.specs.Ends.{sends_on, receives_on};
 ghost use Rattle.record_read.specs.Row.{records_of};
-ghost use Rattle.core_intake.specs.Told.{Answer, told, after, has_ended, is_last, IsHonest};
+ghost use Rattle.core_intake.specs.Answered.{Answer, answered, after, has_ended, is_last, IsHonest};
 ghost use Rattle.core_intake.specs.Batches.{WasFed, all_answers, IsTaken};
 ghost use Rattle.core_intake.specs.Relay.{log};
 
@@ -12,7 +12,7 @@ use crate::batch::Batch;
 use crate::channel::{Channel, channel_of};
 use crate::feed::{Fed, FedBy, feed};
 use crate::hand::Hand;
-use crate::room::{Spent, give_back};
+use crate::room::{Used, give_back};
 use crate::rule::{Receiver, Receives, Roles, Side, Total};
 use apex_types::Record;
 use csv_rows::TextSource;
@@ -31,7 +31,7 @@ pub struct Lane<R: TextSource> {
     receiver: Receiver,
     side: Side,
     hand: Hand,
-    spent: Spent,
+    used: Used,
     ended: bool,
     stop: Arc<AtomicBool>,
     reader: PromisedHandle<Fed, FedBy<R>>,
@@ -42,13 +42,13 @@ impl<R: TextSource> Model for Lane<R> {
     ghost use Rattle.crossbeam_channel.specs.Claims.{IsSeatAt};
     ghost use Rattle.crossbeam_channel.specs.Ends.{sends_on, receives_on};
     ghost use Rattle.record_read.specs.Row.{records_of};
-    ghost use Rattle.core_intake.specs.Told.{Told, told, has_ended};
+    ghost use Rattle.core_intake.specs.Answered.{Answered, answered, has_ended};
     ghost use Rattle.core_intake.specs.Batches.{all_answers, before, log_of};
     ghost use Rattle.core_intake.specs.Relay.{log};
 
-    ghost Value = { Told };
+    ghost Value = { Answered };
 
-    ghost view = { λ lane. told (option_map records_of (R.remaining lane.reader.promise.reader.value)) (before lane.hand (all_answers (log_of lane.side).received)) };
+    ghost view = { λ lane. answered (option_map records_of (R.remaining lane.reader.promise.reader.value)) (before lane.hand (all_answers (log_of lane.side).received)) };
 
     ghost invariant = { λ lane. (receives_on lane.receiver ≡ sends_on lane.reader.promise.sender.value)
         × IsSeatAt (receives_on lane.receiver) lane.side
@@ -66,7 +66,7 @@ impl<R: TextSource + Drop + Send + 'static> Lane<R> {
         depth: usize,
     ) -> Result<Lane<R>, AllocError>
         requires { 0 < depth }
-        ensures { IfOk result (λ lane. lane ≡ told (option_map records_of (R.remaining reader)) []) }
+        ensures { IfOk result (λ lane. lane ≡ answered (option_map records_of (R.remaining reader)) []) }
     {
         let stop = Arc::new(alloc, AtomicBool::new(false))?;
         let theirs = Arc::try_clone(&stop)?;
@@ -78,7 +78,7 @@ impl<R: TextSource + Drop + Send + 'static> Lane<R> {
         } = channel_of(alloc, depth)?;
         let length = cut.length;
         let side = sender.another::<Roles>(&mut sending);
-        let (spent, rooms) = crossbeam_channel::bounded(alloc, cut.slots)?;
+        let (used, rooms) = crossbeam_channel::bounded(alloc, cut.slots)?;
         let promise = FedBy {
             sender: Snapshot::of(&sender),
             reader: Snapshot::of(&reader),
@@ -95,7 +95,7 @@ impl<R: TextSource + Drop + Send + 'static> Lane<R> {
             receiver,
             side,
             hand: Hand::empty(alloc),
-            spent,
+            used,
             ended: false,
             stop,
             reader,
@@ -104,7 +104,7 @@ impl<R: TextSource + Drop + Send + 'static> Lane<R> {
 }
 
 impl<R: TextSource> Lane<R> {
-    /// The next answer; behind an end or a fault, the end.
+    /// The next answer; after an end or a fault, the end.
     pub fn next<T: Wait>(&mut self, rt: &T) -> Result<Option<Record>, RowFault>
         ensures ended { has_ended self.old.given ≡ true → result ≡ Ok None }
         ensures stays { has_ended self.old.given ≡ true → self.new ≡ self.old }
@@ -118,7 +118,7 @@ impl<R: TextSource> Lane<R> {
             &self.receiver,
             &mut self.side,
             &mut self.hand,
-            &self.spent,
+            &self.used,
         );
         self.ended = ends(&answer);
         answer
@@ -132,7 +132,7 @@ impl<R: TextSource> Lane<R> {
             receiver,
             side,
             hand: _,
-            spent: _,
+            used: _,
             ended: _,
             stop,
             reader,
@@ -162,7 +162,7 @@ fn take_answer<T: Wait>(
     receiver: &Receiver,
     side: &mut Side,
     hand: &mut Hand,
-    spent: &Spent,
+    used: &Used,
 ) -> Result<Option<Record>, RowFault>
     requires seat { IsSeatAt (receives_on receiver.now) side.old }
     requires receives { (view side.old).receives ≡ true }
@@ -175,7 +175,7 @@ fn take_answer<T: Wait>(
             return answer;
         }
         let last = mem::replace(hand, Hand::of(take_batch(rt, receiver, side)));
-        give_back(rt, spent, last.into_room());
+        give_back(rt, used, last.into_room());
     }
     unreachable!()
 }

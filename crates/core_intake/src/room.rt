@@ -12,7 +12,7 @@ use std::sync::Wait;
 pub type Rooms = crossbeam_channel::Receiver<VecDeque<Record>>;
 
 /// The other end of it.
-pub type Spent = crossbeam_channel::Sender<VecDeque<Record>>;
+pub type Used = crossbeam_channel::Sender<VecDeque<Record>>;
 
 /// A room for so many records, in which there is none: one that came back, or a new one.
 pub fn room_for<T: Wait>(
@@ -34,6 +34,6 @@ pub fn room_for<T: Wait>(
 }
 
 /// Gives a room back. It is given up where nobody takes it.
-pub fn give_back<T: Wait>(rt: &T, spent: &Spent, room: VecDeque<Record>) {
-    let _ = spent.try_send(rt, room);
+pub fn give_back<T: Wait>(rt: &T, used: &Used, room: VecDeque<Record>) {
+    let _ = used.try_send(rt, room);
 }

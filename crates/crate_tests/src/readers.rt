@@ -3,6 +3,7 @@
 use crate::texts::{BOTH, CONFIG, MODULE, ORDER, RECEIVER, RECORDING, SENDER};
 use csv_rows::Watched;
 use order_cert::CertFault;
+use placement::InputFault;
 use record_read::RowFault;
 use report::{CheckFault, Open, Settings, Verdict, check};
 use std::alloc::{AllocError, Global};
@@ -99,7 +100,7 @@ fn readers_fail(rt: HostRuntime) -> Result<(), Fail> {
             let (core, seq, fault) = (0, whole_rows(RECORDING, given), RowFault::Read);
             assert_eq!(rt;
                 outcome(rt, alloc, cut, order, settings)?,
-                Err(CheckFault::Row { core, seq, fault }),
+                Err(CheckFault::Input(InputFault::Row { core, seq, fault })),
                 "a recording of {given} bytes by {step}"
             );
         }
@@ -108,7 +109,7 @@ fn readers_fail(rt: HostRuntime) -> Result<(), Fail> {
             let (place, fault) = (whole_rows(ORDER, given), CertFault::Read);
             assert_eq!(rt;
                 outcome(rt, alloc, recording, cut, settings)?,
-                Err(CheckFault::Cert { place, fault }),
+                Err(CheckFault::Input(InputFault::Cert { place, fault })),
                 "a certificate of {given} bytes by {step}"
             );
         }
@@ -155,7 +156,7 @@ fn one_reader_of_two_fails(rt: HostRuntime) -> Result<(), Fail> {
             let (core, seq) = (0, whole_rows(SENDER, given));
             assert_eq!(rt;
                 outcome_of_two(rt, alloc, cut, receiver, settings)?,
-                Err(CheckFault::Row { core, seq, fault }),
+                Err(CheckFault::Input(InputFault::Row { core, seq, fault })),
                 "{given} bytes of the sender by {step}"
             );
         }
@@ -164,7 +165,7 @@ fn one_reader_of_two_fails(rt: HostRuntime) -> Result<(), Fail> {
             let (core, seq) = (1, whole_rows(RECEIVER, given));
             assert_eq!(rt;
                 outcome_of_two(rt, alloc, sender, cut, settings)?,
-                Err(CheckFault::Row { core, seq, fault }),
+                Err(CheckFault::Input(InputFault::Row { core, seq, fault })),
                 "{given} bytes of the receiver by {step}"
             );
         }

@@ -42,7 +42,7 @@ fn finds_the_last_view(rt: HostRuntime) -> Result<(), Fail> {
     Ok(())
 }
 
-// Without views, or without rules, none is broken; of two rules that one view breaks the first is told.
+// Without views, or without rules, none is broken; of two rules that one view breaks the first is reported.
 #[test]
 fn finds_the_first_rule(rt: HostRuntime) -> Result<(), Fail> {
     let heap: Global = rt.alloc();

@@ -1,9 +1,11 @@
 // Workers that judge beside one another, and recordings that are read beside one another, in a whole check.
 
 ghost use Rattle.std.specs.Prelude.{◌≤◌};
+ghost use Rattle.apex_types.specs.declared.limits.TheConstants.{LARGEST_ROUND};
 
 use crate::gates::{Meeting, Pair};
 use crate::texts::{BOTH, CONFIG, MODULE, RECEIVER, SENDER, asking, in_turn};
+use apex_types::limits::LARGEST_ROUND;
 use csv_rows::Watched;
 use report::{CheckFault, Gate, Open, Settings, Verdict, check, check_in_rounds};
 use std::alloc::{AllocError, Global};
@@ -26,7 +28,7 @@ where
     T: Threads + Wait + Sync + Copy + Send + 'static,
     G: Gate + Sync,
     requires least { 1 ≤ size }
-    requires most { size ≤ 4096 }
+    requires most { size ≤ LARGEST_ROUND }
 {
     let readers = vec![in alloc; SENDER.as_bytes(), RECEIVER.as_bytes()]?;
     Ok(check_in_rounds(
@@ -67,11 +69,11 @@ where
 }
 
 // A worker that is held makes no claim. So where all claims of a round saw so many of it, as many threads held a piece at one
-// time. The pieces are the module, two partitions and two channels; rounds of 12 and of 4,096 records make two rounds and one.
+// time. The pieces are the module, two partitions and two channels; rounds of 12 records and of the most make two rounds and one.
 #[test]
 fn two_claims_meet(rt: HostRuntime) -> Result<(), Fail> {
     let alloc = rt.alloc();
-    for (size, rounds) in [(12, 2), (4096, 1)] {
+    for (size, rounds) in [(12, 2), (LARGEST_ROUND, 1)] {
         for workers in [2, 5] {
             let gate = Meeting::new(5, workers);
             let outcome = sent_in_rounds(rt, alloc, workers, &gate, size)?;

@@ -172,7 +172,7 @@ where
     placer.close(&rt);
     match filled {
         Filled::Ended(Ok(())) => Some(records),
-        Filled::Full | Filled::Ended(Err(_)) => None,
+        Filled::Full | Filled::Ended(Err(_)) | Filled::Memory => None,
     }
 }
 

@@ -13,7 +13,7 @@ use core_intake::Intake;
 use module_config::Config;
 use order_cert::CertSource;
 use partition_workers::{
-    Board, Done, Gate, Naming, Open, PostFault, PostRefusal, Round, RoundFault, judge_round,
+    Board, Done, Gate, Naming, Open, PostFault, PostRefusal, Round, RoundFault, run_round,
 };
 use piece_check::{Piece, Touched};
 use placement::{Filled, Placer};
@@ -126,7 +126,7 @@ fn judge_all<G: Gate + Sync, R: Threads + Wait + Sync>(
         return Err(RoundFault::Memory);
     };
     let lent = Lent::new(&config, 0, records, &touched);
-    judge_round(rt, alloc, &lent, rules, pieces, workers, gate)
+    run_round(rt, alloc, &lent, rules, pieces, workers, gate)
 }
 
 // What has to come of the piece of this number: its refusal, and the index of the first record whose view breaks the rule, where
@@ -135,16 +135,16 @@ fn has_come(number: usize, ruled: bool, one: &Judged) -> bool {
     let (place, cause) = match number {
         0 => (8, Cause::Skew),
         2 => (1, Cause::Choice),
-        _ => return one.gone.found.is_none() && one.gone.breach.is_none(),
+        _ => return one.outcome.found.is_none() && one.outcome.breach.is_none(),
     };
     let found = Refused {
         pos: Place::new(place),
         piece: number,
         cause,
     };
-    let index = one.gone.breach.map(|breach| breach.seen.index);
+    let index = one.outcome.breach.map(|breach| breach.seen.index);
     let first_tick = if ruled && number == 0 { Some(2) } else { None };
-    one.gone.found == Some(found) && index == first_tick
+    one.outcome.found == Some(found) && index == first_tick
 }
 
 // Whether what has to come of all five pieces has come.
@@ -202,13 +202,13 @@ fn sent_records<T: Threads + Wait + Copy + Send + 'static>(
     placer.close(&rt);
     match filled {
         Filled::Ended(Ok(())) => Ok(records),
-        Filled::Full | Filled::Ended(Err(_)) => Err(AllocError),
+        Filled::Full | Filled::Ended(Err(_)) | Filled::Memory => Err(AllocError),
     }
 }
 
 // Whether no piece refuses a record.
 fn all_went(all: &[Judged]) -> bool {
-    all.len() == 5 && all.iter().all(|one| one.gone.found.is_none())
+    all.len() == 5 && all.iter().all(|one| one.outcome.found.is_none())
 }
 
 // A worker that is held makes no claim. So where all five claims saw so many others, as many threads held a piece at one time.

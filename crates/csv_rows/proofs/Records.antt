@@ -64,7 +64,7 @@ unfolded : (config : Config) (state : State) (text : List ℕ)
 unfolding records_from
 unfolded config state text = rw add-one refl
 
--- the first record of a text, and behind it those of the rest
+-- the first record of a text, and after it those of the rest
 pub first_record : (config : Config) (state : State) (text : List ℕ) (p : Read) → next_record config state [] [] text ≡ Some p
     → records_from config (length text + 1) state text ≡ p.0 ∷ records_from config (length p.2 + 1) p.1 p.2
 first_record config state text p e =

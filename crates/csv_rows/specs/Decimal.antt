@@ -2,7 +2,7 @@
 use Rattle.std.specs.Prelude.{ℕ, zero, suc, ℤ, pos, negsuc, List, [], ◌∷◌, ◌+◌, ◌*◌, ◌-◌, ◌==◌, ◌&&◌, nat_lt, nat_le, Option, Some, None, length, if◌then◌else◌, option_map, option_and_then}
 use Rattle.std.specs.Char.{is_ascii_digit}
 
--- the number at most max that these digits write behind those that wrote `value`
+-- the number at most max that these digits write after those that wrote `value`
 unfoldable pub digits_from : ℕ → ℕ → List ℕ → Option ℕ
 digits_from max value [] = Some value
 digits_from max value (b ∷ bs) =

@@ -9,12 +9,12 @@ use Rattle.csv.specs.declared.parser.State.{State}
 abbrev pub Fields : Type 0
 Fields = List (List ℕ)
 
--- the rows of a text: those that `csv` reads from it behind a byte order mark, if it has one
+-- the rows of a text: those that `csv` reads from it after a byte order mark, if it has one
 abbrev pub rows_of : List ℕ → List Fields
 rows_of text = records default_config (strip_bom text)
 
 -- what callers see of a stream: whether it has stopped, for a failed read or because `csv` gave up, whether its end was
--- told, whether the source of the text has failed, and the rows that are left where the bytes are known
+-- reported, whether the source of the text has failed, and the rows that are left where the bytes are known
 pub record Stream : Type 0 where
   pub stopped : Bool
   pub ended : Bool

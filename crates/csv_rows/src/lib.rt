@@ -1,7 +1,7 @@
 //! The rows of a text of comma-separated values, one at a time, and the canonical decimals that their fields hold.
 //!
 //! Promises: each row given is the next of those that `csv` reads from the text; no row is passed over, and the end is
-//! told only after the last. A number is read exactly where the field is its one canonical decimal.
+//! reported only after the last. A number is read exactly where the field is its one canonical decimal.
 #![tactic(auto)]
 
 mod decimal;

@@ -72,7 +72,7 @@ impl<R: TextSource> CsvRows<R> {
         &self.reader.get_ref().source
     }
 
-    /// Puts the next row into `fields`, and answers whether there was one. Once the end was told, it is told again.
+    /// Puts the next row into `fields`, and answers whether there was one. Once the end was reported, it is reported again.
     ///
     /// Read where the source has failed, in this call or before the first, and else Memory where `csv` gave up, for which only
     /// a refused growth is left as a reason; either stops these rows for good.
@@ -83,7 +83,7 @@ impl<R: TextSource> CsvRows<R> {
         ensures stays { self.old.ended ≡ true → result ≡ Ok false }
         ensures sound { self.old.failed ≡ true → result ≡ Err StreamFault.Read }
         ensures failed { result ≡ Err StreamFault.Read → self.new.failed ≡ true }
-        ensures told { self.new.failed ≡ true → result ≡ Err StreamFault.Read }
+        ensures reported { self.new.failed ≡ true → result ≡ Err StreamFault.Read }
         ensures can_fail { result ≡ Err StreamFault.Read → R.can_fail ≡ true }
         ensures gives { IfOk result (λ found. IfSome self.old.left (λ rows. Takes found rows (fields_of fields.new) self.new.left)) }
     {
@@ -110,7 +110,7 @@ fn take_row<R: TextSource>(
     ensures set { IfOk result (λ _. IsSet reader.new) }
     ensures stops { R.failed (reader_source reader.new).source || has_failed reader.new ≡ is_err result }
     ensures failed { result ≡ Err StreamFault.Read → R.failed (reader_source reader.new).source ≡ true }
-    ensures told { R.failed (reader_source reader.new).source ≡ true → result ≡ Err StreamFault.Read }
+    ensures reported { R.failed (reader_source reader.new).source ≡ true → result ≡ Err StreamFault.Read }
     ensures can_fail { result ≡ Err StreamFault.Read → R.can_fail ≡ true }
 {
     let found = reader.read_byte_record(fields).ok();

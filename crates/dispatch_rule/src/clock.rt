@@ -2,19 +2,17 @@
 
 ghost use Rattle.std.specs.Prelude.{◌≡◌, ◌≤◌, ◌<◌, ◌-◌, ◌↔◌, IsTrue, OnOk, OnErr, length, nat_le};
 ghost use Rattle.std.specs.List.{list_all};
-ghost use Rattle.apex_types.specs.Bounds.{place_count};
+ghost use Rattle.apex_types.specs.declared.limits.TheConstants.{MOST_CORES, PLACE_COUNT};
 ghost use Rattle.apex_machine.specs.State.{time_of, occupant_of};
 ghost use Rattle.apex_machine.specs.Demands.{window_now};
 ghost use Rattle.dispatch_rule.specs.Clocks.{cold_clocks, advanced, dispatched, MayTick};
 
 use apex_machine::CoreState;
+use apex_types::limits::MOST_CORES;
 use apex_types::{CoreId, PartId, Who};
 use module_config::Config;
 use std::marker::Model;
 use thiserror::Error;
-
-/// How many cores a module has at most.
-const CORE_LIMIT: usize = 16;
 
 /// A core before its first record: idle, at time 0.
 const COLD: CoreState = CoreState {
@@ -30,33 +28,34 @@ pub struct Skew;
 /// The time of each core in ticks, the process to which the last dispatch gave it, and the skew.
 #[derive(Debug, Drop)]
 pub struct Clock {
-    cores: [CoreState; CORE_LIMIT],
+    cores: [CoreState; MOST_CORES],
     // For each core a guess how many windows have begun, renewed as it ticks: its window is found there without a search.
-    begun: [usize; CORE_LIMIT],
+    begun: [usize; MOST_CORES],
     count: usize,
     skew: u64,
 }
 
 impl Model for Clock {
     ghost use Rattle.std.specs.Prelude.{◌≤◌, take};
+    ghost use Rattle.apex_types.specs.declared.limits.TheConstants.{MOST_CORES};
     ghost use Rattle.dispatch_rule.specs.Clocks.{Clocks};
 
     ghost Value = { Clocks };
 
     ghost view = { λ clock. record { cores = take clock.count clock.cores; skew = clock.skew } };
 
-    ghost invariant = { λ clock. clock.count ≤ 16 };
+    ghost invariant = { λ clock. clock.count ≤ MOST_CORES };
 }
 
 impl Clock {
     /// The clock of so many idle cores at time 0, of which none may run further ahead of another than the skew, in ticks.
     pub fn new(cores: u8, skew: u64) -> Clock
-        requires { cores ≤ 16 }
+        requires { cores ≤ MOST_CORES }
         ensures { result ≡ cold_clocks cores skew }
     {
         Clock {
-            cores: [COLD; CORE_LIMIT],
-            begun: [0; CORE_LIMIT],
+            cores: [COLD; MOST_CORES],
+            begun: [0; MOST_CORES],
             count: cores as usize,
             skew,
         }
@@ -97,7 +96,7 @@ impl Clock {
 
     /// Whether the core may tick under this skew, in ticks: it is then at most the skew ahead of each core.
     pub fn may_tick(&self, core: CoreId, skew: u64) -> bool
-        requires { time_of self.now.cores core < place_count }
+        requires { time_of self.now.cores core < PLACE_COUNT }
         ensures { IsTrue result ↔ MayTick core skew self.now.cores }
     {
         let next = self.now(core) + 1;
@@ -109,7 +108,7 @@ impl Clock {
     /// Refused, with nothing changed, where the core would then be more than the clock's skew ahead of another.
     pub fn tick(&mut self, config: &Config, core: CoreId) -> Result<(), Skew>
         requires core { core < length self.old.cores }
-        requires time { time_of self.old.cores core < place_count }
+        requires time { time_of self.old.cores core < PLACE_COUNT }
         ensures within { OnOk result (MayTick core self.old.skew self.old.cores) }
         ensures ok { OnOk result (self.new ≡ advanced core self.old) }
         ensures refused { OnErr result (¬ MayTick core self.old.skew self.old.cores) }
@@ -127,7 +126,7 @@ impl Clock {
     /// looked for from now on, and changes no time.
     pub fn advance(&mut self, config: &Config, core: CoreId)
         requires core { core < length self.old.cores }
-        requires time { time_of self.old.cores core < place_count }
+        requires time { time_of self.old.cores core < PLACE_COUNT }
         ensures { self.new ≡ advanced core self.old }
     {
         let index = core.number() as usize;

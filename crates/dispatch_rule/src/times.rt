@@ -1,40 +1,39 @@
 // The times of the cores alone.
 
 ghost use Rattle.std.specs.Prelude.{◌≡◌, ◌≤◌, ◌<◌, length, replicate};
-ghost use Rattle.apex_types.specs.Bounds.{place_count};
+ghost use Rattle.apex_types.specs.declared.limits.TheConstants.{MOST_CORES, PLACE_COUNT};
 ghost use Rattle.apex_machine.specs.Pieces.{one_more, time_at};
 
 use apex_types::CoreId;
+use apex_types::limits::MOST_CORES;
 use std::marker::Model;
-
-/// How many cores a module has at most.
-const CORE_LIMIT: usize = 16;
 
 /// The time of each core, in ticks, for who asks neither for occupants nor for windows. A contract sees the list of them.
 #[derive(Debug, Drop)]
 pub struct Times {
-    times: [u64; CORE_LIMIT],
+    times: [u64; MOST_CORES],
     count: usize,
 }
 
 impl Model for Times {
     ghost use Rattle.std.specs.Prelude.{ℕ, List, ◌≤◌, take};
+    ghost use Rattle.apex_types.specs.declared.limits.TheConstants.{MOST_CORES};
 
     ghost Value = { List ℕ };
 
     ghost view = { λ all. take all.count all.times };
 
-    ghost invariant = { λ all. all.count ≤ 16 };
+    ghost invariant = { λ all. all.count ≤ MOST_CORES };
 }
 
 impl Times {
     /// So many cores at time 0.
     pub fn new(cores: u8) -> Times
-        requires { cores ≤ 16 }
+        requires { cores ≤ MOST_CORES }
         ensures { result ≡ replicate cores 0 }
     {
         Times {
-            times: [0; CORE_LIMIT],
+            times: [0; MOST_CORES],
             count: cores as usize,
         }
     }
@@ -53,7 +52,7 @@ impl Times {
     /// Adds one to the time of a core.
     pub fn advance(&mut self, core: CoreId)
         requires core { core < length self.old }
-        requires time { time_at self.old core < place_count }
+        requires time { time_at self.old core < PLACE_COUNT }
         ensures { self.new ≡ one_more core self.old }
     {
         self.times[core.number() as usize] += 1;

@@ -4,6 +4,7 @@ mod port_services;
 mod processes;
 
 use apex_machine::Mode;
+use apex_types::limits::{GREATEST_MAXIMUM, GREATEST_PRIORITY, LONGEST_MESSAGE, MOST_MESSAGES};
 use apex_types::{Call, Code, Name, ObjectKind, Request, Who};
 use module_config::Config;
 use partition_state::PartitionState;
@@ -153,7 +154,7 @@ fn tell_creation(words: &mut Words, config: &Config, state: &PartitionState, cal
             tell_size(words, *size);
             holds(
                 words,
-                *capacity < 1 || *capacity > 1024,
+                *capacity < 1 || *capacity > MOST_MESSAGES as i64,
                 Code::InvalidParam,
                 "the number of messages is not 1 to 1,024",
             );
@@ -204,7 +205,7 @@ fn tell_creation(words: &mut Words, config: &Config, state: &PartitionState, cal
 fn tell_semaphore_range(words: &mut Words, value: i64, maximum: i64) {
     holds(
         words,
-        maximum < 1 || maximum > 32_767,
+        maximum < 1 || maximum > GREATEST_MAXIMUM as i64,
         Code::InvalidParam,
         "the maximum is not 1 to 32,767",
     );
@@ -219,7 +220,7 @@ fn tell_semaphore_range(words: &mut Words, value: i64, maximum: i64) {
 fn tell_size(words: &mut Words, size: i64) {
     holds(
         words,
-        size < 1 || size > 8192,
+        size < 1 || size > LONGEST_MESSAGE as i64,
         Code::InvalidParam,
         "the size is not 1 to 8,192",
     );
@@ -238,7 +239,7 @@ fn tell_discipline(words: &mut Words, discipline: i64) {
 fn tell_priority(words: &mut Words, priority: i64) {
     holds(
         words,
-        priority < 1 || priority > 239,
+        priority < 1 || priority > GREATEST_PRIORITY as i64,
         Code::InvalidParam,
         "the priority is not 1 to 239",
     );

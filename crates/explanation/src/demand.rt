@@ -1,4 +1,4 @@
-// What a piece demands of a record, by the cause that is told where it does not hold.
+// What a piece demands of a record, by the cause that is reported where it does not hold.
 
 use apex_types::{Body, Cause};
 use piece_check::Subject;

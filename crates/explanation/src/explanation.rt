@@ -1,4 +1,4 @@
-// What is told of a No, by the witness of a check.
+// What explains a No, by the witness of a check.
 
 use crate::broken::tell_view;
 use crate::channels::tell_channel;
@@ -37,7 +37,7 @@ impl Explanation {
         }
     }
 
-    /// The record that is told, if one is.
+    /// The record that is explained, if one is.
     pub fn record(&self) -> Option<RecordNumber> {
         self.record
     }
@@ -49,7 +49,7 @@ impl Explanation {
         }
     }
 
-    /// What is told.
+    /// What is explained.
     pub fn words(&self) -> &Words {
         &self.words
     }
@@ -72,7 +72,7 @@ impl Explanation {
         self.view = Some(*view);
     }
 
-    // Takes in the record that is told.
+    // Takes in the record that is explained.
     fn begin(&mut self, ordered: &Ordered) {
         self.record = Some(RecordNumber {
             core: ordered.core,

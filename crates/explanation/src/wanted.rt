@@ -119,7 +119,7 @@ pub fn wanted_of<'a>(state: &'a PartitionState, now: u64, call: &Call) -> Wanted
         Request::GetMyId => Wanted::valued(Value::Number(i64::from(call.who.proc.number()))),
         Request::GetTime => Wanted::valued(Value::Number(signed(now))),
         Request::GetId { kind, name } => numbered(state.number_of(*kind, name)),
-        Request::GetStatus { kind, object } => told(state.status_of(*kind, *object)),
+        Request::GetStatus { kind, object } => reported(state.status_of(*kind, *object)),
         Request::Resume { process } => resumed(state, call.who, *process),
         _ => of_object(state, call),
     }
@@ -139,7 +139,7 @@ fn numbered<'a>(found: Option<u32>) -> Wanted<'a> {
 }
 
 // What GET_BUFFER_STATUS and its like give.
-fn told<'a>(status: Option<Status>) -> Wanted<'a> {
+fn reported<'a>(status: Option<Status>) -> Wanted<'a> {
     let Some(status) = status else {
         return Wanted::done();
     };
@@ -330,7 +330,7 @@ fn queued<'a>(queue: &'a MessageQueue, at_source: bool, request: &Request) -> Wa
     match request {
         Request::SendQueuingMessage { time_out, .. } => sent(queue, *time_out),
         Request::ReceiveQueuingMessage { time_out, .. } => received(queue, *time_out),
-        Request::GetStatus { .. } => told(Some(status_at_end(queue, at_source))),
+        Request::GetStatus { .. } => reported(Some(status_at_end(queue, at_source))),
         _ => Wanted::done(),
     }
 }

@@ -1,4 +1,4 @@
-// A command line that is refused, in words. Its words are gone over once more.
+// A command line that is refused, in words. Its words are read once more.
 
 use csv_rows::read_decimal;
 use record_read::find_service;
@@ -102,7 +102,7 @@ fn before_sign(word: &str) -> &str {
     }
 }
 
-// What stands behind the first equals sign of a word.
+// What comes after the first equals sign of a word.
 fn after_sign(word: &str) -> Option<&str> {
     match word.split_once("=") {
         Some((_, value)) => Some(value),

@@ -1,18 +1,19 @@
 // The refusals of a configuration in words: its first key that is missing or wrong, what stands there, and what is wanted. The text
-// is gone over once more, key by key in the order of docs/FORMATS.md.
+// is read once more, key by key in the order of docs/FORMATS.md.
 
 use crate::whole::tell_whole;
+use apex_types::limits::{
+    GREATEST_CHANNEL, GREATEST_PARTITION, GREATEST_SPAN, LONGEST_MESSAGE, LONGEST_NAME, MOST_CORES,
+    MOST_DESTINATIONS, MOST_MESSAGES, MOST_OBJECTS, MOST_PROCESSES,
+};
 use module_config::ConfigFault;
 use std::alloc::Global;
 use std::fmt;
 use toml::{Table, Value};
 use wording::{Count, Found, Words};
 
-/// How many bytes a text has at most that is gone over once more.
+/// How many bytes a text has at most that is read once more.
 const LONGEST: usize = 65_536;
-
-/// The greatest number of ticks.
-const TICKS: u64 = 4_294_967_295;
 
 /// Tells the refusal of a configuration, of which this is the text, if it could be read once more.
 pub fn tell_configuration(
@@ -114,7 +115,7 @@ fn tell_key(words: &mut Words, at: At, key: &str, value: Option<&Value>, wanted:
     words.say(format_args!(", and wanted is {wanted}"));
 }
 
-// The number under a key; none where it is not from `least` to `most`, which is told.
+// The number under a key; none where it is not from `least` to `most`, which is reported.
 fn number(
     words: &mut Words,
     keys: &Table,
@@ -142,9 +143,9 @@ fn number(
 
 // Goes over the keys of the module.
 fn tell_module_keys(words: &mut Words, keys: &Table) -> Option<()> {
-    let cores = number(words, keys, MODULE, "cores", 1, 16)?;
-    let frame = number(words, keys, MODULE, "frame", 1, TICKS)?;
-    number(words, keys, MODULE, "skew", 1, TICKS)?;
+    let cores = number(words, keys, MODULE, "cores", 1, MOST_CORES as u64)?;
+    let frame = number(words, keys, MODULE, "frame", 1, GREATEST_SPAN as u64)?;
+    number(words, keys, MODULE, "skew", 1, GREATEST_SPAN as u64)?;
     let partitions = list(words, keys, MODULE, "partition")?;
     if partitions.is_empty() || keys.get("partition").is_none() {
         tell_key(
@@ -200,7 +201,7 @@ fn item(items: &[Value], index: usize) -> Option<&Table> {
     items.get(index)?.as_table()
 }
 
-// The list of tables under a key, empty where there is none; none where it is another value, which is told.
+// The list of tables under a key, empty where there is none; none where it is another value, which is reported.
 fn list<'a>(words: &mut Words, keys: &'a Table, at: At, key: &str) -> Option<&'a [Value]> {
     let Some(value) = keys.get(key) else {
         return Some(&[]);
@@ -216,8 +217,8 @@ fn list<'a>(words: &mut Words, keys: &'a Table, at: At, key: &str) -> Option<&'a
 
 // Goes over the keys of a partition.
 fn tell_partition_keys(words: &mut Words, keys: &Table, at: At, cores: u64) -> Option<()> {
-    number(words, keys, at, "number", 0, 31)?;
-    number(words, keys, at, "period", 1, TICKS)?;
+    number(words, keys, at, "number", 0, GREATEST_PARTITION as u64)?;
+    number(words, keys, at, "period", 1, GREATEST_SPAN as u64)?;
     if !are_cores(keys.get("cores"), cores) {
         tell_key(
             words,
@@ -229,12 +230,12 @@ fn tell_partition_keys(words: &mut Words, keys: &Table, at: At, cores: u64) -> O
         words.say(format_args!(" numbers below {cores}"));
         return None;
     }
-    number(words, keys, at, "processes", 1, 128)?;
-    number(words, keys, at, "buffers", 0, 64)?;
-    number(words, keys, at, "blackboards", 0, 64)?;
-    number(words, keys, at, "semaphores", 0, 64)?;
-    number(words, keys, at, "events", 0, 64)?;
-    number(words, keys, at, "mutexes", 0, 64)?;
+    number(words, keys, at, "processes", 1, MOST_PROCESSES as u64)?;
+    number(words, keys, at, "buffers", 0, MOST_OBJECTS as u64)?;
+    number(words, keys, at, "blackboards", 0, MOST_OBJECTS as u64)?;
+    number(words, keys, at, "semaphores", 0, MOST_OBJECTS as u64)?;
+    number(words, keys, at, "events", 0, MOST_OBJECTS as u64)?;
+    number(words, keys, at, "mutexes", 0, MOST_OBJECTS as u64)?;
     Some(())
 }
 
@@ -265,7 +266,7 @@ fn are_cores(value: Option<&Value>, cores: u64) -> bool {
 // Goes over the keys of a window.
 fn tell_window_keys(words: &mut Words, keys: &Table, at: At, cores: u64, frame: u64) -> Option<()> {
     number(words, keys, at, "core", 0, cores.saturating_sub(1))?;
-    number(words, keys, at, "partition", 0, 31)?;
+    number(words, keys, at, "partition", 0, GREATEST_PARTITION as u64)?;
     let start = number(words, keys, at, "start", 0, 9_223_372_036_854_775_807)?;
     number(words, keys, at, "length", 1, frame.saturating_sub(start))?;
     Some(())
@@ -273,12 +274,12 @@ fn tell_window_keys(words: &mut Words, keys: &Table, at: At, cores: u64, frame: 
 
 // Goes over the keys of a sampling channel.
 fn tell_sampling_keys(words: &mut Words, keys: &Table, at: At) -> Option<()> {
-    number(words, keys, at, "channel", 0, 255)?;
-    number(words, keys, at, "size", 1, 8192)?;
-    number(words, keys, at, "refresh", 1, TICKS)?;
+    number(words, keys, at, "channel", 0, GREATEST_CHANNEL as u64)?;
+    number(words, keys, at, "size", 1, LONGEST_MESSAGE as u64)?;
+    number(words, keys, at, "refresh", 1, GREATEST_SPAN as u64)?;
     tell_end(words, keys, at, "source")?;
     let ends = list(words, keys, at, "destinations")?;
-    if ends.is_empty() || ends.len() > 32 {
+    if ends.is_empty() || ends.len() > MOST_DESTINATIONS {
         tell_key(
             words,
             at,
@@ -301,9 +302,9 @@ fn tell_sampling_keys(words: &mut Words, keys: &Table, at: At) -> Option<()> {
 
 // Goes over the keys of a queuing channel.
 fn tell_queuing_keys(words: &mut Words, keys: &Table, at: At) -> Option<()> {
-    number(words, keys, at, "channel", 0, 255)?;
-    number(words, keys, at, "size", 1, 8192)?;
-    number(words, keys, at, "capacity", 1, 1024)?;
+    number(words, keys, at, "channel", 0, GREATEST_CHANNEL as u64)?;
+    number(words, keys, at, "size", 1, LONGEST_MESSAGE as u64)?;
+    number(words, keys, at, "capacity", 1, MOST_MESSAGES as u64)?;
     tell_end(words, keys, at, "source")?;
     tell_discipline(words, keys, at, "source_discipline")?;
     tell_end(words, keys, at, "destination")?;
@@ -327,10 +328,13 @@ fn tell_end(words: &mut Words, keys: &Table, at: At, key: &'static str) -> Optio
 
 // Goes over the keys of an end.
 fn tell_end_keys(words: &mut Words, keys: &Table, at: At) -> Option<()> {
-    number(words, keys, at, "partition", 0, 31)?;
+    number(words, keys, at, "partition", 0, GREATEST_PARTITION as u64)?;
     let value = keys.get("port");
     if let Some(name) = text_of(value) {
-        if !name.is_empty() && name.len() <= 32 && name.iter().all(|byte| is_printable(*byte)) {
+        if !name.is_empty()
+            && name.len() <= LONGEST_NAME
+            && name.iter().all(|byte| is_printable(*byte))
+        {
             return Some(());
         }
     }

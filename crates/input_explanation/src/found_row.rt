@@ -46,7 +46,7 @@ impl Walk {
         }
         self.is_filled = true;
         if self.rows == wanted && self.text.len() < LONGEST_ROW {
-            // Of a row for which there is no memory the first bytes are told.
+            // Of a row for which there is no memory the first bytes are shown.
             let _ = self.text.push(byte);
         }
     }

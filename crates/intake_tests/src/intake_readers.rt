@@ -10,7 +10,7 @@ use std::{io, thread};
 #[derive(Drop)]
 pub struct Trace {
     pub reads: Arc<AtomicUsize>,
-    pub gone: Arc<AtomicBool>,
+    pub dropped: Arc<AtomicBool>,
 }
 
 impl Trace {
@@ -18,7 +18,7 @@ impl Trace {
     pub fn new(alloc: Global) -> Result<Trace, AllocError> {
         Ok(Trace {
             reads: Arc::new(alloc, AtomicUsize::new(0))?,
-            gone: Arc::new(alloc, AtomicBool::new(false))?,
+            dropped: Arc::new(alloc, AtomicBool::new(false))?,
         })
     }
 
@@ -26,7 +26,7 @@ impl Trace {
     pub fn share(&self) -> Result<Trace, AllocError> {
         Ok(Trace {
             reads: Arc::try_clone(&self.reads)?,
-            gone: Arc::try_clone(&self.gone)?,
+            dropped: Arc::try_clone(&self.dropped)?,
         })
     }
 }
@@ -97,7 +97,7 @@ impl Read for Piecewise {
 
 impl Drop for Piecewise {
     fn drop(self) {
-        self.trace.gone.store(true, Ordering::SeqCst);
+        self.trace.dropped.store(true, Ordering::SeqCst);
         let Piecewise {
             text: _,
             next: _,

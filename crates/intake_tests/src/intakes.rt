@@ -159,11 +159,11 @@ fn close_stops_the_readers(rt: HostRuntime) -> Result<(), Fail> {
     let readers = vec![in alloc; Watched::new(ticks), Watched::new(dispatches)]?;
     let mut intake = Intake::open(rt, alloc, readers, 1)?;
     assert!(rt; has_row(&rt, &mut intake, 0, true, 0));
-    assert!(rt; !one.gone.load(Ordering::SeqCst));
-    assert!(rt; !other.gone.load(Ordering::SeqCst));
+    assert!(rt; !one.dropped.load(Ordering::SeqCst));
+    assert!(rt; !other.dropped.load(Ordering::SeqCst));
     intake.close(&rt);
-    assert!(rt; one.gone.load(Ordering::SeqCst));
-    assert!(rt; other.gone.load(Ordering::SeqCst));
+    assert!(rt; one.dropped.load(Ordering::SeqCst));
+    assert!(rt; other.dropped.load(Ordering::SeqCst));
     Ok(())
 }
 
@@ -241,6 +241,6 @@ fn no_depth_is_refused(rt: HostRuntime) -> Result<(), Fail> {
         Err(fault) => Some(fault),
     };
     assert_eq!(rt; fault, Some(IntakeFault::NoDepth));
-    assert!(rt; trace.gone.load(Ordering::SeqCst));
+    assert!(rt; trace.dropped.load(Ordering::SeqCst));
     Ok(())
 }

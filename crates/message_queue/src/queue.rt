@@ -92,7 +92,7 @@ impl MessageQueue {
     }
 
     /// Sends a message, where the claim is what the rule gives: the receiver that waits first gets it; else, if there is room, the
-    /// queue holds it; else the caller waits with it, or is told that nothing is available where its time-out is 0.
+    /// queue holds it; else the caller waits with it, or gets NOT_AVAILABLE where its time-out is 0.
     ///
     /// Refused, with nothing changed, where the claim is another, or where memory is refused for the message or the entry.
     pub fn send(
@@ -137,7 +137,7 @@ impl MessageQueue {
     }
 
     /// Receives a message, where the claim is what the rule gives: the caller gets the oldest one, if there is one, and the message
-    /// of the sender that waits first moves up; else the caller waits, or is told that nothing is available where its time-out is 0.
+    /// of the sender that waits first moves up; else the caller waits, or gets NOT_AVAILABLE where its time-out is 0.
     ///
     /// Refused, with nothing changed, where the claim is another, or where memory is refused for the entry.
     pub fn receive(&mut self, actor: Actor, time_out: i64, claim: &Claim) -> Result<(), ObjFault>
@@ -211,7 +211,7 @@ impl MessageQueue {
     pub fn leave_all(&mut self, part: PartId)
         ensures { self.new ≡ rules.without_waiters (λ who. nat_eq who.part part) self.old }
     {
-        // Each set is told with a copy of its own.
+        // Each set gets a copy of its own.
         let copy = part;
         self.senders.leave_all(part);
         self.receivers.leave_all(copy);

@@ -9,12 +9,12 @@ use Rattle.apex_machine.specs.Configuration.{ChannelEnd, QueuingChannel, Samplin
 use Rattle.module_config.specs.declared.ends.Likeness.{Likeness}
 use Rattle.module_config.specs.Ends.{count_alike, ends_of, is_alike, queuing_ends, queuing_ends_of, sampling_ends, sampling_ends_of}
 
--- ends that stand one behind another are counted apart
+-- ends that stand one after another are counted apart
 pub count-append : (likeness : Likeness) (place : ChannelEnd) (places others : List ChannelEnd)
     → count_alike likeness place (places ++ others) ≡ count_alike likeness place places + count_alike likeness place others
 count-append likeness place places others = sum_by-append (λ other. cond (is_alike likeness place other) 1 0) places others
 
--- one sampling channel's ends, and those of the channels behind it
+-- one sampling channel's ends, and those of the channels after it
 pub sampling-counted : (likeness : Likeness) (place : ChannelEnd) (channels : List SamplingChannel) (i : ℕ) (channel : SamplingChannel)
     → i < length channels → channel ≡ get_or channels i channel
     → count_alike likeness place (sampling_ends (drop i channels))
@@ -22,7 +22,7 @@ pub sampling-counted : (likeness : Likeness) (place : ChannelEnd) (channels : Li
 sampling-counted likeness place channels i channel below is =
     rw (drop_more channels i channel below, ← is) (count-append likeness place (sampling_ends_of channel) (sampling_ends (drop (i + 1) channels)))
 
--- one queuing channel's ends, and those of the channels behind it
+-- one queuing channel's ends, and those of the channels after it
 pub queuing-counted : (likeness : Likeness) (place : ChannelEnd) (channels : List QueuingChannel) (i : ℕ) (channel : QueuingChannel)
     → i < length channels → channel ≡ get_or channels i channel
     → count_alike likeness place (queuing_ends (drop i channels))
@@ -30,7 +30,7 @@ pub queuing-counted : (likeness : Likeness) (place : ChannelEnd) (channels : Lis
 queuing-counted likeness place channels i channel below is =
     rw (drop_more channels i channel below, ← is) (count-append likeness place (queuing_ends_of channel) (queuing_ends (drop (i + 1) channels)))
 
--- a test of one sampling channel's ends, and of those behind it
+-- a test of one sampling channel's ends, and of those after it
 pub sampling-tested : (test : ChannelEnd → Bool) (channels : List SamplingChannel) (queuing : List QueuingChannel) (i : ℕ) (channel : SamplingChannel)
     → i < length channels → channel ≡ get_or channels i channel
     → list_any test (ends_of (drop i channels) queuing) ≡ (list_any test (sampling_ends_of channel) || list_any test (ends_of (drop (i + 1) channels) queuing))
@@ -39,7 +39,7 @@ sampling-tested test channels queuing i channel below is =
     (ap (list_any test) (append_assoc (sampling_ends_of channel) (sampling_ends (drop (i + 1) channels)) (queuing_ends queuing))
     ∙ list_any-append test (sampling_ends_of channel) (sampling_ends (drop (i + 1) channels) ++ queuing_ends queuing))
 
--- a test of one queuing channel's ends, and of those behind it
+-- a test of one queuing channel's ends, and of those after it
 pub queuing-tested : (test : ChannelEnd → Bool) (channels : List QueuingChannel) (i : ℕ) (channel : QueuingChannel)
     → i < length channels → channel ≡ get_or channels i channel
     → list_any test (queuing_ends (drop i channels)) ≡ (list_any test (queuing_ends_of channel) || list_any test (queuing_ends (drop (i + 1) channels)))
@@ -51,7 +51,7 @@ pub some-here : (here rest whole all : Bool) → whole ≡ (here || rest) → he
 some-here true rest whole all split is same = sym split ∙ same
 some-here false rest whole all split is same = cc
 
--- one that does not is left to those behind
+-- one that does not is left to those after
 pub none-here : (here rest whole all : Bool) → whole ≡ (here || rest) → here ≡ false → whole ≡ all → rest ≡ all
 none-here true rest whole all split is same = cc
 none-here false rest whole all split is same = sym split ∙ same

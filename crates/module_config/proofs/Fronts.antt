@@ -10,7 +10,7 @@ use Rattle.toml.proofs.Views.{items_view-drop}
 use Rattle.module_config.specs.declared.fault.ConfigFault.{ConfigFault}
 use Rattle.module_config.specs.Keys.{◌>>=◌, each_item}
 
--- what is read, behind what was read before
+-- what is read, after what was read before
 abbrev pub behind : {A : Type 0} → List A → Result (List A) ConfigFault → Result (List A) ConfigFault
 behind front (Ok rest) = Ok (front ++ rest)
 behind front (Err fault) = Err fault

@@ -6,6 +6,7 @@ use Rattle.std.proofs.lemmas.Bool.Decides.{nat_tests}
 use Rattle.toml.specs.Data.{Data}
 use Rattle.toml.specs.View.{view, items_view}
 use Rattle.toml.specs.declared.value.Value.{Value}
+use Rattle.apex_types.specs.declared.limits.TheConstants.{MOST_DESTINATIONS}
 use Rattle.module_config.specs.declared.fault.ConfigFault.TheVariants.{OutOfRange}
 use Rattle.module_config.specs.ChannelWalk.{end_in, ends_at}
 use Rattle.module_config.specs.Keys.{all_items, each_item, is_table, item_count, list_of}
@@ -33,20 +34,20 @@ pub ends_at-none : (found : Option Data) (given : Data) (values : List Value) �
 ends_at-none found given [] is read none = rw (← is, read) refl
 ends_at-none found given (value ∷ values) is read none = absurd (omega arith)
 
--- nor does a list of more than 32
-pub ends_at-many : (found : Option Data) (given : Data) (values : List Value) → Some given ≡ found → list_of is_table given ≡ Ok (items_view values) → 32 < length values
+-- nor does a list of more than the most destinations
+pub ends_at-many : (found : Option Data) (given : Data) (values : List Value) → Some given ≡ found → list_of is_table given ≡ Ok (items_view values) → MOST_DESTINATIONS < length values
     → ends_at found ≡ Err OutOfRange
 ends_at-many found given [] is read many = absurd (omega arith)
 ends_at-many found given (value ∷ values) is read many =
     let count = item_count-view (value ∷ values) in
-    let over : nat_le (item_count (items_view (value ∷ values))) 32 ≡ false = grind (arith, nat_tests, count) in
+    let over : nat_le (item_count (items_view (value ∷ values))) MOST_DESTINATIONS ≡ false = grind (arith, nat_tests, count) in
     rw (← is, read, over) refl
 
--- a list of 1 to 32 tables is read item by item
-pub ends_at-listed : (found : Option Data) (given : Data) (values : List Value) → Some given ≡ found → list_of is_table given ≡ Ok (items_view values) → 0 < length values → length values ≤ 32
+-- a list of one table, or of more up to the most destinations, is read item by item
+pub ends_at-listed : (found : Option Data) (given : Data) (values : List Value) → Some given ≡ found → list_of is_table given ≡ Ok (items_view values) → 0 < length values → length values ≤ MOST_DESTINATIONS
     → ends_at found ≡ each_item end_in (items_view values)
 ends_at-listed found given [] is read some few = absurd (omega arith)
 ends_at-listed found given (value ∷ values) is read some few =
     let count = item_count-view (value ∷ values) in
-    let under : nat_le (item_count (items_view (value ∷ values))) 32 ≡ true = grind (arith, nat_tests, count) in
+    let under : nat_le (item_count (items_view (value ∷ values))) MOST_DESTINATIONS ≡ true = grind (arith, nat_tests, count) in
     rw (← is, read, under) refl

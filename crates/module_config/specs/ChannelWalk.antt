@@ -1,20 +1,16 @@
 -- What the tables of channels configure, key by key.
 use Rattle.std.specs.Prelude.{ℕ, List, Option, Result, Ok, Err, codes}
 use Rattle.toml.specs.Data.{Data, table, Members, get_member}
-use Rattle.apex_types.specs.Bounds.{greatest_channel, greatest_partition, longest_message, most_messages}
+use Rattle.apex_types.specs.declared.limits.TheConstants.{GREATEST_CHANNEL, GREATEST_PARTITION, LONGEST_MESSAGE, MOST_DESTINATIONS, MOST_MESSAGES}
 use Rattle.apex_machine.specs.Configuration.{ChannelEnd, QueuingChannel, SamplingChannel}
 use Rattle.module_config.specs.declared.fault.ConfigFault.{ConfigFault}
 use Rattle.module_config.specs.declared.fault.ConfigFault.TheVariants.{WrongType}
 use Rattle.module_config.specs.Keys.{◌>>=◌, at_least_one, at_most, discipline_at, each_item, integer_at, is_table, list_of, name_at, required, tables_at, ticks_at}
 
--- a sampling channel has at most this many destinations
-abbrev pub most_destinations : ℕ
-most_destinations = 32
-
 -- the end of a channel that a table describes: a partition's number, and the name of its port
 abbrev pub end_under : Members → Result ChannelEnd ConfigFault
 end_under keys =
-    integer_at 0 greatest_partition (get_member (codes "partition") keys) >>= (λ partition.
+    integer_at 0 GREATEST_PARTITION (get_member (codes "partition") keys) >>= (λ partition.
     name_at (get_member (codes "port") keys) >>= (λ port.
     Ok (record { partition = partition; port = port })))
 
@@ -29,15 +25,15 @@ end_at value = required value >>= end_in
 
 -- the ends under a key: a list of 1 to 32 tables
 abbrev pub ends_at : Option Data → Result (List ChannelEnd) ConfigFault
-ends_at value = required value >>= list_of is_table >>= at_least_one >>= at_most most_destinations >>= each_item end_in
+ends_at value = required value >>= list_of is_table >>= at_least_one >>= at_most MOST_DESTINATIONS >>= each_item end_in
 
 -- the number of a channel
 abbrev pub number_at : Option Data → Result ℕ ConfigFault
-number_at value = integer_at 0 greatest_channel value
+number_at value = integer_at 0 GREATEST_CHANNEL value
 
 -- the greatest size of a channel's messages
 abbrev pub size_at : Option Data → Result ℕ ConfigFault
-size_at value = integer_at 1 longest_message value
+size_at value = integer_at 1 LONGEST_MESSAGE value
 
 -- the sampling channel that a table describes
 abbrev pub sampling_under : Members → Result SamplingChannel ConfigFault
@@ -63,7 +59,7 @@ abbrev pub queuing_under : Members → Result QueuingChannel ConfigFault
 queuing_under keys =
     number_at (get_member (codes "channel") keys) >>= (λ number.
     size_at (get_member (codes "size") keys) >>= (λ size.
-    integer_at 1 most_messages (get_member (codes "capacity") keys) >>= (λ capacity.
+    integer_at 1 MOST_MESSAGES (get_member (codes "capacity") keys) >>= (λ capacity.
     end_at (get_member (codes "source") keys) >>= (λ source.
     discipline_at (get_member (codes "source_discipline") keys) >>= (λ source_discipline.
     end_at (get_member (codes "destination") keys) >>= (λ destination.

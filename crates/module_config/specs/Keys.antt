@@ -3,7 +3,7 @@ use Rattle.std.specs.Prelude.{◌≡◌, ◌≢◌, ℕ, suc, List, [], ◌∷�
 use Rattle.std.specs.List.{list_all}
 use Rattle.std.specs.Str.{bytes_eq}
 use Rattle.toml.specs.Data.{Data, integer, string, array, table, Items, no_items, item}
-use Rattle.apex_types.specs.Bounds.{greatest_span, longest_name}
+use Rattle.apex_types.specs.declared.limits.TheConstants.{GREATEST_SPAN, LONGEST_NAME}
 use Rattle.apex_types.specs.declared.discipline.Discipline.{Discipline}
 use Rattle.apex_types.specs.declared.discipline.Discipline.TheVariants as discipline
 use Rattle.module_config.specs.declared.fault.ConfigFault.{ConfigFault}
@@ -50,7 +50,7 @@ integer_at least most value = natural_at value >>= within least most
 
 -- a number of ticks
 abbrev pub ticks_at : Option Data → Result ℕ ConfigFault
-ticks_at value = integer_at 1 greatest_span value
+ticks_at value = integer_at 1 GREATEST_SPAN value
 
 -- a string
 abbrev pub text_in : Data → Result (List ℕ) ConfigFault
@@ -67,7 +67,7 @@ is_printable byte = nat_le 0x20 byte && nat_le byte 0x7E
 
 -- a text of 1 to 32 bytes, all printable
 abbrev pub is_name : List ℕ → Bool
-is_name text = nat_le 1 (length text) && (nat_le (length text) longest_name && list_all is_printable text)
+is_name text = nat_le 1 (length text) && (nat_le (length text) LONGEST_NAME && list_all is_printable text)
 
 -- a name
 abbrev pub name_in : List ℕ → Result (List ℕ) ConfigFault

@@ -1,16 +1,16 @@
 -- What each configuration keeps.
 use Rattle.std.specs.Prelude.{◌≡◌, ℕ, ◌+◌, ◌≤◌, ◌<◌, List, length, map, All, AllPairs, IsTrue, true, false}
-use Rattle.apex_types.specs.Bounds.{greatest_channel, greatest_partition, greatest_span, longest_message, most_cores, most_messages, most_processes}
+use Rattle.apex_types.specs.declared.limits.TheConstants.{GREATEST_CHANNEL, GREATEST_PARTITION, GREATEST_SPAN, LONGEST_MESSAGE, MOST_CORES, MOST_MESSAGES, MOST_PROCESSES}
 use Rattle.apex_machine.specs.Configuration.{Configuration, PartitionLimits, QueuingChannel, SamplingChannel, Window, has_core, limits_of}
 use Rattle.module_config.specs.Ends.{are_joined}
 use Rattle.module_config.specs.Whole.{are_of_partitions, has_overlap, is_given_twice, is_too_large}
 
 -- a partition's number, period and processes are within their limits
 pub record AreLimits (number period processes : ℕ) : Type 0 where
-  pub number_most : number ≤ greatest_partition
+  pub number_most : number ≤ GREATEST_PARTITION
   pub period_least : 1 ≤ period
-  pub period_most : period ≤ greatest_span
-  pub processes_most : processes ≤ most_processes
+  pub period_most : period ≤ GREATEST_SPAN
+  pub processes_most : processes ≤ MOST_PROCESSES
 
 -- no partition's number is above a later one's
 abbrev pub IsOrdered : List PartitionLimits → Type 0
@@ -40,28 +40,28 @@ AreCoresOf count limits = All (λ core. core < count) limits.cores
 
 -- a sampling channel's number, size and refresh period are within their limits
 pub record AreSamplingLimits (channel : SamplingChannel) : Type 0 where
-  pub number_most : channel.number ≤ greatest_channel
+  pub number_most : channel.number ≤ GREATEST_CHANNEL
   pub size_least : 1 ≤ channel.size
-  pub size_most : channel.size ≤ longest_message
+  pub size_most : channel.size ≤ LONGEST_MESSAGE
   pub refresh_least : 1 ≤ channel.refresh
-  pub refresh_most : channel.refresh ≤ greatest_span
+  pub refresh_most : channel.refresh ≤ GREATEST_SPAN
 
 -- a queuing channel's number, size and capacity are within their limits
 pub record AreQueuingLimits (channel : QueuingChannel) : Type 0 where
-  pub number_most : channel.number ≤ greatest_channel
+  pub number_most : channel.number ≤ GREATEST_CHANNEL
   pub size_least : 1 ≤ channel.size
-  pub size_most : channel.size ≤ longest_message
+  pub size_most : channel.size ≤ LONGEST_MESSAGE
   pub capacity_least : 1 ≤ channel.capacity
-  pub capacity_most : channel.capacity ≤ most_messages
+  pub capacity_most : channel.capacity ≤ MOST_MESSAGES
 
 -- the numbers of a configuration are within their limits
 pub record IsWithinLimits (configuration : Configuration) : Type 0 where
   pub cores_least : 1 ≤ configuration.cores
-  pub cores_most : configuration.cores ≤ most_cores
+  pub cores_most : configuration.cores ≤ MOST_CORES
   pub frame_least : 1 ≤ configuration.frame
-  pub frame_most : configuration.frame ≤ greatest_span
+  pub frame_most : configuration.frame ≤ GREATEST_SPAN
   pub skew_least : 1 ≤ configuration.skew
-  pub skew_most : configuration.skew ≤ greatest_span
+  pub skew_most : configuration.skew ≤ GREATEST_SPAN
   pub some_partition : 1 ≤ length configuration.partitions
   pub own_cores : All (AreCoresOf configuration.cores) configuration.partitions
   pub sampling : All AreSamplingLimits configuration.sampling

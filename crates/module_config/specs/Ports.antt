@@ -9,12 +9,12 @@ use Rattle.module_config.specs.declared.port.QueuingPort.{QueuingPort}
 use Rattle.module_config.specs.declared.port.SamplingPort.{SamplingPort}
 
 -- a sampling port as the definitions have it
-abbrev pub told_sampling : SamplingPort → configured.SamplingPort
-told_sampling port = record { channel = port.channel; size = port.size; direction = port.direction; refresh = port.refresh }
+abbrev pub configured_sampling : SamplingPort → configured.SamplingPort
+configured_sampling port = record { channel = port.channel; size = port.size; direction = port.direction; refresh = port.refresh }
 
 -- a queuing port as the definitions have it
-abbrev pub told_queuing : QueuingPort → configured.QueuingPort
-told_queuing port =
+abbrev pub configured_queuing : QueuingPort → configured.QueuingPort
+configured_queuing port =
     record { channel = port.channel; size = port.size; capacity = port.capacity; direction = port.direction; discipline = port.discipline }
 
 -- what is configured of a channel, by the queuing channel and the sampling channel of its number, if there is one

@@ -3,7 +3,7 @@ use Rattle.std.specs.Prelude.{ℕ, List, length, Option, Some, None, Result, Ok,
 use Rattle.std.specs.Str.{is_utf8}
 use Rattle.toml.specs.Data.{Members}
 use Rattle.toml.specs.Parse.{parse_document}
-use Rattle.apex_types.specs.Bounds.{longest_configuration}
+use Rattle.apex_types.specs.declared.limits.TheConstants.{LONGEST_CONFIGURATION}
 use Rattle.apex_machine.specs.Configuration.{Configuration}
 use Rattle.module_config.specs.declared.fault.ConfigFault.{ConfigFault}
 use Rattle.module_config.specs.declared.fault.ConfigFault.TheVariants.{NotToml, TooMany}
@@ -31,4 +31,4 @@ configuration_in (Some keys) = configuration_under keys
 
 -- what a text configures; a text of more than 1,048,576 bytes is not looked into
 abbrev pub configuration_of : List ℕ → Result Configuration ConfigFault
-configuration_of text = if nat_lt longest_configuration (length text) then Err TooMany else configuration_in (document_of text)
+configuration_of text = if nat_lt LONGEST_CONFIGURATION (length text) then Err TooMany else configuration_in (document_of text)

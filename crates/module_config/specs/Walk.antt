@@ -1,7 +1,7 @@
 -- What a table configures: a walk over its keys in a fixed order, which ends at the first refusal.
 use Rattle.std.specs.Prelude.{ℕ, ◌+◌, ◌-◌, List, [], ◌∷◌, Option, Result, Ok, Err, pos, nat_le, nat_lt, ◌&&◌, if◌then◌else◌, codes}
 use Rattle.toml.specs.Data.{Data, integer, table, Items, no_items, item, Members, get_member}
-use Rattle.apex_types.specs.Bounds.{greatest_partition, most_cores, most_objects, most_processes}
+use Rattle.apex_types.specs.declared.limits.TheConstants.{GREATEST_PARTITION, MOST_CORES, MOST_OBJECTS, MOST_PROCESSES}
 use Rattle.apex_machine.specs.Configuration.{Configuration, PartitionLimits, Window}
 use Rattle.module_config.specs.declared.fault.ConfigFault.{ConfigFault}
 use Rattle.module_config.specs.declared.fault.ConfigFault.TheVariants.{WrongType, OutOfRange}
@@ -27,15 +27,15 @@ cores_at count value = required value >>= list_of is_integer >>= at_least_one >>
 
 -- how many objects of a kind a partition may create
 abbrev pub objects_at : Option Data → Result ℕ ConfigFault
-objects_at value = integer_at 0 most_objects value
+objects_at value = integer_at 0 MOST_OBJECTS value
 
 -- the partition that a table describes, in a module of this many cores
 abbrev pub partition_under : ℕ → Members → Result PartitionLimits ConfigFault
 partition_under count keys =
-    integer_at 0 greatest_partition (get_member (codes "number") keys) >>= (λ number.
+    integer_at 0 GREATEST_PARTITION (get_member (codes "number") keys) >>= (λ number.
     ticks_at (get_member (codes "period") keys) >>= (λ period.
     cores_at count (get_member (codes "cores") keys) >>= (λ cores.
-    integer_at 1 most_processes (get_member (codes "processes") keys) >>= (λ processes.
+    integer_at 1 MOST_PROCESSES (get_member (codes "processes") keys) >>= (λ processes.
     objects_at (get_member (codes "buffers") keys) >>= (λ buffers.
     objects_at (get_member (codes "blackboards") keys) >>= (λ blackboards.
     objects_at (get_member (codes "semaphores") keys) >>= (λ semaphores.
@@ -70,7 +70,7 @@ partitions_at count value = required value >>= list_of is_table >>= at_least_one
 abbrev pub window_under : ℕ → ℕ → Members → Result Window ConfigFault
 window_under count frame keys =
     integer_at 0 (count - 1) (get_member (codes "core") keys) >>= (λ core.
-    integer_at 0 greatest_partition (get_member (codes "partition") keys) >>= (λ partition.
+    integer_at 0 GREATEST_PARTITION (get_member (codes "partition") keys) >>= (λ partition.
     natural_at (get_member (codes "start") keys) >>= (λ start.
     integer_at 1 (frame - start) (get_member (codes "length") keys) >>= (λ span.
     Ok (record { core = core; partition = partition; start = start; span = span })))))
@@ -91,7 +91,7 @@ windows_at count frame value = tables_at value >>= ordered_windows count frame
 -- what a table configures, each key judged by itself; the channels stand in the order of the text; keys of other names say nothing
 abbrev pub walk : Members → Result Configuration ConfigFault
 walk keys =
-    integer_at 1 most_cores (get_member (codes "cores") keys) >>= (λ cores.
+    integer_at 1 MOST_CORES (get_member (codes "cores") keys) >>= (λ cores.
     ticks_at (get_member (codes "frame") keys) >>= (λ frame.
     ticks_at (get_member (codes "skew") keys) >>= (λ skew.
     partitions_at cores (get_member (codes "partition") keys) >>= (λ partitions.

@@ -1,7 +1,7 @@
 -- What is refused over the whole of a configuration, once each key has been read.
 use Rattle.std.specs.Prelude.{ℕ, ◌+◌, List, [], ◌∷◌, length, Option, Some, None, is_some, Bool, false, not, ◌&&◌, ◌||◌, nat_eq, nat_lt, if◌then◌else◌}
 use Rattle.std.specs.List.{list_any, list_all}
-use Rattle.apex_types.specs.Bounds.{most_partitions, most_windows}
+use Rattle.apex_types.specs.declared.limits.TheConstants.{MOST_CHANNELS, MOST_PARTITIONS, MOST_PORTS, MOST_WINDOWS}
 use Rattle.apex_machine.specs.Channels.{channel_numbers}
 use Rattle.apex_machine.specs.Configuration.{Configuration, PartitionLimits, Window, has_core, limits_among}
 use Rattle.module_config.specs.declared.ends.Likeness.TheVariants as by
@@ -9,29 +9,21 @@ use Rattle.module_config.specs.declared.fault.ConfigFault.{ConfigFault}
 use Rattle.module_config.specs.declared.fault.ConfigFault.TheVariants.{TooMany, Duplicate, CoreNotOfPartition, Overlap, ChannelEnds}
 use Rattle.module_config.specs.Ends.{are_joined, are_too_many, ends_of, queuing_ends, sampling_ends}
 
--- a module has at most this many channels
-abbrev pub most_channels : ℕ
-most_channels = 256
-
--- a partition has at most this many ports of each kind
-abbrev pub most_ports : ℕ
-most_ports = 64
-
 -- more than 256 channels, of both kinds together
 abbrev pub has_many_channels : Configuration → Bool
-has_many_channels configuration = nat_lt most_channels (length configuration.sampling + length configuration.queuing)
+has_many_channels configuration = nat_lt MOST_CHANNELS (length configuration.sampling + length configuration.queuing)
 
 -- a partition has more than 64 sampling ports, or more than 64 queuing ports
 abbrev pub has_many_ports : Configuration → Bool
 has_many_ports configuration =
-    are_too_many by.Partition most_ports (sampling_ends configuration.sampling)
-    || are_too_many by.Partition most_ports (queuing_ends configuration.queuing)
+    are_too_many by.Partition MOST_PORTS (sampling_ends configuration.sampling)
+    || are_too_many by.Partition MOST_PORTS (queuing_ends configuration.queuing)
 
 -- more than 32 partitions, 4,096 windows, 256 channels or a partition's 64 ports of a kind
 abbrev pub is_too_large : Configuration → Bool
 is_too_large configuration =
-    nat_lt most_partitions (length configuration.partitions)
-    || nat_lt most_windows (length configuration.windows)
+    nat_lt MOST_PARTITIONS (length configuration.partitions)
+    || nat_lt MOST_WINDOWS (length configuration.windows)
     || has_many_channels configuration
     || has_many_ports configuration
 

@@ -1,8 +1,9 @@
 // The channels of a configuration, and the ports at their ends.
 
 ghost use Rattle.std.specs.Prelude.{◌≡◌, ◌<◌, ◌≤◌, length, option_map, slice_index, true};
+ghost use Rattle.apex_types.specs.declared.limits.TheConstants.{MOST_CHANNELS};
 ghost use Rattle.apex_machine.specs.Channels.{channel_numbers, has_channel, is_at_end, queuing_port, sampling_port};
-ghost use Rattle.module_config.specs.Ports.{kind_of, told_queuing, told_sampling};
+ghost use Rattle.module_config.specs.Ports.{kind_of, configured_queuing, configured_sampling};
 
 use crate::config::Config;
 use crate::port::{ChannelKind, QueuingPort, SamplingPort};
@@ -14,7 +15,7 @@ impl Config {
     /// How many channels are configured, of both kinds.
     pub fn channel_count(&self) -> usize
         ensures value { result ≡ length (channel_numbers self.now) }
-        ensures most { result ≤ 256 }
+        ensures most { result ≤ MOST_CHANNELS }
     {
         self.numbers.len()
     }
@@ -65,14 +66,14 @@ impl Config {
 
     /// What is configured of the sampling port that a partition has under this name, or None where it has none.
     pub fn sampling_port(&self, part: PartId, name: &Name) -> Option<SamplingPort>
-        ensures { option_map told_sampling result ≡ sampling_port self.now part name.now }
+        ensures { option_map configured_sampling result ≡ sampling_port self.now part name.now }
     {
         find_sampling_port(&self.sampling, part, name)
     }
 
     /// What is configured of the queuing port that a partition has under this name, or None where it has none.
     pub fn queuing_port(&self, part: PartId, name: &Name) -> Option<QueuingPort>
-        ensures { option_map told_queuing result ≡ queuing_port self.now part name.now }
+        ensures { option_map configured_queuing result ≡ queuing_port self.now part name.now }
     {
         find_queuing_port(&self.queuing, part, name)
     }

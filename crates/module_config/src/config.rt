@@ -3,6 +3,7 @@
 ghost use Rattle.std.specs.Prelude.{◌≡◌, ◌≤◌, ◌<◌, ◌%◌, ◌↔◌, All, AllPairs, IfOk, IfErr, IfSome, Bool, true, length, slice_index};
 ghost use Rattle.toml.specs.Errors.{IsMemory};
 ghost use Rattle.toml.specs.View.{table_view};
+ghost use Rattle.apex_types.specs.declared.limits.TheConstants.{GREATEST_PARTITION, GREATEST_SPAN, LONGEST_CONFIGURATION, MOST_CORES, MOST_PARTITIONS, MOST_PROCESSES};
 ghost use Rattle.apex_machine.specs.Channels.{EndsAreApart};
 ghost use Rattle.apex_machine.specs.Configuration.{PartitionLimits, window_at, has_partition, WindowsAreConfigured, first_core, object_limit, process_limit, period_of, is_core};
 ghost use Rattle.module_config.specs.declared.fault.ConfigFault.TheVariants.{Memory, NotToml, TooMany};
@@ -14,7 +15,7 @@ ghost use Rattle.module_config.specs.Laid.{laid_out};
 ghost use Rattle.module_config.specs.Order.{windows_begun};
 ghost use Rattle.module_config.specs.Whole.{whole_fault};
 
-use crate::counts::{MOST_CHANNELS, channel_numbers};
+use crate::counts::channel_numbers;
 use crate::fault::ConfigFault;
 use crate::layout::{Layout, read_layout};
 use crate::partition::Partition;
@@ -23,15 +24,13 @@ use crate::sampling::SampledChannel;
 use crate::timetable::{begun_near, window_among};
 use crate::whole::{find_partition, whole_fault};
 use crate::window::TimeWindow;
+use apex_types::limits::{LONGEST_CONFIGURATION, MOST_CHANNELS};
 use apex_types::{CoreId, PartId};
 use arrayvec::ArrayVec;
 use std::alloc::Global;
 use std::marker::Model;
 use toml::Table;
 use toml::de::Error;
-
-/// The most bytes that a configuration's text may have.
-const LONGEST_TEXT: usize = 1_048_576;
 
 /// The configuration of a module: its cores, major frame and skew, its partitions and their windows, its channels and
 /// their numbers in rising order.
@@ -69,10 +68,10 @@ impl Config {
     /// `NotToml`, then the keys in their order, then what is judged over the whole. Keys of other names are ignored.
     pub fn read(alloc: Global, text: &[u8]) -> Result<Config, ConfigFault>
         ensures value { Gives (λ config. config) result (configuration_of text.now) }
-        ensures too_long { 1048576 < length text.now → result ≡ Err TooMany }
+        ensures too_long { LONGEST_CONFIGURATION < length text.now → result ≡ Err TooMany }
         ensures windows { IfOk result WindowsAreConfigured }
     {
-        if text.len() > LONGEST_TEXT {
+        if text.len() > LONGEST_CONFIGURATION {
             return Err(ConfigFault::TooMany);
         }
         match toml::table_from_slice(alloc, text) {
@@ -142,7 +141,7 @@ impl Config {
     pub fn cores(&self) -> u8
         ensures value { result ≡ self.now.cores }
         ensures least { 1 ≤ result }
-        ensures most { result ≤ 16 }
+        ensures most { result ≤ MOST_CORES }
     {
         self.cores
     }
@@ -151,7 +150,7 @@ impl Config {
     pub fn frame(&self) -> u64
         ensures value { result ≡ self.now.frame }
         ensures least { 1 ≤ result }
-        ensures most { result ≤ 4294967295 }
+        ensures most { result ≤ GREATEST_SPAN }
     {
         self.frame
     }
@@ -160,7 +159,7 @@ impl Config {
     pub fn skew(&self) -> u64
         ensures value { result ≡ self.now.skew }
         ensures least { 1 ≤ result }
-        ensures most { result ≤ 4294967295 }
+        ensures most { result ≤ GREATEST_SPAN }
     {
         self.skew
     }
@@ -204,7 +203,7 @@ impl Config {
     pub fn partition_count(&self) -> usize
         ensures value { result ≡ length self.now.partitions }
         ensures least { 1 ≤ result }
-        ensures most { result ≤ 32 }
+        ensures most { result ≤ MOST_PARTITIONS }
     {
         self.partitions.len()
     }
@@ -213,7 +212,7 @@ impl Config {
     pub fn partition_number(&self, index: usize) -> PartId
         requires { index < length self.now.partitions }
         ensures value { result ≡ slice_index (partition_numbers self.now) index }
-        ensures most { result < 32 }
+        ensures most { result ≤ GREATEST_PARTITION }
         ensures configured { has_partition self.now result ≡ true }
     {
         self.partitions[index].number
@@ -251,7 +250,7 @@ impl Config {
     /// How many processes a partition may create, and 0 where none of this number is configured.
     pub fn process_limit(&self, part: PartId) -> u32
         ensures value { result ≡ process_limit self.now part }
-        ensures most { result ≤ 128 }
+        ensures most { result ≤ MOST_PROCESSES }
     {
         match find_partition(&self.partitions, part) {
             Some(partition) => partition.processes,
@@ -313,7 +312,7 @@ impl Config {
     pub fn period(&self, part: PartId) -> u64
         ensures value { result ≡ period_of self.now part }
         ensures least { 1 ≤ result }
-        ensures most { result ≤ 4294967295 }
+        ensures most { result ≤ GREATEST_SPAN }
     {
         match find_partition(&self.partitions, part) {
             Some(partition) => partition.period,

@@ -3,6 +3,7 @@
 ghost use Rattle.std.specs.Prelude.{◌≡◌, ◌+◌, ◌<◌, ◌≤◌, length, nat_eq, nat_le};
 ghost use Rattle.std.specs.List.{list_any, position_or_len};
 ghost use Rattle.arrayvec.specs.ArrayVec.{array_vec_len};
+ghost use Rattle.apex_types.specs.declared.limits.TheConstants.{MOST_CHANNELS};
 ghost use Rattle.apex_machine.specs.Channels.{channel_numbers, put_rising};
 ghost use Rattle.module_config.specs.Ends.{are_too_many, ends_of, is_exceeded, queuing_ends_of, sampling_ends_of};
 ghost use Rattle.module_config.specs.Laid.{laid_out};
@@ -12,10 +13,8 @@ use crate::ends::{Likeness, PortEnd};
 use crate::layout::Layout;
 use crate::queuing::{QueuedChannel, count_in_queuing};
 use crate::sampling::{SampledChannel, count_in_sampling};
+use apex_types::limits::MOST_CHANNELS;
 use arrayvec::ArrayVec;
-
-/// The most channels that a module has.
-pub(crate) const MOST_CHANNELS: usize = 256;
 
 /// The numbers of the channels of both kinds, in rising order.
 pub(crate) fn channel_numbers(layout: &Layout) -> ArrayVec<u16, MOST_CHANNELS>

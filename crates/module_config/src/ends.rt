@@ -4,22 +4,21 @@ ghost use Rattle.std.specs.Prelude.{◌≡◌, ◌≤◌, length, nat_eq};
 ghost use Rattle.std.specs.List.{list_all, list_any};
 ghost use Rattle.toml.specs.Data.{get_member};
 ghost use Rattle.toml.specs.View.{view, table_view, items_view};
+ghost use Rattle.apex_types.specs.declared.limits.TheConstants.{MOST_DESTINATIONS};
 ghost use Rattle.apex_machine.specs.Channels.{is_port};
-ghost use Rattle.module_config.specs.ChannelWalk.{end_at, end_in, end_under, ends_at, most_destinations};
+ghost use Rattle.module_config.specs.ChannelWalk.{end_at, end_in, end_under, ends_at};
 ghost use Rattle.module_config.specs.Ends.{count_alike, goes_to, is_alike, is_joined};
 ghost use Rattle.module_config.specs.Keys.{Reads, each_item};
 
 use crate::fault::ConfigFault;
-use crate::keys::{LONGEST_NAME, integer, member, name, tables};
+use crate::keys::{integer, member, name, tables};
 use crate::partition::Partition;
 use crate::whole::find_partition;
+use apex_types::limits::{GREATEST_PARTITION, LONGEST_NAME, MOST_DESTINATIONS};
 use apex_types::{Name, PartId};
 use arrayvec::ArrayVec;
 use std::marker::Model;
 use toml::{Table, Value};
-
-/// The most destinations that a sampling channel has.
-pub(crate) const MOST_DESTINATIONS: usize = 32;
 
 /// In what two ends are alike: they are of one partition, or they are one port of it.
 #[derive(Clone, Copy)]
@@ -78,7 +77,7 @@ impl PortEnd {
     fn from_table(keys: &Table) -> Result<PortEnd, ConfigFault>
         ensures { result ≡ end_under (table_view keys.now) }
     {
-        let partition = integer(keys, "partition", 0, 31)?;
+        let partition = integer(keys, "partition", 0, GREATEST_PARTITION as u64)?;
         let port = name(keys, "port")?;
         Ok(PortEnd {
             partition: PartId::new(partition as u8),
@@ -182,7 +181,7 @@ pub(crate) fn ends_under(
 
 // The ends that the items of a list describe.
 fn read_ends(items: &[Value]) -> Result<ArrayVec<PortEnd, MOST_DESTINATIONS>, ConfigFault>
-    requires { length items.now ≤ most_destinations }
+    requires { length items.now ≤ MOST_DESTINATIONS }
     ensures { Reads (λ ends. ends.items) result (each_item end_in (items_view items.now)) }
 {
     let mut ends = ArrayVec::new();

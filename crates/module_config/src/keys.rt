@@ -4,15 +4,14 @@ ghost use Rattle.std.specs.Prelude.{◌≡◌, ◌≤◌, IfOk, length, option_m
 ghost use Rattle.std.specs.List.{list_all};
 ghost use Rattle.toml.specs.Data.{get_member};
 ghost use Rattle.toml.specs.View.{view, table_view, items_view};
+ghost use Rattle.apex_types.specs.declared.limits.TheConstants.{GREATEST_SPAN, LONGEST_NAME};
 ghost use Rattle.module_config.specs.Keys.{Reads, natural_at, integer_at, ticks_at, text_at, name_at, discipline_at, is_name, is_printable, is_integer, is_table, all_items, list_of, tables_at};
 
 use crate::fault::ConfigFault;
 use apex_types::Discipline;
+use apex_types::limits::{GREATEST_SPAN, LONGEST_NAME};
 use arrayvec::ArrayVec;
 use toml::{Table, Value};
-
-/// The most bytes that a name has.
-pub(crate) const LONGEST_NAME: usize = 32;
 
 /// The value under a key, if the key is there.
 pub(crate) fn member<'a>(table: &'a Table, key: &str) -> Option<&'a Value>
@@ -54,9 +53,9 @@ pub(crate) fn integer(table: &Table, key: &str, least: u64, most: u64) -> Result
 pub(crate) fn ticks(table: &Table, key: &str) -> Result<u64, ConfigFault>
     ensures value { result ≡ ticks_at (get_member key.now (table_view table.now)) }
     ensures least { IfOk result (λ number. 1 ≤ number) }
-    ensures most { IfOk result (λ number. number ≤ 4294967295) }
+    ensures most { IfOk result (λ number. number ≤ GREATEST_SPAN) }
 {
-    integer(table, key, 1, 4_294_967_295)
+    integer(table, key, 1, GREATEST_SPAN as u64)
 }
 
 // The string under a key, which must be there.

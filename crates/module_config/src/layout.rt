@@ -5,6 +5,7 @@ ghost use Rattle.std.specs.List.{position_or_len};
 ghost use Rattle.std.specs.Result.{result_err};
 ghost use Rattle.toml.specs.Data.{get_member};
 ghost use Rattle.toml.specs.View.{table_view, items_view};
+ghost use Rattle.apex_types.specs.declared.limits.TheConstants.{MOST_CORES};
 ghost use Rattle.module_config.specs.Keys.{Gives, each_item};
 ghost use Rattle.module_config.specs.Order.{is_numbered_above};
 ghost use Rattle.module_config.specs.Walk.{partition_in, ordered_partitions, partitions_at, walk};
@@ -19,6 +20,7 @@ use crate::sampling::{SampledChannel, sampling_channels, sampling_items};
 use crate::timetable::{ordered_windows, window_items};
 use crate::window::TimeWindow;
 use apex_types::PartId;
+use apex_types::limits::MOST_CORES;
 use std::alloc::Global;
 use toml::{Table, Value};
 
@@ -43,7 +45,7 @@ pub(crate) fn read_layout(alloc: Global, keys: &Table) -> Result<Layout, ConfigF
     ensures by_start { IfOk result (λ layout. AllPairs BeginsNoLater layout.windows.items) }
     ensures some_tick { IfOk result (λ layout. All HasTick layout.windows.items) }
 {
-    let cores = integer(keys, "cores", 1, 16)? as u8;
+    let cores = integer(keys, "cores", 1, MOST_CORES as u64)? as u8;
     let frame = ticks(keys, "frame")?;
     let skew = ticks(keys, "skew")?;
     let partition_items = partition_items(keys, cores)?;
@@ -67,7 +69,7 @@ pub(crate) fn read_layout(alloc: Global, keys: &Table) -> Result<Layout, ConfigF
 
 // The items of the list of partitions, in a module of `count` cores. There is one at least, and each describes a partition.
 fn partition_items<'a>(keys: &'a Table, count: u8) -> Result<&'a [Value], ConfigFault>
-    requires { count ≤ 16 }
+    requires { count ≤ MOST_CORES }
     ensures listed { IfOk result (λ items. partitions_at count (get_member (codes "partition") (table_view keys.now)) ≡ ordered_partitions count (items_view items.now)) }
     ensures some { IfOk result (λ items. 1 ≤ length items.now) }
     ensures judged { IfOk result (λ items. IsOk (ordered_partitions count (items_view items.now))) }
@@ -86,7 +88,7 @@ fn partition_items<'a>(keys: &'a Table, count: u8) -> Result<&'a [Value], Config
 
 // Refuses the first item that describes no partition.
 fn judge_partitions(items: &[Value], count: u8) -> Result<(), ConfigFault>
-    requires { count ≤ 16 }
+    requires { count ≤ MOST_CORES }
     ensures { result_err result ≡ result_err (each_item (partition_in count) (items_view items.now)) }
 {
     for item in items {
@@ -101,7 +103,7 @@ fn ordered_partitions(
     items: &[Value],
     count: u8,
 ) -> Result<Vec<Partition>, ConfigFault>
-    requires { count ≤ 16 }
+    requires { count ≤ MOST_CORES }
     ensures value { Gives (λ found. found.items) result (ordered_partitions count (items_view items.now)) }
     ensures as_many { IfOk result (λ found. length found.items ≡ length items.now) }
     ensures own_cores { IfOk result (λ found. All (AreCoresOf count) found.items) }

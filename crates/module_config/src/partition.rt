@@ -3,6 +3,7 @@
 ghost use Rattle.std.specs.Prelude.{◌≡◌, ◌≤◌, IfOk};
 ghost use Rattle.toml.specs.Data.{get_member};
 ghost use Rattle.toml.specs.View.{view, table_view};
+ghost use Rattle.apex_types.specs.declared.limits.TheConstants.{MOST_CORES};
 ghost use Rattle.module_config.specs.Limits.{AreCoresOf};
 ghost use Rattle.module_config.specs.Walk.{objects_at, partition_in, partition_under};
 
@@ -10,6 +11,7 @@ use crate::cores::CoreList;
 use crate::fault::ConfigFault;
 use crate::keys::{integer, ticks};
 use apex_types::PartId;
+use apex_types::limits::{GREATEST_PARTITION, MOST_OBJECTS, MOST_PROCESSES};
 use std::marker::Model;
 use toml::{Table, Value};
 
@@ -52,7 +54,7 @@ impl Model for Partition {
 impl Partition {
     /// Reads a partition of a module of `count` cores.
     pub(crate) fn read(value: &Value, count: u8) -> Result<Partition, ConfigFault>
-        requires { count ≤ 16 }
+        requires { count ≤ MOST_CORES }
         ensures value { result ≡ partition_in count (view value.now) }
         ensures own_cores { IfOk result (λ own. AreCoresOf count own) }
     {
@@ -64,14 +66,14 @@ impl Partition {
 
     // The partition that a table describes.
     fn from_table(keys: &Table, count: u8) -> Result<Partition, ConfigFault>
-        requires { count ≤ 16 }
+        requires { count ≤ MOST_CORES }
         ensures value { result ≡ partition_under count (table_view keys.now) }
         ensures own_cores { IfOk result (λ own. AreCoresOf count own) }
     {
-        let number = integer(keys, "number", 0, 31)?;
+        let number = integer(keys, "number", 0, GREATEST_PARTITION as u64)?;
         let period = ticks(keys, "period")?;
         let cores = CoreList::read(keys, count)?;
-        let processes = integer(keys, "processes", 1, 128)?;
+        let processes = integer(keys, "processes", 1, MOST_PROCESSES as u64)?;
         let buffers = objects(keys, "buffers")?;
         let blackboards = objects(keys, "blackboards")?;
         let semaphores = objects(keys, "semaphores")?;
@@ -95,6 +97,6 @@ impl Partition {
 fn objects(keys: &Table, key: &str) -> Result<u32, ConfigFault>
     ensures { result ≡ objects_at (get_member key.now (table_view keys.now)) }
 {
-    let number = integer(keys, key, 0, 64)?;
+    let number = integer(keys, key, 0, MOST_OBJECTS as u64)?;
     Ok(number as u32)
 }

@@ -5,12 +5,13 @@ ghost use Rattle.std.specs.List.{list_all, list_any};
 ghost use Rattle.std.specs.Result.{result_err};
 ghost use Rattle.toml.specs.Data.{get_member};
 ghost use Rattle.toml.specs.View.{view, table_view, items_view};
+ghost use Rattle.apex_types.specs.declared.limits.TheConstants.{MOST_CHANNELS};
 ghost use Rattle.apex_machine.specs.Channels.{queuing_among, queuing_port_among};
 ghost use Rattle.module_config.specs.ChannelWalk.{queuing_at, queuing_in, queuing_under};
 ghost use Rattle.module_config.specs.Ends.{count_alike, is_queuing_joined, queuing_ends, queuing_ends_of};
 ghost use Rattle.module_config.specs.Keys.{Gives, each_item};
 ghost use Rattle.module_config.specs.Limits.{AreQueuingLimits};
-ghost use Rattle.module_config.specs.Ports.{told_queuing};
+ghost use Rattle.module_config.specs.Ports.{configured_queuing};
 
 use crate::ends::{Likeness, PortEnd};
 use crate::fault::ConfigFault;
@@ -18,6 +19,7 @@ use crate::keys::{discipline, integer, tables_under};
 use crate::partition::Partition;
 use crate::port::QueuingPort;
 use apex_machine::Direction;
+use apex_types::limits::{GREATEST_CHANNEL, LONGEST_MESSAGE, MOST_MESSAGES};
 use apex_types::{ChanId, Discipline, Name, PartId};
 use std::alloc::Global;
 use std::marker::Model;
@@ -69,9 +71,9 @@ impl QueuedChannel {
         ensures value { result ≡ queuing_under (table_view keys.now) }
         ensures limits { IfOk result AreQueuingLimits }
     {
-        let number = integer(keys, "channel", 0, 255)?;
-        let size = integer(keys, "size", 1, 8192)?;
-        let capacity = integer(keys, "capacity", 1, 1024)?;
+        let number = integer(keys, "channel", 0, GREATEST_CHANNEL as u64)?;
+        let size = integer(keys, "size", 1, LONGEST_MESSAGE as u64)?;
+        let capacity = integer(keys, "capacity", 1, MOST_MESSAGES as u64)?;
         let source = PortEnd::under(keys, "source")?;
         let source_discipline = discipline(keys, "source_discipline")?;
         let destination = PortEnd::under(keys, "destination")?;
@@ -119,7 +121,7 @@ impl QueuedChannel {
 
     // The port of a partition under a name, if it is at an end of the channel.
     fn port(&self, part: PartId, name: &Name) -> Option<QueuingPort>
-        ensures { option_map told_queuing result ≡ queuing_port_among part name.now (self.now ∷ []) }
+        ensures { option_map configured_queuing result ≡ queuing_port_among part name.now (self.now ∷ []) }
     {
         let (direction, discipline) = if self.source.is_port(part, name) {
             (Direction::Source, self.source_discipline)
@@ -181,9 +183,9 @@ pub(crate) fn count_in_queuing(
     likeness: Likeness,
     end: &PortEnd,
 ) -> usize
-    requires { length channels.now ≤ 256 }
+    requires { length channels.now ≤ MOST_CHANNELS }
     ensures value { result ≡ count_alike likeness end.now (queuing_ends channels.now) }
-    ensures most { result ≤ 2 * 256 }
+    ensures most { result ≤ 2 * MOST_CHANNELS }
 {
     let mut count = 0;
     for channel in channels {
@@ -220,7 +222,7 @@ pub(crate) fn find_queuing_port(
     part: PartId,
     name: &Name,
 ) -> Option<QueuingPort>
-    ensures { option_map told_queuing result ≡ queuing_port_among part name.now channels.now }
+    ensures { option_map configured_queuing result ≡ queuing_port_among part name.now channels.now }
 {
     for channel in channels {
         if let Some(port) = channel.port(part, name) {

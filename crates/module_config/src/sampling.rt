@@ -1,23 +1,25 @@
 // Sampling channels, in the order of the text.
 
-ghost use Rattle.std.specs.Prelude.{◌≡◌, ◌*◌, ◌≤◌, ◌∷◌, [], ◌&&◌, ◌||◌, IfOk, IfErr, IsOk, All, codes, length, nat_eq, option_map};
+ghost use Rattle.std.specs.Prelude.{◌≡◌, ◌+◌, ◌*◌, ◌≤◌, ◌∷◌, [], ◌&&◌, ◌||◌, IfOk, IfErr, IsOk, All, codes, length, nat_eq, option_map};
 ghost use Rattle.std.specs.List.{list_all, list_any};
 ghost use Rattle.std.specs.Result.{result_err};
 ghost use Rattle.toml.specs.Data.{get_member};
 ghost use Rattle.toml.specs.View.{view, table_view, items_view};
+ghost use Rattle.apex_types.specs.declared.limits.TheConstants.{MOST_CHANNELS, MOST_DESTINATIONS};
 ghost use Rattle.apex_machine.specs.Channels.{sampling_among, sampling_port_among};
 ghost use Rattle.module_config.specs.ChannelWalk.{sampling_at, sampling_in, sampling_under};
 ghost use Rattle.module_config.specs.Ends.{count_alike, is_sampling_joined, sampling_ends, sampling_ends_of};
 ghost use Rattle.module_config.specs.Keys.{Gives, each_item};
 ghost use Rattle.module_config.specs.Limits.{AreSamplingLimits};
-ghost use Rattle.module_config.specs.Ports.{told_sampling};
+ghost use Rattle.module_config.specs.Ports.{configured_sampling};
 
-use crate::ends::{Likeness, MOST_DESTINATIONS, PortEnd, ends_under, has_end_of, has_port};
+use crate::ends::{Likeness, PortEnd, ends_under, has_end_of, has_port};
 use crate::fault::ConfigFault;
 use crate::keys::{integer, tables_under, ticks};
 use crate::partition::Partition;
 use crate::port::SamplingPort;
 use apex_machine::Direction;
+use apex_types::limits::{GREATEST_CHANNEL, LONGEST_MESSAGE, MOST_DESTINATIONS};
 use apex_types::{ChanId, Name, PartId};
 use arrayvec::ArrayVec;
 use std::alloc::Global;
@@ -65,8 +67,8 @@ impl SampledChannel {
         ensures value { result ≡ sampling_under (table_view keys.now) }
         ensures limits { IfOk result AreSamplingLimits }
     {
-        let number = integer(keys, "channel", 0, 255)?;
-        let size = integer(keys, "size", 1, 8192)?;
+        let number = integer(keys, "channel", 0, GREATEST_CHANNEL as u64)?;
+        let size = integer(keys, "size", 1, LONGEST_MESSAGE as u64)?;
         let refresh = ticks(keys, "refresh")?;
         let source = PortEnd::under(keys, "source")?;
         let destinations = ends_under(keys, "destinations")?;
@@ -90,7 +92,7 @@ impl SampledChannel {
     // How many ends of the channel are alike an end.
     fn count_alike(&self, likeness: Likeness, end: &PortEnd) -> usize
         ensures value { result ≡ count_alike likeness end.now (sampling_ends_of self.now) }
-        ensures most { result ≤ 33 }
+        ensures most { result ≤ MOST_DESTINATIONS + 1 }
     {
         let others = end.count_alike(likeness, &self.destinations);
         if end.is_alike(likeness, &self.source) {
@@ -109,7 +111,7 @@ impl SampledChannel {
 
     // The port of a partition under a name, if it is at an end of the channel.
     fn port(&self, part: PartId, name: &Name) -> Option<SamplingPort>
-        ensures { option_map told_sampling result ≡ sampling_port_among part name.now (self.now ∷ []) }
+        ensures { option_map configured_sampling result ≡ sampling_port_among part name.now (self.now ∷ []) }
     {
         let direction = if self.source.is_port(part, name) {
             Direction::Source
@@ -170,9 +172,9 @@ pub(crate) fn count_in_sampling(
     likeness: Likeness,
     end: &PortEnd,
 ) -> usize
-    requires { length channels.now ≤ 256 }
+    requires { length channels.now ≤ MOST_CHANNELS }
     ensures value { result ≡ count_alike likeness end.now (sampling_ends channels.now) }
-    ensures most { result ≤ 33 * 256 }
+    ensures most { result ≤ (MOST_DESTINATIONS + 1) * MOST_CHANNELS }
 {
     let mut count = 0;
     for channel in channels {
@@ -209,7 +211,7 @@ pub(crate) fn find_sampling_port(
     part: PartId,
     name: &Name,
 ) -> Option<SamplingPort>
-    ensures { option_map told_sampling result ≡ sampling_port_among part name.now channels.now }
+    ensures { option_map configured_sampling result ≡ sampling_port_among part name.now channels.now }
 {
     for channel in channels {
         if let Some(port) = channel.port(part, name) {

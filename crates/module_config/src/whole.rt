@@ -7,7 +7,7 @@ ghost use Rattle.module_config.specs.Laid.{laid_out};
 ghost use Rattle.module_config.specs.Limits.{BeginsNoLater, HasTick};
 ghost use Rattle.module_config.specs.Whole.{is_too_large, has_many_channels, has_many_ports, is_given_twice, has_port_twice, has_duplicate, is_of_partition, are_of_partitions, whole_fault};
 
-use crate::counts::{EndCount, MOST_CHANNELS, channel_numbers, has_number_twice};
+use crate::counts::{EndCount, channel_numbers, has_number_twice};
 use crate::ends::Likeness;
 use crate::fault::ConfigFault;
 use crate::layout::Layout;
@@ -17,6 +17,7 @@ use crate::sampling::are_sampling_joined;
 use crate::timetable::has_overlap;
 use crate::window::TimeWindow;
 use apex_types::PartId;
+use apex_types::limits::{MOST_CHANNELS, MOST_PARTITIONS, MOST_PORTS, MOST_WINDOWS};
 
 /// The first refusal over the whole of a layout, if there is one: its parts do not go together.
 pub(crate) fn whole_fault(layout: &Layout) -> Option<ConfigFault>
@@ -46,8 +47,8 @@ pub(crate) fn whole_fault(layout: &Layout) -> Option<ConfigFault>
 fn is_too_large(layout: &Layout) -> bool
     ensures { result ≡ is_too_large (laid_out layout.now) }
 {
-    layout.partitions.len() > 32
-        || layout.windows.len() > 4096
+    layout.partitions.len() > MOST_PARTITIONS
+        || layout.windows.len() > MOST_WINDOWS
         || has_many_channels(layout)
         || has_many_ports(layout)
 }
@@ -69,13 +70,13 @@ fn has_many_ports(layout: &Layout) -> bool
         sampling: &layout.sampling,
         queuing: &[],
         likeness: Likeness::Partition,
-        most: 64,
+        most: MOST_PORTS,
     };
     let queuing = EndCount {
         sampling: &[],
         queuing: &layout.queuing,
         likeness: Likeness::Partition,
-        most: 64,
+        most: MOST_PORTS,
     };
     sampling.is_exceeded() || queuing.is_exceeded()
 }

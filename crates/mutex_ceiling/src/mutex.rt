@@ -2,7 +2,7 @@
 
 ghost use Rattle.std.specs.Prelude.{ℤ, ◌≡◌, ◌↔◌, ◌≤◌, ◌<◌, ◌+◌, [], None, IfErr, IfOk, IsTrue, OnErr, OnOk};
 ghost use Rattle.apex_types.specs.declared.record.Out.TheVariants as out;
-ghost use Rattle.apex_types.specs.Bounds.{place_count};
+ghost use Rattle.apex_types.specs.declared.limits.TheConstants.{PLACE_COUNT};
 ghost use Rattle.apex_machine.specs.Demands.{AllHold, answer_demands};
 ghost use Rattle.apex_machine.specs.Objects.{is_owner, owned_by};
 ghost use Rattle.apex_machine.specs.Statuses.{mutex_status};
@@ -146,7 +146,7 @@ impl Mutex653 {
 
     // The mutex after ACQUIRE_MUTEX, but for those who wait: it is as it was where another process owns it.
     fn take(&mut self, actor: &Actor)
-        requires { self.old.count < place_count }
+        requires { self.old.count < PLACE_COUNT }
         ensures { (time_out : ℤ) → self.new ≡ (rules.acquire actor.now time_out self.old).next }
     {
         if self.owner.is_none() {

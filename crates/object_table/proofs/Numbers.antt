@@ -2,7 +2,7 @@
 use Rattle.std.proofs.Common.{◌≡◌, ℕ, suc, ◌<◌, ◌≤◌, ◌^◌, List, true, is_none, nat_eq, nat_le, nat_lt, ◌∙◌, sym, Option, Some, None, ℤ, pos, negsuc, refl, arith}
 use Rattle.std.proofs.lemmas.Bool.Decides.{nat_tests}
 use Rattle.std.specs.Map.{lookup}
-use Rattle.apex_types.specs.Bounds.{greatest_number}
+use Rattle.apex_types.specs.declared.limits.TheConstants.{GREATEST_NUMBER}
 use Rattle.apex_machine.specs.Answer.{is_new}
 use Rattle.apex_machine.specs.Arguments.{natural_of}
 use Rattle.apex_machine.specs.State.{given_object, is_free, item_at}
@@ -21,7 +21,7 @@ new-absent entries number new = none_of _ (both-right _ _ (both-right _ _ new))
 -- a new number fits
 pub new-fits : {Object : Type 0} (entries : List (ℕ × Object)) (number : ℕ) → is_new (is_free entries) (Some (pos number)) ≡ true → number < 2 ^ 32
 new-fits entries number new =
-    let least : nat_le number greatest_number ≡ true = both-left (nat_le number greatest_number) _ (both-right (nat_lt 0 number) _ new) in
+    let least : nat_le number GREATEST_NUMBER ≡ true = both-left (nat_le number GREATEST_NUMBER) _ (both-right (nat_lt 0 number) _ new) in
     grind (arith, nat_tests)
 
 -- a number that can be no object's has no object

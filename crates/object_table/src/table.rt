@@ -18,15 +18,13 @@ ghost use Rattle.wait_set.specs.declared.object.ObjFault.TheVariants.{Memory};
 ghost use Rattle.object_table.specs.Numbers.{NumbersFit, number_of};
 
 use crate::marked::Marked;
+use apex_types::limits::GREATEST_NUMBER;
 use apex_types::{Claim, Name, Request, Who};
 use indexmap::IndexMap;
 use indexmap::map::Iter;
 use std::alloc::{AllocError, Global};
 use std::marker::Model;
 use wait_set::{Actor, ApexObject, Effect, Named, ObjFault};
-
-/// The greatest number of an object.
-const GREATEST_NUMBER: i64 = 2_147_483_647;
 
 /// The objects of one kind, under their numbers, in the order of their creation.
 #[derive(Drop)]
@@ -100,7 +98,7 @@ impl<Object> ObjectTable<Object> {
     {
         match claimed {
             Some(number) => {
-                number > 0 && number <= GREATEST_NUMBER && self.at(number as u32).is_none()
+                number > 0 && number <= GREATEST_NUMBER as i64 && self.at(number as u32).is_none()
             }
             None => false,
         }
@@ -108,7 +106,7 @@ impl<Object> ObjectTable<Object> {
 }
 
 impl<Object: Drop> ObjectTable<Object> {
-    /// Adds what is created behind the others, under the number that its creation claims. The caller sees to it that it is a new one.
+    /// Adds what is created after the others, under the number that its creation claims. The caller sees to it that it is a new one.
     ///
     /// Memory where memory is refused; nothing has changed then.
     pub fn add(&mut self, claimed: Option<i64>, object: Object) -> Result<(), ObjFault>
@@ -124,7 +122,7 @@ impl<Object: Drop> ObjectTable<Object> {
             .map_err(|_| ObjFault::Memory)
     }
 
-    // Adds an object behind the others, under a new number.
+    // Adds an object after the others, under a new number.
     fn insert(&mut self, number: u32, object: Object) -> Result<(), AllocError>
         requires new { IsTrue (is_new (is_free self.old) (Some (pos number))) }
         ensures added { OnOk result (self.new ≡ self.old ++ (number, object) ∷ []) }

@@ -3,7 +3,7 @@ use Rattle.std.proofs.Common.{◌≡◌, ◌≢◌, ◌<◌, ◌≤◌, ◌+◌,
 use Rattle.std.specs.Prelude.{if◌then◌else◌}
 use Rattle.std.proofs.lemmas.List.{append-nil}
 use Rattle.apex_types.specs.declared.record.Pair.{Pair}
-use Rattle.apex_types.specs.Bounds.{most_records}
+use Rattle.apex_types.specs.declared.limits.TheConstants.{MOST_RECORDS}
 use Rattle.order_cert.specs.Order.{numbers_of, following, AllKnown, IsLawfulOrder, IsPrefixOfLawful}
 use Rattle.order_cert.specs.Kept.{Kept, Follows, taken_of}
 use Rattle.order_cert.proofs.Cores.{same_or}
@@ -85,7 +85,7 @@ last_of_following first (y ∷ xs) x e =
 -- pairs that begin a lawful order, without the pairs that could follow
 pub record IsTidy (cores : ℕ) (pairs : List Pair) : Type 0 where
   pub numbers : (core : ℕ) → core < cores → numbers_of core pairs ≡ following 0 (length (numbers_of core pairs))
-  pub bound : (core : ℕ) → core < cores → length (numbers_of core pairs) ≤ most_records
+  pub bound : (core : ℕ) → core < cores → length (numbers_of core pairs) ≤ MOST_RECORDS
   pub known : AllKnown cores pairs
 
 pub tidy_from_prefix : (cores : ℕ) (pairs : List Pair) → IsPrefixOfLawful cores pairs → IsTidy cores pairs
@@ -115,7 +115,7 @@ follows_none kept h = record {
 
 -- a pair that may stand next
 pub follows_taken : (kept next : Kept) (pairs : List Pair) (p : Pair) → next.cores ≡ kept.cores → next.counts ≡ set kept.counts p.core (taken_of kept p.core + 1)
-    → p.core < length kept.counts → p.core < kept.cores → p.seq ≡ taken_of kept p.core → p.seq < most_records → Follows kept pairs → Follows next (pairs ++ p ∷ [])
+    → p.core < length kept.counts → p.core < kept.cores → p.seq ≡ taken_of kept p.core → p.seq < MOST_RECORDS → Follows kept pairs → Follows next (pairs ++ p ∷ [])
 follows_taken kept next pairs p cores counts within known is_next below f =
     record { lawful = rw cores (prefix_from_tidy kept.cores (pairs ++ p ∷ []) tidy); counts = λ core. rw counts (count core) }
   where
@@ -149,8 +149,8 @@ follows_taken kept next pairs p cores counts within known is_next below f =
         | inr h ↦ there core h ∙ old.numbers core b ∙ ap (λ ns. following 0 (length ns)) (sym (there core h))
       ];
       bound = λ core b. elim (same_or core p.core) [
-        | inl e ↦ subst (λ k. length (numbers_of k (pairs ++ p ∷ [])) ≤ most_records) (sym e) (omega (arith, longer, seq_is, below))
-        | inr h ↦ subst (λ ns. length ns ≤ most_records) (sym (there core h)) (old.bound core b)
+        | inl e ↦ subst (λ k. length (numbers_of k (pairs ++ p ∷ [])) ≤ MOST_RECORDS) (sym e) (omega (arith, longer, seq_is, below))
+        | inr h ↦ subst (λ ns. length ns ≤ MOST_RECORDS) (sym (there core h)) (old.bound core b)
       ];
       known = known_push kept.cores pairs p old.known known;
     }
@@ -166,7 +166,7 @@ follows_taken kept next pairs p cores counts within known is_next below f =
 pub record IsNext (kept : Kept) (p : Pair) : Type 0 where
   pub known : p.core < kept.cores
   pub seq : p.seq ≡ taken_of kept p.core
-  pub below : p.seq < most_records
+  pub below : p.seq < MOST_RECORDS
 
 pub next_from_prefix : (kept : Kept) (pairs : List Pair) (p : Pair) → Follows kept pairs → IsPrefixOfLawful kept.cores (pairs ++ p ∷ []) → IsNext kept p
 next_from_prefix kept pairs p f h = record { known = known; seq = seq_is ∙ sym (f.counts p.core); below = omega (arith, seq_is, longer, tidy.bound p.core known) }

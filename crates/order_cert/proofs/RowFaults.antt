@@ -5,7 +5,7 @@ use Rattle.std.specs.Option.{ok_or}
 use Rattle.csv.specs.Records.{field_at}
 use Rattle.csv_rows.specs.Decimal.{decimal}
 use Rattle.csv_rows.specs.Stream.{Fields}
-use Rattle.apex_types.specs.Bounds.{place_count}
+use Rattle.apex_types.specs.declared.limits.TheConstants.{PLACE_COUNT}
 use Rattle.order_cert.specs.declared.fault.CertFault.{CertFault}
 use Rattle.order_cert.specs.declared.fault.CertFault.TheVariants.{BadNumber, FieldCount, TooMany}
 use Rattle.order_cert.specs.Row.{◌>>=◌, IsOfRow, item_of, number_at, pair_of}
@@ -40,4 +40,4 @@ pair_read fields =
     (inr (inl refl))
 
 pub item_read : (number : ℕ) (fields : Fields) → HasFaultOfRow (item_of number fields)
-item_read number fields = either (nat_lt number place_count) (pair_of fields) TooMany (pair_read fields) (inl refl)
+item_read number fields = either (nat_lt number PLACE_COUNT) (pair_of fields) TooMany (pair_read fields) (inl refl)

@@ -1,7 +1,7 @@
 -- What callers see of a keeper.
 use Rattle.std.specs.Prelude.{◌≡◌, ◌≤◌, ℕ, List, length, nat_eq, if◌then◌else◌, get_or, sum}
 use Rattle.apex_types.specs.declared.record.Pair.{Pair}
-use Rattle.apex_types.specs.Bounds.{most_records}
+use Rattle.apex_types.specs.declared.limits.TheConstants.{MOST_RECORDS}
 use Rattle.order_cert.specs.Order.{IsPrefixOfLawful, numbers_of}
 
 -- the number of cores, and how many numbers of each were taken
@@ -19,7 +19,7 @@ place_of kept = sum kept.counts
 
 -- no core has more numbers than a recording can have
 abbrev pub AreCounts : List ℕ → Type 0
-AreCounts counts = (core : ℕ) → get_or counts core 0 ≤ most_records
+AreCounts counts = (core : ℕ) → get_or counts core 0 ≤ MOST_RECORDS
 
 -- of no core was any taken
 abbrev pub none_taken : ℕ → ℕ

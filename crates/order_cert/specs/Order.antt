@@ -1,6 +1,6 @@
 -- Lawful orders of the records of all cores.
 use Rattle.std.specs.Prelude.{◌≡◌, ◌<◌, ◌≤◌, ℕ, zero, suc, List, [], ◌∷◌, ◌++◌, Option, Some, None, nat_eq, nat_lt, nat_le, ◌||◌, if◌then◌else◌}
-use Rattle.apex_types.specs.Bounds.{most_records}
+use Rattle.apex_types.specs.declared.limits.TheConstants.{MOST_RECORDS}
 use Rattle.apex_types.specs.declared.record.Pair.{Pair}
 use Rattle.order_cert.specs.declared.fault.OrderFault.{OrderFault}
 use Rattle.order_cert.specs.declared.fault.OrderFault.TheVariants.{NoSuchCore, Skipped, Repeated}
@@ -34,13 +34,13 @@ pub record IsLawfulOrder (cores : ℕ) (lens : ℕ → ℕ) (pairs : List Pair) 
 pub record IsPrefixOfLawful (cores : ℕ) (pairs : List Pair) : Type 0 where
   pub lens : ℕ → ℕ
   pub more : List Pair
-  pub bound : (core : ℕ) → core < cores → lens core ≤ most_records
+  pub bound : (core : ℕ) → core < cores → lens core ≤ MOST_RECORDS
   pub lawful : IsLawfulOrder cores lens (pairs ++ more)
 
--- why a pair may not stand behind those that took so many numbers of each core
+-- why a pair may not come after those that took so many numbers of each core
 abbrev pub misplaced : ℕ → (ℕ → ℕ) → Pair → Option OrderFault
 misplaced cores taken p =
     if nat_lt p.core cores
     then (if nat_lt p.seq (taken p.core) then Some Repeated
-    else (if nat_lt (taken p.core) p.seq || nat_le most_records p.seq then Some Skipped else None))
+    else (if nat_lt (taken p.core) p.seq || nat_le MOST_RECORDS p.seq then Some Skipped else None))
     else Some NoSuchCore

@@ -5,7 +5,7 @@ use Rattle.csv.specs.Records.{field_at}
 use Rattle.csv_rows.specs.Decimal.{decimal}
 use Rattle.csv_rows.specs.Stream.{Fields}
 use Rattle.csv_rows.specs.Source.{items_of}
-use Rattle.apex_types.specs.Bounds.{place_count}
+use Rattle.apex_types.specs.declared.limits.TheConstants.{PLACE_COUNT}
 use Rattle.apex_types.specs.declared.record.Pair.{Pair}
 use Rattle.order_cert.specs.declared.fault.CertFault.{CertFault}
 use Rattle.order_cert.specs.declared.fault.CertFault.TheVariants.{Read, Memory, TooMany, FieldCount, BadNumber}
@@ -41,7 +41,7 @@ pair_of fields = if length fields == 2 then (do
 
 -- the row of this number, from 0; there are no more rows than the records of sixteen cores
 abbrev pub item_of : ℕ → Fields → Item
-item_of number fields = if nat_lt number place_count then pair_of fields else Err TooMany
+item_of number fields = if nat_lt number PLACE_COUNT then pair_of fields else Err TooMany
 
 -- the items of a certificate's text
 abbrev pub pairs_of : List ℕ → List Item

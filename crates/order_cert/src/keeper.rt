@@ -1,45 +1,48 @@
 // The keeper of a proposed order.
 
 ghost use Rattle.std.specs.Prelude.{◌≡◌, ◌<◌, ◌≤◌, ◌↔◌, ◌++◌, ◌∷◌, [], ℕ, suc, List, Some, None, IfOk, IfErr, OnOk, OnErr, IsOk, length, slice_index};
+ghost use Rattle.apex_types.specs.declared.limits.TheConstants.{MOST_CORES};
 ghost use Rattle.apex_types.specs.declared.record.Pair.{Pair};
 ghost use Rattle.order_cert.specs.Kept.{Follows, put, taken_of, none_taken, place_of};
 ghost use Rattle.order_cert.specs.Order.{IsLawfulOrder, IsPrefixOfLawful, misplaced, pair_of};
 
 use crate::fault::OrderFault;
 use apex_types::Place;
+use apex_types::limits::{MOST_CORES, MOST_RECORDS};
 use std::marker::Model;
 
 /// How many records of each core the pairs so far have named.
 #[derive(Drop)]
 pub struct Keeper {
-    counts: [u32; 16],
+    counts: [u32; MOST_CORES],
     cores: u8,
     total: u64,
 }
 
 impl Model for Keeper {
     ghost use Rattle.std.specs.Prelude.{◌≡◌, ◌≤◌, sum};
+    ghost use Rattle.apex_types.specs.declared.limits.TheConstants.{MOST_CORES};
     ghost use Rattle.order_cert.specs.Kept.{Kept, AreCounts};
 
     ghost Value = { Kept };
 
     ghost view = { λ keeper. record { cores = keeper.cores; counts = keeper.counts } };
 
-    ghost invariant = { λ keeper. (keeper.cores ≤ 16) × (keeper.total ≡ sum keeper.counts) × AreCounts keeper.counts };
+    ghost invariant = { λ keeper. (keeper.cores ≤ MOST_CORES) × (keeper.total ≡ sum keeper.counts) × AreCounts keeper.counts };
 }
 
 impl Keeper {
     /// A keeper of so many cores, before the first pair. Takes no memory.
     pub fn new(cores: u8) -> Keeper
         requires some { 1 ≤ cores }
-        requires few { cores ≤ 16 }
+        requires few { cores ≤ MOST_CORES }
         ensures cores { result.cores ≡ cores }
         ensures taken { taken_of result ≡ none_taken }
         ensures place { place_of result ≡ 0 }
         ensures follows { Follows result [] }
     {
         Keeper {
-            counts: [0; 16],
+            counts: [0; MOST_CORES],
             cores,
             total: 0,
         }
@@ -68,7 +71,7 @@ impl Keeper {
         if seq < taken as u64 {
             return Err(OrderFault::Repeated);
         }
-        if seq > taken as u64 || taken == u32::MAX {
+        if seq > taken as u64 || taken == MOST_RECORDS {
             return Err(OrderFault::Skipped);
         }
         let place = Place::new(self.total);
@@ -106,7 +109,7 @@ impl Keeper {
     pub fn taken(&self, core: u32) -> u64
         ensures { result ≡ taken_of self.now core }
     {
-        if core < 16 {
+        if core < MOST_CORES as u32 {
             self.counts[core as usize] as u64
         } else {
             0

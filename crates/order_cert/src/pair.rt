@@ -2,10 +2,12 @@
 
 ghost use Rattle.std.specs.Prelude.{◌≡◌, ◌<◌, ◌≤◌, IfOk, OnOk, IfErr, Ok, Err};
 ghost use Rattle.csv.specs.Records.{fields_of};
+ghost use Rattle.apex_types.specs.declared.limits.TheConstants.{PLACE_COUNT};
 ghost use Rattle.order_cert.specs.Row.{IsOfRow, item_of, number_at, pair_of};
 
 use crate::fault::CertFault;
-use apex_types::{Pair, Place};
+use apex_types::Pair;
+use apex_types::limits::PLACE_COUNT;
 use csv::ByteRecord;
 use csv_rows::read_decimal;
 
@@ -13,9 +15,9 @@ use csv_rows::read_decimal;
 pub fn read_item(number: u64, fields: &ByteRecord) -> Result<Pair, CertFault>
     ensures value { result ≡ item_of number (fields_of fields.now) }
     ensures refused { IfErr result (λ fault. IsOfRow fault) }
-    ensures bound { OnOk result (number < Place.COUNT) }
+    ensures bound { OnOk result (number < PLACE_COUNT) }
 {
-    if number >= Place::COUNT {
+    if number >= PLACE_COUNT {
         return Err(CertFault::TooMany);
     }
     read_pair(fields)

@@ -56,7 +56,7 @@ impl<R: TextSource> CertSource<R> {
         }
     }
 
-    /// The next pair, or None behind the last, then and from then on. After a fault every call answers Ended.
+    /// The next pair, or None after the last, then and from then on. After a fault every call answers Ended.
     ///
     /// Read where the source has failed, Memory where `csv` gave up with no failed read; else the row's own fault.
     pub fn next(&mut self) -> Result<Option<Pair>, CertFault>
@@ -66,7 +66,7 @@ impl<R: TextSource> CertSource<R> {
         ensures ends { IfOk result (λ pair. self.new.ended ≡ is_none pair) }
         ensures stays { self.old.stopped ≡ false → self.old.ended ≡ true → result ≡ Ok None }
         ensures failed { self.old.stopped ≡ false → result ≡ Err CertFault.Read → self.new.failed ≡ true }
-        ensures told { self.old.stopped ≡ false → self.new.failed ≡ true → result ≡ Err CertFault.Read }
+        ensures reported { self.old.stopped ≡ false → self.new.failed ≡ true → result ≡ Err CertFault.Read }
         ensures starved { self.old.stopped ≡ false → (result ≡ Err CertFault.Memory) ↔ (self.new.starved ≡ true) }
         ensures gives { self.old.stopped ≡ false → IfSome self.old.left (λ items. Gives (IsOutside R.can_fail) items result self.new.left) }
     {

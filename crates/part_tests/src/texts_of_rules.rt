@@ -30,7 +30,7 @@ fn rule_text(alloc: Global, holds: &str) -> Result<Vec<u8>, Fail> {
     Ok(text)
 }
 
-// A text of one rule: a comparison behind so many times `not`.
+// A text of one rule: a comparison after so many times `not`.
 fn negated_text(alloc: Global, count: usize) -> Result<Vec<u8>, Fail> {
     let mut text = rule_text(alloc, "")?;
     for _ in 0..count {
@@ -240,7 +240,7 @@ fn refuses_rules(rt: HostRuntime) -> Result<(), Fail> {
     Ok(())
 }
 
-// A fault of the text around the rules, or of a rule behind others.
+// A fault of the text around the rules, or of a rule after others.
 #[test]
 fn refuses_texts(rt: HostRuntime) -> Result<(), Fail> {
     let heap: Global = rt.alloc();

@@ -1,6 +1,7 @@
 -- What a call for a blackboard makes of it.
 use Rattle.std.proofs.Common.{◌≡◌, ◌≢◌, ℕ, ℤ, pos, negsuc, List, [], Option, Some, None, refl, sym, ap, ◌∙◌, cond}
 use Rattle.std.specs.Option.{IfSome}
+use Rattle.apex_types.specs.declared.object_kind.ObjectKind.TheVariants as kind
 use Rattle.apex_types.specs.declared.code.Code.TheVariants as code
 use Rattle.apex_types.specs.declared.record.Body.TheVariants.{Call}
 use Rattle.apex_types.specs.declared.record.Call.{Call as CallRecord}
@@ -106,19 +107,19 @@ changed configuration place partition call (request.DisplayBlackboard blackboard
     let same : blackboard ≡ given = cc in
     rw same
     (ap (λ blackboards. record partition { blackboards = blackboards })
-    (left ∙ change_given given _ _ partition.blackboards at_work.sound.objects.blackboards there
+    (left ∙ change_given given _ _ partition.blackboards (at_work.sound.objects kind.Blackboard) there
     (λ found e at. display_alike place call (natural_of given) blackboard length message found is (rw e at holds).0)))
 changed configuration place partition call (request.ClearBlackboard blackboard) given next is used at_work holds there left =
     let same : blackboard ≡ given = cc in
     rw same
     (ap (λ blackboards. record partition { blackboards = blackboards })
-    (left ∙ change_given given _ _ partition.blackboards at_work.sound.objects.blackboards there
+    (left ∙ change_given given _ _ partition.blackboards (at_work.sound.objects kind.Blackboard) there
     (λ found e at. let held = rw e at holds in clear_alike call found held.0 held.1.1.1.0)))
 changed configuration place partition call (request.ReadBlackboard blackboard time_out) given next is used at_work holds there left =
     let same : blackboard ≡ given = cc in
     rw same
     (ap (λ blackboards. record partition { blackboards = blackboards })
-    (left ∙ change_given given _ _ partition.blackboards at_work.sound.objects.blackboards there
+    (left ∙ change_given given _ _ partition.blackboards (at_work.sound.objects kind.Blackboard) there
     (λ found e at. read_alike place call (natural_of given) blackboard time_out found is (ap natural_of same)
     (in_order place partition call.who at_work (set.BlackboardReaders (natural_of given)) found.readers (rw at refl)))))
 changed configuration place partition call _ given next is used at_work holds there left = let no : ◌≡◌ {A = Option ℤ} None (Some given) = used in cc

@@ -1,6 +1,7 @@
 -- What a call for a buffer makes of it.
 use Rattle.std.proofs.Common.{◌≡◌, ◌≢◌, ℕ, ℤ, pos, negsuc, List, [], ◌∷◌, Option, Some, None, Bool, true, false, length, nat_lt, refl, sym, ap, ◌∙◌, cond}
 use Rattle.std.specs.Option.{IfSome}
+use Rattle.apex_types.specs.declared.object_kind.ObjectKind.TheVariants as kind
 use Rattle.apex_types.specs.declared.record.Body.TheVariants.{Call}
 use Rattle.apex_types.specs.declared.record.Call.{Call as CallRecord}
 use Rattle.apex_types.specs.declared.record.Out.{Out}
@@ -154,14 +155,14 @@ changed configuration place partition call (request.SendBuffer buffer size time_
     let same : buffer ≡ given = cc in
     rw same
     (ap (λ buffers. record partition { buffers = buffers })
-    (left ∙ change_given given _ _ partition.buffers at_work.sound.objects.buffers there
+    (left ∙ change_given given _ _ partition.buffers (at_work.sound.objects kind.Buffer) there
     (λ found e at. sent_alike place call (natural_of given) buffer size time_out message found is (ap natural_of same)
     (in_order place partition call.who at_work (set.BufferSenders (natural_of given)) found.senders (rw at refl)) (rw e at holds).0)))
 changed configuration place partition call (request.ReceiveBuffer buffer time_out) given next is used at_work holds there left =
     let same : buffer ≡ given = cc in
     rw same
     (ap (λ buffers. record partition { buffers = buffers })
-    (left ∙ change_given given _ _ partition.buffers at_work.sound.objects.buffers there
+    (left ∙ change_given given _ _ partition.buffers (at_work.sound.objects kind.Buffer) there
     (λ found e at. received_alike place call (natural_of given) buffer time_out found is (ap natural_of same)
     (in_order place partition call.who at_work (set.BufferReceivers (natural_of given)) found.receivers (rw at refl)) (rw e at holds).0)))
 changed configuration place partition call _ given next is used at_work holds there left = let no : ◌≡◌ {A = Option ℤ} None (Some given) = used in cc

@@ -1,6 +1,7 @@
 -- What a call for an event makes of it.
 use Rattle.std.proofs.Common.{◌≡◌, ◌≢◌, ℕ, ℤ, pos, negsuc, List, [], Option, Some, None, Bool, true, false, refl, sym, ap, ◌∙◌, cond}
 use Rattle.std.specs.Option.{IfSome}
+use Rattle.apex_types.specs.declared.object_kind.ObjectKind.TheVariants as kind
 use Rattle.apex_types.specs.declared.code.Code.TheVariants as code
 use Rattle.apex_types.specs.declared.record.Body.TheVariants.{Call}
 use Rattle.apex_types.specs.declared.record.Call.{Call as CallRecord}
@@ -106,19 +107,19 @@ changed configuration place partition call (request.SetEvent event) given next i
     let same : event ≡ given = cc in
     rw same
     (ap (λ events. record partition { events = events })
-    (left ∙ change_given given _ _ partition.events at_work.sound.objects.events there
+    (left ∙ change_given given _ _ partition.events (at_work.sound.objects kind.Event) there
     (λ found e at. set_alike place call (natural_of given) event found is (rw e at holds).0)))
 changed configuration place partition call (request.ResetEvent event) given next is used at_work holds there left =
     let same : event ≡ given = cc in
     rw same
     (ap (λ events. record partition { events = events })
-    (left ∙ change_given given _ _ partition.events at_work.sound.objects.events there
+    (left ∙ change_given given _ _ partition.events (at_work.sound.objects kind.Event) there
     (λ found e at. let held = rw e at holds in reset_alike call found held.0 held.1.1.1.0)))
 changed configuration place partition call (request.WaitEvent event time_out) given next is used at_work holds there left =
     let same : event ≡ given = cc in
     rw same
     (ap (λ events. record partition { events = events })
-    (left ∙ change_given given _ _ partition.events at_work.sound.objects.events there
+    (left ∙ change_given given _ _ partition.events (at_work.sound.objects kind.Event) there
     (λ found e at. waited_alike place call (natural_of given) event time_out found is (ap natural_of same)
     (in_order place partition call.who at_work (set.EventWaiters (natural_of given)) found.waiters (rw at refl)))))
 changed configuration place partition call _ given next is used at_work holds there left = let no : ◌≡◌ {A = Option ℤ} None (Some given) = used in cc

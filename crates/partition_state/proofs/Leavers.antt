@@ -1,6 +1,7 @@
 -- Who leaves a waiting set of a partition, and who stands then.
 use Rattle.std.proofs.Common.{◌≡◌, ℕ, ℤ, List, [], ◌∷◌, ◌++◌, if◌then◌else◌, nat_eq, IsTrue, Option, Some, None, Bool, true, false, refl, sym, ap, ◌∙◌, true≢false, ◌⊎◌, inl, inr}
 use Rattle.std.proofs.lemmas.Bool.{and_parts}
+use Rattle.apex_types.specs.declared.object_kind.ObjectKind.TheVariants as kind
 use Rattle.apex_types.specs.declared.record.Call.{Call as CallRecord}
 use Rattle.apex_types.specs.declared.record.Who.{Who}
 use Rattle.apex_types.specs.declared.request.Request.TheVariants as request
@@ -23,7 +24,7 @@ use Rattle.apex_laws.proofs.Objects.{each_set_has}
 use Rattle.apex_laws.proofs.PartSets.{AllStand, all_named_leave}
 use Rattle.apex_laws.proofs.SoundParts.{sets_distinct}
 use Rattle.apex_laws.proofs.Waiters.{all_without}
-use Rattle.apex_laws.proofs.Whos.{same_is, same_itself}
+use Rattle.apex_laws.proofs.WaitersOf.{same_is, same_itself}
 use Rattle.buffer.specs.Buffers as buffers
 use Rattle.object_table.proofs.Tables.{change-absent}
 use Rattle.wait_set.specs.declared.object.ObjFault.{ObjFault}
@@ -94,10 +95,10 @@ pub buffer_left : (who : Who) (one : Wait) (wanted : WaitingSet) (due : Option �
     → record partition { buffers = left } ≡ left_by who one partition
 buffer_left who one wanted due number partition left has alone at (inl here) is =
     let waits : one ≡ wait.At (set.BufferSenders number) due = at ∙ ap (λ found. wait.At found due) here in
-    rw (waits, is) (ap (λ found. record partition { buffers = found }) (senders_leave who due number partition has.buffers (rw waits at alone)))
+    rw (waits, is) (ap (λ found. record partition { buffers = found }) (senders_leave who due number partition (has kind.Buffer) (rw waits at alone)))
 buffer_left who one wanted due number partition left has alone at (inr here) is =
     let waits : one ≡ wait.At (set.BufferReceivers number) due = at ∙ ap (λ found. wait.At found due) here in
-    rw (waits, is) (ap (λ found. record partition { buffers = found }) (receivers_leave who due number partition has.buffers (rw waits at alone)))
+    rw (waits, is) (ap (λ found. record partition { buffers = found }) (receivers_leave who due number partition (has kind.Buffer) (rw waits at alone)))
 
 -- who stands waits
 

@@ -1,6 +1,7 @@
 -- What a call for a mutex makes of it.
 use Rattle.std.proofs.Common.{◌≡◌, ◌≢◌, ◌≤◌, ℕ, ℤ, pos, negsuc, List, [], Option, Some, None, Bool, true, false, nat_eq, nat_lt, option_map, refl, sym, ap, ◌∙◌, cond}
 use Rattle.std.specs.Option.{IfSome}
+use Rattle.apex_types.specs.declared.object_kind.ObjectKind.TheVariants as kind
 use Rattle.apex_types.specs.declared.record.Body.TheVariants.{Call}
 use Rattle.apex_types.specs.declared.record.Call.{Call as CallRecord}
 use Rattle.apex_types.specs.declared.record.Claim.{Claim}
@@ -140,14 +141,14 @@ changed configuration place partition call (request.AcquireMutex mutex time_out)
     let same : mutex ≡ given = cc in
     rw same
     (ap (λ mutexes. record partition { mutexes = mutexes })
-    (left ∙ change_given given _ _ partition.mutexes at_work.sound.objects.mutexes there
+    (left ∙ change_given given _ _ partition.mutexes (at_work.sound.objects kind.Mutex) there
     (λ found e at. acquired_alike place call (natural_of given) mutex time_out found is (ap natural_of same)
     (in_order place partition call.who at_work (set.MutexWaiters (natural_of given)) found.waiters (rw at refl)) (rw e at holds).0)))
 changed configuration place partition call (request.ReleaseMutex mutex) given next is used at_work holds there left =
     let same : mutex ≡ given = cc in
     rw same
     (ap (λ mutexes. record partition { mutexes = mutexes })
-    (left ∙ change_given given _ _ partition.mutexes at_work.sound.objects.mutexes there
+    (left ∙ change_given given _ _ partition.mutexes (at_work.sound.objects kind.Mutex) there
     (λ found e at. released_alike place call (natural_of given) mutex found is (rw e at holds).0)))
 changed configuration place partition call _ given next is used at_work holds there left = let no : ◌≡◌ {A = Option ℤ} None (Some given) = used in cc
 

@@ -1,6 +1,7 @@
 -- What a call for a semaphore makes of it.
 use Rattle.std.proofs.Common.{◌≡◌, ◌≢◌, ℕ, zero, suc, ℤ, pos, negsuc, List, [], Option, Some, None, Bool, true, false, nat_lt, refl, sym, ap, ◌∙◌, cond}
 use Rattle.std.specs.Option.{IfSome}
+use Rattle.apex_types.specs.declared.object_kind.ObjectKind.TheVariants as kind
 use Rattle.apex_types.specs.declared.record.Body.TheVariants.{Call}
 use Rattle.apex_types.specs.declared.record.Call.{Call as CallRecord}
 use Rattle.apex_types.specs.declared.record.Out.{Out}
@@ -118,13 +119,13 @@ changed configuration place partition call (request.WaitSemaphore semaphore time
     let same : semaphore ≡ given = cc in
     rw same
     (ap (λ semaphores. record partition { semaphores = semaphores })
-    (left ∙ change_given given _ _ partition.semaphores at_work.sound.objects.semaphores there
+    (left ∙ change_given given _ _ partition.semaphores (at_work.sound.objects kind.Semaphore) there
     (λ found e at. waited_alike place call (natural_of given) semaphore time_out found is (ap natural_of same)
     (in_order place partition call.who at_work (set.SemaphoreWaiters (natural_of given)) found.waiters (rw at refl)) (rw e at holds).0)))
 changed configuration place partition call (request.SignalSemaphore semaphore) given next is used at_work holds there left =
     let same : semaphore ≡ given = cc in
     rw same
     (ap (λ semaphores. record partition { semaphores = semaphores })
-    (left ∙ change_given given _ _ partition.semaphores at_work.sound.objects.semaphores there
+    (left ∙ change_given given _ _ partition.semaphores (at_work.sound.objects kind.Semaphore) there
     (λ found e at. signalled_alike place call (natural_of given) semaphore found is (rw e at holds).0)))
 changed configuration place partition call _ given next is used at_work holds there left = let no : ◌≡◌ {A = Option ℤ} None (Some given) = used in cc

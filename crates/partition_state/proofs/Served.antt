@@ -12,7 +12,7 @@ use Rattle.apex_machine.specs.declared.state.WaitingSet.TheVariants as set
 use Rattle.apex_machine.specs.After.{objects_called, partition_called}
 use Rattle.apex_machine.specs.Configuration.{Configuration}
 use Rattle.apex_machine.specs.Demands.{AllHold, Demand}
-use Rattle.apex_machine.specs.Services.{fellow}
+use Rattle.apex_machine.specs.Services.{peer}
 use Rattle.apex_machine.specs.State.{Partition, created, time_of}
 use Rattle.apex_machine.specs.Waiting.{is_no_error, restart_of}
 use Rattle.apex_laws.specs.PartLaws.{IsOwnCall}
@@ -45,7 +45,7 @@ served_is_called configuration cores place core partition call clear served goes
     own = own_call configuration cores place core partition call clear served
 
     by : (target : Option Process) → created partition.table process ≡ target
-        → objects_called configuration place call partition ≡ left_if_there (fellow call.who process) target partition
+        → objects_called configuration place call partition ≡ left_if_there (peer call.who process) target partition
     by None e = absurd (target_found configuration call.who partition process (rw is at clear.codes) e)
     by (Some target) e =
         let served_now = rw is at served in
@@ -87,9 +87,9 @@ pub served_keeps : (configuration : Configuration) (place : ℕ) (call : CallRec
     → processes_of (objects_served configuration place call asked partition) ≡ processes_of partition
 served_keeps configuration place call partition (request.Stop process) = by (created partition.table process)
   where
-    by : (target : Option Process) → processes_of (left_if_there (fellow call.who process) target partition) ≡ processes_of partition
+    by : (target : Option Process) → processes_of (left_if_there (peer call.who process) target partition) ≡ processes_of partition
     by None = refl
-    by (Some target) = left_keeps (fellow call.who process) target.wait partition
+    by (Some target) = left_keeps (peer call.who process) target.wait partition
 served_keeps configuration place call partition _ = refl
 
 -- the partition with these processes

@@ -1,7 +1,7 @@
 -- The table of processes can hold what a call asks for.
 use Rattle.std.proofs.Common.{◌≡◌, ◌≢◌, ◌<◌, ◌≤◌, ℕ, ℤ, pos, negsuc, List, [], ◌∷◌, ◌||◌, None, Bool, true, false, nat_eq, IsTrue, refl, arith}
 use Rattle.std.proofs.lemmas.Bool.Decides.{nat_tests}
-use Rattle.apex_types.specs.Bounds.{place_count}
+use Rattle.apex_types.specs.declared.limits.TheConstants.{MOST_CORES, PLACE_COUNT}
 use Rattle.apex_types.specs.declared.code.Code.TheVariants as error
 use Rattle.apex_types.specs.declared.record.Call.{Call as CallRecord}
 use Rattle.apex_types.specs.declared.record.Out.{Out}
@@ -38,7 +38,7 @@ nobody (who ∷ named) exactly =
     let self = rw (same_self who) at none in cc
 
 -- a core of a partition is one
-core_is : (configuration : Configuration) (number : ℕ) (core : ℤ) → configuration.cores ≤ 16 → CoresAreOfModule configuration
+core_is : (configuration : Configuration) (number : ℕ) (core : ℤ) → configuration.cores ≤ MOST_CORES → CoresAreOfModule configuration
     → IsTrue (is_core configuration number core) → IsTrue (is_core_number core)
 core_is configuration number (pos core) few of_module has =
     let below : core < configuration.cores = of_module number core has in
@@ -46,7 +46,7 @@ core_is configuration number (pos core) few of_module has =
 core_is configuration number (negsuc core) few of_module has = cc
 
 asks_soundly : (configuration : Configuration) (now : ℕ) (partition : Partition) (call : CallRecord) (asked : Request)
-    → configuration.cores ≤ 16 → CoresAreOfModule configuration → condition_codes configuration call.who partition asked ≡ [] → call.request ≡ asked
+    → configuration.cores ≤ MOST_CORES → CoresAreOfModule configuration → condition_codes configuration call.who partition asked ≡ [] → call.request ≡ asked
     → AllHold (served_demands now partition call) → AsksSoundly partition.table call asked
 asks_soundly configuration now partition call (request.CreateProcess name priority period) few of_module none is served =
     λ done. let given = rw is at served in
@@ -89,7 +89,7 @@ waits_soundly configuration who partition _ kept none = tt
 
 -- releases
 
-pub releases_soundly : (place : ℕ) (partition : Partition) (caller : ℕ) (asked : Request) → IsBoundedPart place partition → place < place_count
+pub releases_soundly : (place : ℕ) (partition : Partition) (caller : ℕ) (asked : Request) → IsBoundedPart place partition → place < PLACE_COUNT
     → ReleasesSoundly partition.table caller asked
 releases_soundly place partition caller request.PeriodicWait bounded below =
     λ process at. releases_fit place partition caller process bounded (omega (arith, below)) at
@@ -99,7 +99,7 @@ releases_soundly place partition caller _ bounded below = tt
 
 pub sound_served : (configuration : Configuration) (cores : List CoreState) (place core : ℕ) (partition : Partition) (call : CallRecord)
     → IsClear configuration cores place core partition call → AllHold (served_demands (time_of cores core) partition call)
-    → configuration.cores ≤ 16 → CoresAreOfModule configuration → NumbersAreKept partition → place < place_count → IsSound partition.table call
+    → configuration.cores ≤ MOST_CORES → CoresAreOfModule configuration → NumbersAreKept partition → place < PLACE_COUNT → IsSound partition.table call
 sound_served configuration cores place core partition call clear served few of_module kept below = record {
   asks = asks_soundly configuration (time_of cores core) partition call call.request few of_module clear.codes refl served;
   waits = λ waiting. waits_soundly configuration call.who partition call.request kept clear.codes;
@@ -125,7 +125,7 @@ asks_nothing partition call (request.InitializeProcessCoreAffinity process core)
 asks_nothing partition call _ not_done = tt
 
 pub sound_refused : (place : ℕ) (partition : Partition) (call : CallRecord) → IsBoundedPart place partition → is_done call.claim.out ≡ false
-    → place < place_count → IsSound partition.table call
+    → place < PLACE_COUNT → IsSound partition.table call
 sound_refused place partition call bounded not_done below = record {
   asks = asks_nothing partition call call.request not_done;
   waits = λ waiting. absurd (not_waiting call.claim.out not_done waiting);

@@ -1,6 +1,6 @@
 -- Calls that use a channel, and calls that leave all objects.
 use Rattle.std.proofs.Common.{◌≡◌, ◌<◌, ℕ, ℤ, List, Bool, true, false, cond, IsFalse, IsTrue, None, is_some, refl, sym, ap, ◌∙◌, inl, inr}
-use Rattle.apex_types.specs.Bounds.{place_count}
+use Rattle.apex_types.specs.declared.limits.TheConstants.{PLACE_COUNT}
 use Rattle.apex_types.specs.declared.object_kind.ObjectKind.TheVariants as kind
 use Rattle.apex_types.specs.declared.record.Call.{Call as CallRecord}
 use Rattle.apex_types.specs.declared.request.Request.{Request}
@@ -68,7 +68,7 @@ noted_goes_on call (inr uses) =
 
 -- it asks nothing that a table could not hold
 pub sound_noted : (place : ℕ) (partition : Partition) (call : CallRecord) → IsBoundedPart place partition → LeavesObjects call
-    → place < place_count → IsSound partition.table call
+    → place < PLACE_COUNT → IsSound partition.table call
 sound_noted place partition call bounded (inl not_done) below = sound_refused place partition call bounded not_done below
 sound_noted place partition call bounded (inr uses) below = record {
   asks = by_use (λ asked. AsksSoundly partition.table call asked) (λ port length message. tt) (λ port. tt) (λ port length time_out message. tt)

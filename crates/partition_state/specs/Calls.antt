@@ -12,7 +12,7 @@ use Rattle.apex_machine.specs.Configuration.{Configuration}
 use Rattle.apex_machine.specs.Demands.{AllHold, Demand, FirstFails, answer_demands, caller_demands, stands_in}
 use Rattle.apex_machine.specs.Ports.{channel_of, use_of}
 use Rattle.apex_machine.specs.ServiceConditions.{condition_codes}
-use Rattle.apex_machine.specs.Services.{answer_of, fellow}
+use Rattle.apex_machine.specs.Services.{answer_of, peer}
 use Rattle.apex_machine.specs.State.{Partition, change_at, created, given_object}
 use Rattle.apex_laws.specs.Laws.{entries_at}
 use Rattle.apex_laws.specs.PartLaws.{IsSoundPart}
@@ -77,7 +77,7 @@ objects_noted call _ partition = partition
 -- the one object that it names
 abbrev pub objects_served : Configuration → ℕ → CallRecord → Request → Partition → Partition
 objects_served configuration place call (request.Stop process) partition =
-    left_if_there (fellow call.who process) (created partition.table process) partition
+    left_if_there (peer call.who process) (created partition.table process) partition
 objects_served configuration place call asked partition = objects_changed configuration place call asked partition
 
 -- the buffer that a request is for

@@ -6,7 +6,7 @@ ghost use Rattle.apex_machine.specs.Answer.{HasValue, Number};
 ghost use Rattle.apex_machine.specs.Demands.{Judges};
 ghost use Rattle.apex_machine.specs.DueTimes as due_times;
 ghost use Rattle.apex_machine.specs.Services as services;
-ghost use Rattle.apex_machine.specs.Services.{fellow};
+ghost use Rattle.apex_machine.specs.Services.{peer};
 ghost use Rattle.apex_machine.specs.State.{created};
 ghost use Rattle.wait_set.specs.Givens.{answer_given};
 ghost use Rattle.partition_state.specs.Calls.{is_process_service, served_demands};
@@ -44,7 +44,7 @@ impl PartitionState {
 
     // What RESUME of the process of this number gives a caller: the wait of a process that suspended itself ends.
     fn resuming<'a>(&self, who: Who, process: i64) -> Given<'a>
-        ensures { answer_given result ≡ services.resuming (fellow who process) (created self.now.table process) }
+        ensures { answer_given result ≡ services.resuming (peer who process) (created self.now.table process) }
     {
         let Some(proc) = self.processes.created_number(process) else {
             return Given::done();

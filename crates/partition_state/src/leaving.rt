@@ -4,11 +4,11 @@ ghost use Rattle.std.specs.Prelude.{◌≡◌, ◌≢◌, ℕ, List, None, IfErr
 ghost use Rattle.apex_types.specs.declared.record.Body.TheVariants.{Tick};
 ghost use Rattle.apex_types.specs.declared.request.Request.TheVariants as request;
 ghost use Rattle.apex_machine.specs.declared.state.CoreState.{CoreState};
-ghost use Rattle.apex_machine.specs.After.{each_set, partition_by, returned, roused};
+ghost use Rattle.apex_machine.specs.After.{each_set, partition_by, returned, woken_if_named};
 ghost use Rattle.apex_machine.specs.Answer as answer;
 ghost use Rattle.apex_machine.specs.Configuration.{Configuration};
 ghost use Rattle.apex_machine.specs.Demands.{AllHold, answer_demands};
-ghost use Rattle.apex_machine.specs.Services.{fellow};
+ghost use Rattle.apex_machine.specs.Services.{peer};
 ghost use Rattle.apex_machine.specs.State.{created, each_item, item_at};
 ghost use Rattle.apex_machine.specs.Waiting.{set_after};
 ghost use Rattle.apex_laws.specs.PartLaws.{HasDistinctObjects, IsSoundPart};
@@ -68,7 +68,7 @@ impl PartitionState {
         requires at_work { IsAtWork place self.old call.now.who }
         requires found { created self.old.table process ≢ None }
         ensures ok { OnOk result ((now : ℕ) → AllHold (served_demands now self.old call.now)) }
-        ensures after { OnOk result (self.new ≡ left_if_there (fellow call.now.who process) (created self.old.table process) self.old) }
+        ensures after { OnOk result (self.new ≡ left_if_there (peer call.now.who process) (created self.old.table process) self.old) }
         ensures refused { IfErr result (λ fault. (now : ℕ) → Refuses (served_demands now self.old call.now) fault) }
         ensures unchanged { OnErr result (self.new ≡ self.old) }
     {
@@ -117,11 +117,11 @@ impl PartitionState {
     /// message that the call hands over.
     ///
     /// AllocError where memory for the messages is refused; nothing has changed then.
-    pub fn rouse(&mut self, part: PartId, place: Place, call: &Call) -> Result<(), AllocError>
-        ensures ok { OnOk result (self.new ≡ record self.old { table = each_item (λ number process. roused place call.now (record { part = part; proc = number }) process) self.old.table }) }
+    pub fn wake_named(&mut self, part: PartId, place: Place, call: &Call) -> Result<(), AllocError>
+        ensures ok { OnOk result (self.new ≡ record self.old { table = each_item (λ number process. woken_if_named place call.now (record { part = part; proc = number }) process) self.old.table }) }
         ensures unchanged { OnErr result (self.new ≡ self.old) }
     {
-        self.processes.rouse(part, place, call)
+        self.processes.wake_named(part, place, call)
     }
 }
 

@@ -176,7 +176,7 @@ impl PartitionState {
         call: &Call,
     ) -> Result<(), ObjFault>
         requires others { mutex_used call.now.request ≡ None }
-        requires untold { tells_only call.now.request ≡ false }
+        requires changing { tells_only call.now.request ≡ false }
         requires clear { IsClear config.now moment.now.cores.now moment.now.place moment.now.core self.old call.now }
         ensures ok { OnOk result (AllHold (served_demands now self.old call.now)) }
         ensures after { OnOk result (self.new ≡ objects_served config.now moment.now.place call.now call.now.request self.old) }

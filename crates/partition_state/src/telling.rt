@@ -1,4 +1,4 @@
-// What is told of objects and ports: the number of what has a name, and the status of what has a number.
+// What services report of objects and ports: the number of what has a name, and the status of what has a number.
 
 ghost use Rattle.std.specs.Prelude.{◌≡◌, ◌↔◌, ℕ, true, IfErr, IsTrue, OnOk};
 ghost use Rattle.apex_machine.specs.Answer.{HasValue};
@@ -46,20 +46,20 @@ impl PartitionState {
         }
     }
 
-    /// A call of a service that tells of an object or a port, and changes none: its claim is judged by what is told.
+    /// A call of a service that tells of an object or a port, and changes none: its claim is judged by what is reported.
     pub(crate) fn tell(&self, call: &Call) -> Result<(), ObjFault>
         requires tells { tells_only call.now.request ≡ true }
         ensures ok { OnOk result ((now : ℕ) → AllHold (served_demands now self.now call.now)) }
         ensures refused { IfErr result (λ fault. (now : ℕ) → Refuses (served_demands now self.now call.now) fault) }
     {
-        match self.judge_told(call) {
+        match self.judge_report(call) {
             Ok(()) => Ok(()),
             Err(cause) => Err(ObjFault::Unlawful(cause)),
         }
     }
 
-    // Judges the claim: it has to give what is told. The cause is that of the first demand that fails.
-    fn judge_told(&self, call: &Call) -> Result<(), Cause>
+    // Judges the claim: it must give what is reported. The cause is that of the first demand that fails.
+    fn judge_report(&self, call: &Call) -> Result<(), Cause>
         requires { tells_only call.now.request ≡ true }
         ensures { (now : ℕ) → Judges (served_demands now self.now call.now) result }
     {

@@ -7,8 +7,8 @@ use Rattle.apex_machine.specs.Configuration.{Configuration}
 use Rattle.apex_machine.specs.Pieces.{Part, pieces}
 use Rattle.piece_check.specs.Parts.{Holding, piece_at}
 use Rattle.user_rules.specs.declared.relation.Relation.{Relation}
-use Rattle.verdict_merge.specs.declared.gone.Lent.{Lent}
-use Rattle.verdict_merge.specs.Rounds.{AreGoneOver, AreGoing, HasGone, IsGoing, IsGoneOver, holding_at}
+use Rattle.verdict_merge.specs.declared.outcome.Lent.{Lent}
+use Rattle.verdict_merge.specs.Rounds.{AreJudgedOver, AreGoing, HasRunOver, IsGoing, IsJudgedOver, holding_at}
 use Rattle.verdict_merge.specs.Views.{AreSeen, up_to as up_to_refusal}
 use Rattle.verdict_merge.specs.declared.judged.Judged.{Judged}
 use Rattle.verdict_merge.proofs.Splits.{up_to}
@@ -44,19 +44,19 @@ all_going configuration place holdings going =
 
 -- what a piece makes of the records rests on its part alone
 pub judged_by_part : (configuration : Configuration) (number first : ℕ) (records : List Ordered) (relations : List Relation) (old other : Holding) (judged : Judged) → old.part ≡ other.part
-    → IsGoneOver configuration number first records relations old judged.gone judged.piece → IsGoneOver configuration number first records relations other judged.gone judged.piece
+    → IsJudgedOver configuration number first records relations old judged.outcome judged.piece → IsJudgedOver configuration number first records relations other judged.outcome judged.piece
 judged_by_part configuration number first records relations old other judged same over = record {
-  found = subst (λ part. HasGone configuration number part records judged.gone.found judged.piece.part) same over.found;
+  found = subst (λ part. HasRunOver configuration number part records judged.outcome.found judged.piece.part) same over.found;
   seen = over.seen;
-  are = subst (λ part. AreSeen configuration (piece_at configuration number) part 0 (up_to_refusal judged.gone.found records) over.seen) same over.are;
+  are = subst (λ part. AreSeen configuration (piece_at configuration number) part 0 (up_to_refusal judged.outcome.found records) over.seen) same over.are;
   breach = over.breach;
   going = over.going;
 }
 
 -- what became of the pieces of a round is what became of these
-pub all_gone_over : (lent : Lent) (relations : List Relation) (holdings : List Holding) (judged : List Judged) → AreJudged (content_of lent relations (parts_held holdings)) judged
-    → AreGoneOver lent.config.now lent.first lent.records.now relations holdings judged
-all_gone_over lent relations holdings judged all =
+pub all_judged_over : (lent : Lent) (relations : List Relation) (holdings : List Holding) (judged : List Judged) → AreJudged (content_of lent relations (parts_held holdings)) judged
+    → AreJudgedOver lent.config.now lent.first lent.records.now relations holdings judged
+all_judged_over lent relations holdings judged all =
     let same : length (parts_held holdings) ≡ length holdings = length-map holdings (λ piece. piece.part) in
     record {
       whole = all.whole ∙ same;
@@ -76,16 +76,16 @@ same_parts (first ∷ others) (piece ∷ pieces) whole same =
     let tail = same_parts others pieces (omega (arith, whole)) (λ number within. same (suc number) (omega (arith, within))) in
     cc (head, tail)
 
--- the piece of this number, if it is among those that have gone over the records, has done so
-abbrev pub HasGoneOver : Content → List Judged → ℕ → Type 0
-HasGoneOver content judged number = (one : Judged) → one ≡ get_or judged number one → IsJudged content number one
+-- the piece of this number, if it is among those that have judged the records, has done so
+abbrev pub HasJudgedOver : Content → List Judged → ℕ → Type 0
+HasJudgedOver content judged number = (one : Judged) → one ≡ get_or judged number one → IsJudged content number one
 
 -- one piece more
 pub judged_more : (content : Content) (judged : List Judged) (new : Judged) (count : ℕ) → length judged ≡ count
-    → ((number : ℕ) → number < count → HasGoneOver content judged number) → IsJudged content count new
-    → (number : ℕ) → number < count + 1 → HasGoneOver content (judged ++ new ∷ []) number
+    → ((number : ℕ) → number < count → HasJudgedOver content judged number) → IsJudged content count new
+    → (number : ℕ) → number < count + 1 → HasJudgedOver content (judged ++ new ∷ []) number
 judged_more content judged new count counted each last =
-    up_to (HasGoneOver content (judged ++ new ∷ [])) count
+    up_to (HasJudgedOver content (judged ++ new ∷ [])) count
     (λ number less one is. each number less one (is ∙ get_or_append_left judged (new ∷ []) one number (omega (arith, less, counted))))
     (λ one is. subst (IsJudged content count) (sym (is ∙ ap (λ n. get_or (judged ++ new ∷ []) n one) (sym counted) ∙ get_or-append_seam judged new [] one)) last)
 

@@ -12,7 +12,7 @@ use Rattle.partition_workers.specs.Boards.{IsBoard, IsPlaced, filled, weight}
 use Rattle.partition_workers.specs.Logs.{AreAllClaimed, IsFirstLeft, claimant, is_posted}
 use Rattle.partition_workers.proofs.Histories.{claimant_at_post, claimant_beside, claimant_here, claimant_stays, legal_on, posted_at_claim, posted_beside, posted_here}
 
--- the first of those left is that of this number, and the others are left behind it
+-- the first of those left is that of this number, and the others are left after it
 left_behind : (parts left : List Part) (part : Part) (claimed : ℕ) → part ∷ left ≡ drop claimed parts
     → (left ≡ drop (suc claimed) parts) × (part ≡ part_at parts claimed)
 left_behind [] left part claimed is = absurd (none claimed is)

@@ -6,8 +6,8 @@ use Rattle.apex_machine.specs.Pieces.{ModulePart, Part, pieces}
 use Rattle.apex_machine.specs.Runs.{ArePlaced, AreOfCores}
 use Rattle.piece_check.specs.Parts.{Holding}
 use Rattle.user_rules.specs.declared.relation.Relation.{Relation}
-use Rattle.verdict_merge.specs.declared.gone.Lent.{Lent}
-use Rattle.verdict_merge.specs.Rounds.{IsGoing, IsGoneOver}
+use Rattle.verdict_merge.specs.declared.outcome.Lent.{Lent}
+use Rattle.verdict_merge.specs.Rounds.{IsGoing, IsJudgedOver}
 use Rattle.verdict_merge.specs.declared.judged.Judged.{Judged}
 
 -- a round: the module, the place of its first record, its records, what the rules say, and the parts of the pieces before it
@@ -61,12 +61,12 @@ AreGoingFrom configuration place number (holding ∷ others) = IsGoing configura
 
 -- a piece of which no more than the part is known
 abbrev pub holding_of : Part → Holding
-holding_of part = record { part = part; settings = None; spent = false }
+holding_of part = record { part = part; settings = None; exhausted = false }
 
 -- the piece of this number went over the records of the round, and this became of it
 abbrev pub IsJudged : Content → ℕ → Judged → Type 0
 IsJudged content number judged =
-    IsGoneOver content.configuration number content.first content.records content.relations (holding_of (part_at content.parts number)) judged.gone judged.piece
+    IsJudgedOver content.configuration number content.first content.records content.relations (holding_of (part_at content.parts number)) judged.outcome judged.piece
 
 -- each piece of the round went over its records; one for each stands at its number
 pub record AreJudged (content : Content) (judged : List Judged) : Type 0 where

@@ -17,13 +17,13 @@ is_posted [] piece = false
 is_posted (Claim worker claimed ∷ events) piece = is_posted events piece
 is_posted (Post worker posted ∷ events) piece = (posted == piece) || is_posted events piece
 
--- the event may come behind these ones, where there are so many pieces: a claim of a piece that nobody has claimed; a post of a piece
+-- the event may come after these ones, where there are so many pieces: a claim of a piece that nobody has claimed; a post of a piece
 -- by the worker that has claimed it, where it is not posted yet
 abbrev pub MayFollow : ℕ → List Event → Event → Type 0
 MayFollow count log (Claim worker piece) = (piece < count) × (claimant log piece ≡ None)
 MayFollow count log (Post worker piece) = (claimant log piece ≡ Some worker) × (is_posted log piece ≡ false)
 
--- each of the events may come behind those before it
+-- each of the events may come after those before it
 abbrev pub MayAllFollow : ℕ → List Event → List Event → Type 0
 MayAllFollow count log [] = Unit {0}
 MayAllFollow count log (event ∷ events) = MayFollow count log event × MayAllFollow count (log ++ event ∷ []) events
@@ -47,6 +47,6 @@ abbrev pub refusal_by : Option ℕ → Bool → ℕ → Option PostRefusal
 refusal_by None posted worker = Some NotClaimed
 refusal_by (Some by) posted worker = cond (by == worker) (cond posted (Some Repeated) None) (Some Foreign)
 
--- why a worker's post of a piece is refused behind these events: nobody has claimed the piece, or another worker has, or it is posted
+-- why a worker's post of a piece is refused after these events: nobody has claimed the piece, or another worker has, or it is posted
 abbrev pub refusal_of : List Event → ℕ → ℕ → Option PostRefusal
 refusal_of log worker piece = refusal_by (claimant log piece) (is_posted log piece) worker

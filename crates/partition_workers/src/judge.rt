@@ -8,7 +8,7 @@ ghost use Rattle.user_rules.specs.Rules.{relations_of};
 ghost use Rattle.verdict_merge.specs.Rounds.{IsReady, IsRound, IsTested, cold_parts, parts_of};
 
 use crate::fault::RoundFault;
-use crate::workers::{Gate, judge_round};
+use crate::workers::{Gate, run_round};
 use apex_types::Ordered;
 use module_config::Config;
 use piece_check::{Piece, Touched};
@@ -67,7 +67,7 @@ impl Judge {
         self.count
     }
 
-    /// The piece of this number, or None where there is none. Behind a round with a finding the piece that refuses a record stands
+    /// The piece of this number, or None where there is none. After a round with a finding the piece that refuses a record stands
     /// as it stood before that record.
     pub fn piece(&self, number: usize) -> Option<&Piece>
         ensures { option_copied result ≡ slice_get self.now.pieces number }
@@ -85,7 +85,7 @@ impl Judge {
 
     /// Judges the next records by so many workers: each piece goes over those that touch it, up to its first refusal, and the view
     /// of each record is tested by the rules. None where no piece refuses a record; else the least refusal, after which no further
-    /// round is judged. The first view before it that breaks a rule is told by `breach`. The gate is told of each claim and each
+    /// round is judged. The first view before it that breaks a rule is given by `breach`. The gate sees each claim and each
     /// post.
     ///
     /// NoWorkers where there is no worker; nothing is changed then. Memory where a growth or a thread was refused, after which no
@@ -115,7 +115,7 @@ impl Judge {
         }
         let lent = Lent::new(config, self.count, records, &self.touched);
         let pieces = mem::replace(&mut self.pieces, Vec::new(self.alloc));
-        let Ok(judged) = judge_round(rt, self.alloc, &lent, rules, pieces, workers, gate) else {
+        let Ok(judged) = run_round(rt, self.alloc, &lent, rules, pieces, workers, gate) else {
             return Err(RoundFault::Memory);
         };
         let Ok(surveyed) = gather_round(self.alloc, &lent, judged) else {
@@ -128,7 +128,7 @@ impl Judge {
     }
 }
 
-// The place behind these records, of which the first stands at this place.
+// The place after these records, of which the first stands at this place.
 fn place_behind(first: u64, records: &[Ordered]) -> u64
     requires { ArePlaced first records.now }
     ensures { result ≡ first + length records.now }

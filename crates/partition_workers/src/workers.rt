@@ -3,7 +3,7 @@
 ghost use Rattle.std.specs.Prelude.{◌≡◌, ◌↔◌, Err, IfOk};
 ghost use Rattle.apex_machine.specs.Runs.{ArePlaced, AreOfCores};
 ghost use Rattle.user_rules.specs.Rules.{relations_of};
-ghost use Rattle.verdict_merge.specs.Rounds.{AreGoing, AreGoneOver};
+ghost use Rattle.verdict_merge.specs.Rounds.{AreGoing, AreJudgedOver};
 ghost use Rattle.partition_workers.specs.Contents.{AreGoingFrom, AreJudged, IsOpen, content_of, parts_held};
 
 use crate::board::Board;
@@ -19,7 +19,7 @@ use std::thread::Threads;
 use user_rules::Rule;
 use verdict_merge::{Judged, Lent, Memory};
 
-/// What stands between a worker and the board: it is told of each claim and each post, while the board is free for others.
+/// What stands between a worker and the board: it sees each claim and each post, while the board is free for others.
 pub trait Gate {
     /// This worker has claimed the piece of this number, and goes on once the call returns.
     fn at_claim(&self, worker: usize, piece: usize);
@@ -42,7 +42,7 @@ impl Gate for Open {
 /// value for each piece, at its number. A worker tests the views of its pieces by the rules.
 ///
 /// NoWorkers where there is no worker. Memory where a growth or a thread was refused; all threads are joined before the answer.
-pub fn judge_round<G: Gate + Sync, R: Threads + Wait + Sync>(
+pub fn run_round<G: Gate + Sync, R: Threads + Wait + Sync>(
     rt: &R,
     alloc: Global,
     lent: &Lent,
@@ -54,7 +54,7 @@ pub fn judge_round<G: Gate + Sync, R: Threads + Wait + Sync>(
     requires going { AreGoing lent.now.config.now lent.now.first pieces.items }
     requires placed { ArePlaced lent.now.first lent.now.records.now }
     requires cores { AreOfCores lent.now.config.now.cores lent.now.records.now }
-    ensures judged { IfOk result (λ judged. AreGoneOver lent.now.config.now lent.now.first lent.now.records.now (relations_of rules.now) pieces.items judged.items) }
+    ensures judged { IfOk result (λ judged. AreJudgedOver lent.now.config.now lent.now.first lent.now.records.now (relations_of rules.now) pieces.items judged.items) }
     ensures no_workers { result ≡ Err RoundFault.NoWorkers ↔ workers ≡ 0 }
 {
     if workers == 0 {

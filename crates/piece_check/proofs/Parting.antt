@@ -2,7 +2,7 @@
 use Rattle.std.proofs.Common.{◌≡◌, ◌∙◌, ℕ, zero, suc, ◌+◌, ◌≤◌, List, [], ◌∷◌, ◌++◌, ◌<◌, true, false, if◌then◌else◌, length, map, refl, ap, sym, arith}
 use Rattle.std.proofs.lemmas.List.{length-map}
 use Rattle.std.specs.Prelude.{replicate}
-use Rattle.apex_types.specs.Bounds.{place_count}
+use Rattle.apex_types.specs.declared.limits.TheConstants.{PLACE_COUNT}
 use Rattle.apex_types.specs.declared.record.Body.{Body}
 use Rattle.apex_types.specs.declared.record.Body.TheVariants.{Call, Ret, Disp, Tick}
 use Rattle.apex_types.specs.declared.record.Ordered.{Ordered}
@@ -23,7 +23,7 @@ use Rattle.apex_laws.proofs.BoundedParts.{part_stays_bounded}
 use Rattle.apex_laws.proofs.SoundParts.{part_stays_sound}
 use Rattle.apex_laws.proofs.Waiters.{all_push, all_weaker, all_without}
 use Rattle.wait_set.specs.Laws.{StandBefore}
-use Rattle.piece_check.specs.Parts.{CallerFits, HasCores, IsBehind, IsKeptBefore, KeepsBefore, NoTimeAbove, EnteredBefore, core_at}
+use Rattle.piece_check.specs.Parts.{CallerFits, HasCores, HoldsBefore, IsKeptBefore, KeepsBefore, NoTimeAbove, EnteredBefore, core_at}
 
 -- cold cores stand at time 0
 pub cold_time : (count core : ℕ) → time_of (replicate count cold_core) core ≤ 0
@@ -92,12 +92,12 @@ HasCores_after count configuration (ChannelPart number times channel) ordered ha
 
 NoTimeAbove_after : (place : ℕ) (configuration : Configuration) (old : Part) (ordered : Ordered) → NoTimeAbove place old
     → NoTimeAbove (place + 1) (part_after configuration old ordered)
-NoTimeAbove_after place configuration (ModulePart cores) ordered behind =
-    λ core. omega (arith, time_by ordered.core ordered.rec.body cores core, behind core)
-NoTimeAbove_after place configuration (PartitionPart number cores partition) ordered behind =
-    λ core. omega (arith, time_by ordered.core ordered.rec.body cores core, behind core)
-NoTimeAbove_after place configuration (ChannelPart number times channel) ordered behind =
-    λ core. omega (arith, times_by_time ordered.core ordered.rec.body times core, behind core)
+NoTimeAbove_after place configuration (ModulePart cores) ordered holds_before =
+    λ core. omega (arith, time_by ordered.core ordered.rec.body cores core, holds_before core)
+NoTimeAbove_after place configuration (PartitionPart number cores partition) ordered holds_before =
+    λ core. omega (arith, time_by ordered.core ordered.rec.body cores core, holds_before core)
+NoTimeAbove_after place configuration (ChannelPart number times channel) ordered holds_before =
+    λ core. omega (arith, times_by_time ordered.core ordered.rec.body times core, holds_before core)
 
 -- so do the times of cold cores alone, and there are as many
 cold_channel_time : (count core : ℕ) → time_of (map core_at (times_of (replicate count cold_core))) core ≤ 0
@@ -124,10 +124,10 @@ time_at_is (time ∷ times) zero = refl
 time_at_is (time ∷ times) (suc core) = time_at_is times core
 
 -- times that are not above a place are those of a recording
-pub TimesFit_behind : (place : ℕ) (cores : List CoreState) → place < place_count → ((core : ℕ) → time_of cores core ≤ place) → TimesFit cores
-TimesFit_behind place [] below behind = tt
-TimesFit_behind place (state ∷ cores) below behind =
-    (omega (arith, below, behind 0), TimesFit_behind place cores below (λ core. behind (suc core)))
+pub TimesFit_behind : (place : ℕ) (cores : List CoreState) → place < PLACE_COUNT → ((core : ℕ) → time_of cores core ≤ place) → TimesFit cores
+TimesFit_behind place [] below holds_before = tt
+TimesFit_behind place (state ∷ cores) below holds_before =
+    (omega (arith, below, holds_before 0), TimesFit_behind place cores below (λ core. holds_before (suc core)))
 
 -- what a part keeps
 
@@ -148,8 +148,8 @@ cold_has_cores configuration Module = cold_cores_count configuration.cores
 cold_has_cores configuration (OfPartition number) = cold_cores_count configuration.cores
 cold_has_cores configuration (OfChannel number) = cold_channel_cores configuration.cores
 
--- and behind place 0
-pub cold_behind : (configuration : Configuration) (piece : Piece) → IsBehind 0 (part piece (cold_state configuration))
+-- and after place 0
+pub cold_behind : (configuration : Configuration) (piece : Piece) → HoldsBefore 0 (part piece (cold_state configuration))
 cold_behind configuration Module = record { times = λ core. cold_time configuration.cores core; kept = tt }
 cold_behind configuration (OfPartition number) = record { times = λ core. cold_time configuration.cores core; kept = cold_kept configuration number }
 cold_behind configuration (OfChannel number) =
@@ -175,24 +175,24 @@ pub stand_before : (place : ℕ) (entries : List Entry) → AllEntries (EnteredB
 stand_before place [] all = tt
 stand_before place (entry ∷ entries) all = (all.0.earlier, stand_before place entries all.1)
 
-kept_after : (configuration : Configuration) (old : Part) (ordered : Ordered) → IsBehind ordered.pos old → AllHold (demands configuration old ordered)
+kept_after : (configuration : Configuration) (old : Part) (ordered : Ordered) → HoldsBefore ordered.pos old → AllHold (demands configuration old ordered)
     → PeriodFits ordered.rec.body → CallerFits ordered.rec.body → KeepsBefore (ordered.pos + 1) (part_after configuration old ordered)
-kept_after configuration (ModulePart cores) ordered behind hold fits caller = tt
-kept_after configuration (PartitionPart number cores partition) ordered behind hold fits caller = record {
-  sound = part_stays_sound.1 configuration number cores partition ordered behind.kept.sound hold;
-  bounded = part_stays_bounded.1 configuration number cores partition ordered behind.kept.sound behind.kept.bounded behind.times fits hold;
+kept_after configuration (ModulePart cores) ordered holds_before hold fits caller = tt
+kept_after configuration (PartitionPart number cores partition) ordered holds_before hold fits caller = record {
+  sound = part_stays_sound.1 configuration number cores partition ordered holds_before.kept.sound hold;
+  bounded = part_stays_bounded.1 configuration number cores partition ordered holds_before.kept.sound holds_before.kept.bounded holds_before.times fits hold;
 }
-kept_after configuration (ChannelPart number times channel) ordered behind hold fits caller = record {
-  senders = set_before ordered.pos ordered.rec.body (set.ChannelSenders number) channel.senders caller behind.kept.senders;
-  receivers = set_before ordered.pos ordered.rec.body (set.ChannelReceivers number) channel.receivers caller behind.kept.receivers;
+kept_after configuration (ChannelPart number times channel) ordered holds_before hold fits caller = record {
+  senders = set_before ordered.pos ordered.rec.body (set.ChannelSenders number) channel.senders caller holds_before.kept.senders;
+  receivers = set_before ordered.pos ordered.rec.body (set.ChannelReceivers number) channel.receivers caller holds_before.kept.receivers;
 }
 
--- a record whose demands hold leaves a part behind the next place
-pub IsBehind_after : (configuration : Configuration) (old : Part) (ordered : Ordered) → IsBehind ordered.pos old → AllHold (demands configuration old ordered)
-    → PeriodFits ordered.rec.body → CallerFits ordered.rec.body → IsBehind (ordered.pos + 1) (part_after configuration old ordered)
-IsBehind_after configuration old ordered behind hold fits caller = record {
-  times = NoTimeAbove_after ordered.pos configuration old ordered behind.times;
-  kept = kept_after configuration old ordered behind hold fits caller;
+-- a record whose demands hold leaves a part after the next place
+pub HoldsBefore_after : (configuration : Configuration) (old : Part) (ordered : Ordered) → HoldsBefore ordered.pos old → AllHold (demands configuration old ordered)
+    → PeriodFits ordered.rec.body → CallerFits ordered.rec.body → HoldsBefore (ordered.pos + 1) (part_after configuration old ordered)
+HoldsBefore_after configuration old ordered holds_before hold fits caller = record {
+  times = NoTimeAbove_after ordered.pos configuration old ordered holds_before.times;
+  kept = kept_after configuration old ordered holds_before hold fits caller;
 }
 
 kept_later : (place later : ℕ) (part : Part) → place ≤ later → KeepsBefore place part → KeepsBefore later part
@@ -206,9 +206,9 @@ kept_later place later (ChannelPart number times channel) below kept = record {
   receivers = all_weaker (EnteredBefore place) (EnteredBefore later) (before_later place later below) channel.receivers kept.receivers;
 }
 
--- a part that is behind one place is behind each later one
-pub IsBehind_later : (place later : ℕ) (part : Part) → place ≤ later → IsBehind place part → IsBehind later part
-IsBehind_later place later part below behind = record {
-  times = λ core. omega (arith, below, behind.times core);
-  kept = kept_later place later part below behind.kept;
+-- a part that is after one place is after each later one
+pub HoldsBefore_later : (place later : ℕ) (part : Part) → place ≤ later → HoldsBefore place part → HoldsBefore later part
+HoldsBefore_later place later part below holds_before = record {
+  times = λ core. omega (arith, below, holds_before.times core);
+  kept = kept_later place later part below holds_before.kept;
 }

@@ -1,4 +1,4 @@
--- The judgement of one of the partition's own calls: what stands before the outcome, and the outcome behind it.
+-- The judgement of one of the partition's own calls: what stands before the outcome, and the outcome after it.
 use Rattle.std.proofs.Common.{◌≡◌, ◌≢◌, ℕ, List, [], ◌∷◌, ◌++◌, Option, Some, None, true, false, is_some, inl, inr, refl, sym, subst}
 use Rattle.apex_types.specs.declared.cause.Cause.{Cause}
 use Rattle.apex_types.specs.declared.cause.Cause.TheVariants as cause

@@ -18,7 +18,7 @@ use Rattle.channel.specs.Held.{SaysTheSame, Settings}
 pub record Holding : Type 0 where
   pub part : Part
   pub settings : Option Settings
-  pub spent : Bool
+  pub exhausted : Bool
 
 -- the piece of a number
 abbrev pub piece_at : Configuration → ℕ → Piece
@@ -86,7 +86,7 @@ KeepsBefore place (PartitionPart number cores partition) = IsKeptBefore number p
 KeepsBefore place (ChannelPart number times channel) = WaitBefore place channel
 
 -- a part is one that records of smaller places have left
-pub record IsBehind (place : ℕ) (part : Part) : Type 0 where
+pub record HoldsBefore (place : ℕ) (part : Part) : Type 0 where
   pub times : NoTimeAbove place part
   pub kept : KeepsBefore place part
 

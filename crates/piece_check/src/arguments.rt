@@ -4,25 +4,14 @@ ghost use Rattle.std.specs.Prelude.{◌≡◌, ◌<◌};
 ghost use Rattle.apex_machine.specs.Arguments as numbers;
 
 use apex_machine::Direction;
+use apex_types::limits::{GREATEST_MAXIMUM, GREATEST_PRIORITY, LONGEST_MESSAGE, MOST_MESSAGES};
 use apex_types::{Discipline, ProcId};
-
-/// The greatest priority of a process.
-const GREATEST_PRIORITY: i64 = 239;
-
-/// The most bytes that a message has.
-const LONGEST_MESSAGE: i64 = 8_192;
-
-/// The most messages that a buffer holds.
-const MOST_MESSAGES: i64 = 1_024;
-
-/// The greatest maximum of a semaphore.
-const GREATEST_MAXIMUM: i64 = 32_767;
 
 /// Whether a priority is one: 1 to 239.
 pub(crate) fn is_priority(priority: i64) -> bool
     ensures { result ≡ numbers.is_priority priority }
 {
-    1 <= priority && priority <= GREATEST_PRIORITY
+    1 <= priority && priority <= GREATEST_PRIORITY as i64
 }
 
 /// Whether a period is one, in ticks: above 0, or -1 for an aperiodic process.
@@ -120,21 +109,21 @@ pub(crate) fn discipline_number(discipline: Discipline) -> u64
 pub(crate) fn is_size(size: i64) -> bool
     ensures { result ≡ numbers.is_size size }
 {
-    1 <= size && size <= LONGEST_MESSAGE
+    1 <= size && size <= LONGEST_MESSAGE as i64
 }
 
 /// Whether a capacity is one: 1 to 1,024 messages.
 pub(crate) fn is_capacity(capacity: i64) -> bool
     ensures { result ≡ numbers.is_capacity capacity }
 {
-    1 <= capacity && capacity <= MOST_MESSAGES
+    1 <= capacity && capacity <= MOST_MESSAGES as i64
 }
 
 /// Whether a maximum is one of a semaphore: 1 to 32,767.
 pub(crate) fn is_maximum(maximum: i64) -> bool
     ensures { result ≡ numbers.is_maximum maximum }
 {
-    1 <= maximum && maximum <= GREATEST_MAXIMUM
+    1 <= maximum && maximum <= GREATEST_MAXIMUM as i64
 }
 
 /// Whether a value suits a semaphore's maximum: it is not below 0, and at most that.

@@ -1,7 +1,7 @@
 // The piece of a channel: what goes through it, and who waits at its ends.
 
 ghost use Rattle.std.specs.Prelude.{◌≡◌, ◌<◌, ◌≢◌, ℕ, IfErr, IfOk, OnErr, OnOk, Some, length, true};
-ghost use Rattle.apex_types.specs.Bounds.{place_count};
+ghost use Rattle.apex_types.specs.declared.limits.TheConstants.{PLACE_COUNT};
 ghost use Rattle.apex_types.specs.declared.record.Body.TheVariants as body;
 ghost use Rattle.apex_types.specs.declared.record.Ordered.{Ordered as OrderedRecord};
 ghost use Rattle.apex_types.specs.declared.record.Who.{Who as WhoValue};
@@ -15,7 +15,7 @@ ghost use Rattle.apex_machine.specs.Waiting.{stops};
 ghost use Rattle.channel.specs.Held.{IsConfigured};
 ghost use Rattle.partition_state.specs.Calls.{RefusesOrWants};
 ghost use Rattle.piece_check.specs.Held.{channel_part};
-ghost use Rattle.piece_check.specs.Parts.{IsBehind, WaitBefore, WantsAtCalls};
+ghost use Rattle.piece_check.specs.Parts.{HoldsBefore, WaitBefore, WantsAtCalls};
 ghost use Rattle.piece_check.specs.Subjects.{is_the};
 
 use apex_types::{Body, Call, ChanId, Code, Ordered, Out, Place, ProcId, Request, Who};
@@ -57,8 +57,8 @@ impl ChannelPiece {
     /// call.
     pub(crate) fn step(&mut self, config: &Config, ordered: &Ordered) -> Result<(), ObjFault>
         requires core { ordered.now.core < length self.old.times }
-        requires place { ordered.now.pos < place_count }
-        requires behind { IsBehind ordered.now.pos (channel_part self.old) }
+        requires place { ordered.now.pos < PLACE_COUNT }
+        requires holds_before { HoldsBefore ordered.now.pos (channel_part self.old) }
         requires configured { IsConfigured config.now self.old.channel }
         ensures ok { OnOk result (LocalStep config.now (channel_part self.old) ordered.now (channel_part self.new)) }
         ensures refused { IfErr result (RefusesOrWants (demands config.now (channel_part self.old) ordered.now)) }
@@ -85,7 +85,7 @@ impl ChannelPiece {
 
     // A call that goes through another channel or through none: whose waits it ends leave. Who waits has a number of 32 bits.
     fn let_go(&mut self, place: Place, call: &Call)
-        requires behind { WaitBefore place self.old.channel.channel }
+        requires holds_before { WaitBefore place self.old.channel.channel }
         requires apart { call.now.claim.chan ≢ Some self.old.channel.number }
         ensures configured { (configuration : Configuration) → IsConfigured configuration self.old.channel → IsConfigured configuration self.new.channel }
         ensures after { (configuration : Configuration) (now : ℕ) (ordered : OrderedRecord) → ordered.pos ≡ place → ordered.rec.body ≡ body.Call call.now → self.new ≡ record self.old { channel = record self.old.channel { channel = channel_after configuration now self.old.channel.number ordered self.old.channel.channel } } }

@@ -9,7 +9,7 @@ mod creations;
 mod objects;
 mod port_services;
 mod processes;
-mod told;
+mod reported;
 
 use crate::arguments::{is_over, is_time_out};
 use apex_machine::Mode;
@@ -20,7 +20,7 @@ use objects::use_conditions;
 use partition_state::PartitionState;
 use port_services::{port_creation_conditions, port_use_conditions};
 use processes::process_conditions;
-use told::{id_conditions, status_conditions};
+use reported::{id_conditions, status_conditions};
 use wait_set::Conditions;
 
 /// The error conditions that hold for a call of one of the partition's processes.

@@ -1,14 +1,14 @@
 // What a piece holds: the part of the module, of a partition or of a channel.
 
 ghost use Rattle.std.specs.Prelude.{◌<◌, IfErr, IfOk, OnErr, OnOk, ◌≡◌, length};
-ghost use Rattle.apex_types.specs.Bounds.{place_count};
+ghost use Rattle.apex_types.specs.declared.limits.TheConstants.{PLACE_COUNT};
 ghost use Rattle.apex_machine.specs.Demands.{LocalStep, demands};
 ghost use Rattle.apex_machine.specs.Pieces.{part, pieces};
 ghost use Rattle.apex_machine.specs.State.{cold_state, time_of};
 ghost use Rattle.apex_machine.specs.Views.{view_in};
 ghost use Rattle.partition_state.specs.Calls.{RefusesOrWants};
 ghost use Rattle.piece_check.specs.Held.{part_of, settings_of};
-ghost use Rattle.piece_check.specs.Parts.{AgreesOn, IsBehind, WantsAtCalls, cores_of, piece_at};
+ghost use Rattle.piece_check.specs.Parts.{AgreesOn, HoldsBefore, WantsAtCalls, cores_of, piece_at};
 
 use crate::channel_piece::ChannelPiece;
 use crate::module_piece::ModulePiece;
@@ -55,8 +55,8 @@ impl Held {
     /// call.
     pub(crate) fn step(&mut self, config: &Config, ordered: &Ordered) -> Result<(), ObjFault>
         requires core { ordered.now.core < length (cores_of (part_of self.old)) }
-        requires place { ordered.now.pos < place_count }
-        requires behind { IsBehind ordered.now.pos (part_of self.old) }
+        requires place { ordered.now.pos < PLACE_COUNT }
+        requires holds_before { HoldsBefore ordered.now.pos (part_of self.old) }
         requires agrees { AgreesOn config.now (part_of self.old) (settings_of self.old) }
         ensures ok { OnOk result (LocalStep config.now (part_of self.old) ordered.now (part_of self.new)) }
         ensures refused { IfErr result (RefusesOrWants (demands config.now (part_of self.old) ordered.now)) }
@@ -73,7 +73,7 @@ impl Held {
 
     /// What a user's relation sees of a record, from the part before it. Takes no memory.
     pub(crate) fn view(&self, ordered: &Ordered) -> Option<View>
-        requires time { time_of (cores_of (part_of self.now)) ordered.now.core < place_count }
+        requires time { time_of (cores_of (part_of self.now)) ordered.now.core < PLACE_COUNT }
         ensures { result ≡ view_in (part_of self.now) ordered.now }
     {
         match self {

@@ -6,19 +6,20 @@ ghost use Rattle.piece_check.specs.Subjects.{piece_of};
 ghost use Rattle.piece_check.specs.Touching.{HasList, IsEntered, IsPut, PartitionFits, ends_with, is_claimed, is_home_of, is_of_call, is_of_return, is_same_piece, is_touched_first, list_of, slot, with_last};
 
 use crate::subject::{Subject, count, stops_some, subject_of};
+use apex_types::limits::GREATEST_CHANNEL;
 use apex_types::{Body, Call, ChanId, Ordered, Return, Who};
 use module_config::Config;
 use std::alloc::{AllocError, Global};
 use std::marker::Model;
 
-/// Where the lists of the partitions begin, behind that of the module.
+/// Where the lists of the partitions begin, after that of the module.
 const PARTITIONS_FROM: usize = 1;
 
 /// Where the lists of the channels begin: a partition's number has 8 bits.
 const CHANNELS_FROM: usize = 257;
 
-/// How many lists there are: the greatest number of a channel is 255.
-const SLOT_COUNT: usize = 513;
+/// How many lists there are: the last is that of the channel of the greatest number.
+const SLOT_COUNT: usize = CHANNELS_FROM + GREATEST_CHANNEL as usize + 1;
 
 /// For each piece, which records of a round touch it, ticks apart: their indices in the round, in rising order. The lists keep
 /// their memory from round to round.
@@ -178,7 +179,7 @@ fn slot_of(subject: &Subject) -> usize
     }
 }
 
-// Puts an index behind a list, unless it stands there already.
+// Adds an index at the end of a list, unless it stands there already.
 fn put_last(list: &mut Vec<usize>, index: usize) -> Result<(), AllocError>
     ensures { OnOk result (list.new.items ≡ with_last index list.old.items) }
 {

@@ -1,16 +1,15 @@
 // The piece of the module: configured names, the skew, and idle cores in no window.
 
 ghost use Rattle.std.specs.Prelude.{◌≡◌, ◌<◌, IfErr, OnErr, OnOk, is_none, length};
-ghost use Rattle.apex_types.specs.Bounds.{place_count};
+ghost use Rattle.apex_types.specs.declared.limits.TheConstants.{PLACE_COUNT};
 ghost use Rattle.apex_types.specs.declared.record.Body.TheVariants as body;
 ghost use Rattle.apex_machine.specs.State.{cold_state, time_of};
-ghost use Rattle.apex_machine.specs.After.{cores_after};
 ghost use Rattle.apex_machine.specs.Demands.{LocalStep, demands, window_now};
 ghost use Rattle.apex_machine.specs.Pieces.{Module, ModulePart, part};
 ghost use Rattle.apex_machine.specs.Views.{view_in};
 ghost use Rattle.partition_state.specs.Calls.{RefusesOrWants};
 ghost use Rattle.piece_check.specs.Judged.{Judges, asked_by_module};
-ghost use Rattle.piece_check.specs.Parts.{IsBehind, WantsAtCalls};
+ghost use Rattle.piece_check.specs.Parts.{HoldsBefore, WantsAtCalls};
 
 use crate::names::{all_configured, channel_configured, one_configured};
 use crate::views::{dispatch_view, tick_view};
@@ -40,25 +39,39 @@ impl ModulePiece {
     /// Refused, with nothing changed, where a demand fails: the cause is that of the first.
     pub(crate) fn step(&mut self, config: &Config, ordered: &Ordered) -> Result<(), ObjFault>
         requires core { ordered.now.core < length self.old.clock.cores }
-        requires place { ordered.now.pos < place_count }
-        requires behind { IsBehind ordered.now.pos (ModulePart self.old.clock.cores) }
+        requires place { ordered.now.pos < PLACE_COUNT }
+        requires holds_before { HoldsBefore ordered.now.pos (ModulePart self.old.clock.cores) }
         ensures ok { OnOk result (LocalStep config.now (ModulePart self.old.clock.cores) ordered.now (ModulePart self.new.clock.cores)) }
         ensures refused { IfErr result (RefusesOrWants (demands config.now (ModulePart self.old.clock.cores) ordered.now)) }
         ensures unchanged { OnErr result (self.new ≡ self.old) }
         ensures memory { IfErr result (WantsAtCalls ordered.now.rec.body) }
     {
-        match self.judge(config, ordered) {
-            Ok(()) => {
-                self.apply(config, ordered);
+        let core = ordered.core;
+        match &ordered.rec.body {
+            Body::Call(call) => self
+                .judge_call(config, core, call)
+                .map_err(ObjFault::Unlawful),
+            Body::Ret(ret) => self
+                .judge_return(config, core, ret)
+                .map_err(ObjFault::Unlawful),
+            Body::Disp(who) => {
+                self.judge_dispatch(config, core, *who)
+                    .map_err(ObjFault::Unlawful)?;
+                self.clock.dispatch(core, *who);
                 Ok(())
             }
-            Err(cause) => Err(ObjFault::Unlawful(cause)),
+            Body::Tick(woken) => {
+                self.judge_tick(config, core, woken)
+                    .map_err(ObjFault::Unlawful)?;
+                self.clock.advance(config, core);
+                Ok(())
+            }
         }
     }
 
     /// The view of a dispatch or a tick, from the part before it. Takes no memory.
     pub(crate) fn view(&self, ordered: &Ordered) -> Option<View>
-        requires { time_of self.now.clock.cores ordered.now.core < place_count }
+        requires { time_of self.now.clock.cores ordered.now.core < PLACE_COUNT }
         ensures { result ≡ view_in (ModulePart self.now.clock.cores) ordered.now }
     {
         let core = ordered.core;
@@ -67,32 +80,6 @@ impl ModulePiece {
             Body::Disp(who) => Some(dispatch_view(core, now, who)),
             Body::Tick(woken) => Some(tick_view(core, now + 1, woken)),
             Body::Call(_) | Body::Ret(_) => None,
-        }
-    }
-
-    // Judges a record: the cause is that of the first demand that fails.
-    fn judge(&self, config: &Config, ordered: &Ordered) -> Result<(), Cause>
-        requires { time_of self.now.clock.cores ordered.now.core < place_count }
-        ensures { Judges (asked_by_module config.now self.now ordered.now.core ordered.now.rec.body) result }
-    {
-        match &ordered.rec.body {
-            Body::Call(call) => self.judge_call(config, ordered.core, call),
-            Body::Ret(ret) => self.judge_return(config, ordered.core, ret),
-            Body::Disp(who) => self.judge_dispatch(config, ordered.core, *who),
-            Body::Tick(woken) => self.judge_tick(config, ordered.core, woken),
-        }
-    }
-
-    // Makes the part what a record makes of it: a dispatch and a tick change their core.
-    fn apply(&mut self, config: &Config, ordered: &Ordered)
-        requires core { ordered.now.core < length self.old.clock.cores }
-        requires time { time_of self.old.clock.cores ordered.now.core < place_count }
-        ensures { self.new.clock.cores ≡ cores_after ordered.now self.old.clock.cores }
-    {
-        match &ordered.rec.body {
-            Body::Disp(who) => self.clock.dispatch(ordered.core, *who),
-            Body::Tick(_) => self.clock.advance(config, ordered.core),
-            Body::Call(_) | Body::Ret(_) => {}
         }
     }
 
@@ -136,7 +123,7 @@ impl ModulePiece {
     }
 
     fn judge_tick(&self, config: &Config, core: CoreId, woken: &Woken) -> Result<(), Cause>
-        requires { time_of self.now.clock.cores core < place_count }
+        requires { time_of self.now.clock.cores core < PLACE_COUNT }
         ensures { Judges (asked_by_module config.now self.now core (body.Tick woken.now)) result }
     {
         if !all_configured(config, woken.as_slice()) {

@@ -2,22 +2,21 @@
 
 ghost use Rattle.std.specs.Prelude.{◌≡◌, ◌≢◌, ◌<◌, ◌↔◌, [], nat_eq, IfErr, IfOk, IsTrue, Some, None, OnOk, OnErr, length, false};
 ghost use Rattle.std.specs.Option.{option_copied};
-ghost use Rattle.apex_types.specs.Bounds.{place_count};
+ghost use Rattle.apex_types.specs.declared.limits.TheConstants.{PLACE_COUNT};
 ghost use Rattle.apex_types.specs.declared.record.Body.TheVariants as body;
 ghost use Rattle.apex_machine.specs.State.{cold_state, item_at, time_of};
 ghost use Rattle.apex_machine.specs.Step.{HasNoneDue, HasPriority, due_of};
 ghost use Rattle.apex_machine.specs.Demands.{AllHold, FirstFails, IsRunning, LocalStep, ReturnsValues, WakesHere, demands, foreign_call_demands, window_now};
 ghost use Rattle.apex_machine.specs.After.{partition_by};
-ghost use Rattle.apex_machine.specs.Pieces.{OfPartition, PartitionPart, part, part_after};
+ghost use Rattle.apex_machine.specs.Pieces.{OfPartition, PartitionPart, part};
 ghost use Rattle.apex_machine.specs.Ports.{channel_of};
 ghost use Rattle.apex_machine.specs.ServiceConditions.{condition_codes};
 ghost use Rattle.apex_machine.specs.Views.{view_in};
-ghost use Rattle.apex_laws.specs.PartLaws.{IsSoundPart};
 ghost use Rattle.wait_set.specs.declared.object.ObjFault.TheVariants.{Memory};
 ghost use Rattle.partition_state.specs.Calls.{LeavesObjects, RefusesOrWants};
 ghost use Rattle.piece_check.specs.Held.{partition_part};
 ghost use Rattle.piece_check.specs.Judged.{Judges, asked_by_partition, own_caller_demands, own_demands, part_called};
-ghost use Rattle.piece_check.specs.Parts.{IsBehind, IsCall, WantsAtCalls};
+ghost use Rattle.piece_check.specs.Parts.{HoldsBefore, WantsAtCalls};
 
 use crate::conditions::conditions_of;
 use crate::outcome::{judge_refused, judge_through};
@@ -67,13 +66,14 @@ impl PartitionPiece {
     /// call.
     pub(crate) fn step(&mut self, config: &Config, ordered: &Ordered) -> Result<(), ObjFault>
         requires core { ordered.now.core < length self.old.clock.cores }
-        requires place { ordered.now.pos < place_count }
-        requires behind { IsBehind ordered.now.pos (partition_part self.old) }
+        requires place { ordered.now.pos < PLACE_COUNT }
+        requires holds_before { HoldsBefore ordered.now.pos (partition_part self.old) }
         ensures ok { OnOk result (LocalStep config.now (partition_part self.old) ordered.now (partition_part self.new)) }
         ensures refused { IfErr result (RefusesOrWants (demands config.now (partition_part self.old) ordered.now)) }
         ensures unchanged { OnErr result (self.new ≡ self.old) }
         ensures memory { IfErr result (WantsAtCalls ordered.now.rec.body) }
     {
+        let core = ordered.core;
         match &ordered.rec.body {
             Body::Call(call) => {
                 if call.who.part == self.number {
@@ -82,9 +82,26 @@ impl PartitionPiece {
                     self.foreign_call(config, ordered, call)
                 }
             }
-            Body::Ret(_) | Body::Disp(_) | Body::Tick(_) => match self.judge(config, ordered) {
+            Body::Ret(ret) => match self.judge_return(config, core, ret) {
                 Ok(()) => {
-                    self.apply(config, ordered);
+                    if ret.who.part == self.number {
+                        self.state.ret(ret.who.proc);
+                    }
+                    Ok(())
+                }
+                Err(cause) => Err(ObjFault::Unlawful(cause)),
+            },
+            Body::Disp(who) => match self.judge_dispatch(config, core, *who) {
+                Ok(()) => {
+                    self.clock.dispatch(core, *who);
+                    Ok(())
+                }
+                Err(cause) => Err(ObjFault::Unlawful(cause)),
+            },
+            Body::Tick(woken) => match self.judge_tick(config, core, woken) {
+                Ok(()) => {
+                    self.state.tick(self.number, ordered.pos, woken);
+                    self.clock.advance(config, core);
                     Ok(())
                 }
                 Err(cause) => Err(ObjFault::Unlawful(cause)),
@@ -94,7 +111,7 @@ impl PartitionPiece {
 
     /// The view of one of the partition's own calls or returns, from the part before it. Takes no memory.
     pub(crate) fn view(&self, ordered: &Ordered) -> Option<View>
-        requires { time_of self.now.clock.cores ordered.now.core < place_count }
+        requires { time_of self.now.clock.cores ordered.now.core < PLACE_COUNT }
         ensures { result ≡ view_in (partition_part self.now) ordered.now }
     {
         let core = ordered.core;
@@ -130,8 +147,8 @@ impl PartitionPiece {
     // is carried out. The outcome of a call through a channel is the channel's to judge, but for what the partition sees of it.
     fn own_call(&mut self, config: &Config, ordered: &Ordered, call: &Call) -> Result<(), ObjFault>
         requires own { call.now.who.part ≡ self.old.number }
-        requires place { ordered.now.pos < place_count }
-        requires behind { IsBehind ordered.now.pos (partition_part self.old) }
+        requires place { ordered.now.pos < PLACE_COUNT }
+        requires holds_before { HoldsBefore ordered.now.pos (partition_part self.old) }
         ensures ok { OnOk result (AllHold (own_demands config.now self.old ordered.now.core call.now)) }
         ensures after { OnOk result (partition_part self.new ≡ part_called config.now self.old ordered.now call.now) }
         ensures refused { IfErr result (RefusesOrWants (own_demands config.now self.old ordered.now.core call.now)) }
@@ -186,8 +203,8 @@ impl PartitionPiece {
         channel: ChanId,
     ) -> Result<(), ObjFault>
         requires own { call.now.who.part ≡ self.old.number }
-        requires place { ordered.now.pos < place_count }
-        requires behind { IsBehind ordered.now.pos (partition_part self.old) }
+        requires place { ordered.now.pos < PLACE_COUNT }
+        requires holds_before { HoldsBefore ordered.now.pos (partition_part self.old) }
         requires caller { AllHold (own_caller_demands config.now self.old ordered.now.core call.now) }
         requires clear { condition_codes config.now call.now.who self.old.state call.now.request ≡ [] }
         requires through { channel_of self.old.state call.now.request ≡ Some channel }
@@ -205,8 +222,8 @@ impl PartitionPiece {
     // An own call on which no error condition holds and which goes through no channel: its partition serves it.
     fn serve(&mut self, config: &Config, ordered: &Ordered, call: &Call) -> Result<(), ObjFault>
         requires own { call.now.who.part ≡ self.old.number }
-        requires place { ordered.now.pos < place_count }
-        requires behind { IsBehind ordered.now.pos (partition_part self.old) }
+        requires place { ordered.now.pos < PLACE_COUNT }
+        requires holds_before { HoldsBefore ordered.now.pos (partition_part self.old) }
         requires caller { AllHold (own_caller_demands config.now self.old ordered.now.core call.now) }
         requires clear { condition_codes config.now call.now.who self.old.state call.now.request ≡ [] }
         requires apart { channel_of self.old.state call.now.request ≡ None }
@@ -236,8 +253,8 @@ impl PartitionPiece {
         conditions: &Conditions,
     ) -> Result<(), ObjFault>
         requires own { call.now.who.part ≡ self.old.number }
-        requires place { ordered.now.pos < place_count }
-        requires behind { IsBehind ordered.now.pos (partition_part self.old) }
+        requires place { ordered.now.pos < PLACE_COUNT }
+        requires holds_before { HoldsBefore ordered.now.pos (partition_part self.old) }
         requires caller { AllHold (own_caller_demands config.now self.old ordered.now.core call.now) }
         requires conditions { conditions.now ≡ condition_codes config.now call.now.who self.old.state call.now.request }
         requires some { conditions.now ≢ [] }
@@ -255,8 +272,8 @@ impl PartitionPiece {
     // An own call all of whose demands hold, and that changes no object: the partition's processes change.
     fn note(&mut self, config: &Config, ordered: &Ordered, call: &Call) -> Result<(), ObjFault>
         requires own { call.now.who.part ≡ self.old.number }
-        requires place { ordered.now.pos < place_count }
-        requires behind { IsBehind ordered.now.pos (partition_part self.old) }
+        requires place { ordered.now.pos < PLACE_COUNT }
+        requires holds_before { HoldsBefore ordered.now.pos (partition_part self.old) }
         requires lawful { AllHold (own_demands config.now self.old ordered.now.core call.now) }
         requires leaves { LeavesObjects call.now }
         ensures after { OnOk result (partition_part self.new ≡ part_called config.now self.old ordered.now call.now) }
@@ -287,48 +304,11 @@ impl PartitionPiece {
         ensures unchanged { OnErr result (self.new ≡ self.old) }
     {
         match self.judge_foreign_call(config, ordered.core, call) {
-            Ok(()) => match self.state.rouse(self.number, ordered.pos, call) {
+            Ok(()) => match self.state.wake_named(self.number, ordered.pos, call) {
                 Ok(()) => Ok(()),
                 Err(_) => Err(ObjFault::Memory),
             },
             Err(cause) => Err(ObjFault::Unlawful(cause)),
-        }
-    }
-
-    // Judges a record that is no call: the cause is that of the first demand that fails.
-    fn judge(&self, config: &Config, ordered: &Ordered) -> Result<(), Cause>
-        requires kind { IsCall ordered.now.rec.body → ⊥ }
-        requires time { time_of self.now.clock.cores ordered.now.core < place_count }
-        ensures { Judges (asked_by_partition config.now self.now ordered.now.core ordered.now.rec.body) result }
-    {
-        match &ordered.rec.body {
-            Body::Call(_) => unreachable!(),
-            Body::Ret(ret) => self.judge_return(config, ordered.core, ret),
-            Body::Disp(who) => self.judge_dispatch(config, ordered.core, *who),
-            Body::Tick(woken) => self.judge_tick(config, ordered.core, woken),
-        }
-    }
-
-    // Makes the part what a record makes of it that is no call and was judged lawful. Takes no memory.
-    fn apply(&mut self, config: &Config, ordered: &Ordered)
-        requires kind { IsCall ordered.now.rec.body → ⊥ }
-        requires core { ordered.now.core < length self.old.clock.cores }
-        requires time { time_of self.old.clock.cores ordered.now.core < place_count }
-        requires sound { IsSoundPart self.old.number ordered.now.pos self.old.state }
-        ensures { partition_part self.new ≡ part_after config.now (partition_part self.old) ordered.now }
-    {
-        match &ordered.rec.body {
-            Body::Call(_) => unreachable!(),
-            Body::Ret(ret) => {
-                if ret.who.part == self.number {
-                    self.state.ret(ret.who.proc);
-                }
-            }
-            Body::Disp(who) => self.clock.dispatch(ordered.core, *who),
-            Body::Tick(woken) => {
-                self.state.tick(self.number, ordered.pos, woken);
-                self.clock.advance(config, ordered.core);
-            }
         }
     }
 
@@ -347,7 +327,7 @@ impl PartitionPiece {
     // In the partition's windows a tick comes where the occupant is its choice. It names, of the partition, those that
     // fall due.
     fn judge_tick(&self, config: &Config, core: CoreId, woken: &Woken) -> Result<(), Cause>
-        requires { time_of self.now.clock.cores core < place_count }
+        requires { time_of self.now.clock.cores core < PLACE_COUNT }
         ensures { Judges (asked_by_partition config.now self.now core (body.Tick woken.now)) result }
     {
         let occupant = self.clock.on(core);

@@ -6,12 +6,12 @@ ghost use Rattle.apex_machine.specs.Demands.{LocalStep, demands};
 ghost use Rattle.apex_machine.specs.Pieces.{part, pieces};
 ghost use Rattle.apex_machine.specs.Views.{view_in};
 ghost use Rattle.apex_laws.specs.PartBounds.{PeriodFits};
-ghost use Rattle.piece_check.specs.Parts.{CallerFits, IsBehind, IsCall, IsOf, IsPartOf, holder, piece_at};
-ghost use Rattle.piece_check.specs.Refused.{IsRefused, refusal_for};
+ghost use Rattle.piece_check.specs.Parts.{CallerFits, HoldsBefore, IsCall, IsOf, IsPartOf, holder, piece_at};
+ghost use Rattle.piece_check.specs.Refused.{IsRefused};
 
 use crate::fault::PieceFault;
 use crate::held::Held;
-use apex_types::{Body, Cause, Ordered, Place, Request, View};
+use apex_types::{Body, Ordered, Request, View};
 use module_config::Config;
 use std::alloc::{AllocError, Global};
 use std::marker::Model;
@@ -21,7 +21,7 @@ use wait_set::ObjFault;
 #[derive(Drop)]
 pub struct Piece {
     pub(crate) held: Held,
-    spent: bool,
+    exhausted: bool,
 }
 
 impl Model for Piece {
@@ -31,7 +31,7 @@ impl Model for Piece {
 
     ghost use Rattle.piece_check.specs.Held.{part_of, settings_of};
 
-    ghost view = { λ piece. record { part = part_of piece.held; settings = settings_of piece.held; spent = piece.spent } };
+    ghost view = { λ piece. record { part = part_of piece.held; settings = settings_of piece.held; exhausted = piece.exhausted } };
 }
 
 impl Piece {
@@ -42,18 +42,21 @@ impl Piece {
         requires { piece < length (pieces config.now) }
         ensures part { IfOk result (λ started. started.part ≡ part (piece_at config.now piece) (cold_state config.now)) }
         ensures whose { IfOk result (λ started. IsPartOf (piece_at config.now piece) started.part) }
-        ensures fresh { IfOk result (λ started. started.spent ≡ false) }
+        ensures fresh { IfOk result (λ started. started.exhausted ≡ false) }
         ensures of_module { IfOk result (IsOf config.now) }
-        ensures behind { IfOk result (λ started. IsBehind 0 started.part) }
+        ensures holds_before { IfOk result (λ started. HoldsBefore 0 started.part) }
     {
         let held = Held::start(alloc, config, piece)?;
-        Ok(Piece { held, spent: false })
+        Ok(Piece {
+            held,
+            exhausted: false,
+        })
     }
 
     /// What a user's relation sees of a record, from the part before it: a partition gives the view of its own calls and
     /// returns, the module that of dispatches and ticks; else there is none. Takes no memory.
     pub fn view(&self, ordered: &Ordered) -> Option<View>
-        requires behind { IsBehind ordered.now.pos self.now.part }
+        requires holds_before { HoldsBefore ordered.now.pos self.now.part }
         ensures { result ≡ view_in self.now.part ordered.now }
     {
         let _place = ordered.pos.number();
@@ -67,28 +70,31 @@ impl Piece {
     pub fn step(&mut self, config: &Config, ordered: &Ordered) -> Result<(), PieceFault>
         requires core { ordered.now.core < config.now.cores }
         requires of_module { IsOf config.now self.old }
-        requires behind { IsBehind ordered.now.pos self.old.part }
+        requires holds_before { HoldsBefore ordered.now.pos self.old.part }
         ensures ok { OnOk result (LocalStep config.now self.old.part ordered.now self.new.part) }
         ensures refused { IfErr result (λ fault. IsRefused (demands config.now self.old.part ordered.now) ordered.now.pos fault) }
         ensures unchanged { OnErr result (self.new.part ≡ self.old.part) }
         ensures whose { holder self.new.part ≡ holder self.old.part }
         ensures settings { OnErr result (self.new.settings ≡ self.old.settings) }
-        ensures spent { IsTrue self.new.spent ↔ (result ≡ Err PieceFault.Memory) }
-        ensures stays_spent { IsTrue self.old.spent → result ≡ Err PieceFault.Memory }
-        ensures memory { result ≡ Err PieceFault.Memory → IsTrue self.old.spent ⊎ IsCall ordered.now.rec.body }
+        ensures exhausted { IsTrue self.new.exhausted ↔ (result ≡ Err PieceFault.Memory) }
+        ensures stays_exhausted { IsTrue self.old.exhausted → result ≡ Err PieceFault.Memory }
+        ensures memory { result ≡ Err PieceFault.Memory → IsTrue self.old.exhausted ⊎ IsCall ordered.now.rec.body }
         ensures of_module { OnOk result (IsOf config.now self.new) }
-        ensures behind { OnOk result (IsBehind (ordered.now.pos + 1) self.new.part) }
+        ensures holds_before { OnOk result (HoldsBefore (ordered.now.pos + 1) self.new.part) }
     {
-        if self.spent {
+        if self.exhausted {
             return Err(PieceFault::Memory);
         }
         let _place = ordered.pos.number();
         fits(&ordered.rec.body);
         match self.held.step(config, ordered) {
             Ok(()) => Ok(()),
-            Err(ObjFault::Unlawful(cause)) => Err(refusal(ordered.pos, cause)),
+            Err(ObjFault::Unlawful(cause)) => Err(PieceFault::Rejected {
+                pos: ordered.pos,
+                cause,
+            }),
             Err(ObjFault::Memory) => {
-                self.spent = true;
+                self.exhausted = true;
                 Err(PieceFault::Memory)
             }
         }
@@ -106,15 +112,5 @@ fn fits(body: &Body)
         if let Request::CreateProcess { period, .. } = &call.request {
             let _period: i64 = *period;
         }
-    }
-}
-
-// The refusal of a record for this cause.
-fn refusal(pos: Place, cause: Cause) -> PieceFault
-    ensures { result ≡ refusal_for pos cause }
-{
-    match cause {
-        Cause::OutsideProfile => PieceFault::OutsideProfile { pos },
-        _ => PieceFault::Unlawful { pos, cause },
     }
 }

@@ -2,7 +2,7 @@
 
 ghost use Rattle.std.specs.Prelude.{◌≡◌, ◌<◌, ◌≤◌, None, length, pos};
 ghost use Rattle.std.specs.Option.{option_copied};
-ghost use Rattle.apex_types.specs.Bounds.{place_count};
+ghost use Rattle.apex_types.specs.declared.limits.TheConstants.{PLACE_COUNT};
 ghost use Rattle.apex_machine.specs.Views as rules;
 ghost use Rattle.apex_machine.specs.Views.{core_view, elapsed_field, priority_field, value_number, who_field};
 
@@ -14,7 +14,7 @@ const ABSENT: i64 = -1;
 
 /// The view of a call, at this time of its core.
 pub(crate) fn call_view(core: CoreId, now: u64, call: &Call) -> View
-    requires { now < place_count }
+    requires { now < PLACE_COUNT }
     ensures { result ≡ rules.call_view core now call.now }
 {
     View {
@@ -34,7 +34,7 @@ pub(crate) fn call_view(core: CoreId, now: u64, call: &Call) -> View
 
 /// The view of a return, at this time of its core: with what is known of the process that returns.
 pub(crate) fn return_view(core: CoreId, now: u64, returner: Option<&Process>, ret: &Return) -> View
-    requires { now < place_count }
+    requires { now < PLACE_COUNT }
     ensures { result ≡ rules.return_view core now (option_copied returner.entry) ret.now }
 {
     View {
@@ -54,7 +54,7 @@ pub(crate) fn return_view(core: CoreId, now: u64, returner: Option<&Process>, re
 
 /// The view of a dispatch, at this time of its core.
 pub(crate) fn dispatch_view(core: CoreId, now: u64, who: &Option<Who>) -> View
-    requires { now < place_count }
+    requires { now < PLACE_COUNT }
     ensures { result ≡ core_view 2 core now who.now 0 }
 {
     View {
@@ -74,7 +74,7 @@ pub(crate) fn dispatch_view(core: CoreId, now: u64, who: &Option<Who>) -> View
 
 /// The view of a tick, at the time that its core has after it.
 pub(crate) fn tick_view(core: CoreId, after: u64, woken: &Woken) -> View
-    requires { after ≤ place_count }
+    requires { after ≤ PLACE_COUNT }
     ensures { result ≡ core_view 3 core after None (length woken.now) }
 {
     View {
@@ -141,7 +141,7 @@ fn priority_of(returner: Option<&Process>) -> i64
 
 // How long ago the last call of who returns was.
 fn elapsed_since(now: u64, returner: Option<&Process>) -> i64
-    requires { now < place_count }
+    requires { now < PLACE_COUNT }
     ensures { result ≡ elapsed_field now (option_copied returner.entry) }
 {
     match returner {

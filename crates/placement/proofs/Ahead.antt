@@ -1,5 +1,5 @@
 -- What the answers of a placer tell of what was ahead of it.
-use Rattle.std.proofs.Common.{◌≡◌, ◌≢◌, ◌⊎◌, ◌∙◌, ℕ, suc, List, [], ◌∷◌, ◌++◌, Option, Some, None, Result, Ok, Err, length, refl, sym, ap, subst, inl, inr, append_assoc}
+use Rattle.std.proofs.Common.{◌≡◌, ◌≢◌, ◌∙◌, ℕ, suc, List, [], ◌∷◌, ◌++◌, Option, Some, None, Result, Ok, Err, length, refl, sym, ap, subst, inl, inr, append_assoc}
 use Rattle.std.specs.Prelude.{IfSome}
 use Rattle.std.proofs.lemmas.List.{append-nil}
 use mathlib.Core.Path.{fun_ext}
@@ -18,21 +18,27 @@ use Rattle.record_read.specs.declared.fault.RowFault.{RowFault}
 use Rattle.record_read.specs.declared.fault.RowFault.TheVariants as row
 use Rattle.record_read.specs.Row.{Item}
 use Rattle.record_read.specs.Steps.{IsOutside}
-use Rattle.core_intake.specs.Told.{Told}
+use Rattle.core_intake.specs.Answered.{Answered}
 use Rattle.placement.specs.declared.fault.InputFault.{InputFault}
 use Rattle.placement.specs.declared.fault.InputFault.TheVariants as input
-use Rattle.placement.specs.Lanes.{AreLeft, IsAhead, IsEnded, IsNext, IsScanOf, IsTheEnd, Lead, Placing, left_at}
+use Rattle.placement.specs.declared.fault.PlacingFault.{PlacingFault}
+use Rattle.placement.specs.declared.fault.PlacingFault.TheVariants.{Input, Memory}
+use Rattle.placement.specs.Lanes.{AreLeft, IsAhead, IsEnded, IsScanOf, Lead, OnEnd, Placing, left_at}
 use Rattle.placement.specs.Reading.{CanFail, Reads}
-use Rattle.placement.specs.Scan.{Scan, cert_fault, ends_so, led_by, no_more, placed_at, row_fault, scan}
+use Rattle.placement.specs.Scan.{Scan, cert_fault, ends_so, led_by, placed_at, row_fault, scan}
 use Rattle.placement.proofs.Readings.{reads_all, reads_more, fault_read, put-here, put-other, put-back, put_reads, same_or}
 
 -- what is ahead where these are left, so many cores are there, so many records of each were taken, and this place is next
-abbrev pub AreAhead : CanFail → ℕ → List Told → Option (List CertItem) → (ℕ → ℕ) → ℕ → Scan → Type 0
+abbrev pub AreAhead : CanFail → ℕ → List Answered → Option (List CertItem) → (ℕ → ℕ) → ℕ → Scan → Type 0
 AreAhead can_fail cores lanes left taken place scanned =
     (items : ℕ → List Item) (certificate : List CertItem) → AreLeft lanes items → left ≡ Some certificate → IsScanOf can_fail cores taken place items certificate scanned
 
+-- nothing is ahead, and the input ends so, where an answer says how
+abbrev pub EndsSo : CanFail → Placing → Result (Unit {0}) PlacingFault → Type 0
+EndsSo can_fail placing end = OnEnd (λ how. IsAhead can_fail placing (ends_so how)) end
+
 -- the certificate's next row has a fault
-pub cert_stops : (can_fail : CanFail) (cores : ℕ) (lanes : List Told) (left new : Option (List CertItem)) (taken : ℕ → ℕ) (place : ℕ) (fault : CertFault)
+pub cert_stops : (can_fail : CanFail) (cores : ℕ) (lanes : List Answered) (left new : Option (List CertItem)) (taken : ℕ → ℕ) (place : ℕ) (fault : CertFault)
     → fault ≢ cert.Memory → IfSome left (λ items. Gives (IsCertOutside can_fail.certificate) items (Err fault) new)
     → AreAhead can_fail cores lanes left taken place (ends_so (Err (input.Cert place fault)))
 unfolding scan
@@ -42,7 +48,7 @@ cert_stops can_fail cores lanes left new taken place fault other gives items cer
     (items, Err fault ∷ read.0, (λ core. reads_all can_fail.recordings row.Read (items core)), read.1, refl)
 
 -- a pair that may not stand
-pub pair_refused : (can_fail : CanFail) (cores : ℕ) (lanes : List Told) (left new : Option (List CertItem)) (taken : ℕ → ℕ) (place : ℕ) (pair : Pair) (fault : OrderFault)
+pub pair_refused : (can_fail : CanFail) (cores : ℕ) (lanes : List Answered) (left new : Option (List CertItem)) (taken : ℕ → ℕ) (place : ℕ) (pair : Pair) (fault : OrderFault)
     → IfSome left (λ items. Gives (IsCertOutside can_fail.certificate) items (Ok (Some pair)) new) → misplaced cores taken pair ≡ Some fault
     → AreAhead can_fail cores lanes left taken place (ends_so (Err (input.Order place pair.core fault)))
 unfolding scan
@@ -51,7 +57,7 @@ pair_refused can_fail cores lanes left new taken place pair fault gives wrong it
     (items, Ok pair ∷ now.0, (λ core. reads_all can_fail.recordings row.Read (items core)), inl (sym now.1), rw wrong refl)
 
 -- the recording has ended before the pair's record
-pub record_absent : (can_fail : CanFail) (cores : ℕ) (lanes : List Told) (left new : Option (List CertItem)) (taken : ℕ → ℕ) (place : ℕ) (pair : Pair) (more : Option (List Item))
+pub record_absent : (can_fail : CanFail) (cores : ℕ) (lanes : List Answered) (left new : Option (List CertItem)) (taken : ℕ → ℕ) (place : ℕ) (pair : Pair) (more : Option (List Item))
     → IfSome left (λ items. Gives (IsCertOutside can_fail.certificate) items (Ok (Some pair)) new) → misplaced cores taken pair ≡ None
     → IfSome (left_at lanes pair.core) (λ items. Gives (IsOutside can_fail.recordings) items (Ok None) more)
     → AreAhead can_fail cores lanes left taken place (ends_so (Err (input.Order place pair.core Absent)))
@@ -62,7 +68,7 @@ record_absent can_fail cores lanes left new taken place pair more gives fits lan
     (items, Ok pair ∷ now.0, (λ core. reads_all can_fail.recordings row.Read (items core)), inl (sym now.1), rw (fits, item.0) refl)
 
 -- the pair's row has a fault
-pub record_stops : (can_fail : CanFail) (cores : ℕ) (lanes : List Told) (left new : Option (List CertItem)) (taken : ℕ → ℕ) (place : ℕ) (pair : Pair) (more : Option (List Item)) (fault : RowFault)
+pub record_stops : (can_fail : CanFail) (cores : ℕ) (lanes : List Answered) (left new : Option (List CertItem)) (taken : ℕ → ℕ) (place : ℕ) (pair : Pair) (more : Option (List Item)) (fault : RowFault)
     → fault ≢ row.Memory → IfSome left (λ items. Gives (IsCertOutside can_fail.certificate) items (Ok (Some pair)) new) → misplaced cores taken pair ≡ None
     → IfSome (left_at lanes pair.core) (λ items. Gives (IsOutside can_fail.recordings) items (Err fault) more)
     → AreAhead can_fail cores lanes left taken place (ends_so (Err (input.Row pair.core pair.seq fault)))
@@ -79,8 +85,8 @@ record_stops can_fail cores lanes left new taken place pair more fault other giv
       rw (fits, put-here items pair.core (Err fault ∷ read.0)) refl,
     )
 
--- a record that was taken leads all that is ahead behind it
-pub record_leads : (can_fail : CanFail) (cores : ℕ) (lanes lanes' : List Told) (left new : Option (List CertItem)) (taken : ℕ → ℕ) (place : ℕ) (pair : Pair) (rec : Record) (scanned : Scan)
+-- a record that was taken leads all that is ahead after it
+pub record_leads : (can_fail : CanFail) (cores : ℕ) (lanes lanes' : List Answered) (left new : Option (List CertItem)) (taken : ℕ → ℕ) (place : ℕ) (pair : Pair) (rec : Record) (scanned : Scan)
     → IfSome left (λ items. Gives (IsCertOutside can_fail.certificate) items (Ok (Some pair)) new) → misplaced cores taken pair ≡ None
     → IfSome (left_at lanes pair.core) (λ items. Gives (IsOutside can_fail.recordings) items (Ok (Some rec)) (left_at lanes' pair.core))
     → ((other : ℕ) → other ≢ pair.core → left_at lanes' other ≡ left_at lanes other)
@@ -104,7 +110,7 @@ record_leads can_fail cores lanes lanes' left new taken place pair rec scanned g
     )
 
 -- the certificate has ended, and then the recordings end so
-pub all_placed : (can_fail : CanFail) (lanes : List Told) (left new : Option (List CertItem)) (taken : ℕ → ℕ) (place : ℕ) (result : Result (Unit {0}) InputFault)
+pub all_placed : (can_fail : CanFail) (lanes : List Answered) (left new : Option (List CertItem)) (taken : ℕ → ℕ) (place : ℕ) (result : Result (Unit {0}) InputFault)
     → IfSome left (λ items. Gives (IsCertOutside can_fail.certificate) items (Ok None) new) → IsEnded can_fail.recordings lanes place taken result
     → AreAhead can_fail (length lanes) lanes left taken place (ends_so result)
 unfolding scan
@@ -113,44 +119,28 @@ all_placed can_fail lanes left new taken place result gives ended items certific
     let e = ended items known in
     (e.0, [], e.1, inl (sym now.0), ap ends_so e.2)
 
--- faults as the input tells them
+-- faults as a placer reports them
 
-pub cert_told : (place : ℕ) (fault : CertFault) → (fault ≡ cert.Memory) ⊎ ((fault ≢ cert.Memory) × (cert_fault place fault ≡ input.Cert place fault))
-cert_told place cert.Memory = inl refl
-cert_told place fault = inr ((λ e. cc), refl)
+pub cert_ends : (can_fail : CanFail) (placing : Placing) (new : Option (List CertItem)) (fault : CertFault)
+    → IfSome placing.pairs (λ items. Gives (IsCertOutside can_fail.certificate) items (Err fault) new) → EndsSo can_fail placing (Err (cert_fault (place_of placing.kept) fault))
+cert_ends can_fail placing new cert.Memory gives = tt
+cert_ends can_fail placing new fault gives =
+    cert_stops can_fail (length placing.lanes) placing.lanes placing.pairs new (taken_of placing.kept) (place_of placing.kept) fault (λ e. cc) gives
 
-pub row_told : (core seq : ℕ) (fault : RowFault) → (fault ≡ row.Memory) ⊎ ((fault ≢ row.Memory) × (row_fault core seq fault ≡ input.Row core seq fault))
-row_told core seq row.Memory = inl refl
-row_told core seq fault = inr ((λ e. cc), refl)
-
--- the ends of the input as a placer answers them
-
-pub cert_ends : (can_fail : CanFail) (placing : Placing) (new : Option (List CertItem)) (place : ℕ) (fault : CertFault) (result : InputFault) → place ≡ place_of placing.kept → result ≡ cert_fault place fault
-    → IfSome placing.pairs (λ items. Gives (IsCertOutside can_fail.certificate) items (Err fault) new) → IsTheEnd can_fail placing [] (Err result)
-cert_ends can_fail placing new place fault result here told gives = elim (cert_told place fault) [
-  | inl memory ↦ subst (λ one. IsTheEnd can_fail placing [] (Err one)) (sym (told ∙ ap (cert_fault place) memory)) tt
-  | inr (other, is) ↦ subst (λ one. IsTheEnd can_fail placing [] (Err one)) (sym (told ∙ is ∙ ap (λ n. input.Cert n fault) here))
-      (cert_stops can_fail (length placing.lanes) placing.lanes placing.pairs new (taken_of placing.kept) (place_of placing.kept) fault other gives)
-]
-
-pub row_ends : (can_fail : CanFail) (placing : Placing) (new : Option (List CertItem)) (pair : Pair) (more : Option (List Item)) (fault : RowFault) (result : InputFault) → result ≡ row_fault pair.core pair.seq fault
+pub row_ends : (can_fail : CanFail) (placing : Placing) (new : Option (List CertItem)) (pair : Pair) (more : Option (List Item)) (fault : RowFault)
     → IfSome placing.pairs (λ items. Gives (IsCertOutside can_fail.certificate) items (Ok (Some pair)) new) → misplaced (length placing.lanes) (taken_of placing.kept) pair ≡ None
-    → IfSome (left_at placing.lanes pair.core) (λ items. Gives (IsOutside can_fail.recordings) items (Err fault) more) → IsTheEnd can_fail placing [] (Err result)
-row_ends can_fail placing new pair more fault result told gives fits lane = elim (row_told pair.core pair.seq fault) [
-  | inl memory ↦ subst (λ one. IsTheEnd can_fail placing [] (Err one)) (sym (told ∙ ap (row_fault pair.core pair.seq) memory)) tt
-  | inr (other, is) ↦ subst (λ one. IsTheEnd can_fail placing [] (Err one)) (sym (told ∙ is))
-      (record_stops can_fail (length placing.lanes) placing.lanes placing.pairs new (taken_of placing.kept) (place_of placing.kept) pair more fault other gives fits lane)
-]
+    → IfSome (left_at placing.lanes pair.core) (λ items. Gives (IsOutside can_fail.recordings) items (Err fault) more) → EndsSo can_fail placing (Err (row_fault pair.core pair.seq fault))
+row_ends can_fail placing new pair more row.Memory gives fits lane = tt
+row_ends can_fail placing new pair more fault gives fits lane =
+    record_stops can_fail (length placing.lanes) placing.lanes placing.pairs new (taken_of placing.kept) (place_of placing.kept) pair more fault (λ e. cc) gives fits lane
 
 -- no record is ahead
-pub none_next : (can_fail : CanFail) (old new : Placing) (end : Result (Unit {0}) InputFault) → (end ≡ Err input.Memory) ⊎ IsAhead can_fail old (ends_so end) → IsNext can_fail old (no_more end) new
-none_next can_fail old new (Ok ended) (inl memory) = let impossible : ◌≡◌ {A = Result (Unit {0}) InputFault} (Ok ended) (Err input.Memory) = memory in cc
-none_next can_fail old new (Ok ended) (inr ahead) = ahead
-none_next can_fail old new (Err fault) (inl memory) = subst (λ end. IsNext can_fail old (no_more end) new) (sym memory) tt
-none_next can_fail old new (Err input.Memory) (inr ahead) = tt
-none_next can_fail old new (Err (input.Cert place fault)) (inr ahead) = ahead
-none_next can_fail old new (Err (input.Order place core fault)) (inr ahead) = ahead
-none_next can_fail old new (Err (input.Row core seq fault)) (inr ahead) = ahead
+pub none_next : (can_fail : CanFail) (placing : Placing) (new : Option (List CertItem)) (end : Result (Unit {0}) PlacingFault)
+    → IfSome placing.pairs (λ items. Gives (IsCertOutside can_fail.certificate) items (Ok None) new)
+    → OnEnd (IsEnded can_fail.recordings placing.lanes (place_of placing.kept) (taken_of placing.kept)) end → EndsSo can_fail placing end
+none_next can_fail placing new (Ok ended) gives is = all_placed can_fail placing.lanes placing.pairs new (taken_of placing.kept) (place_of placing.kept) (Ok ended) gives is
+none_next can_fail placing new (Err (Input fault)) gives is = all_placed can_fail placing.lanes placing.pairs new (taken_of placing.kept) (place_of placing.kept) (Err fault) gives is
+none_next can_fail placing new (Err Memory) gives is = tt
 
 -- rounds
 
@@ -159,16 +149,9 @@ lead_on can_fail start now next front one before after scanned ahead =
     subst (λ placed. IsAhead can_fail start (record { placed = placed; end = scanned.end })) (sym (append_assoc front (one ∷ []) scanned.placed))
     (before (led_by (one ∷ []) scanned) (after scanned ahead))
 
-pub end_on : (can_fail : CanFail) (start now : Placing) (front : List Ordered) (end : Result (Unit {0}) InputFault) → Lead can_fail start front now → IsTheEnd can_fail now [] end → IsTheEnd can_fail start front end
-end_on can_fail start now front (Err input.Memory) before is = tt
-end_on can_fail start now front (Err (input.Cert place fault)) before is =
-    subst (λ placed. IsAhead can_fail start (record { placed = placed; end = Err (input.Cert place fault) })) (append-nil front) (before _ is)
-end_on can_fail start now front (Err (input.Order place core fault)) before is =
-    subst (λ placed. IsAhead can_fail start (record { placed = placed; end = Err (input.Order place core fault) })) (append-nil front) (before _ is)
-end_on can_fail start now front (Err (input.Row core seq fault)) before is =
-    subst (λ placed. IsAhead can_fail start (record { placed = placed; end = Err (input.Row core seq fault) })) (append-nil front) (before _ is)
-end_on can_fail start now front (Ok ended) before is =
-    subst (λ placed. IsAhead can_fail start (record { placed = placed; end = Ok ended })) (append-nil front) (before _ is)
+pub end_on : (can_fail : CanFail) (start now : Placing) (front : List Ordered) (end : Result (Unit {0}) InputFault) → Lead can_fail start front now → IsAhead can_fail now (ends_so end)
+    → IsAhead can_fail start (record { placed = front; end = end })
+end_on can_fail start now front end before is = subst (λ placed. IsAhead can_fail start (record { placed = placed; end = end })) (append-nil front) (before (ends_so end) is)
 
 -- something is ahead of every placer
 

@@ -1,4 +1,4 @@
--- How the recordings end behind the last pair: the least core that has not ended decides.
+-- How the recordings end after the last pair: the least core that has not ended decides.
 use Rattle.std.proofs.Common.{◌≡◌, ◌≢◌, ◌+◌, ◌<◌, ◌≤◌, ◌∙◌, ℕ, zero, suc, List, [], ◌∷◌, Bool, Option, Some, None, Ok, Err, length, refl, sym, subst, inl, inr, arith}
 use Rattle.std.specs.Prelude.{IfSome}
 use Rattle.apex_types.specs.declared.record.Record.{Record}
@@ -9,15 +9,15 @@ use Rattle.record_read.specs.declared.fault.RowFault.{RowFault}
 use Rattle.record_read.specs.declared.fault.RowFault.TheVariants as row
 use Rattle.record_read.specs.Row.{Item}
 use Rattle.record_read.specs.Steps.{IsOutside}
-use Rattle.core_intake.specs.Told.{Told}
+use Rattle.core_intake.specs.Answered.{Answered}
 use Rattle.placement.specs.declared.fault.InputFault.{InputFault}
 use Rattle.placement.specs.declared.fault.InputFault.TheVariants as input
-use Rattle.placement.specs.Lanes.{AreLeft, IsEnded, left_at}
-use Rattle.placement.specs.Scan.{end_of, ends_of}
+use Rattle.placement.specs.Lanes.{AreLeft, IsEnded, OnEnd, left_at}
+use Rattle.placement.specs.Scan.{end_of, ends_of, row_fault}
 use Rattle.placement.proofs.Readings.{reads_all, fault_read, put-here, put-other, put_reads, same_or}
 
 -- the recordings of the cores below have ended, and the others have as much left as before
-abbrev pub HaveEnded : List Told → ℕ → List Told → Type 0
+abbrev pub HaveEnded : List Answered → ℕ → List Answered → Type 0
 HaveEnded lanes0 core lanes =
     (items : ℕ → List Item) → AreLeft lanes0 items
     → ((below : ℕ) → below < core → items below ≡ []) × ((above : ℕ) → core ≤ above → left_at lanes above ≡ Some (items above))
@@ -42,10 +42,10 @@ pub ends_of-first : (cores core place : ℕ) (taken : ℕ → ℕ) (left : ℕ �
 ends_of-first cores core place taken left fault within empty e =
     ends_of-stays cores (suc core) place taken left fault (omega arith) (rw (ends_of-none core place taken left empty) e)
 
-pub ended_first : (lanes : List Told) → HaveEnded lanes 0 lanes
+pub ended_first : (lanes : List Answered) → HaveEnded lanes 0 lanes
 ended_first lanes items known = ((λ below within. absurd (omega arith)), λ above within. known above)
 
-pub ended_more : (can_fail : Bool) (lanes0 lanes lanes' : List Told) (core : ℕ) → HaveEnded lanes0 core lanes
+pub ended_more : (can_fail : Bool) (lanes0 lanes lanes' : List Answered) (core : ℕ) → HaveEnded lanes0 core lanes
     → IfSome (left_at lanes core) (λ items. Gives (IsOutside can_fail) items (Ok None) (left_at lanes' core))
     → ((other : ℕ) → other ≢ core → left_at lanes' other ≡ left_at lanes other) → HaveEnded lanes0 (core + 1) lanes'
 ended_more can_fail lanes0 lanes lanes' core ended gives others items known =
@@ -55,13 +55,14 @@ ended_more can_fail lanes0 lanes lanes' core ended gives others items known =
       λ above within. others above (λ e. absurd (omega arith)) ∙ h.1 above (omega arith),
     )
 
-pub end_fault : (can_fail : Bool) (lanes0 lanes : List Told) (core place : ℕ) (taken : ℕ → ℕ) (fault : RowFault) (more : Option (List Item)) → core < length lanes0
-    → fault ≢ row.Memory → HaveEnded lanes0 core lanes → IfSome (left_at lanes core) (λ items. Gives (IsOutside can_fail) items (Err fault) more)
-    → IsEnded can_fail lanes0 place taken (Err (input.Row core (taken core) fault))
-end_fault can_fail lanes0 lanes core place taken fault more within other ended gives items known =
+pub end_fault : (can_fail : Bool) (lanes0 lanes : List Answered) (core place : ℕ) (taken : ℕ → ℕ) (fault : RowFault) (more : Option (List Item)) → core < length lanes0
+    → HaveEnded lanes0 core lanes → IfSome (left_at lanes core) (λ items. Gives (IsOutside can_fail) items (Err fault) more)
+    → OnEnd (IsEnded can_fail lanes0 place taken) (Err (row_fault core (taken core) fault))
+end_fault can_fail lanes0 lanes core place taken row.Memory more within ended gives = tt
+end_fault can_fail lanes0 lanes core place taken fault more within ended gives = λ items known.
     let h = ended items known in
     let item : Gives (IsOutside can_fail) (items core) (Err fault) more = rw (h.1 core (omega arith)) at gives in
-    let read = fault_read can_fail row.Read row.Memory fault (items core) more other item in
+    let read = fault_read can_fail row.Read row.Memory fault (items core) more (λ e. cc) item in
     let left : ℕ → List Item = put items core (Err fault ∷ read.0) in (
       left,
       put_reads can_fail row.Read items items core (Err fault ∷ read.0) (λ core apart. reads_all can_fail row.Read (items core)) read.1,
@@ -70,7 +71,7 @@ end_fault can_fail lanes0 lanes core place taken fault more within other ended g
           (rw (put-here items core (Err fault ∷ read.0)) refl),
     )
 
-pub end_missing : (can_fail : Bool) (lanes0 lanes : List Told) (core place : ℕ) (taken : ℕ → ℕ) (rec : Record) (more : Option (List Item)) → core < length lanes0
+pub end_missing : (can_fail : Bool) (lanes0 lanes : List Answered) (core place : ℕ) (taken : ℕ → ℕ) (rec : Record) (more : Option (List Item)) → core < length lanes0
     → HaveEnded lanes0 core lanes → IfSome (left_at lanes core) (λ items. Gives (IsOutside can_fail) items (Ok (Some rec)) more)
     → IsEnded can_fail lanes0 place taken (Err (input.Order place core Missing))
 end_missing can_fail lanes0 lanes core place taken rec more within ended gives items known =
@@ -78,5 +79,5 @@ end_missing can_fail lanes0 lanes core place taken rec more within ended gives i
     let item : Gives (IsOutside can_fail) (items core) (Ok (Some rec)) more = rw (h.1 core (omega arith)) at gives in
     (items, (λ other. reads_all can_fail row.Read (items other)), ends_of-first (length lanes0) core place taken items (input.Order place core Missing) within h.0 (rw item.1 refl))
 
-pub end_all : (can_fail : Bool) (lanes0 lanes : List Told) (place : ℕ) (taken : ℕ → ℕ) → HaveEnded lanes0 (length lanes0) lanes → IsEnded can_fail lanes0 place taken (Ok tt)
+pub end_all : (can_fail : Bool) (lanes0 lanes : List Answered) (place : ℕ) (taken : ℕ → ℕ) → HaveEnded lanes0 (length lanes0) lanes → IsEnded can_fail lanes0 place taken (Ok tt)
 end_all can_fail lanes0 lanes place taken ended items known = (items, (λ core. reads_all can_fail row.Read (items core)), ends_of-none (length lanes0) place taken items (ended items known).0)

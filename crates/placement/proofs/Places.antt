@@ -1,4 +1,4 @@
--- Records placed behind one another.
+-- Records placed after one another.
 use Rattle.std.proofs.Common.{◌≡◌, ◌<◌, ◌+◌, ℕ, suc, List, [], ◌∷◌, ◌++◌, length, arith}
 use Rattle.apex_types.specs.declared.record.Ordered.{Ordered}
 use Rattle.apex_machine.specs.Runs.{ArePlaced, AreOfCores}

@@ -4,7 +4,7 @@ use Rattle.std.specs.Prelude.{if◌then◌else◌, slice_get}
 use Rattle.std.proofs.lemmas.Bool.Decides.{nat_tests}
 use Rattle.std.proofs.lemmas.List.{append-nil}
 use mathlib.Core.Path.{fun_ext}
-use Rattle.apex_types.specs.Bounds.{most_records}
+use Rattle.apex_types.specs.declared.limits.TheConstants.{MOST_RECORDS}
 use Rattle.apex_types.specs.declared.record.Pair.{Pair}
 use Rattle.apex_types.specs.declared.record.Record.{Record}
 use Rattle.order_cert.specs.declared.fault.OrderFault.{OrderFault}
@@ -109,10 +109,10 @@ lawful_before cores ps qs h = record {
 record Fits (cores : ℕ) (pairs : List Pair) (pair : Pair) : Type 0 where
   pub known : pair.core < cores
   pub seq : pair.seq ≡ taken_by pairs pair.core
-  pub below : pair.seq < most_records
+  pub below : pair.seq < MOST_RECORDS
 
 abbrev IsAbove : List Pair → Pair → Type 0
-IsAbove pairs pair = (taken_by pairs pair.core < pair.seq) ⊎ ((pair.seq ≡ taken_by pairs pair.core) × (most_records ≤ pair.seq))
+IsAbove pairs pair = (taken_by pairs pair.core < pair.seq) ⊎ ((pair.seq ≡ taken_by pairs pair.core) × (MOST_RECORDS ≤ pair.seq))
 
 abbrev IsWhy : ℕ → List Pair → Pair → Option OrderFault → Type 0
 IsWhy cores pairs pair None = Fits cores pairs pair
@@ -123,12 +123,12 @@ IsWhy cores pairs pair (Some Absent) = ⊥
 IsWhy cores pairs pair (Some Missing) = ⊥
 
 why : (cores : ℕ) (pairs : List Pair) (pair : Pair) → IsWhy cores pairs pair (misplaced cores (taken_by pairs) pair)
-why cores pairs pair = by (nat_lt pair.core cores) (nat_lt pair.seq taken) (nat_lt taken pair.seq) (nat_le most_records pair.seq) refl refl refl refl
+why cores pairs pair = by (nat_lt pair.core cores) (nat_lt pair.seq taken) (nat_lt taken pair.seq) (nat_le MOST_RECORDS pair.seq) refl refl refl refl
   where
     taken : ℕ
     taken = taken_by pairs pair.core
 
-    by : (a b c d : Bool) → nat_lt pair.core cores ≡ a → nat_lt pair.seq taken ≡ b → nat_lt taken pair.seq ≡ c → nat_le most_records pair.seq ≡ d
+    by : (a b c d : Bool) → nat_lt pair.core cores ≡ a → nat_lt pair.seq taken ≡ b → nat_lt taken pair.seq ≡ c → nat_le MOST_RECORDS pair.seq ≡ d
         → IsWhy cores pairs pair (if a then (if b then Some Repeated else (if c || d then Some Skipped else None)) else Some NoSuchCore)
     by false b c d x y z w = grind (arith, nat_tests)
     by true true c d x y z w = (grind (arith, nat_tests), grind (arith, nat_tests))
@@ -411,7 +411,6 @@ module _ {cores : ℕ} {whole : ℕ → List Item} {certificate : List CertItem}
 
   first_ends : (fault : InputFault) → IsFirstFault cores whole certificate pairs fault → scan_after cores pairs left rest ≡ ends_so (Err fault)
   unfolding scan
-  first_ends input.Memory none = absurd none
   first_ends (input.Cert place fault) (here, row) =
       let (later, is) = row_left (Err fault) row in
       rw (is, here) refl

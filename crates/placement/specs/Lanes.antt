@@ -1,6 +1,6 @@
 -- What the recordings of all cores and the certificate have left, and what is ahead of a placer.
 use Rattle.std.specs.Prelude.{◌≡◌, ℕ, zero, suc, List, [], ◌∷◌, Bool, Option, Some, None, Result, Ok, Err, All, drop, length}
-use Rattle.core_intake.specs.Told.{Answer, IsHonest, Told}
+use Rattle.core_intake.specs.Answered.{Answer, IsHonest, Answered}
 use Rattle.apex_types.specs.declared.record.Ordered.{Ordered}
 use Rattle.order_cert.specs.declared.fault.CertFault.TheVariants as cert
 use Rattle.order_cert.specs.Kept.{Kept, place_of, taken_of}
@@ -8,13 +8,14 @@ use Rattle.order_cert.specs.Row.{Item as CertItem}
 use Rattle.record_read.specs.declared.fault.RowFault.TheVariants as row
 use Rattle.record_read.specs.Row.{Item}
 use Rattle.placement.specs.declared.fault.InputFault.{InputFault}
-use Rattle.placement.specs.declared.fault.InputFault.TheVariants as input
+use Rattle.placement.specs.declared.fault.PlacingFault.{PlacingFault}
+use Rattle.placement.specs.declared.fault.PlacingFault.TheVariants.{Input, Memory}
 use Rattle.placement.specs.declared.placer.Filled.{Filled}
-use Rattle.placement.specs.declared.placer.Filled.TheVariants.{Full, Ended}
+use Rattle.placement.specs.declared.placer.Filled.TheVariants as filled
 use Rattle.placement.specs.Reading.{CanFail, Reads}
-use Rattle.placement.specs.Scan.{Scan, ends_of, led_by, scan}
+use Rattle.placement.specs.Scan.{Scan, ends_of, ends_so, led_by, scan}
 
--- what an answer leaves of these items, where they are known: a record is the first of them; behind a fault nothing is known
+-- what an answer leaves of these items, where they are known: a record is the first of them; after a fault nothing is known
 abbrev pub left_after : Option (List Item) → Answer → Option (List Item)
 left_after None answer = None
 left_after (Some items) (Ok (Some rec)) = Some (drop 1 items)
@@ -26,22 +27,22 @@ abbrev pub left_behind : Option (List Item) → List Answer → Option (List Ite
 left_behind left [] = left
 left_behind left (answer ∷ later) = left_behind (left_after left answer) later
 
--- what is left of the recording of which this was told
-abbrev pub standing : Told → Option (List Item)
+-- what is left of the recording of which this was answered
+abbrev pub standing : Answered → Option (List Item)
 standing lane = left_behind lane.items lane.given
 
 -- what the recording of a core has left: nothing where there is no such core
-abbrev pub left_at : List Told → ℕ → Option (List Item)
+abbrev pub left_at : List Answered → ℕ → Option (List Item)
 left_at [] core = Some []
 left_at (lane ∷ others) zero = standing lane
 left_at (lane ∷ others) (suc core) = left_at others core
 
 -- what was answered of each core are answers of a source of its recording, which can fail or cannot
-abbrev pub AreHonest : Bool → List Told → Type 0
+abbrev pub AreHonest : Bool → List Answered → Type 0
 AreHonest can_fail lanes = All (IsHonest can_fail) lanes
 
 -- these items are left of the recordings
-abbrev pub AreLeft : List Told → (ℕ → List Item) → Type 0
+abbrev pub AreLeft : List Answered → (ℕ → List Item) → Type 0
 AreLeft lanes items = (core : ℕ) → left_at lanes core ≡ Some (items core)
 
 -- some readings of these items are scanned so, from this place on
@@ -52,41 +53,44 @@ IsScanOf can_fail cores taken place items certificate scanned =
     × (scan cores taken place left pairs ≡ scanned)
 
 -- some readings of what is left end so
-abbrev pub IsEnded : Bool → List Told → ℕ → (ℕ → ℕ) → Result (Unit {0}) InputFault → Type 0
+abbrev pub IsEnded : Bool → List Answered → ℕ → (ℕ → ℕ) → Result (Unit {0}) InputFault → Type 0
 IsEnded can_fail lanes place taken result =
     (items : ℕ → List Item) → AreLeft lanes items
     → (left : ℕ → List Item) × ((core : ℕ) → Reads can_fail row.Read (items core) (left core)) × (ends_of (length lanes) place taken left ≡ result)
 
--- what callers see of a placer: what was told of the recordings; what the certificate has left, where that is known; how many
+-- what callers see of a placer: what was answered of the recordings; what the certificate has left, where that is known; how many
 -- numbers of each core were taken; and whether the input has ended
 pub record Placing : Type 0 where
-  pub lanes : List Told
+  pub lanes : List Answered
   pub pairs : Option (List CertItem)
   pub kept : Kept
   pub ended : Bool
 
--- these records are ahead, and the input ends so behind them, for some readings of what is left, where that is known
+-- these records are ahead, and the input ends so after them, for some readings of what is left, where that is known
 abbrev pub IsAhead : CanFail → Placing → Scan → Type 0
 IsAhead can_fail placing scanned =
     (items : ℕ → List Item) (certificate : List CertItem) → AreLeft placing.lanes items → placing.pairs ≡ Some certificate
     → IsScanOf can_fail (length placing.lanes) (taken_of placing.kept) (place_of placing.kept) items certificate scanned
 
--- how the input ends, where it is no want of memory, of which the texts say nothing
-abbrev pub IsTheEnd : CanFail → Placing → List Ordered → Result (Unit {0}) InputFault → Type 0
-IsTheEnd can_fail placing records (Err input.Memory) = Unit {0}
-IsTheEnd can_fail placing records end = IsAhead can_fail placing (record { placed = records; end = end })
+-- a fact of how the input ends, where an answer says so: want of memory says nothing of the input
+abbrev pub OnEnd : (Result (Unit {0}) InputFault → Type 0) → Result (Unit {0}) PlacingFault → Type 0
+OnEnd Fact (Ok ended) = Fact (Ok ended)
+OnEnd Fact (Err (Input fault)) = Fact (Err fault)
+OnEnd Fact (Err Memory) = Unit {0}
 
 -- these records stood before all that is still ahead
 abbrev pub Lead : CanFail → Placing → List Ordered → Placing → Type 0
 Lead can_fail old records new = (scanned : Scan) → IsAhead can_fail new scanned → IsAhead can_fail old (led_by records scanned)
 
 -- one answer of a placer: the first record that was ahead; or none was, and the input ends
-abbrev pub IsNext : CanFail → Placing → Result (Option Ordered) InputFault → Placing → Type 0
+abbrev pub IsNext : CanFail → Placing → Result (Option Ordered) PlacingFault → Placing → Type 0
 IsNext can_fail old (Ok (Some ordered)) new = Lead can_fail old (ordered ∷ []) new
-IsNext can_fail old (Ok None) new = IsTheEnd can_fail old [] (Ok tt)
-IsNext can_fail old (Err fault) new = IsTheEnd can_fail old [] (Err fault)
+IsNext can_fail old (Ok None) new = IsAhead can_fail old (ends_so (Ok tt))
+IsNext can_fail old (Err fault) new = OnEnd (λ end. IsAhead can_fail old (ends_so end)) (Err fault)
 
--- one round of a placer: records that stood before all that is still ahead; or all that were ahead, and the input ends
+-- one round of a placer: records that stood before all that is still ahead; or all that were ahead, and the input ends so; want of memory
+-- says nothing of the input
 abbrev pub IsFilled : CanFail → Placing → List Ordered → Filled → Placing → Type 0
-IsFilled can_fail old records Full new = Lead can_fail old records new
-IsFilled can_fail old records (Ended end) new = IsTheEnd can_fail old records end
+IsFilled can_fail old records filled.Full new = Lead can_fail old records new
+IsFilled can_fail old records (filled.Ended end) new = IsAhead can_fail old (record { placed = records; end = end })
+IsFilled can_fail old records filled.Memory new = Unit {0}

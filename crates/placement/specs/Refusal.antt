@@ -1,6 +1,6 @@
 -- What a refusal of the input means: where its first fault is.
 use Rattle.std.specs.Prelude.{◌≡◌, ◌<◌, ◌≤◌, ◌⊎◌, ℕ, List, [], ◌∷◌, ◌++◌, Option, Some, None, Ok, Err, length, map, slice_get, take}
-use Rattle.apex_types.specs.Bounds.{most_records}
+use Rattle.apex_types.specs.declared.limits.TheConstants.{MOST_RECORDS}
 use Rattle.apex_types.specs.declared.record.Pair.{Pair}
 use Rattle.apex_types.specs.declared.record.Record.{Record}
 use Rattle.order_cert.specs.declared.fault.OrderFault.{OrderFault}
@@ -58,7 +58,7 @@ IsOrderFault cores left certificate pairs core Repeated =
     (seq : ℕ) × MayNotStand cores certificate pairs core seq × (core < cores) × (seq < taken_by pairs core)
 IsOrderFault cores left certificate pairs core Skipped =
     (seq : ℕ) × MayNotStand cores certificate pairs core seq × (core < cores)
-    × ((taken_by pairs core < seq) ⊎ ((seq ≡ taken_by pairs core) × (most_records ≤ seq)))
+    × ((taken_by pairs core < seq) ⊎ ((seq ≡ taken_by pairs core) × (MOST_RECORDS ≤ seq)))
 IsOrderFault cores left certificate pairs core Absent = (seq : ℕ) × MayStand cores certificate pairs core seq × (next_item left pairs core ≡ None)
 IsOrderFault cores left certificate pairs core Missing = (rec : Record) × IsLeastLeft cores left certificate pairs core (Ok rec)
 
@@ -70,7 +70,6 @@ IsFirstFault cores left certificate pairs (input.Order place core fault) = (plac
 IsFirstFault cores left certificate pairs (input.Row core seq fault) =
     (MayStand cores certificate pairs core seq × (next_item left pairs core ≡ Some (Err fault)))
     ⊎ ((seq ≡ taken_by pairs core) × IsLeastLeft cores left certificate pairs core (Err fault))
-IsFirstFault cores left certificate pairs input.Memory = ⊥
 
 -- the law: where the input ends with a fault, all before its place is good, and the fault is there
 abbrev pub RefusedAtTheFirstFault : Type 0

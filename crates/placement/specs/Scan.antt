@@ -15,8 +15,10 @@ use Rattle.record_read.specs.declared.fault.RowFault.TheVariants as row
 use Rattle.record_read.specs.Row.{Item}
 use Rattle.placement.specs.declared.fault.InputFault.{InputFault}
 use Rattle.placement.specs.declared.fault.InputFault.TheVariants as input
+use Rattle.placement.specs.declared.fault.PlacingFault.{PlacingFault}
+use Rattle.placement.specs.declared.fault.PlacingFault.TheVariants as placing
 
--- records at their places, and the input's fault behind the last, if it has one
+-- records at their places, and the input's fault after the last, if it has one
 pub record Scan : Type 0 where
   pub placed : List Ordered
   pub end : Result (Unit {0}) InputFault
@@ -25,7 +27,7 @@ pub record Scan : Type 0 where
 abbrev pub ends_so : Result (Unit {0}) InputFault → Scan
 ends_so end = record { placed = []; end = end }
 
--- these records, and what is behind them
+-- these records, and what is after them
 abbrev pub led_by : List Ordered → Scan → Scan
 led_by records scanned = record { placed = records ++ scanned.placed; end = scanned.end }
 
@@ -33,7 +35,7 @@ led_by records scanned = record { placed = records ++ scanned.placed; end = scan
 abbrev pub placed_at : ℕ → ℕ → Record → Ordered
 placed_at place core rec = record { pos = place; core = core; rec = rec }
 
--- behind the last pair each recording has ended; one that has not is Missing, or has its own fault
+-- after the last pair each recording has ended; one that has not is Missing, or has its own fault
 abbrev pub end_of : ℕ → ℕ → ℕ → List Item → Result (Unit {0}) InputFault
 end_of place core taken [] = Ok tt
 end_of place core taken (Ok rec ∷ rest) = Err (input.Order place core Missing)
@@ -70,19 +72,14 @@ scan cores taken place left (Ok pair ∷ rest) =
     (taking place pair (left pair.core) (λ rec more.
     scan cores (put taken pair.core (suc (taken pair.core))) (suc place) (put left pair.core more) rest))
 
--- the answer where no record is ahead, and the input ends so
-abbrev pub no_more : Result (Unit {0}) InputFault → Result (Option Ordered) InputFault
-no_more (Ok ended) = Ok None
-no_more (Err fault) = Err fault
-
--- faults as the input tells them; want of memory is its own
+-- faults as a placer reports them; want of memory is none of the input
 
 -- a fault of the certificate's row for a place
-abbrev pub cert_fault : ℕ → CertFault → InputFault
-cert_fault place cert.Memory = input.Memory
-cert_fault place fault = input.Cert place fault
+abbrev pub cert_fault : ℕ → CertFault → PlacingFault
+cert_fault place cert.Memory = placing.Memory
+cert_fault place fault = placing.Input (input.Cert place fault)
 
--- a fault of a core's recording behind so many records
-abbrev pub row_fault : ℕ → ℕ → RowFault → InputFault
-row_fault core seq row.Memory = input.Memory
-row_fault core seq fault = input.Row core seq fault
+-- a fault of a core's recording after so many records
+abbrev pub row_fault : ℕ → ℕ → RowFault → PlacingFault
+row_fault core seq row.Memory = placing.Memory
+row_fault core seq fault = placing.Input (input.Row core seq fault)

@@ -1,4 +1,4 @@
-// Why the input ends before its end.
+// Why no further record is placed.
 
 use order_cert::{CertFault, OrderFault};
 use record_read::RowFault;
@@ -20,14 +20,22 @@ pub enum InputFault {
         core: u32,
         fault: OrderFault,
     },
-    /// The recording of this core has a fault behind so many records.
-    #[error("the recording of core {core} behind {seq} records: {fault}")]
+    /// The recording of this core has a fault after so many records.
+    #[error("the recording of core {core} after {seq} records: {fault}")]
     Row {
         core: u32,
         seq: u64,
         fault: RowFault,
     },
-    /// A growth of memory was refused.
+}
+
+/// Why the next record is not placed.
+#[derive(Clone, Copy, Debug, Drop, PartialEq, Eq, Error)]
+pub enum PlacingFault {
+    /// The input ends with this fault.
+    #[error("{0}")]
+    Input(InputFault),
+    /// A growth of memory was refused, which says nothing of the input.
     #[error("out of memory")]
     Memory,
 }

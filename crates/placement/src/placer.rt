@@ -1,14 +1,15 @@
 // The placing of the records in the order of the certificate.
 
-ghost use Rattle.std.specs.Prelude.{◌≡◌, ◌≢◌, ◌⊎◌, ◌<◌, ◌≤◌, ◌+◌, ℕ, [], suc, Err, IfOk, IfSome, length, false};
+ghost use Rattle.std.specs.Prelude.{◌≡◌, ◌≢◌, ◌<◌, ◌≤◌, ◌+◌, ℕ, [], suc, IfOk, IfSome, length, false};
+ghost use Rattle.apex_types.specs.declared.limits.TheConstants.{MOST_CORES};
 ghost use Rattle.apex_machine.specs.Runs.{ArePlaced, AreOfCores};
 ghost use Rattle.csv_rows.specs.Source.{Gives};
 ghost use Rattle.order_cert.specs.Kept.{none_taken, place_of, taken_of};
 ghost use Rattle.record_read.specs.Steps.{IsOutside};
-ghost use Rattle.placement.specs.Lanes.{AreHonest, IsEnded, IsFilled, IsNext, left_at};
+ghost use Rattle.placement.specs.Lanes.{AreHonest, IsEnded, IsFilled, IsNext, OnEnd, left_at};
 ghost use Rattle.placement.specs.Scan as scan;
 
-use crate::fault::InputFault;
+use crate::fault::{InputFault, PlacingFault};
 use apex_types::{CoreId, Ordered, Record};
 use core_intake::Intake;
 use csv_rows::TextSource;
@@ -23,8 +24,10 @@ use std::thread::Threads;
 pub enum Filled {
     /// The round is full, and more may be ahead.
     Full,
-    /// The input ended behind the records of the round: well, or with this fault.
+    /// The input ended after the records of the round: well, or with this fault.
     Ended(Result<(), InputFault>),
+    /// A growth of memory was refused.
+    Memory,
 }
 
 /// The records of all cores, one after another in the order of the certificate.
@@ -39,6 +42,7 @@ pub struct Placer<R: TextSource, C: TextSource> {
 
 impl<R: TextSource, C: TextSource> Model for Placer<R, C> {
     ghost use Rattle.std.specs.Prelude.{◌≡◌, ◌≤◌, length, false};
+    ghost use Rattle.apex_types.specs.declared.limits.TheConstants.{MOST_CORES};
     ghost use Rattle.placement.specs.Lanes.{Placing};
 
     ghost Value = { Placing };
@@ -50,14 +54,14 @@ impl<R: TextSource, C: TextSource> Model for Placer<R, C> {
       ended = placer.ended;
     } };
 
-    ghost invariant = { λ placer. (placer.keeper.cores ≡ length placer.intake) × (length placer.intake ≤ 16) × (placer.ended ≡ false → placer.pairs.stopped ≡ false) };
+    ghost invariant = { λ placer. (placer.keeper.cores ≡ length placer.intake) × (length placer.intake ≤ MOST_CORES) × (placer.ended ≡ false → placer.pairs.stopped ≡ false) };
 }
 
 impl<R: TextSource, C: TextSource> Placer<R, C> {
     /// A placer before the first pair of the certificate. Takes no memory.
     pub fn new(intake: Intake<R>, pairs: CertSource<C>) -> Placer<R, C>
         requires some { 1 ≤ length intake }
-        requires few { length intake ≤ 16 }
+        requires few { length intake ≤ MOST_CORES }
         requires fresh { pairs.stopped ≡ false }
         ensures lanes { result.lanes ≡ intake }
         ensures pairs { result.pairs ≡ pairs.left }
@@ -75,10 +79,10 @@ impl<R: TextSource, C: TextSource> Placer<R, C> {
     }
 
     /// The next record at its place, or None where the input ends well; waits until the core's thread tells it. No call comes
-    /// behind None or a fault.
+    /// after None or a fault.
     ///
     /// Memory where a growth was refused; else the fault with which the input ends.
-    pub fn next<T: Wait>(&mut self, rt: &T) -> Result<Option<Ordered>, InputFault>
+    pub fn next<T: Wait>(&mut self, rt: &T) -> Result<Option<Ordered>, PlacingFault>
         requires going { self.old.ended ≡ false }
         ensures next { AreHonest R.can_fail self.new.lanes → IsNext (record { recordings = R.can_fail; certificate = C.can_fail }) self.old result self.new }
         ensures honest { AreHonest R.can_fail self.new.lanes → AreHonest R.can_fail self.old.lanes }
@@ -91,18 +95,15 @@ impl<R: TextSource, C: TextSource> Placer<R, C> {
         let place = self.keeper.place();
         let pair = match self.pairs.next() {
             Ok(Some(pair)) => pair,
-            Ok(None) => return no_more(finish(rt, &mut self.intake, &self.keeper, place)),
+            Ok(None) => {
+                finish(rt, &mut self.intake, &self.keeper, place)?;
+                return Ok(None);
+            }
             Err(fault) => return Err(cert_fault(place, fault)),
         };
         let pos = match self.keeper.take(pair.core, pair.seq) {
             Ok(pos) => pos,
-            Err(fault) => {
-                return Err(InputFault::Order {
-                    place,
-                    core: pair.core,
-                    fault,
-                });
-            }
+            Err(fault) => return Err(order_fault(place, pair.core, fault)),
         };
         match next_of(rt, &mut self.intake, pair.core as usize) {
             Ok(Some(rec)) => {
@@ -110,11 +111,7 @@ impl<R: TextSource, C: TextSource> Placer<R, C> {
                 let core = CoreId::new(pair.core as u8);
                 Ok(Some(Ordered { pos, core, rec }))
             }
-            Ok(None) => Err(InputFault::Order {
-                place,
-                core: pair.core,
-                fault: OrderFault::Absent,
-            }),
+            Ok(None) => Err(order_fault(place, pair.core, OrderFault::Absent)),
             Err(fault) => Err(row_fault(pair.core, pair.seq, fault)),
         }
     }
@@ -137,10 +134,11 @@ impl<R: TextSource, C: TextSource> Placer<R, C> {
             let ordered = match self.next(rt) {
                 Ok(Some(ordered)) => ordered,
                 Ok(None) => return Filled::Ended(Ok(())),
-                Err(fault) => return Filled::Ended(Err(fault)),
+                Err(PlacingFault::Input(fault)) => return Filled::Ended(Err(fault)),
+                Err(PlacingFault::Memory) => return Filled::Memory,
             };
             if round.push(ordered).is_err() {
-                return Filled::Ended(Err(InputFault::Memory));
+                return Filled::Memory;
             }
         }
         Filled::Full
@@ -162,37 +160,34 @@ impl<R: TextSource, C: TextSource + Drop> Placer<R, C> {
     }
 }
 
-// No record, and the input ends so.
-fn no_more(end: Result<(), InputFault>) -> Result<Option<Ordered>, InputFault>
-    ensures { result ≡ scan.no_more end }
-{
-    match end {
-        Ok(()) => Ok(None),
-        Err(fault) => Err(fault),
-    }
-}
-
-// A fault of the certificate's row for a place, as the input tells it.
-fn cert_fault(place: u64, fault: CertFault) -> InputFault
+// A fault of the certificate's row for a place, as the placer reports it.
+fn cert_fault(place: u64, fault: CertFault) -> PlacingFault
     ensures { result ≡ scan.cert_fault place fault }
 {
     match fault {
-        CertFault::Memory => InputFault::Memory,
-        _ => InputFault::Cert { place, fault },
+        CertFault::Memory => PlacingFault::Memory,
+        _ => PlacingFault::Input(InputFault::Cert { place, fault }),
     }
 }
 
-// A fault of a core's recording behind so many records, as the input tells it.
-fn row_fault(core: u32, seq: u64, fault: RowFault) -> InputFault
+// A fault of the order at a place, of this core, as the placer reports it.
+fn order_fault(place: u64, core: u32, fault: OrderFault) -> PlacingFault
+    ensures { result ≡ PlacingFault.Input (InputFault.Order place core fault) }
+{
+    PlacingFault::Input(InputFault::Order { place, core, fault })
+}
+
+// A fault of a core's recording after so many records, as the placer reports it.
+fn row_fault(core: u32, seq: u64, fault: RowFault) -> PlacingFault
     ensures { result ≡ scan.row_fault core seq fault }
 {
     match fault {
-        RowFault::Memory => InputFault::Memory,
-        _ => InputFault::Row { core, seq, fault },
+        RowFault::Memory => PlacingFault::Memory,
+        _ => PlacingFault::Input(InputFault::Row { core, seq, fault }),
     }
 }
 
-// The next record of a core, told by what is left of its recording before and behind it.
+// The next record of a core, given by what is left of its recording before and after it.
 fn next_of<R: TextSource, T: Wait>(
     rt: &T,
     intake: &mut Intake<R>,
@@ -207,28 +202,22 @@ fn next_of<R: TextSource, T: Wait>(
     intake.next_of(rt, core)
 }
 
-// Whether each recording has ended behind the last pair; the least core that has not decides.
+// Whether each recording has ended after the last pair; the least core that has not decides.
 fn finish<R: TextSource, T: Wait>(
     rt: &T,
     intake: &mut Intake<R>,
     keeper: &Keeper,
     place: u64,
-) -> Result<(), InputFault>
-    requires { length intake.old ≤ 16 }
-    ensures ended { AreHonest R.can_fail intake.new → (result ≡ Err InputFault.Memory) ⊎ IsEnded R.can_fail intake.old place (taken_of keeper.now) result }
+) -> Result<(), PlacingFault>
+    requires { length intake.old ≤ MOST_CORES }
+    ensures ended { AreHonest R.can_fail intake.new → OnEnd (IsEnded R.can_fail intake.old place (taken_of keeper.now)) result }
     ensures honest { AreHonest R.can_fail intake.new → AreHonest R.can_fail intake.old }
     ensures count { length intake.new ≡ length intake.old }
 {
     'cores: for core in 0..intake.count() {
         match next_of(rt, intake, core) {
             Ok(None) => {}
-            Ok(Some(_)) => {
-                return Err(InputFault::Order {
-                    place,
-                    core: core as u32,
-                    fault: OrderFault::Missing,
-                });
-            }
+            Ok(Some(_)) => return Err(order_fault(place, core as u32, OrderFault::Missing)),
             Err(fault) => return Err(row_fault(core as u32, keeper.taken(core as u32), fault)),
         }
     }

@@ -1,7 +1,7 @@
 //! The ports of one kind of a partition, under their numbers.
 //!
 //! Promises: a table is seen as the list of its ports with their numbers, in the order of their creation; a creation is carried
-//! out exactly where its claim is what a creation gives, and the port then stands behind the others under the number that is
+//! out exactly where its claim is what a creation gives, and the port then comes after the others under the number that is
 //! claimed; else nothing has changed. Before a call through a port stand exactly the error conditions that hold of the port,
 //! or where none does the channel to which the call goes. A port knows whether the last read at it gave a valid message, and tells
 //! that as its status.

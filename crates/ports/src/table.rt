@@ -84,7 +84,7 @@ impl PortTable {
         }
     }
 
-    /// Creates a port, where the claim is what a creation gives: NO_ERROR and a new number. The port stands behind the
+    /// Creates a port, where the claim is what a creation gives: NO_ERROR and a new number. The port comes after the
     /// others, under the number that is claimed. That no error condition holds is judged before.
     ///
     /// Refused, with nothing changed, where the claim is another, or where memory is refused.

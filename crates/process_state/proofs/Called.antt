@@ -14,11 +14,11 @@ use Rattle.apex_machine.specs.Configuration.{Configuration, first_core, period_o
 use Rattle.apex_machine.specs.State.{Partition, Table, each_item, is_free, is_named, item_at, time_of}
 use Rattle.apex_machine.specs.Answer.{is_new}
 use Rattle.apex_machine.specs.DueTimes.{next_release}
-use Rattle.apex_machine.specs.Processes.{caller_after, gift_of, new_process, set_by, stopped, woken_by}
+use Rattle.apex_machine.specs.Processes.{caller_after, message_handed_over, new_process, set_by, stopped, woken_by}
 use Rattle.apex_machine.specs.Waiting.{is_no_error, stops}
 use Rattle.apex_machine.specs.After.{adjusted, called, created_by, is_done, mode_by, numbered, partition_called}
 use Rattle.process_state.specs.Changes.{named, only, with_each}
-use Rattle.process_state.specs.Fellows.{fellow_at, fellow_woken, is_fellow, stopped_by}
+use Rattle.process_state.specs.Peers.{peer_at, peer_woken, is_peer, stopped_by}
 use Rattle.process_state.specs.Processes.{Processes, processes_in, processes_of}
 use Rattle.process_state.specs.Sound.{AsksSoundly, IsSound, is_periodic_wait}
 use Rattle.process_state.proofs.Carried.{append-nothing, carried}
@@ -99,21 +99,21 @@ none-some : (found : Option Process) → is_some found ≡ false → found ≡ N
 none-some None h = refl
 none-some (Some process) h = cc
 
--- the caller's fellows
+-- the caller's peers
 
--- what is done of its fellows' part by a call, one after another, is what becomes of each
-fellows-are : (place now period : ℕ) (cores : List CoreState) (call : CallRecord) (partition : Partition) (change : Process → Process)
+-- what is done of its peers' part by a call, one after another, is what becomes of each
+peers-are : (place now period : ℕ) (cores : List CoreState) (call : CallRecord) (partition : Partition) (change : Process → Process)
     → ((process : Process) → change process ≡ caller_after place now call process) → (number : ℕ) (process : Process)
-    → fellow_woken place call number (stopped_by call number (only call.who.proc change number (adjusted place period cores partition call number process)))
+    → peer_woken place call number (stopped_by call number (only call.who.proc change number (adjusted place period cores partition call number process)))
     ≡ called place now period cores partition call number process
-fellows-are place now period cores call partition change same number process =
-    by (nat_eq number call.who.proc) (stops call (fellow_at call number)) (is_named (fellow_at call number) call.claim.woken) (adjusted place period cores partition call number process)
+peers-are place now period cores call partition change same number process =
+    by (nat_eq number call.who.proc) (stops call (peer_at call number)) (is_named (peer_at call number) call.claim.woken) (adjusted place period cores partition call number process)
   where
     by : (c s n : Bool) (x : Process)
         → (if n && (not c && not s)
-        then woken_by place (gift_of call.request) (if not c && s then stopped (if c then change x else x) else (if c then change x else x))
+        then woken_by place (message_handed_over call.request) (if not c && s then stopped (if c then change x else x) else (if c then change x else x))
         else (if not c && s then stopped (if c then change x else x) else (if c then change x else x)))
-        ≡ (if c then caller_after place now call x else if s then stopped x else if n then woken_by place (gift_of call.request) x else x)
+        ≡ (if c then caller_after place now call x else if s then stopped x else if n then woken_by place (message_handed_over call.request) x else x)
     by true s true x = same x
     by true s false x = same x
     by false true true x = refl
@@ -124,17 +124,17 @@ fellows-are place now period cores call partition change same number process =
 -- each process after the call, by the change of the caller
 called-each : (place now period : ℕ) (cores : List CoreState) (call : CallRecord) (partition : Partition) (change : Process → Process)
     → ((process : Process) → change process ≡ caller_after place now call process)
-    → each_item (fellow_woken place call) (each_item (stopped_by call) (each_item (only call.who.proc change) (each_item (adjusted place period cores partition call) partition.table)))
+    → each_item (peer_woken place call) (each_item (stopped_by call) (each_item (only call.who.proc change) (each_item (adjusted place period cores partition call) partition.table)))
     ≡ each_item (called place now period cores partition call) partition.table
 called-each place now period cores call partition change same =
-    ap (λ t. each_item (fellow_woken place call) (each_item (stopped_by call) t)) (each_item-twice (adjusted place period cores partition call) (only call.who.proc change) partition.table)
-    ∙ ap (each_item (fellow_woken place call)) (each_item-twice _ (stopped_by call) partition.table)
-    ∙ each_item-twice _ (fellow_woken place call) partition.table
-    ∙ each_item-congr _ (called place now period cores partition call) (fellows-are place now period cores call partition change same) partition.table
+    ap (λ t. each_item (peer_woken place call) (each_item (stopped_by call) t)) (each_item-twice (adjusted place period cores partition call) (only call.who.proc change) partition.table)
+    ∙ ap (each_item (peer_woken place call)) (each_item-twice _ (stopped_by call) partition.table)
+    ∙ each_item-twice _ (peer_woken place call) partition.table
+    ∙ each_item-congr _ (called place now period cores partition call) (peers-are place now period cores call partition change same) partition.table
 
 -- no process is created that the call stops or whose wait it ends
 created-stays : (place first : ℕ) (call : CallRecord) (table : Table) → AsksSoundly table call call.request
-    → each_item (fellow_woken place call) (each_item (stopped_by call) (created_by first call call.request)) ≡ created_by first call call.request
+    → each_item (peer_woken place call) (each_item (stopped_by call) (created_by first call call.request)) ≡ created_by first call call.request
 created-stays place first call table sound = stays call.request refl
   where
     neither : (a b c : Bool) → a && (b && (c && false)) ≡ false
@@ -144,34 +144,34 @@ created-stays place first call table sound = stays call.request refl
     neither false b c = refl
 
     stays : (asked : Request) → call.request ≡ asked
-        → each_item (fellow_woken place call) (each_item (stopped_by call) (created_by first call asked)) ≡ created_by first call asked
+        → each_item (peer_woken place call) (each_item (stopped_by call) (created_by first call asked)) ≡ created_by first call asked
     stays (request.CreateProcess name priority period) is = by (is_done call.claim.out) refl
       where
         not_stopped : (number : ℕ) (process : Process) → stopped_by call number process ≡ process
         not_stopped number process =
-            rw (is, neither (is_fellow call number) (is_no_error call.claim.out) (nat_eq call.who.part call.who.part)) refl
+            rw (is, neither (is_peer call number) (is_no_error call.claim.out) (nat_eq call.who.part call.who.part)) refl
 
-        not_woken : is_done call.claim.out ≡ true → (number : ℕ) (process : Process) → fellow_woken place call number process ≡ process
+        not_woken : is_done call.claim.out ≡ true → (number : ℕ) (process : Process) → peer_woken place call number process ≡ process
         not_woken done number process =
             let facts = rw is at sound in
             rw ((facts done).2) refl
 
         by : (b : Bool) → is_done call.claim.out ≡ b
-            → each_item (fellow_woken place call) (each_item (stopped_by call) (if b then numbered call.claim.val (new_process first name priority period) else []))
+            → each_item (peer_woken place call) (each_item (stopped_by call) (if b then numbered call.claim.val (new_process first name priority period) else []))
             ≡ (if b then numbered call.claim.val (new_process first name priority period) else [])
         by true done =
-            ap (each_item (fellow_woken place call)) (each_item-same (stopped_by call) not_stopped (numbered call.claim.val (new_process first name priority period)))
-            ∙ each_item-same (fellow_woken place call) (not_woken done) (numbered call.claim.val (new_process first name priority period))
+            ap (each_item (peer_woken place call)) (each_item-same (stopped_by call) not_stopped (numbered call.claim.val (new_process first name priority period)))
+            ∙ each_item-same (peer_woken place call) (not_woken done) (numbered call.claim.val (new_process first name priority period))
         by false refused = refl
     stays _ is = refl
 
--- the fellows of a table, and the created process
-fellows-append : (place : ℕ) (call : CallRecord) (a b : Table)
-    → each_item (fellow_woken place call) (each_item (stopped_by call) (a ++ b))
-    ≡ each_item (fellow_woken place call) (each_item (stopped_by call) a) ++ each_item (fellow_woken place call) (each_item (stopped_by call) b)
-fellows-append place call a b =
-    ap (each_item (fellow_woken place call)) (each_item-append (stopped_by call) a b)
-    ∙ each_item-append (fellow_woken place call) (each_item (stopped_by call) a) (each_item (stopped_by call) b)
+-- the peers of a table, and the created process
+peers-append : (place : ℕ) (call : CallRecord) (a b : Table)
+    → each_item (peer_woken place call) (each_item (stopped_by call) (a ++ b))
+    ≡ each_item (peer_woken place call) (each_item (stopped_by call) a) ++ each_item (peer_woken place call) (each_item (stopped_by call) b)
+peers-append place call a b =
+    ap (each_item (peer_woken place call)) (each_item-append (stopped_by call) a b)
+    ∙ each_item-append (peer_woken place call) (each_item (stopped_by call) a) (each_item (stopped_by call) b)
 
 -- the mode and the processes after the call
 whole : (configuration : Configuration) (place core period first : ℕ) (cores : List CoreState) (call : CallRecord) (partition : Partition)
@@ -185,14 +185,14 @@ whole configuration place core period first cores call partition first_is period
     λ i. processes_in (mode_between call partition.mode)
     (each_item (called place (time_of cores core) (ticks i) cores partition call) partition.table ++ created_by (own i) call call.request)
 
--- a caller that stands in the table has become what its call makes of it, and so have its fellows
+-- a caller that stands in the table has become what its call makes of it, and so have its peers
 called-stands : (configuration : Configuration) (place core period first : ℕ) (cores : List CoreState) (call : CallRecord) (partition : Partition)
     (middle own stopping new : Processes) (change : Process → Process) (found : Option (Bor Process))
     → first_core configuration call.who.part ≡ first → period_of configuration call.who.part ≡ period
     → middle ≡ between place period first cores call partition (processes_of partition) → IsSound partition.table call
     → option_copied found ≡ item_at partition.table call.who.proc → is_some found ≡ true
     → ((process : Process) → change process ≡ caller_after place (time_of cores core) call process)
-    → own ≡ with_each (only call.who.proc change) middle → stopping ≡ with_each (stopped_by call) own → new ≡ with_each (fellow_woken place call) stopping
+    → own ≡ with_each (only call.who.proc change) middle → stopping ≡ with_each (stopped_by call) own → new ≡ with_each (peer_woken place call) stopping
     → new ≡ processes_of (partition_called configuration cores place core call partition)
 called-stands configuration place core period first cores call partition middle own stopping new change found first_is period_is adjusts sound looked stands same is stops wakes_them =
     let there : is_some (item_at partition.table call.who.proc) ≡ true = ap is_some (sym looked) ∙ copied-some found ∙ stands in
@@ -202,13 +202,13 @@ called-stands configuration place core period first cores call partition middle 
     = each_item-append (only call.who.proc change) before created
     ∙ ap (λ t. each_item (only call.who.proc change) before ++ t)
     (only-absent call.who.proc change created (creates-apart first call call.request partition.table call.who.proc sound.asks there)) in
-    let each : each_item (fellow_woken place call) (each_item (stopped_by call) (each_item (only call.who.proc change) (before ++ created)))
+    let each : each_item (peer_woken place call) (each_item (stopped_by call) (each_item (only call.who.proc change) (before ++ created)))
     ≡ each_item (called place (time_of cores core) period cores partition call) partition.table ++ created
-    = ap (λ t. each_item (fellow_woken place call) (each_item (stopped_by call) t)) of_caller
-    ∙ fellows-append place call (each_item (only call.who.proc change) before) created
-    ∙ ap (λ t. each_item (fellow_woken place call) (each_item (stopped_by call) (each_item (only call.who.proc change) before)) ++ t) (created-stays place first call partition.table sound.asks)
+    = ap (λ t. each_item (peer_woken place call) (each_item (stopped_by call) t)) of_caller
+    ∙ peers-append place call (each_item (only call.who.proc change) before) created
+    ∙ ap (λ t. each_item (peer_woken place call) (each_item (stopped_by call) (each_item (only call.who.proc change) before)) ++ t) (created-stays place first call partition.table sound.asks)
     ∙ ap (λ t. t ++ created) (called-each place (time_of cores core) period cores call partition change same) in
-    wakes_them ∙ ap (with_each (fellow_woken place call)) (stops ∙ ap (with_each (stopped_by call)) (is ∙ ap (with_each (only call.who.proc change)) adjusts))
+    wakes_them ∙ ap (with_each (peer_woken place call)) (stops ∙ ap (with_each (stopped_by call)) (is ∙ ap (with_each (only call.who.proc change)) adjusts))
     ∙ ap (processes_in (mode_between call partition.mode)) each
     ∙ whole configuration place core period first cores call partition first_is period_is
 
@@ -218,7 +218,7 @@ called-absent : (configuration : Configuration) (place core period first : ℕ) 
     → first_core configuration call.who.part ≡ first → period_of configuration call.who.part ≡ period
     → middle ≡ between place period first cores call partition (processes_of partition) → IsSound partition.table call
     → option_copied found ≡ item_at partition.table call.who.proc → is_some found ≡ false
-    → stopping ≡ with_each (stopped_by call) middle → new ≡ with_each (fellow_woken place call) stopping
+    → stopping ≡ with_each (stopped_by call) middle → new ≡ with_each (peer_woken place call) stopping
     → new ≡ processes_of (partition_called configuration cores place core call partition)
 called-absent configuration place core period first cores call partition middle stopping new found first_is period_is adjusts sound looked absent stops wakes_them =
     let none : item_at partition.table call.who.proc ≡ None = none-some _ (ap is_some (sym looked) ∙ copied-some found ∙ absent) in
@@ -226,13 +226,13 @@ called-absent configuration place core period first cores call partition middle 
     let created : Table = created_by first call call.request in
     let before : Table = each_item (adjusted place period cores partition call) partition.table in
     let none_too : item_at before call.who.proc ≡ None = absent-each (adjusted place period cores partition call) partition.table call.who.proc none in
-    let each : each_item (fellow_woken place call) (each_item (stopped_by call) (before ++ created))
+    let each : each_item (peer_woken place call) (each_item (stopped_by call) (before ++ created))
     ≡ each_item (called place (time_of cores core) period cores partition call) partition.table ++ created
-    = ap (λ t. each_item (fellow_woken place call) (each_item (stopped_by call) (t ++ created))) (sym (only-absent call.who.proc change before none_too))
-    ∙ fellows-append place call (each_item (only call.who.proc change) before) created
-    ∙ ap (λ t. each_item (fellow_woken place call) (each_item (stopped_by call) (each_item (only call.who.proc change) before)) ++ t) (created-stays place first call partition.table sound.asks)
+    = ap (λ t. each_item (peer_woken place call) (each_item (stopped_by call) (t ++ created))) (sym (only-absent call.who.proc change before none_too))
+    ∙ peers-append place call (each_item (only call.who.proc change) before) created
+    ∙ ap (λ t. each_item (peer_woken place call) (each_item (stopped_by call) (each_item (only call.who.proc change) before)) ++ t) (created-stays place first call partition.table sound.asks)
     ∙ ap (λ t. t ++ created) (called-each place (time_of cores core) period cores call partition change (λ process. refl)) in
-    wakes_them ∙ ap (with_each (fellow_woken place call)) (stops ∙ ap (with_each (stopped_by call)) adjusts)
+    wakes_them ∙ ap (with_each (peer_woken place call)) (stops ∙ ap (with_each (stopped_by call)) adjusts)
     ∙ ap (processes_in (mode_between call partition.mode)) each
     ∙ whole configuration place core period first cores call partition first_is period_is
 
@@ -244,7 +244,7 @@ pub called-stands-in : (configuration : Configuration) (place core period first 
     → middle ≡ between place period first cores call partition old → IsSound old.table call
     → option_copied found ≡ item_at old.table call.who.proc → is_some found ≡ true
     → ((process : Process) → change process ≡ caller_after place (time_of cores core) call process)
-    → own ≡ with_each (only call.who.proc change) middle → stopping ≡ with_each (stopped_by call) own → new ≡ with_each (fellow_woken place call) stopping
+    → own ≡ with_each (only call.who.proc change) middle → stopping ≡ with_each (stopped_by call) own → new ≡ with_each (peer_woken place call) stopping
     → new ≡ processes_of (partition_called configuration cores place core call partition)
 called-stands-in configuration place core period first cores call partition old middle own stopping new change found seen first_is period_is adjusts sound looked stands same is stops wakes_them =
     let P : Processes → Type 0 = λ one. middle ≡ between place period first cores call partition one → IsSound one.table call
@@ -258,7 +258,7 @@ pub called-absent-in : (configuration : Configuration) (place core period first 
     → first_core configuration call.who.part ≡ first → period_of configuration call.who.part ≡ period
     → middle ≡ between place period first cores call partition old → IsSound old.table call
     → option_copied found ≡ item_at old.table call.who.proc → is_some found ≡ false
-    → stopping ≡ with_each (stopped_by call) middle → new ≡ with_each (fellow_woken place call) stopping
+    → stopping ≡ with_each (stopped_by call) middle → new ≡ with_each (peer_woken place call) stopping
     → new ≡ processes_of (partition_called configuration cores place core call partition)
 called-absent-in configuration place core period first cores call partition old middle stopping new found seen first_is period_is adjusts sound looked absent stops wakes_them =
     let P : Processes → Type 0 = λ one. middle ≡ between place period first cores call partition one → IsSound one.table call
@@ -292,7 +292,7 @@ stopped-named call given processes new asked no_error apart is = is ∙ ap (with
         by number process false true c h k l other = let contrary : nat_eq n number ≡ true = grind (arith, nat_tests) in cc
         by number process false false true h k l other = refl
         by number process false false false h k l other = refl
-    same (negsuc n) asked apart number process = rw (asked, neither (is_fellow call number) (is_no_error call.claim.out) (nat_eq call.who.part call.who.part)) refl
+    same (negsuc n) asked apart number process = rw (asked, neither (is_peer call number) (is_no_error call.claim.out) (nat_eq call.who.part call.who.part)) refl
       where
         neither : (a b c : Bool) → a && (b && (c && false)) ≡ false
         neither true true true = refl
@@ -300,15 +300,15 @@ stopped-named call given processes new asked no_error apart is = is ∙ ap (with
         neither true false c = refl
         neither false b c = refl
 
-pub stopped-none : (call : CallRecord) (processes : Processes) → ((number : ℕ) → is_fellow call number && stops call (fellow_at call number) ≡ false)
+pub stopped-none : (call : CallRecord) (processes : Processes) → ((number : ℕ) → is_peer call number && stops call (peer_at call number) ≡ false)
     → processes ≡ with_each (stopped_by call) processes
 stopped-none call processes none = ap (with_table processes) (sym (each_item-same (stopped_by call) (λ number process. rw (none number) refl) processes.table))
 
 -- a call of another service than STOP stops nobody
 pub stops-nobody : (call : CallRecord) (asked : Request) → call.request ≡ asked → ((given : ℤ) → asked ≡ request.Stop given → ⊥) → (number : ℕ)
-    → is_fellow call number && stops call (fellow_at call number) ≡ false
+    → is_peer call number && stops call (peer_at call number) ≡ false
 stops-nobody call (request.Stop given) is not_stop number = absurd (not_stop given refl)
-stops-nobody call _ is not_stop number = rw (is, neither (is_fellow call number) (is_no_error call.claim.out) (nat_eq call.who.part call.who.part)) refl
+stops-nobody call _ is not_stop number = rw (is, neither (is_peer call number) (is_no_error call.claim.out) (nat_eq call.who.part call.who.part)) refl
   where
     neither : (a b c : Bool) → a && (b && (c && false)) ≡ false
     neither true true true = refl
@@ -317,8 +317,8 @@ stops-nobody call _ is not_stop number = rw (is, neither (is_fellow call number)
     neither false b c = refl
 
 -- nor does one that does not answer NO_ERROR
-pub stops-not : (call : CallRecord) → is_no_error call.claim.out ≡ false → (number : ℕ) → is_fellow call number && stops call (fellow_at call number) ≡ false
-stops-not call refused number = rw refused (never (is_fellow call number))
+pub stops-not : (call : CallRecord) → is_no_error call.claim.out ≡ false → (number : ℕ) → is_peer call number && stops call (peer_at call number) ≡ false
+stops-not call refused number = rw refused (never (is_peer call number))
   where
     never : (a : Bool) → a && false ≡ false
     never true = refl
@@ -326,7 +326,7 @@ stops-not call refused number = rw refused (never (is_fellow call number))
 
 -- nor one that names its caller
 pub stops-itself : (call : CallRecord) → call.request ≡ request.Stop (pos call.who.proc) → (number : ℕ)
-    → is_fellow call number && stops call (fellow_at call number) ≡ false
+    → is_peer call number && stops call (peer_at call number) ≡ false
 stops-itself call is number = rw is (by (nat_eq number call.who.proc) (is_no_error call.claim.out) (nat_eq call.who.part call.who.part))
   where
     by : (a b c : Bool) → not a && (b && (c && a)) ≡ false

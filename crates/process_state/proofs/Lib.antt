@@ -16,7 +16,7 @@ pub mod Called
 pub mod Releases
 pub mod Times
 pub mod Waiters
-pub mod Gifts
+pub mod HandedOver
 pub mod Periodic
 pub mod Transfers
 pub mod Owed

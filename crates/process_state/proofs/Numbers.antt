@@ -1,7 +1,7 @@
 -- The numbers of processes: new ones, and those that callers give.
 use Rattle.std.proofs.Common.{◌≡◌, ◌≢◌, true≢false, is_some, ℕ, zero, suc, ◌<◌, ◌≤◌, ◌^◌, true, is_none, nat_le, nat_lt, Option, Some, None, ℤ, pos, negsuc, refl, sym, ap, arith}
 use Rattle.std.proofs.lemmas.Bool.Decides.{nat_tests}
-use Rattle.apex_types.specs.Bounds.{greatest_number}
+use Rattle.apex_types.specs.declared.limits.TheConstants.{GREATEST_NUMBER}
 use Rattle.apex_machine.specs.declared.state.Process.{Process}
 use Rattle.apex_machine.specs.State.{Table, created, is_free, item_at}
 use Rattle.apex_machine.specs.Answer.{is_new}
@@ -20,7 +20,7 @@ new-absent table number new = none_of _ (both-right _ _ (both-right _ _ new))
 -- a new number fits
 pub new-fits : (table : Table) (number : ℕ) → is_new (is_free table) (Some (pos number)) ≡ true → number < 2 ^ 32
 new-fits table number new =
-    let least : nat_le number greatest_number ≡ true = both-left (nat_le number greatest_number) _ (both-right (nat_lt 0 number) _ new) in
+    let least : nat_le number GREATEST_NUMBER ≡ true = both-left (nat_le number GREATEST_NUMBER) _ (both-right (nat_lt 0 number) _ new) in
     grind (arith, nat_tests)
 
 -- a number that can be no process's has no process

@@ -11,7 +11,7 @@ behind-trans a b c h k = grind (arith, nat_tests)
 behind-apart : (a b : Who) → is_behind a b ≡ true → is_same b a ≡ false
 behind-apart a b h = grind (arith, nat_tests)
 
--- each of a list that rises from one process stands behind it
+-- each of a list that rises from one process comes after it
 behind_all : (last : Who) (named : List Who) (place : ℕ) (who : Who) → RisesFrom last named → place < length named
     → who ≡ get_or named place who → is_behind last who ≡ true
 behind_all last [] place who rises within is = absurd (omega arith)

@@ -1,6 +1,6 @@
 -- The times of the cores, as the definitions walk them and as the code reads them.
 use Rattle.std.proofs.Common.{◌≡◌, ℕ, zero, suc, ◌<◌, ◌≤◌, List, [], ◌∷◌, length, get_or, refl, ap, sym, arith}
-use Rattle.apex_types.specs.Bounds.{place_count}
+use Rattle.apex_types.specs.declared.limits.TheConstants.{PLACE_COUNT}
 use Rattle.apex_machine.specs.declared.state.CoreState.{CoreState}
 use Rattle.apex_machine.specs.State.{time_of}
 use Rattle.process_state.specs.Timely.{TimesFit}
@@ -18,7 +18,7 @@ time_of_past (other ∷ states) zero past = absurd (omega arith)
 time_of_past (other ∷ states) (suc core) past = time_of_past states core (omega arith)
 
 -- the time of each core fits
-pub time_fits : (states : List CoreState) (core : ℕ) → TimesFit states → time_of states core < place_count
+pub time_fits : (states : List CoreState) (core : ℕ) → TimesFit states → time_of states core < PLACE_COUNT
 time_fits [] core fit = omega arith
 time_fits (state ∷ states) zero fit = fit.0
 time_fits (state ∷ states) (suc core) fit = time_fits states core fit.1

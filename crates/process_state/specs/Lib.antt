@@ -7,10 +7,10 @@ pub mod Sound
 pub mod Tests
 pub mod Timely
 pub mod Ranks
-pub mod Gifts
+pub mod HandedOver
 pub mod Orders
 pub mod Firsts
 pub mod Kept
 pub mod Transfers
-pub mod Fellows
+pub mod Peers
 pub mod Prepared

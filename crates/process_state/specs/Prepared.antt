@@ -6,8 +6,8 @@ use Rattle.apex_types.specs.declared.record.Out.TheVariants as out
 use Rattle.apex_types.specs.declared.request.Request.{Request}
 use Rattle.apex_types.specs.declared.request.Request.TheVariants as request
 use Rattle.apex_machine.specs.declared.state.Outcome.{Outcome}
-use Rattle.apex_machine.specs.Processes.{gift_of, outcome_of}
-use Rattle.process_state.specs.Gifts.{AreCopies}
+use Rattle.apex_machine.specs.Processes.{message_handed_over, outcome_of}
+use Rattle.process_state.specs.HandedOver.{AreCopies}
 
 -- what is had for a call: the outcome that becomes due to its caller, if one does, and messages for those whose waits it ends
 pub record Preparation : Type 0 where
@@ -28,7 +28,7 @@ outcome_due call _ = None
 pub record IsPreparedFor (call : CallRecord) (prepared : Preparation) : Type 0 where
   pub outcome : prepared.outcome ≡ outcome_due call call.claim.out
   pub enough : length prepared.messages ≡ length call.claim.woken
-  pub alike : AreCopies (gift_of call.request) prepared.messages
+  pub alike : AreCopies (message_handed_over call.request) prepared.messages
 
 -- whether a request is CREATE_PROCESS: no other takes memory once its call is prepared
 abbrev pub creates_process : Request → Bool

@@ -28,7 +28,7 @@ before_there a b =
     nat_lt b.priority a.priority
     || (nat_eq a.priority b.priority && (nat_lt a.position b.position || (nat_eq a.position b.position && nat_lt a.number b.number)))
 
--- the ranks of one core stand together, behind those of the cores before it
+-- the ranks of one core stand together, after those of the cores before it
 abbrev pub rank_before : Rank → Rank → Bool
 rank_before a b = nat_lt a.core b.core || (nat_eq a.core b.core && before_there a b)
 

@@ -1,7 +1,7 @@
 // What becomes of a caller by its call.
 
 ghost use Rattle.std.specs.Prelude.{◌≡◌, ◌<◌, ◌&&◌, ℕ, IsTrue, true, if◌then◌else◌};
-ghost use Rattle.apex_types.specs.Bounds.{place_count};
+ghost use Rattle.apex_types.specs.declared.limits.TheConstants.{PLACE_COUNT};
 ghost use Rattle.apex_machine.specs.declared.state.Process.{Process as ProcessValue};
 ghost use Rattle.apex_machine.specs.DueTimes.{next_release};
 ghost use Rattle.apex_machine.specs.Processes as processes;
@@ -14,7 +14,7 @@ ghost use Rattle.process_state.specs.Settled.{settled};
 ghost use Rattle.process_state.specs.Sound as sound;
 ghost use Rattle.process_state.specs.Sound.{WaitsSoundly};
 
-use crate::fellow::answers_no_error;
+use crate::peer::answers_no_error;
 use crate::waiting::{is_periodic_wait, wait_of};
 use apex_machine::{Outcome, Wait};
 use apex_types::{Call, Code, Out, Place, Request};
@@ -54,7 +54,7 @@ pub fn settling_of(
     call: &Call,
     outcome: Option<Outcome>,
 ) -> Settling
-    requires time { now < place_count }
+    requires time { now < PLACE_COUNT }
     requires waits { IsTrue (is_waiting call.now.claim.out) → WaitsSoundly call.now.request }
     requires outcome { outcome ≡ outcome_due call.now call.now.claim.out }
     ensures { (process : ProcessValue) → (sound.is_periodic_wait call.now.request ≡ true → next_release process ≡ next) → settled now result process ≡ after.caller_after place now call.now process }

@@ -6,12 +6,12 @@
 #![tactic(auto)]
 
 mod caller;
-mod fellow;
-mod gift;
 mod guess;
+mod message;
 mod moment;
 mod number;
 mod order;
+mod peer;
 mod prepared;
 mod process;
 mod sorted;

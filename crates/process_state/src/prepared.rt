@@ -4,7 +4,7 @@ ghost use Rattle.std.specs.Prelude.{◌≡◌, IfOk};
 ghost use Rattle.apex_machine.specs.After as after;
 ghost use Rattle.process_state.specs.Prepared.{IsPreparedFor, outcome_due};
 
-use crate::gift::gifts_of;
+use crate::message::messages_for;
 use apex_machine::Outcome;
 use apex_types::{Call, Code, Message, Out};
 use std::alloc::{AllocError, Global};
@@ -15,7 +15,7 @@ use std::marker::Model;
 #[derive(Drop)]
 pub struct Prepared {
     pub(crate) outcome: Option<Outcome>,
-    pub(crate) gifts: Vec<Message>,
+    pub(crate) messages: Vec<Message>,
 }
 
 impl Model for Prepared {
@@ -23,7 +23,7 @@ impl Model for Prepared {
 
     ghost Value = { Preparation };
 
-    ghost view = { λ prepared. preparation_of prepared.outcome prepared.gifts.items };
+    ghost view = { λ prepared. preparation_of prepared.outcome prepared.messages.items };
 }
 
 /// What is prepared for a call.
@@ -36,8 +36,8 @@ pub fn prepared_for(alloc: Global, call: &Call) -> Result<Prepared, AllocError>
         Out::Answer(code) => Some(outcome_of(alloc, call, code)?),
         Out::Waits | Out::Never => None,
     };
-    let gifts = gifts_of(alloc, &call.request, call.claim.woken.as_slice().len())?;
-    Ok(Prepared { outcome, gifts })
+    let messages = messages_for(alloc, &call.request, call.claim.woken.as_slice().len())?;
+    Ok(Prepared { outcome, messages })
 }
 
 // The outcome that a call claims, with this code.

@@ -1,7 +1,7 @@
 // The changes of one process.
 
 ghost use Rattle.std.specs.Prelude.{◌≡◌, ◌<◌, ◌≤◌, Some, None, pos, IfOk};
-ghost use Rattle.apex_types.specs.Bounds.{greatest_span, place_count};
+ghost use Rattle.apex_types.specs.declared.limits.TheConstants.{GREATEST_SPAN, PLACE_COUNT};
 ghost use Rattle.apex_machine.specs.Arguments.{period_given};
 ghost use Rattle.apex_machine.specs.DueTimes as due_times;
 ghost use Rattle.apex_machine.specs.Processes as processes;
@@ -80,8 +80,8 @@ pub fn move_to(process: &mut Process, core: CoreId)
 /// partition's, in ticks.
 pub fn start(process: &mut Process, place: Place, period: u64, now: u64, mode: Mode)
     requires least { 1 ≤ period }
-    requires most { period ≤ greatest_span }
-    requires time { now < place_count }
+    requires most { period ≤ GREATEST_SPAN }
+    requires time { now < PLACE_COUNT }
     ensures { process.new ≡ processes.started place period now mode process.old }
 {
     process.current_priority = process.base_priority;
@@ -97,8 +97,8 @@ pub fn start(process: &mut Process, place: Place, period: u64, now: u64, mode: M
 /// partition's, in ticks.
 pub fn enter_normal(process: &mut Process, place: Place, period: u64, now: u64)
     requires least { 1 ≤ period }
-    requires most { period ≤ greatest_span }
-    requires time { now < place_count }
+    requires most { period ≤ GREATEST_SPAN }
+    requires time { now < PLACE_COUNT }
     ensures { process.new ≡ processes.after_normal place period now process.old }
 {
     if wait::is_for_normal(process.wait) {

@@ -26,13 +26,11 @@ use crate::order::{DueTime, Rank, count_of, due_count, falls_due, first_on};
 use crate::sorted::Sorted;
 use crate::{process, wait};
 use apex_machine::{Mode, Process, WaitingSet};
+use apex_types::limits::GREATEST_NUMBER;
 use apex_types::{CoreId, Name, PartId, Place, ProcId, Who, Woken};
 use indexmap::IndexMap;
 use std::alloc::{AllocError, Global};
 use std::marker::Model;
-
-/// The greatest number of a process.
-const GREATEST_NUMBER: i64 = 2_147_483_647;
 
 /// The processes of one partition, in the order of their creation, and the partition's mode. What it promises holds for
 /// any partition that has this mode and these processes. Process number 0 is the initialising process.
@@ -183,7 +181,7 @@ impl ProcTable {
         match claimed {
             Some(number) => {
                 number > 0
-                    && number <= GREATEST_NUMBER
+                    && number <= GREATEST_NUMBER as i64
                     && self.proc(ProcId::new(number as u32)).is_none()
             }
             None => false,

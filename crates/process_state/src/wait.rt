@@ -1,7 +1,7 @@
 // What a process waits for: when that is over, and what is due then.
 
 ghost use Rattle.std.specs.Prelude.{◌≡◌, ◌<◌, ◌≤◌, ◌↔◌, IsTrue};
-ghost use Rattle.apex_types.specs.Bounds.{greatest_span, place_count};
+ghost use Rattle.apex_types.specs.declared.limits.TheConstants.{GREATEST_SPAN, PLACE_COUNT};
 ghost use Rattle.apex_machine.specs.Choice as choice;
 ghost use Rattle.apex_machine.specs.Processes as processes;
 ghost use Rattle.apex_machine.specs.DueTimes as due_times;
@@ -131,8 +131,8 @@ pub fn release_reached(wait: Wait, last: u64) -> u64
 /// its first release, a multiple of the partition's period. Periods are in ticks.
 pub fn on_entry(partition_period: u64, now: u64, period: Option<u64>) -> Wait
     requires least { 1 ≤ partition_period }
-    requires most { partition_period ≤ greatest_span }
-    requires time { now < place_count }
+    requires most { partition_period ≤ GREATEST_SPAN }
+    requires time { now < PLACE_COUNT }
     ensures { result ≡ due_times.entry_wait partition_period now period }
 {
     match period {
@@ -145,8 +145,8 @@ pub fn on_entry(partition_period: u64, now: u64, period: Option<u64>) -> Wait
 #[tactic(auto, using(crate::proofs::Releases::next_multiple))]
 fn first_release(partition_period: u64, now: u64) -> u64
     requires least { 1 ≤ partition_period }
-    requires most { partition_period ≤ greatest_span }
-    requires time { now < place_count }
+    requires most { partition_period ≤ GREATEST_SPAN }
+    requires time { now < PLACE_COUNT }
     ensures { result ≡ due_times.first_release partition_period now }
 {
     now - now % partition_period + partition_period

@@ -1,7 +1,7 @@
 // Where a call waits, and until when.
 
 ghost use Rattle.std.specs.Prelude.{◌≡◌, ◌<◌, true};
-ghost use Rattle.apex_types.specs.Bounds.{place_count};
+ghost use Rattle.apex_types.specs.declared.limits.TheConstants.{PLACE_COUNT};
 ghost use Rattle.apex_machine.specs.declared.state.Process.{Process as ProcessValue};
 ghost use Rattle.apex_machine.specs.Arguments.{natural_of};
 ghost use Rattle.apex_machine.specs.DueTimes as due_times;
@@ -15,7 +15,7 @@ use apex_types::{ChanId, Request};
 /// What a caller waits for that began to wait when its core's time was `now`, by its next release, in ticks, which only
 /// PERIODIC_WAIT looks at; a port's set is that of its channel.
 pub fn wait_of(request: &Request, channel: Option<ChanId>, now: u64, next: u64) -> Wait
-    requires time { now < place_count }
+    requires time { now < PLACE_COUNT }
     requires sound { WaitsSoundly request.now }
     ensures { (process : ProcessValue) → (sound.is_periodic_wait request.now ≡ true → due_times.next_release process ≡ next) → result ≡ due_times.wait_of request.now channel now process }
 {
@@ -80,7 +80,7 @@ fn object_number(given: i64) -> u32
 
 // The time at which the time-out of a request falls due, if it has one.
 fn due_of(request: &Request, now: u64) -> Option<u64>
-    requires { now < place_count }
+    requires { now < PLACE_COUNT }
     ensures { result ≡ due_times.due_of_call (due_times.time_out_of request.now) now }
 {
     match time_out_of(request) {
@@ -109,7 +109,7 @@ fn time_out_of(request: &Request) -> Option<i64>
 
 // The time at which a time-out falls due that begins at the time `now`; one below 0 never does.
 fn due_time(time_out: i64, now: u64) -> Option<u64>
-    requires { now < place_count }
+    requires { now < PLACE_COUNT }
     ensures { result ≡ due_times.due_time time_out now }
 {
     if time_out < 0 {

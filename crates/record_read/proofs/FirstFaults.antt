@@ -7,18 +7,19 @@ use Rattle.hex.specs.Hex.{decode_of}
 use Rattle.hex.specs.declared.error.FromHexError.{FromHexError}
 use Rattle.csv_rows.specs.Decimal.{decimal, signed_decimal}
 use Rattle.csv_rows.specs.Stream.{Fields}
-use Rattle.apex_types.specs.Bounds.{greatest_channel, greatest_number, greatest_partition, greatest_priority, longest_message, most_records}
+use Rattle.apex_types.specs.declared.limits.TheConstants.{GREATEST_CHANNEL, GREATEST_NUMBER, GREATEST_PARTITION, GREATEST_PRIORITY, LONGEST_MESSAGE, MOST_RECORDS}
 use Rattle.apex_types.specs.declared.record.Who.{Who}
 use Rattle.apex_types.specs.declared.service.Service.{Service}
+use Rattle.record_read.specs.declared.column.Column.TheVariants as column
 use Rattle.record_read.specs.declared.fault.RowFault.{RowFault}
 use Rattle.record_read.specs.declared.fault.RowFault.TheVariants.{BadHex, BadKind, BadLength, BadName, BadNumber, BadOut, BadService, BadWoken, FieldCount, FieldNotForKind, SeqGap, TooMany}
-use Rattle.record_read.specs.declared.format.Format.{Format}
+use Rattle.apex_types.specs.declared.format.Format.{Format}
 use Rattle.record_read.specs.declared.kind.Kind.{Kind}
 use Rattle.record_read.specs.declared.kind.Kind.TheVariants as kind
-use Rattle.record_read.specs.Arguments.{arguments_of}
-use Rattle.record_read.specs.Field.{all_empty, argument, empty, maybe_number, maybe_signed, number, signed, text_at}
+use Rattle.apex_types.specs.Services.{arguments_of, is_in}
+use Rattle.record_read.specs.Field.{all_empty, argument, bytes_at, empty, maybe_number, maybe_signed, number, signed, text_at}
 use Rattle.record_read.specs.FirstFault.{ArgumentFault, CallFault, ClaimFault, DispatchFault, DispatchedFault, FaultOf, HoldsCode, HoldsKind, HoldsNone, HoldsService, IsFirstFault, MessageFault, MustBeBytes, MustBeEmpty, MustBeMessageIf, MustHold, MustHoldIf, NameFault, OtherNumber, ProcessFault, RequestFault, ReturnFault, SentFault, TickFault, ◌or_else◌}
-use Rattle.record_read.specs.Format.{field_count, stands_in}
+use Rattle.apex_types.specs.Format.{field_count}
 use Rattle.record_read.specs.Grammar.{GoesWith, HoldsName, HoldsNumber, HoldsOutcome, HoldsProcesses, HoldsSigned, MayHold, columns_of}
 use Rattle.record_read.specs.GrammarLaws.{FirstFaultsDecide}
 use Rattle.record_read.specs.Named.{code_named, code_of, kind_named, kind_of, out_named, out_of, service_named, service_of}
@@ -163,7 +164,7 @@ all_empty_bad : (fields : Fields) (place count : ℕ) (e : RowFault) → all_emp
 unfolding all_empty
 all_empty_bad fields place zero e same = no_value tt e same
 all_empty_bad fields place (suc n) e same =
-    empty_bad (text_at fields place) (λ u. all_empty fields (suc place) n) e (all_empty_bad fields (suc place) n e) same
+    empty_bad (bytes_at fields place) (λ u. all_empty fields (suc place) n) e (all_empty_bad fields (suc place) n e) same
 
 -- fields that must be empty
 all_empty_fail : (fields : Fields) (place count : ℕ) → FailsAs (all_empty fields place count) (MustBeEmpty (texts_from fields place count))
@@ -230,14 +231,14 @@ bytes_fail (Ok bytes) test MayBe text is may fits = by (test (length bytes)) ref
       from = λ e fault. ap Err (bad e fault);
     }
 
-data_fails : (text : List ℕ) → FailsAs (maybe_message text) (MustBeBytes (λ count. count ≤ longest_message) text)
+data_fails : (text : List ℕ) → FailsAs (maybe_message text) (MustBeBytes (λ count. count ≤ LONGEST_MESSAGE) text)
 unfolding maybe_message
 data_fails text =
-    bytes_fail (decode_of text) (λ count. nat_le count longest_message) (λ count. count ≤ longest_message) text refl
-    (λ count is. leb-true count longest_message is) (λ count is. le_leb_of count is)
+    bytes_fail (decode_of text) (λ count. nat_le count LONGEST_MESSAGE) (λ count. count ≤ LONGEST_MESSAGE) text refl
+    (λ count is. leb-true count LONGEST_MESSAGE is) (λ count is. le_leb_of count is)
   where
-    le_leb_of : (count : ℕ) → count ≤ longest_message → nat_le count longest_message ≡ true
-    le_leb_of count is = le-leb count longest_message is
+    le_leb_of : (count : ℕ) → count ≤ LONGEST_MESSAGE → nat_le count LONGEST_MESSAGE ≡ true
+    le_leb_of count is = le-leb count LONGEST_MESSAGE is
 
 message_fails : (taken : Bool) (len : ℤ) (text : List ℕ) → FailsAs (message_in taken len text) (MustBeMessageIf taken len text)
 unfolding message_in message_of
@@ -251,9 +252,7 @@ kind_held text k is = named k (kind_is text k is)
   where
     named : (k : Kind) → text ≡ kind_name k → HoldsKind text k
     named kind.Call h = h
-    named kind.Ret h = h
-    named kind.Disp h = h
-    named kind.Tick h = h
+    named _ h = h
 
 -- and where it holds the name it is read as the kind
 kind_holds : (text : List ℕ) (k : Kind) → HoldsKind text k → kind_of text ≡ Ok k
@@ -272,8 +271,8 @@ service_fails format text =
     must_hold (service_of format) BadService (HoldsService format) text refl (λ b bs e same. only (service_named (b ∷ bs)) e same)
     (λ s is. let given = service_is format text s is in record { named = given.0; stands = given.1 }) (λ s h. is_service format text s h.named h.stands)
   where
-    only : (found : Option Service) (e : RowFault) → (ok_or found BadService >>= (λ s. if stands_in format s then Ok s else Err BadService)) ≡ Err e → e ≡ BadService
-    only (Some s) e same = test_bad (stands_in format s) s BadService e same
+    only : (found : Option Service) (e : RowFault) → (ok_or found BadService >>= (λ s. if is_in format s then Ok s else Err BadService)) ≡ Err e → e ≡ BadService
+    only (Some s) e same = test_bad (is_in format s) s BadService e same
     only None e same = sym (same_err BadService e same)
 
 code_fails : (text : List ℕ) → FailsAs (code_of text) (MustHold BadOut HoldsCode text)
@@ -303,53 +302,53 @@ by_service format text s read Fault is fails = record {
 request_fails : (format : Format) (fields : Fields) → FailsAs (request_in format fields) (RequestFault format (columns_of fields))
 unfolding request_in
 request_fails format fields =
-    step _ _ _ _ (service_fails format (text_at fields 4)) (λ s is.
-    step _ _ _ _ (numbered s is 1 (text_at fields 5)) (λ n1 is1.
-    step _ _ _ _ (numbered s is 2 (text_at fields 6)) (λ n2 is2.
-    step _ _ _ _ (numbered s is 3 (text_at fields 7)) (λ n3 is3.
+    step _ _ _ _ (service_fails format (text_at fields column.Service)) (λ s is.
+    step _ _ _ _ (numbered s is 1 (text_at fields column.FirstNumber)) (λ n1 is1.
+    step _ _ _ _ (numbered s is 2 (text_at fields column.SecondNumber)) (λ n2 is2.
+    step _ _ _ _ (numbered s is 3 (text_at fields column.ThirdNumber)) (λ n3 is3.
     step _ _ _ _ (named s is) (λ name isn.
     last_step _ _ _ (sent s is n2 is2))))))
   where
-    numbered : (s : Service) → service_of format (text_at fields 4) ≡ Ok s → (place : ℕ) (text : List ℕ)
+    numbered : (s : Service) → service_of format (text_at fields column.Service) ≡ Ok s → (place : ℕ) (text : List ℕ)
         → FailsAs (argument (nat_le place (arguments_of s).numbers) text) (ArgumentFault format (columns_of fields) place text)
     numbered s is place text =
-        by_service format (text_at fields 4) s _ (λ other. MustHoldIf (nat_le place (arguments_of other).numbers) BadNumber HoldsSigned text) is
+        by_service format (text_at fields column.Service) s _ (λ other. MustHoldIf (nat_le place (arguments_of other).numbers) BadNumber HoldsSigned text) is
         (argument_fails (nat_le place (arguments_of s).numbers) text)
 
-    named : (s : Service) → service_of format (text_at fields 4) ≡ Ok s → FailsAs (name_in (arguments_of s).name (text_at fields 8)) (NameFault format (columns_of fields))
+    named : (s : Service) → service_of format (text_at fields column.Service) ≡ Ok s → FailsAs (name_in (arguments_of s).name (text_at fields column.Name)) (NameFault format (columns_of fields))
     named s is =
-        by_service format (text_at fields 4) s _ (λ other. MustHoldIf (arguments_of other).name BadName HoldsName (text_at fields 8)) is
-        (name_fails (arguments_of s).name (text_at fields 8))
+        by_service format (text_at fields column.Service) s _ (λ other. MustHoldIf (arguments_of other).name BadName HoldsName (text_at fields column.Name)) is
+        (name_fails (arguments_of s).name (text_at fields column.Name))
 
-    sent : (s : Service) → service_of format (text_at fields 4) ≡ Ok s → (n2 : ℤ) → argument (nat_le 2 (arguments_of s).numbers) (text_at fields 6) ≡ Ok n2
-        → FailsAs (message_in (arguments_of s).message n2 (text_at fields 9)) (MessageFault format (columns_of fields))
+    sent : (s : Service) → service_of format (text_at fields column.Service) ≡ Ok s → (n2 : ℤ) → argument (nat_le 2 (arguments_of s).numbers) (text_at fields column.SecondNumber) ≡ Ok n2
+        → FailsAs (message_in (arguments_of s).message n2 (text_at fields column.Message)) (MessageFault format (columns_of fields))
     sent s is n2 is2 =
-        by_service format (text_at fields 4) s _ (λ other. SentFault other (columns_of fields)) is
+        by_service format (text_at fields column.Service) s _ (λ other. SentFault other (columns_of fields)) is
         (record {
-          to = λ e same. (n2, argument_holds (nat_le 2 (arguments_of s).numbers) (text_at fields 6) n2 is2, message.to e same);
-          from = λ e fault. message.from e (subst (λ len. MustBeMessageIf (arguments_of s).message len (text_at fields 9) e)
-              (same_ok fault.0 n2 (sym (holds_argument (nat_le 2 (arguments_of s).numbers) (text_at fields 6) fault.0 fault.1) ∙ is2)) fault.2);
+          to = λ e same. (n2, argument_holds (nat_le 2 (arguments_of s).numbers) (text_at fields column.SecondNumber) n2 is2, message.to e same);
+          from = λ e fault. message.from e (subst (λ len. MustBeMessageIf (arguments_of s).message len (text_at fields column.Message) e)
+              (same_ok fault.0 n2 (sym (holds_argument (nat_le 2 (arguments_of s).numbers) (text_at fields column.SecondNumber) fault.0 fault.1) ∙ is2)) fault.2);
         })
       where
-        message : FailsAs (message_in (arguments_of s).message n2 (text_at fields 9)) (MustBeMessageIf (arguments_of s).message n2 (text_at fields 9))
-        message = message_fails (arguments_of s).message n2 (text_at fields 9)
+        message : FailsAs (message_in (arguments_of s).message n2 (text_at fields column.Message)) (MustBeMessageIf (arguments_of s).message n2 (text_at fields column.Message))
+        message = message_fails (arguments_of s).message n2 (text_at fields column.Message)
 
 who_fails : (fields : Fields) → FailsAs (who_in fields) (ProcessFault (columns_of fields))
 unfolding who_in
 who_fails fields =
-    step _ _ _ _ (number_fails greatest_partition (text_at fields 2) (omega arith)) (λ part is. last_step _ _ _ (number_fails greatest_number (text_at fields 3) (omega arith)))
+    step _ _ _ _ (number_fails GREATEST_PARTITION (text_at fields column.Partition) (omega arith)) (λ part is. last_step _ _ _ (number_fails GREATEST_NUMBER (text_at fields column.Process) (omega arith)))
 
 claim_fails : (fields : Fields) → FailsAs (claim_in fields) (ClaimFault (columns_of fields))
 unfolding claim_in
 claim_fails fields =
-    step _ _ _ _ (number_fails greatest_priority (text_at fields 10) (omega arith)) (λ prio is.
-    step _ _ _ _ (out_fails (text_at fields 11)) (λ out is.
-    step _ _ _ _ (maybe_signed_fails (text_at fields 12)) (λ val is.
-    step _ _ _ _ (data_fails (text_at fields 13)) (λ bytes is.
-    step _ _ _ _ (maybe_number_fails greatest_channel (text_at fields 14) (omega arith)) (λ chan is.
-    step _ _ _ _ (woken_fails (text_at fields 15)) (λ woken is.
-    step _ _ _ _ (maybe_signed_fails (text_at fields 16)) (λ val2 is.
-    last_step _ _ _ (maybe_signed_fails (text_at fields 17)))))))))
+    step _ _ _ _ (number_fails GREATEST_PRIORITY (text_at fields column.Priority) (omega arith)) (λ prio is.
+    step _ _ _ _ (out_fails (text_at fields column.Outcome)) (λ out is.
+    step _ _ _ _ (maybe_signed_fails (text_at fields column.Value)) (λ val is.
+    step _ _ _ _ (data_fails (text_at fields column.Data)) (λ bytes is.
+    step _ _ _ _ (maybe_number_fails GREATEST_CHANNEL (text_at fields column.Channel) (omega arith)) (λ chan is.
+    step _ _ _ _ (woken_fails (text_at fields column.Woken)) (λ woken is.
+    step _ _ _ _ (maybe_signed_fails (text_at fields column.SecondValue)) (λ val2 is.
+    last_step _ _ _ (maybe_signed_fails (text_at fields column.ThirdValue)))))))))
 
 call_fails : (format : Format) (fields : Fields) → FailsAs (call_in format fields) (CallFault format (columns_of fields))
 unfolding call_in
@@ -360,30 +359,30 @@ return_fails : (format : Format) (fields : Fields) → FailsAs (return_in format
 unfolding return_in
 return_fails format fields =
     step _ _ _ _ (who_fails fields) (λ who is.
-    step _ _ _ _ (service_fails format (text_at fields 4)) (λ service is.
-    step _ _ _ _ (all_empty_fail fields 5 6) (λ unused is.
-    step _ _ _ _ (code_fails (text_at fields 11)) (λ code is.
-    step _ _ _ _ (maybe_signed_fails (text_at fields 12)) (λ val is.
-    step _ _ _ _ (data_fails (text_at fields 13)) (λ bytes is.
-    step _ _ _ _ (all_empty_fail fields 14 2) (λ unused_too is.
-    step _ _ _ _ (maybe_signed_fails (text_at fields 16)) (λ val2 is.
-    last_step _ _ _ (maybe_signed_fails (text_at fields 17))))))))))
+    step _ _ _ _ (service_fails format (text_at fields column.Service)) (λ service is.
+    step _ _ _ _ (all_empty_fail fields _ _) (λ unused is.
+    step _ _ _ _ (code_fails (text_at fields column.Outcome)) (λ code is.
+    step _ _ _ _ (maybe_signed_fails (text_at fields column.Value)) (λ val is.
+    step _ _ _ _ (data_fails (text_at fields column.Data)) (λ bytes is.
+    step _ _ _ _ (all_empty_fail fields _ _) (λ unused_too is.
+    step _ _ _ _ (maybe_signed_fails (text_at fields column.SecondValue)) (λ val2 is.
+    last_step _ _ _ (maybe_signed_fails (text_at fields column.ThirdValue))))))))))
 
 -- the process of a dispatch, by what its partition's field holds
-proc_fails : (fields : Fields) (part : Option ℕ) → maybe_number greatest_partition (text_at fields 2) ≡ Ok part → FailsAs (proc_of part (text_at fields 3)) (DispatchedFault (columns_of fields))
+proc_fails : (fields : Fields) (part : Option ℕ) → maybe_number GREATEST_PARTITION (text_at fields column.Partition) ≡ Ok part → FailsAs (proc_of part (text_at fields column.Process)) (DispatchedFault (columns_of fields))
 unfolding proc_of number
-proc_fails fields part is = by part (maybe_number_holds greatest_partition (text_at fields 2) part (omega arith) is)
+proc_fails fields part is = by part (maybe_number_holds GREATEST_PARTITION (text_at fields column.Partition) part (omega arith) is)
   where
-    by : (part : Option ℕ) → MayHold (HoldsNumber greatest_partition) (text_at fields 2) part → FailsAs (proc_of part (text_at fields 3)) (DispatchedFault (columns_of fields))
+    by : (part : Option ℕ) → MayHold (HoldsNumber GREATEST_PARTITION) (text_at fields column.Partition) part → FailsAs (proc_of part (text_at fields column.Process)) (DispatchedFault (columns_of fields))
     by None left_out = record {
       to = λ e same. inl (left_out, unused.to e same);
       from = λ e fault. from e fault;
     }
       where
-        unused : FailsAs {A = Option Who} (empty (text_at fields 3) >>= (λ u. Ok None)) (MustBeEmpty (text_at fields 3 ∷ []))
-        unused = unused_fails (text_at fields 3) None
+        unused : FailsAs {A = Option Who} (empty (text_at fields column.Process) >>= (λ u. Ok None)) (MustBeEmpty (text_at fields column.Process ∷ []))
+        unused = unused_fails (text_at fields column.Process) None
 
-        from : (e : RowFault) → DispatchedFault (columns_of fields) e → ◌≡◌ {A = Result (Option Who) RowFault} (empty (text_at fields 3) >>= (λ u. Ok None)) (Err e)
+        from : (e : RowFault) → DispatchedFault (columns_of fields) e → ◌≡◌ {A = Result (Option Who) RowFault} (empty (text_at fields column.Process) >>= (λ u. Ok None)) (Err e)
         from e (inl fault) = unused.from e fault.1
         from e (inr fault) = absurd (fault.0 left_out)
     by (Some n) held = record {
@@ -391,31 +390,31 @@ proc_fails fields part is = by part (maybe_number_holds greatest_partition (text
       from = λ e fault. from e fault;
     }
       where
-        filled : text_at fields 2 ≢ []
+        filled : text_at fields column.Partition ≢ []
         filled none =
-            no_fault FieldNotForKind n (subst (λ text. number greatest_partition text ≡ Ok n) none (holds_number greatest_partition (text_at fields 2) n (omega arith) held))
+            no_fault FieldNotForKind n (subst (λ text. number GREATEST_PARTITION text ≡ Ok n) none (holds_number GREATEST_PARTITION (text_at fields column.Partition) n (omega arith) held))
 
-        given : FailsAs {A = Option Who} (number greatest_number (text_at fields 3) >>= (λ proc. Ok (Some (record { part = n; proc = proc })))) (MustHold BadNumber (HoldsNumber greatest_number) (text_at fields 3))
-        given = last_step _ _ _ (number_fails greatest_number (text_at fields 3) (omega arith))
+        given : FailsAs {A = Option Who} (number GREATEST_NUMBER (text_at fields column.Process) >>= (λ proc. Ok (Some (record { part = n; proc = proc })))) (MustHold BadNumber (HoldsNumber GREATEST_NUMBER) (text_at fields column.Process))
+        given = last_step _ _ _ (number_fails GREATEST_NUMBER (text_at fields column.Process) (omega arith))
 
         from : (e : RowFault) → DispatchedFault (columns_of fields) e
-            → ◌≡◌ {A = Result (Option Who) RowFault} (number greatest_number (text_at fields 3) >>= (λ proc. Ok (Some (record { part = n; proc = proc })))) (Err e)
+            → ◌≡◌ {A = Result (Option Who) RowFault} (number GREATEST_NUMBER (text_at fields column.Process) >>= (λ proc. Ok (Some (record { part = n; proc = proc })))) (Err e)
         from e (inl fault) = absurd (filled fault.0)
         from e (inr fault) = given.from e fault.1
 
 dispatch_fails : (fields : Fields) → FailsAs (dispatch_in fields) (DispatchFault (columns_of fields))
 unfolding dispatch_in
 dispatch_fails fields =
-    step _ _ _ _ (maybe_number_fails greatest_partition (text_at fields 2) (omega arith)) (λ part is.
+    step _ _ _ _ (maybe_number_fails GREATEST_PARTITION (text_at fields column.Partition) (omega arith)) (λ part is.
     step _ _ _ _ (proc_fails fields part is) (λ who is.
-    last_step _ _ _ (all_empty_fail fields 4 14)))
+    last_step _ _ _ (all_empty_fail fields _ _)))
 
 tick_fails : (fields : Fields) → FailsAs (tick_in fields) (TickFault (columns_of fields))
 unfolding tick_in
 tick_fails fields =
-    step _ _ _ _ (all_empty_fail fields 2 13) (λ unused is.
-    step _ _ _ _ (woken_fails (text_at fields 15)) (λ woken is.
-    last_step _ _ _ (all_empty_fail fields 16 2)))
+    step _ _ _ _ (all_empty_fail fields _ _) (λ unused is.
+    step _ _ _ _ (woken_fails (text_at fields column.Woken)) (λ woken is.
+    last_step _ _ _ (all_empty_fail fields _ _)))
 
 body_fails : (format : Format) (which : Kind) (fields : Fields) → FailsAs (body_in format which fields) (FaultOf which format (columns_of fields))
 unfolding body_in
@@ -425,7 +424,7 @@ body_fails format kind.Disp fields = last_step _ _ _ (dispatch_fails fields)
 body_fails format kind.Tick fields = last_step _ _ _ (tick_fails fields)
 
 -- the number of a row
-seq_fails : (next given : ℕ) (fields : Fields) → number (most_records - 1) (text_at fields 0) ≡ Ok given → FailsAs (seq_in next given) (OtherNumber next (columns_of fields))
+seq_fails : (next given : ℕ) (fields : Fields) → number (MOST_RECORDS - 1) (text_at fields column.Sequence) ≡ Ok given → FailsAs (seq_in next given) (OtherNumber next (columns_of fields))
 unfolding seq_in
 seq_fails next given fields is = by (nat_eq given next) refl
   where
@@ -433,33 +432,33 @@ seq_fails next given fields is = by (nat_eq given next) refl
     by true same = record {
       to = λ e read. no_value given e read;
       from = λ e fault.
-          let one : fault.0 ≡ given = same_ok fault.0 given (sym (holds_number (most_records - 1) (text_at fields 0) fault.0 (omega arith) fault.1) ∙ is) in
+          let one : fault.0 ≡ given = same_ok fault.0 given (sym (holds_number (MOST_RECORDS - 1) (text_at fields column.Sequence) fault.0 (omega arith) fault.1) ∙ is) in
           absurd (fault.2 (one ∙ eqb-true given next same));
     }
     by false other = record {
-      to = λ e read. (given, number_holds (most_records - 1) (text_at fields 0) given (omega arith) is, eqb-false given next other, sym (same_err SeqGap e read));
+      to = λ e read. (given, number_holds (MOST_RECORDS - 1) (text_at fields column.Sequence) given (omega arith) is, eqb-false given next other, sym (same_err SeqGap e read));
       from = λ e fault. ap Err (sym fault.3);
     }
 
 fields_fail : (format : Format) (next : ℕ) (fields : Fields)
     → FailsAs (fields_read format next fields)
-    (MustHold BadNumber (HoldsNumber (most_records - 1)) (columns_of fields).seq
+    (MustHold BadNumber (HoldsNumber (MOST_RECORDS - 1)) (columns_of fields).seq
     or_else OtherNumber next (columns_of fields)
     or_else MustHold BadKind HoldsKind (columns_of fields).kind
     or_else (λ fault. (which : Kind) × HoldsKind (columns_of fields).kind which × FaultOf which format (columns_of fields) fault))
 unfolding fields_read
 fields_fail format next fields =
-    step _ _ _ _ (number_fails (most_records - 1) (text_at fields 0) (omega arith)) (λ given is.
+    step _ _ _ _ (number_fails (MOST_RECORDS - 1) (text_at fields column.Sequence) (omega arith)) (λ given is.
     step _ _ _ _ (seq_fails next given fields is) (λ seq at.
-    step _ _ _ _ (kind_fails (text_at fields 1)) (λ which named.
+    step _ _ _ _ (kind_fails (text_at fields column.Kind)) (λ which named.
     last_step _ _ _ (after which named))))
   where
-    after : (which : Kind) → kind_of (text_at fields 1) ≡ Ok which
-        → FailsAs (body_in format which fields) (λ fault. (k : Kind) × HoldsKind (text_at fields 1) k × FaultOf k format (columns_of fields) fault)
+    after : (which : Kind) → kind_of (text_at fields column.Kind) ≡ Ok which
+        → FailsAs (body_in format which fields) (λ fault. (k : Kind) × HoldsKind (text_at fields column.Kind) k × FaultOf k format (columns_of fields) fault)
     after which named = record {
-      to = λ e same. (which, kind_held (text_at fields 1) which named, (body_fails format which fields).to e same);
+      to = λ e same. (which, kind_held (text_at fields column.Kind) which named, (body_fails format which fields).to e same);
       from = λ e fault. (body_fails format which fields).from e (subst (λ k. FaultOf k format (columns_of fields) e)
-          (same_ok fault.0 which (sym (kind_holds (text_at fields 1) fault.0 fault.1) ∙ named)) fault.2);
+          (same_ok fault.0 which (sym (kind_holds (text_at fields column.Kind) fault.0 fault.1) ∙ named)) fault.2);
     }
 
 -- a test before the steps
@@ -486,15 +485,15 @@ tested {A = A} false read bad Missed Others hit missed others = record {
 row_fails : (format : Format) (next : ℕ) (fields : Fields) → FailsAs (record_of format next fields) (IsFirstFault format next fields)
 unfolding record_of
 row_fails format next fields =
-    tested (nat_lt next most_records) _ TooMany (most_records ≤ next) _ fits full
+    tested (nat_lt next MOST_RECORDS) _ TooMany (MOST_RECORDS ≤ next) _ fits full
     (tested (length fields == field_count format) _ FieldCount (length fields ≢ field_count format) _ counted other
     (fields_fail format next fields))
   where
-    fits : nat_lt next most_records ≡ true → ¬ (most_records ≤ next)
-    fits is over = let below : next < most_records = ltb-true next most_records is in absurd (omega arith)
+    fits : nat_lt next MOST_RECORDS ≡ true → ¬ (MOST_RECORDS ≤ next)
+    fits is over = let below : next < MOST_RECORDS = ltb-true next MOST_RECORDS is in absurd (omega arith)
 
-    full : nat_lt next most_records ≡ false → most_records ≤ next
-    full is = ltb-false next most_records is
+    full : nat_lt next MOST_RECORDS ≡ false → MOST_RECORDS ≤ next
+    full is = ltb-false next MOST_RECORDS is
 
     counted : (length fields == field_count format) ≡ true → ¬ (length fields ≢ field_count format)
     counted is not = not (eqb-true (length fields) (field_count format) is)

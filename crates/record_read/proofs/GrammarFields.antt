@@ -18,7 +18,7 @@ same_ok x y e = cc
 pub no_fault : {A : Type 0} {Goal : Type 0} (fault : RowFault) (y : A) → ◌≡◌ {A = Result A RowFault} (Err fault) (Ok y) → Goal
 no_fault fault y e = absurd (let f : ◌≡◌ {A = Result _ RowFault} (Err fault) (Ok y) = e in cc)
 
--- a step that gave a value, and the steps behind it
+-- a step that gave a value, and the steps after it
 pub step_ok : {A B : Type 0} (read : Result A RowFault) (more : A → Result B RowFault) (y : B) → (read >>= more) ≡ Ok y → (x : A) × (read ≡ Ok x) × (more x ≡ Ok y)
 step_ok (Ok x) more y e = (x, refl, e)
 step_ok (Err fault) more y e = no_fault fault y e

@@ -11,7 +11,7 @@ use Rattle.std.proofs.lemmas.List.{append-nil}
 use Rattle.std.proofs.lemmas.List.Elements.{All-cons, All-head, All-nil, All-tail}
 use Rattle.std.proofs.lemmas.Option.{none-some, same_Some}
 use Rattle.std.proofs.lemmas.Str.Parse.{digit_from_value}
-use Rattle.apex_types.specs.Bounds.{greatest_number, greatest_partition}
+use Rattle.apex_types.specs.declared.limits.TheConstants.{GREATEST_NUMBER, GREATEST_PARTITION}
 use Rattle.apex_types.specs.declared.record.Who.{Who}
 use Rattle.apex_types.specs.Rising.{RisesFrom}
 use Rattle.record_read.specs.declared.fault.RowFault.TheVariants.{BadWoken}
@@ -62,7 +62,7 @@ joined_at separator (b ∷ bs) rest e = by (nat_eq b separator) refl e (joined_a
     by true here e more = rw (eqb-true b separator here, same_Some bs rest e) refl
     by false here e more = ap (λ found. b ∷ found) (more e)
 
--- a byte behind the digits doesn't stand in digits
+-- a byte after the digits doesn't stand in digits
 digits_lack : (separator : ℕ) (text : List ℕ) → 57 < separator → AllDigits 10 text → Lacks separator text
 digits_lack separator [] behind all = tt
 digits_lack separator (b ∷ bs) behind all =
@@ -74,7 +74,7 @@ digits_lack separator (b ∷ bs) behind all =
 written_lacks : (separator n : ℕ) → 57 < separator → n < 2 ^ 64 → Lacks separator (written n)
 written_lacks separator n behind room = digits_lack separator (written n) behind (decimal_is_IsNumeral n room).0.1
 
--- what the first of two finds gives, and the second behind it
+-- what the first of two finds gives, and the second after it
 found_first : {A B : Type 0} (more : A → Option B) (first : Option A) (y : B) → option_and_then more first ≡ Some y → (x : A) × (first ≡ Some x) × (more x ≡ Some y)
 found_first more None y e = absurd (none-some y e)
 found_first more (Some x) y e = (x, refl, e)
@@ -105,19 +105,19 @@ process_written text front rest who joined before behind = joined ∙ rw (before
 process_holds : (text : List ℕ) (who : Who) → process_of text ≡ Some who → (text ≡ process_text who) × IsNameable who
 unfolding process_of
 process_holds text who e =
-    let room : greatest_partition < 2 ^ 64 = omega arith in
-    let room_too : greatest_number < 2 ^ 64 = omega arith in
+    let room : GREATEST_PARTITION < 2 ^ 64 = omega arith in
+    let room_too : GREATEST_NUMBER < 2 ^ 64 = omega arith in
     let rest = found_first _ _ who e in
     let part = found_first _ _ who rest.2 in
     let number = found_first _ _ who part.2 in
     let is = process_is part.0 number.0 who number.2 in
-    let front = number_written greatest_partition (front_of 58 text) part.0 room part.1 in
-    let back = number_written greatest_number rest.0 number.0 room_too number.1 in (
+    let front = number_written GREATEST_PARTITION (front_of 58 text) part.0 room part.1 in
+    let back = number_written GREATEST_NUMBER rest.0 number.0 room_too number.1 in (
       process_written text (front_of 58 text) rest.0 who (joined_at 58 text rest.0 rest.1) (front.0 ∙ ap written is.0) (back.0 ∙ ap written is.1),
       record {
-        part = subst (λ n. n ≤ greatest_partition) is.0 front.1;
+        part = subst (λ n. n ≤ GREATEST_PARTITION) is.0 front.1;
         created = is.2;
-        proc = subst (λ n. n ≤ greatest_number) is.1 back.1;
+        proc = subst (λ n. n ≤ GREATEST_NUMBER) is.1 back.1;
       },
     )
 
@@ -132,8 +132,8 @@ is_process who created = by (nat_eq who.proc 0) refl
 -- no `;` stands in the text of a process
 process_lacks : (who : Who) → IsNameable who → Lacks 59 (process_text who)
 process_lacks who h =
-    let part : who.part ≤ greatest_partition = h.part in
-    let proc : who.proc ≤ greatest_number = h.proc in
+    let part : who.part ≤ GREATEST_PARTITION = h.part in
+    let proc : who.proc ≤ GREATEST_NUMBER = h.proc in
     rw append_assoc (lacks_both 59 (written who.part) (58 ∷ written who.proc) (written_lacks 59 who.part (omega arith) (omega arith))
     (refl, written_lacks 59 who.proc (omega arith) (omega arith)))
 
@@ -142,12 +142,12 @@ holds_process : (who : Who) → IsNameable who → process_of (process_text who)
 unfolding process_of
 holds_process who h =
     let joined : process_text who ≡ written who.part ++ 58 ∷ written who.proc = append_assoc (written who.part) (codes ":") (written who.proc) in
-    let fits : who.part ≤ greatest_partition = h.part in
+    let fits : who.part ≤ GREATEST_PARTITION = h.part in
     let lacks : Lacks 58 (written who.part) = written_lacks 58 who.part (omega arith) (omega arith) in
     let rest : rest_of 58 (process_text who) ≡ Some (written who.proc) = ap (rest_of 58) joined ∙ rest_joined 58 (written who.part) (written who.proc) lacks in
     let front : front_of 58 (process_text who) ≡ written who.part = ap (front_of 58) joined ∙ front_joined 58 (written who.part) (written who.proc) lacks in
-    let part = number_read greatest_partition who.part (written who.part) (omega arith) h.part refl in
-    let proc = number_read greatest_number who.proc (written who.proc) (omega arith) h.proc refl in
+    let part = number_read GREATEST_PARTITION who.part (written who.part) (omega arith) h.part refl in
+    let proc = number_read GREATEST_NUMBER who.proc (written who.proc) (omega arith) h.proc refl in
     rw (rest, front, part, proc) (is_process who h.created)
 
 -- the texts of processes joined by `;`
@@ -169,18 +169,18 @@ all_pieces who (next ∷ others) all =
     ∙ rw (front_joined 59 (process_text who) rest lacks, rest_joined 59 (process_text who) rest lacks)
     (ap (λ found. process_text who ∷ found) (all_pieces next others (All-tail IsNameable who (next ∷ others) all)))
 
--- the text of a process that stands behind the last names it
+-- the text of a process that comes after the last names it
 next_is_read : (last : Option Who) (who : Who) (others : List Who) → IsNameable who → RisesBehind last (who ∷ others) → next_process last (process_text who) ≡ Some who
 unfolding next_process
 next_is_read None who others h rises = rw (holds_process who h) refl
 next_is_read (Some last) who others h rises = rw (holds_process who h, rises.0) refl
 
--- processes that rise behind a last one rise behind the first of them
+-- processes that rise after a last one rise after the first of them
 rises_on : (last : Option Who) (who : Who) (others : List Who) → RisesBehind last (who ∷ others) → RisesFrom who others
 rises_on None who others rises = rises
 rises_on (Some last) who others rises = rises.1
 
--- the texts of processes that rise name them, each behind the one before
+-- the texts of processes that rise name them, each after the one before
 are_read : (last : Option Who) (named : List Who) → All IsNameable named → RisesBehind last named → processes_behind last (map process_text named) ≡ Some named
 unfolding processes_behind
 are_read last [] all rises = refl

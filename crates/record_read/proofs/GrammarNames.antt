@@ -1,7 +1,9 @@
 -- What is given by its name: a step of the reader gives it exactly where the field is its name.
 use Rattle.std.proofs.Common.{◌≡◌, ◌∙◌, ℕ, List, [], ◌∷◌, Bool, true, false, Option, Some, None, Ok, refl, sym, ap, subst, if◌then◌else◌}
 use Rattle.std.specs.Prelude.{IsTrue, codes, option_map}
+use Rattle.std.specs.List.{list_all}
 use Rattle.std.specs.Str.{bytes_eq}
+use Rattle.std.proofs.lemmas.Bool.{and_parts}
 use Rattle.std.proofs.lemmas.Option.{none-some, same_Some}
 use Rattle.std.proofs.lemmas.Slice.Eq.{bytes_eq-Decides}
 use Rattle.apex_types.specs.declared.code.Code.{Code}
@@ -10,15 +12,16 @@ use Rattle.apex_types.specs.declared.record.Out.{Out}
 use Rattle.apex_types.specs.declared.record.Out.TheVariants as out
 use Rattle.apex_types.specs.declared.service.Service.{Service}
 use Rattle.apex_types.specs.declared.service.Service.TheVariants as service
+use Rattle.apex_types.specs.declared.service.TheConstants.{SERVICES}
 use Rattle.apex_types.specs.CodeName as CodeName
-use Rattle.apex_types.specs.ServiceName as ServiceName
+use Rattle.apex_types.specs.Services as Services
 use Rattle.record_read.specs.declared.fault.RowFault.TheVariants.{BadKind, BadOut, BadService, FieldNotForKind}
-use Rattle.record_read.specs.declared.format.Format.{Format}
+use Rattle.apex_types.specs.declared.format.Format.{Format}
 use Rattle.record_read.specs.declared.kind.Kind.{Kind}
 use Rattle.record_read.specs.declared.kind.Kind.TheVariants as kind
-use Rattle.record_read.specs.Format.{stands_in}
+use Rattle.apex_types.specs.Services.{is_in}
 use Rattle.record_read.specs.Grammar.{HoldsOutcome}
-use Rattle.record_read.specs.Named.{all_codes, all_services, code_among, code_named, code_of, kind_named, kind_of, out_named, out_of, service_among, service_named, service_of}
+use Rattle.record_read.specs.Named.{all_codes, code_among, code_named, code_of, kind_named, kind_of, out_named, out_of, service_among, service_named, service_of}
 use Rattle.record_read.proofs.GrammarFields.{no_fault, ok_some, step_ok, test_ok}
 
 -- the first of two finds: the text has the first name and this is what it names, or the second find gives it
@@ -63,32 +66,40 @@ of_kind_name _ = refl
 pub is_kind : (text : List ℕ) (k : Kind) → text ≡ kind_name k → kind_of text ≡ Ok k
 is_kind text k e = ap kind_of e ∙ of_kind_name k
 
--- a text that names a service among some is its name
-service_among_is : (services : List Service) (text : List ℕ) (s : Service) → service_among services text ≡ Some s → text ≡ ServiceName.name_of s
+-- a text that names a service among some rows is its name, where each row has its service's name
+service_among_is : (rows : List Services.Row) (text : List ℕ) (s : Service) → IsTrue (list_all (λ row. bytes_eq row.name.now (Services.name_of row.service)) rows)
+    → service_among (λ name. name.now) rows text ≡ Some s → text ≡ Services.name_of s
 unfolding service_among
-service_among_is [] text s e = absurd (none-some s e)
-service_among_is (first ∷ others) text s e =
-    first_is (ServiceName.name_of first) text first (service_among others text) s (λ found. text ≡ ServiceName.name_of found) sym (service_among_is others text s) e
+service_among_is [] text s own e = absurd (none-some s e)
+service_among_is (row ∷ rows) text s own e =
+    let parts = and_parts _ _ own in
+    first_is row.name.now text row.service (service_among (λ name. name.now) rows text) s (λ found. text ≡ Services.name_of found)
+    (λ same. sym same ∙ (bytes_eq-Decides row.name.now (Services.name_of row.service)).0 parts.0) (service_among_is rows text s parts.1) e
+
+-- a text that names a service is its name
+service_named_is : (text : List ℕ) (s : Service) → service_named text ≡ Some s → text ≡ Services.name_of s
+unfolding service_named Services.row_of
+service_named_is text s e = service_among_is SERVICES text s refl e
 
 -- a field that is read as a service is its name, and the service stands in the format
-pub service_is : (format : Format) (text : List ℕ) (s : Service) → service_of format text ≡ Ok s → (text ≡ ServiceName.name_of s) × IsTrue (stands_in format s)
-unfolding service_of service_named
+pub service_is : (format : Format) (text : List ℕ) (s : Service) → service_of format text ≡ Ok s → (text ≡ Services.name_of s) × IsTrue (is_in format s)
+unfolding service_of
 service_is format [] s e = no_fault FieldNotForKind s e
 service_is format (b ∷ bs) s e =
     let found = step_ok _ _ s e in
-    let test = test_ok (stands_in format found.0) BadService found.0 s found.2 in (
-      service_among_is all_services (b ∷ bs) s (ok_some (service_named (b ∷ bs)) BadService s (found.1 ∙ ap Ok test.1)),
-      subst (λ given. IsTrue (stands_in format given)) test.1 test.0,
+    let test = test_ok (is_in format found.0) BadService found.0 s found.2 in (
+      service_named_is (b ∷ bs) s (ok_some (service_named (b ∷ bs)) BadService s (found.1 ∙ ap Ok test.1)),
+      subst (λ given. IsTrue (is_in format given)) test.1 test.0,
     )
 
 -- the name of a service that stands in the format names it, and no service before it
-of_service_name : (format : Format) (s : Service) → IsTrue (stands_in format s) → service_of format (ServiceName.name_of s) ≡ Ok s
-unfolding service_of service_named service_among
+of_service_name : (format : Format) (s : Service) → IsTrue (is_in format s) → service_of format (Services.name_of s) ≡ Ok s
+unfolding service_of service_named service_among Services.row_of
 of_service_name format service.CreateProcess stands = rw stands refl
 of_service_name format _ stands = rw stands refl
 
 -- a field that is the name of a service that stands in the format is read as it
-pub is_service : (format : Format) (text : List ℕ) (s : Service) → text ≡ ServiceName.name_of s → IsTrue (stands_in format s) → service_of format text ≡ Ok s
+pub is_service : (format : Format) (text : List ℕ) (s : Service) → text ≡ Services.name_of s → IsTrue (is_in format s) → service_of format text ≡ Ok s
 is_service format text s e stands = ap (service_of format) e ∙ of_service_name format s stands
 
 -- a text that names a code among some is its name

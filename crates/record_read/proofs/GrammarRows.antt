@@ -1,10 +1,10 @@
 -- Whole rows: the reader's steps from left to right give a record exactly where the row is the record's.
-use Rattle.std.proofs.Common.{◌≡◌, ◌^◌, ◌<◌, ◌∙◌, ◌≤◌, ℕ, zero, suc, pred, List, [], ◌∷◌, ◌++◌, Bool, true, false, Option, Some, None, Result, Ok, Err, length, refl, sym, ap, subst, nat_le, nat_lt, nat_eq, arith, if◌then◌else◌, ◌==◌}
+use Rattle.std.proofs.Common.{◌≡◌, ◌+◌, ◌-◌, ◌^◌, ◌<◌, ◌∙◌, ◌≤◌, ℕ, zero, suc, pred, List, [], ◌∷◌, ◌++◌, Bool, true, false, Option, Some, None, Result, Ok, Err, length, refl, sym, ap, subst, nat_le, nat_lt, nat_eq, arith, if◌then◌else◌, ◌==◌}
 use Rattle.std.specs.Prelude.{codes}
 use Rattle.std.specs.Fmt.{decimal}
 use Rattle.std.proofs.lemmas.Bool.{eq-eqb, eqb-true, lt-ltb}
 use Rattle.csv_rows.specs.Stream.{Fields}
-use Rattle.apex_types.specs.Bounds.{greatest_channel, greatest_number, greatest_partition, greatest_priority, most_records}
+use Rattle.apex_types.specs.declared.limits.TheConstants.{GREATEST_CHANNEL, GREATEST_NUMBER, GREATEST_PARTITION, GREATEST_PRIORITY, MOST_RECORDS}
 use Rattle.apex_types.specs.declared.record.Body.{Body}
 use Rattle.apex_types.specs.declared.record.Body.TheVariants as body
 use Rattle.apex_types.specs.declared.record.Call.{Call}
@@ -13,14 +13,18 @@ use Rattle.apex_types.specs.declared.record.Record.{Record}
 use Rattle.apex_types.specs.declared.record.Return.{Return}
 use Rattle.apex_types.specs.declared.record.Who.{Who}
 use Rattle.apex_types.specs.declared.request.Request.{Request}
+use Rattle.record_read.specs.declared.column.Column.{Column}
+use Rattle.record_read.specs.declared.column.Column.TheVariants as column
+use Rattle.record_read.specs.Column.{place_of}
 use Rattle.record_read.specs.declared.fault.RowFault.{RowFault}
 use Rattle.record_read.specs.declared.fault.RowFault.TheVariants.{FieldCount, SeqGap, TooMany}
-use Rattle.record_read.specs.declared.format.Format.{Format}
+use Rattle.apex_types.specs.declared.format.Format.{Format}
 use Rattle.record_read.specs.declared.kind.Kind.{Kind}
 use Rattle.record_read.specs.declared.kind.Kind.TheVariants as kind
-use Rattle.record_read.specs.Arguments.{arguments_of, request_of}
-use Rattle.record_read.specs.Field.{all_empty, empty, maybe_number, text_at}
-use Rattle.record_read.specs.Format.{field_count}
+use Rattle.apex_types.specs.Services.{arguments_of}
+use Rattle.record_read.specs.Arguments.{request_of}
+use Rattle.record_read.specs.Field.{all_empty, bytes_at, empty, empty_between, maybe_number, text_at}
+use Rattle.apex_types.specs.Format.{field_count}
 use Rattle.record_read.specs.Grammar.{AreEmpty, Dispatches, HoldsClaim, HoldsNumber, HoldsRequest, IsRow, IsRowOf, IsRowOfCall, IsRowOfDispatch, IsRowOfReturn, IsRowOfTick, NamesProcess, columns_of}
 use Rattle.record_read.specs.GrammarLaws.{OneRecordOfARow, RowsAreTheGrammar}
 use Rattle.record_read.specs.Row.{body_in, call_in, claim_in, dispatch_in, fields_read, proc_of, record_of, request_in, return_in, seq_in, tick_in, who_in}
@@ -32,15 +36,15 @@ use Rattle.record_read.proofs.GrammarTexts.{data_holds, holds_data, holds_messag
 -- so many fields from this place on
 abbrev pub texts_from : Fields → ℕ → ℕ → List (List ℕ)
 texts_from fields place zero = []
-texts_from fields place (suc n) = text_at fields place ∷ texts_from fields (suc place) n
+texts_from fields place (suc n) = bytes_at fields place ∷ texts_from fields (suc place) n
 
 -- fields without a fault that must be empty are empty
 pub all_are_empty : (fields : Fields) (place count : ℕ) → all_empty fields place count ≡ Ok tt → AreEmpty (texts_from fields place count)
 unfolding all_empty
 all_are_empty fields place zero e = tt
 all_are_empty fields place (suc n) e =
-    let s = step_ok (empty (text_at fields place)) (λ u. all_empty fields (suc place) n) tt e in
-    (empty_is (text_at fields place) s.1, all_are_empty fields (suc place) n s.2)
+    let s = step_ok (empty (bytes_at fields place)) (λ u. all_empty fields (suc place) n) tt e in
+    (empty_is (bytes_at fields place) s.1, all_are_empty fields (suc place) n s.2)
 
 -- empty fields have no fault where they must be empty
 pub are_all_empty : (fields : Fields) (place count : ℕ) → AreEmpty (texts_from fields place count) → all_empty fields place count ≡ Ok tt
@@ -48,7 +52,14 @@ unfolding all_empty
 are_all_empty fields place zero h = refl
 are_all_empty fields place (suc n) h = rw h.0 (are_all_empty fields (suc place) n h.1)
 
--- empty fields behind empty ones
+-- the texts from one column to another
+abbrev pub texts_between : Fields → Column → Column → List (List ℕ)
+texts_between fields first last = texts_from fields (place_of first) (place_of last + 1 - place_of first)
+
+are_empty_between : (fields : Fields) (first last : Column) → AreEmpty (texts_between fields first last) → empty_between fields first last ≡ Ok tt
+are_empty_between fields first last = are_all_empty fields (place_of first) (place_of last + 1 - place_of first)
+
+-- empty fields after empty ones
 both_empty : (front back : List (List ℕ)) → AreEmpty front → AreEmpty back → AreEmpty (front ++ back)
 both_empty [] back h k = k
 both_empty (text ∷ texts) back h k = (h.0, both_empty texts back h.1 k)
@@ -70,14 +81,14 @@ who_is fields who e =
     let part = step_ok _ _ who e in
     let proc = step_ok _ _ who part.2 in
     subst (NamesProcess (columns_of fields)) (same_ok (record { part = part.0; proc = proc.0 }) who proc.2) (record {
-      part = number_holds greatest_partition (text_at fields 2) part.0 (omega arith) part.1;
-      proc = number_holds greatest_number (text_at fields 3) proc.0 (omega arith) proc.1;
+      part = number_holds GREATEST_PARTITION (text_at fields column.Partition) part.0 (omega arith) part.1;
+      proc = number_holds GREATEST_NUMBER (text_at fields column.Process) proc.0 (omega arith) proc.1;
     })
 
 -- a process that the row names is read
 is_who : (fields : Fields) (who : Who) → NamesProcess (columns_of fields) who → who_in fields ≡ Ok who
 unfolding who_in
-is_who fields who h = rw (holds_number greatest_partition (text_at fields 2) who.part (omega arith) h.part, holds_number greatest_number (text_at fields 3) who.proc (omega arith) h.proc) refl
+is_who fields who h = rw (holds_number GREATEST_PARTITION (text_at fields column.Partition) who.part (omega arith) h.part, holds_number GREATEST_NUMBER (text_at fields column.Process) who.proc (omega arith) h.proc) refl
 
 -- a request that is read is what the row holds
 request_is : (format : Format) (fields : Fields) (request : Request) → request_in format fields ≡ Ok request → HoldsRequest format (columns_of fields) request
@@ -90,7 +101,7 @@ request_is format fields request e =
     let name = step_ok _ _ request n3.2 in
     let message = step_ok _ _ request name.2 in
     let takes = arguments_of service.0 in
-    let given = service_is format (text_at fields 4) service.0 service.1 in
+    let given = service_is format (text_at fields column.Service) service.0 service.1 in
     record {
       service = service.0;
       n1 = n1.0;
@@ -101,11 +112,11 @@ request_is format fields request e =
       is = sym (same_ok (request_of service.0 n1.0 n2.0 n3.0 name.0 message.0) request message.2);
       has_service = given.0;
       stands = given.1;
-      has_n1 = argument_holds (nat_le 1 takes.numbers) (text_at fields 5) n1.0 n1.1;
-      has_n2 = argument_holds (nat_le 2 takes.numbers) (text_at fields 6) n2.0 n2.1;
-      has_n3 = argument_holds (nat_le 3 takes.numbers) (text_at fields 7) n3.0 n3.1;
-      has_name = name_holds takes.name (text_at fields 8) name.0 name.1;
-      has_message = message_holds takes.message n2.0 (text_at fields 9) message.0 message.1;
+      has_n1 = argument_holds (nat_le 1 takes.numbers) (text_at fields column.FirstNumber) n1.0 n1.1;
+      has_n2 = argument_holds (nat_le 2 takes.numbers) (text_at fields column.SecondNumber) n2.0 n2.1;
+      has_n3 = argument_holds (nat_le 3 takes.numbers) (text_at fields column.ThirdNumber) n3.0 n3.1;
+      has_name = name_holds takes.name (text_at fields column.Name) name.0 name.1;
+      has_message = message_holds takes.message n2.0 (text_at fields column.Message) message.0 message.1;
     }
 
 -- a request that the row holds is read
@@ -114,12 +125,12 @@ unfolding request_in
 is_request format fields request h =
     let takes = arguments_of h.service in
     rw (
-      is_service format (text_at fields 4) h.service h.has_service h.stands,
-      holds_argument (nat_le 1 takes.numbers) (text_at fields 5) h.n1 h.has_n1,
-      holds_argument (nat_le 2 takes.numbers) (text_at fields 6) h.n2 h.has_n2,
-      holds_argument (nat_le 3 takes.numbers) (text_at fields 7) h.n3 h.has_n3,
-      holds_name takes.name (text_at fields 8) h.name h.has_name,
-      holds_message takes.message h.n2 (text_at fields 9) h.message h.has_message,
+      is_service format (text_at fields column.Service) h.service h.has_service h.stands,
+      holds_argument (nat_le 1 takes.numbers) (text_at fields column.FirstNumber) h.n1 h.has_n1,
+      holds_argument (nat_le 2 takes.numbers) (text_at fields column.SecondNumber) h.n2 h.has_n2,
+      holds_argument (nat_le 3 takes.numbers) (text_at fields column.ThirdNumber) h.n3 h.has_n3,
+      holds_name takes.name (text_at fields column.Name) h.name h.has_name,
+      holds_message takes.message h.n2 (text_at fields column.Message) h.message h.has_message,
     ) (ap Ok (sym h.is))
 
 -- a claim that is read is what the row holds
@@ -136,14 +147,14 @@ claim_is fields claim e =
     let val3 = step_ok _ _ claim val2.2 in
     subst (HoldsClaim (columns_of fields))
     (same_ok (record { prio = prio.0; out = out.0; val = val.0; val2 = val2.0; val3 = val3.0; bytes = bytes.0; chan = chan.0; woken = woken.0 }) claim val3.2) (record {
-      prio = number_holds greatest_priority (text_at fields 10) prio.0 (omega arith) prio.1;
-      out = outcome_is (text_at fields 11) out.0 out.1;
-      val = maybe_signed_holds (text_at fields 12) val.0 val.1;
-      val2 = maybe_signed_holds (text_at fields 16) val2.0 val2.1;
-      val3 = maybe_signed_holds (text_at fields 17) val3.0 val3.1;
-      bytes = data_holds (text_at fields 13) bytes.0 bytes.1;
-      chan = maybe_number_holds greatest_channel (text_at fields 14) chan.0 (omega arith) chan.1;
-      woken = processes_hold (text_at fields 15) woken.0 woken.1;
+      prio = number_holds GREATEST_PRIORITY (text_at fields column.Priority) prio.0 (omega arith) prio.1;
+      out = outcome_is (text_at fields column.Outcome) out.0 out.1;
+      val = maybe_signed_holds (text_at fields column.Value) val.0 val.1;
+      val2 = maybe_signed_holds (text_at fields column.SecondValue) val2.0 val2.1;
+      val3 = maybe_signed_holds (text_at fields column.ThirdValue) val3.0 val3.1;
+      bytes = data_holds (text_at fields column.Data) bytes.0 bytes.1;
+      chan = maybe_number_holds GREATEST_CHANNEL (text_at fields column.Channel) chan.0 (omega arith) chan.1;
+      woken = processes_hold (text_at fields column.Woken) woken.0 woken.1;
     })
 
 -- a claim that the row holds is read
@@ -151,18 +162,18 @@ is_claim : (fields : Fields) (claim : Claim) → HoldsClaim (columns_of fields) 
 unfolding claim_in
 is_claim fields claim h =
     rw (
-      holds_number greatest_priority (text_at fields 10) claim.prio (omega arith) h.prio,
-      is_outcome (text_at fields 11) claim.out h.out,
-      holds_maybe_signed (text_at fields 12) claim.val h.val,
-      holds_data (text_at fields 13) claim.bytes h.bytes,
-      holds_maybe_number greatest_channel (text_at fields 14) claim.chan (omega arith) h.chan,
-      hold_processes (text_at fields 15) claim.woken h.woken,
-      holds_maybe_signed (text_at fields 16) claim.val2 h.val2,
-      holds_maybe_signed (text_at fields 17) claim.val3 h.val3,
+      holds_number GREATEST_PRIORITY (text_at fields column.Priority) claim.prio (omega arith) h.prio,
+      is_outcome (text_at fields column.Outcome) claim.out h.out,
+      holds_maybe_signed (text_at fields column.Value) claim.val h.val,
+      holds_data (text_at fields column.Data) claim.bytes h.bytes,
+      holds_maybe_number GREATEST_CHANNEL (text_at fields column.Channel) claim.chan (omega arith) h.chan,
+      hold_processes (text_at fields column.Woken) claim.woken h.woken,
+      holds_maybe_signed (text_at fields column.SecondValue) claim.val2 h.val2,
+      holds_maybe_signed (text_at fields column.ThirdValue) claim.val3 h.val3,
     ) refl
 
 -- a row of this kind that is read as a call is its row
-call_is : (format : Format) (fields : Fields) (call : Call) → text_at fields 1 ≡ codes "call" → call_in format fields ≡ Ok call
+call_is : (format : Format) (fields : Fields) (call : Call) → text_at fields column.Kind ≡ codes "call" → call_in format fields ≡ Ok call
     → IsRowOfCall format (columns_of fields) call
 unfolding call_in
 call_is format fields call named e =
@@ -182,7 +193,7 @@ unfolding call_in
 is_call format fields call h = rw (is_who fields call.who h.who, is_request format fields call.request h.request, is_claim fields call.claim h.claim) refl
 
 -- a row of this kind that is read as a return is its row
-return_is : (format : Format) (fields : Fields) (ret : Return) → text_at fields 1 ≡ codes "ret" → return_in format fields ≡ Ok ret
+return_is : (format : Format) (fields : Fields) (ret : Return) → text_at fields column.Kind ≡ codes "ret" → return_in format fields ≡ Ok ret
     → IsRowOfReturn format (columns_of fields) ret
 unfolding return_in
 return_is format fields ret named e =
@@ -195,19 +206,19 @@ return_is format fields ret named e =
     let unused_too = step_ok _ _ ret bytes.2 in
     let val2 = step_ok _ _ ret unused_too.2 in
     let val3 = step_ok _ _ ret val2.2 in
-    let given = service_is format (text_at fields 4) service.0 service.1 in
+    let given = service_is format (text_at fields column.Service) service.0 service.1 in
     subst (IsRowOfReturn format (columns_of fields))
     (same_ok (record { who = who.0; service = service.0; code = code.0; val = val.0; val2 = val2.0; val3 = val3.0; bytes = bytes.0 }) ret val3.2) (record {
       kind = named;
       who = who_is fields who.0 who.1;
       service = given.0;
       stands = given.1;
-      code = code_is (text_at fields 11) code.0 code.1;
-      val = maybe_signed_holds (text_at fields 12) val.0 val.1;
-      val2 = maybe_signed_holds (text_at fields 16) val2.0 val2.1;
-      val3 = maybe_signed_holds (text_at fields 17) val3.0 val3.1;
-      bytes = data_holds (text_at fields 13) bytes.0 bytes.1;
-      empty = both_empty (texts_from fields 5 6) (texts_from fields 14 2) (all_are_empty fields 5 6 unused.1) (all_are_empty fields 14 2 unused_too.1);
+      code = code_is (text_at fields column.Outcome) code.0 code.1;
+      val = maybe_signed_holds (text_at fields column.Value) val.0 val.1;
+      val2 = maybe_signed_holds (text_at fields column.SecondValue) val2.0 val2.1;
+      val3 = maybe_signed_holds (text_at fields column.ThirdValue) val3.0 val3.1;
+      bytes = data_holds (text_at fields column.Data) bytes.0 bytes.1;
+      empty = both_empty (texts_between fields column.FirstNumber column.Priority) (texts_between fields column.Channel column.Woken) (all_are_empty fields _ _ unused.1) (all_are_empty fields _ _ unused_too.1);
     })
 
 -- the row of a return is read as the return
@@ -216,31 +227,31 @@ unfolding return_in
 is_return format fields ret h =
     rw (
       is_who fields ret.who h.who,
-      is_service format (text_at fields 4) ret.service h.service h.stands,
-      are_all_empty fields 5 6 (front_empty (texts_from fields 5 6) (texts_from fields 14 2) h.empty),
-      is_code (text_at fields 11) ret.code h.code,
-      holds_maybe_signed (text_at fields 12) ret.val h.val,
-      holds_data (text_at fields 13) ret.bytes h.bytes,
-      are_all_empty fields 14 2 (back_empty (texts_from fields 5 6) (texts_from fields 14 2) h.empty),
-      holds_maybe_signed (text_at fields 16) ret.val2 h.val2,
-      holds_maybe_signed (text_at fields 17) ret.val3 h.val3,
+      is_service format (text_at fields column.Service) ret.service h.service h.stands,
+      are_empty_between fields column.FirstNumber column.Priority (front_empty (texts_between fields column.FirstNumber column.Priority) (texts_between fields column.Channel column.Woken) h.empty),
+      is_code (text_at fields column.Outcome) ret.code h.code,
+      holds_maybe_signed (text_at fields column.Value) ret.val h.val,
+      holds_data (text_at fields column.Data) ret.bytes h.bytes,
+      are_empty_between fields column.Channel column.Woken (back_empty (texts_between fields column.FirstNumber column.Priority) (texts_between fields column.Channel column.Woken) h.empty),
+      holds_maybe_signed (text_at fields column.SecondValue) ret.val2 h.val2,
+      holds_maybe_signed (text_at fields column.ThirdValue) ret.val3 h.val3,
     ) refl
 
 -- a process of a dispatch that is read, or none, is what the row names
-proc_is : (fields : Fields) (part : Option ℕ) (who : Option Who) → maybe_number greatest_partition (text_at fields 2) ≡ Ok part → proc_of part (text_at fields 3) ≡ Ok who
+proc_is : (fields : Fields) (part : Option ℕ) (who : Option Who) → maybe_number GREATEST_PARTITION (text_at fields column.Partition) ≡ Ok part → proc_of part (text_at fields column.Process) ≡ Ok who
     → Dispatches (columns_of fields) who
 unfolding proc_of
 proc_is fields None who p e =
     let unused = step_ok _ _ who e in
     subst (Dispatches (columns_of fields)) (same_ok None who unused.2)
-    (maybe_number_holds greatest_partition (text_at fields 2) None (omega arith) p, (empty_is (text_at fields 3) unused.1, tt))
+    (maybe_number_holds GREATEST_PARTITION (text_at fields column.Partition) None (omega arith) p, (empty_is (text_at fields column.Process) unused.1, tt))
 proc_is fields (Some part) who p e =
     let proc = step_ok _ _ who e in
     subst (Dispatches (columns_of fields)) (same_ok (Some (record { part = part; proc = proc.0 })) who proc.2)
-    (record { part = maybe_number_holds greatest_partition (text_at fields 2) (Some part) (omega arith) p; proc = number_holds greatest_number (text_at fields 3) proc.0 (omega arith) proc.1 })
+    (record { part = maybe_number_holds GREATEST_PARTITION (text_at fields column.Partition) (Some part) (omega arith) p; proc = number_holds GREATEST_NUMBER (text_at fields column.Process) proc.0 (omega arith) proc.1 })
 
 -- a row of this kind that is read as a dispatch is its row
-dispatch_is : (fields : Fields) (who : Option Who) → text_at fields 1 ≡ codes "disp" → dispatch_in fields ≡ Ok who → IsRowOfDispatch (columns_of fields) who
+dispatch_is : (fields : Fields) (who : Option Who) → text_at fields column.Kind ≡ codes "disp" → dispatch_in fields ≡ Ok who → IsRowOfDispatch (columns_of fields) who
 unfolding dispatch_in
 dispatch_is fields who named e =
     let part = step_ok _ _ who e in
@@ -249,23 +260,23 @@ dispatch_is fields who named e =
     subst (IsRowOfDispatch (columns_of fields)) (same_ok found.0 who unused.2) (record {
       kind = named;
       process = proc_is fields part.0 found.0 part.1 found.1;
-      empty = all_are_empty fields 4 14 unused.1;
+      empty = all_are_empty fields _ _ unused.1;
     })
 
 -- the row of a dispatch is read as the dispatch
 is_dispatch : (fields : Fields) (who : Option Who) → IsRowOfDispatch (columns_of fields) who → dispatch_in fields ≡ Ok who
 unfolding dispatch_in proc_of
 is_dispatch fields None h =
-    rw (holds_maybe_number greatest_partition (text_at fields 2) None (omega arith) h.process.0, h.process.1.0, are_all_empty fields 4 14 h.empty) refl
+    rw (holds_maybe_number GREATEST_PARTITION (text_at fields column.Partition) None (omega arith) h.process.0, h.process.1.0, are_empty_between fields column.Service column.ThirdValue h.empty) refl
 is_dispatch fields (Some who) h =
     rw (
-      holds_maybe_number greatest_partition (text_at fields 2) (Some who.part) (omega arith) h.process.part,
-      holds_number greatest_number (text_at fields 3) who.proc (omega arith) h.process.proc,
-      are_all_empty fields 4 14 h.empty,
+      holds_maybe_number GREATEST_PARTITION (text_at fields column.Partition) (Some who.part) (omega arith) h.process.part,
+      holds_number GREATEST_NUMBER (text_at fields column.Process) who.proc (omega arith) h.process.proc,
+      are_empty_between fields column.Service column.ThirdValue h.empty,
     ) refl
 
 -- a row of this kind that is read as a tick is its row
-tick_is : (fields : Fields) (named : List Who) → text_at fields 1 ≡ codes "tick" → tick_in fields ≡ Ok named → IsRowOfTick (columns_of fields) named
+tick_is : (fields : Fields) (named : List Who) → text_at fields column.Kind ≡ codes "tick" → tick_in fields ≡ Ok named → IsRowOfTick (columns_of fields) named
 unfolding tick_in
 tick_is fields named is e =
     let unused = step_ok _ _ named e in
@@ -273,8 +284,8 @@ tick_is fields named is e =
     let unused_too = step_ok _ _ named woken.2 in
     subst (IsRowOfTick (columns_of fields)) (same_ok woken.0 named unused_too.2) (record {
       kind = is;
-      woken = processes_hold (text_at fields 15) woken.0 woken.1;
-      empty = both_empty (texts_from fields 2 13) (texts_from fields 16 2) (all_are_empty fields 2 13 unused.1) (all_are_empty fields 16 2 unused_too.1);
+      woken = processes_hold (text_at fields column.Woken) woken.0 woken.1;
+      empty = both_empty (texts_between fields column.Partition column.Channel) (texts_between fields column.SecondValue column.ThirdValue) (all_are_empty fields _ _ unused.1) (all_are_empty fields _ _ unused_too.1);
     })
 
 -- the row of a tick is read as the tick
@@ -282,13 +293,13 @@ is_tick : (fields : Fields) (named : List Who) → IsRowOfTick (columns_of field
 unfolding tick_in
 is_tick fields named h =
     rw (
-      are_all_empty fields 2 13 (front_empty (texts_from fields 2 13) (texts_from fields 16 2) h.empty),
-      hold_processes (text_at fields 15) named h.woken,
-      are_all_empty fields 16 2 (back_empty (texts_from fields 2 13) (texts_from fields 16 2) h.empty),
+      are_empty_between fields column.Partition column.Channel (front_empty (texts_between fields column.Partition column.Channel) (texts_between fields column.SecondValue column.ThirdValue) h.empty),
+      hold_processes (text_at fields column.Woken) named h.woken,
+      are_empty_between fields column.SecondValue column.ThirdValue (back_empty (texts_between fields column.Partition column.Channel) (texts_between fields column.SecondValue column.ThirdValue) h.empty),
     ) refl
 
 -- a row of a kind that is read as something recorded is its row
-body_is : (format : Format) (fields : Fields) (k : Kind) (b : Body) → text_at fields 1 ≡ kind_name k → body_in format k fields ≡ Ok b → IsRowOf format (columns_of fields) b
+body_is : (format : Format) (fields : Fields) (k : Kind) (b : Body) → text_at fields column.Kind ≡ kind_name k → body_in format k fields ≡ Ok b → IsRowOf format (columns_of fields) b
 unfolding body_in
 body_is format fields kind.Call b named e =
     let call = step_ok _ _ b e in subst (IsRowOf format (columns_of fields)) (same_ok (body.Call call.0) b call.2) (call_is format fields call.0 named call.1)
@@ -301,7 +312,7 @@ body_is format fields kind.Tick b named e =
 
 -- the row of something recorded has a kind, and is read as a row of that kind
 is_body : (format : Format) (fields : Fields) (b : Body) → IsRowOf format (columns_of fields) b
-    → (k : Kind) × (text_at fields 1 ≡ kind_name k) × (body_in format k fields ≡ Ok b)
+    → (k : Kind) × (text_at fields column.Kind ≡ kind_name k) × (body_in format k fields ≡ Ok b)
 unfolding body_in
 is_body format fields (body.Call call) h = (kind.Call, h.kind, rw (is_call format fields call h) refl)
 is_body format fields (body.Ret ret) h = (kind.Ret, h.kind, rw (is_return format fields ret h) refl)
@@ -317,20 +328,20 @@ test_then false fault read y e = no_fault fault y e
 fields_are : (format : Format) (next : ℕ) (fields : Fields) (rec : Record) → length fields ≡ field_count format → fields_read format next fields ≡ Ok rec → IsRow format next fields rec
 unfolding fields_read seq_in
 fields_are format next fields rec count e =
-    let room : pred most_records < 2 ^ 64 = omega arith in
+    let room : pred MOST_RECORDS < 2 ^ 64 = omega arith in
     let given = step_ok _ _ rec e in
     let seq = step_ok _ _ rec given.2 in
     let k = step_ok _ _ rec seq.2 in
     let found = step_ok _ _ rec k.2 in
     let test = test_ok (nat_eq given.0 next) SeqGap given.0 seq.0 seq.1 in
-    let number = number_holds (pred most_records) (text_at fields 0) given.0 room given.1 in
-    let bound : given.0 ≤ pred most_records = number.bound in
+    let number = number_holds (pred MOST_RECORDS) (text_at fields column.Sequence) given.0 room given.1 in
+    let bound : given.0 ≤ pred MOST_RECORDS = number.bound in
     subst (IsRow format next fields) (same_ok (record { seq = seq.0; body = found.0 }) rec found.2) (record {
       count = count;
       number = sym test.1 ∙ eqb-true given.0 next test.0;
-      bound = subst (λ n. n < most_records) test.1 (omega arith);
+      bound = subst (λ n. n < MOST_RECORDS) test.1 (omega arith);
       seq = number.written ∙ ap decimal test.1;
-      body = body_is format fields k.0 found.0 (kind_is (text_at fields 1) k.0 k.1) found.1;
+      body = body_is format fields k.0 found.0 (kind_is (text_at fields column.Kind) k.0 k.1) found.1;
     })
 
 -- the fields of the row of a record are read as the record
@@ -338,12 +349,12 @@ are_fields : (format : Format) (next : ℕ) (fields : Fields) (rec : Record) →
 unfolding fields_read seq_in
 are_fields format next fields rec h =
     let b = is_body format fields rec.body h.body in
-    let bound : rec.seq < most_records = h.bound in
-    let seq : HoldsNumber (pred most_records) (text_at fields 0) rec.seq = record { written = h.seq; bound = omega arith } in
+    let bound : rec.seq < MOST_RECORDS = h.bound in
+    let seq : HoldsNumber (pred MOST_RECORDS) (text_at fields column.Sequence) rec.seq = record { written = h.seq; bound = omega arith } in
     rw (
-      holds_number (pred most_records) (text_at fields 0) rec.seq (omega arith) seq,
+      holds_number (pred MOST_RECORDS) (text_at fields column.Sequence) rec.seq (omega arith) seq,
       eq-eqb rec.seq next h.number,
-      is_kind (text_at fields 1) b.0 b.1,
+      is_kind (text_at fields column.Kind) b.0 b.1,
       b.2,
     ) refl
 
@@ -351,7 +362,7 @@ are_fields format next fields rec h =
 row_is : (format : Format) (next : ℕ) (fields : Fields) (rec : Record) → record_of format next fields ≡ Ok rec → IsRow format next fields rec
 unfolding record_of
 row_is format next fields rec e =
-    let room = test_then (nat_lt next most_records) TooMany _ rec e in
+    let room = test_then (nat_lt next MOST_RECORDS) TooMany _ rec e in
     let count = test_then (length fields == field_count format) FieldCount (fields_read format next fields) rec room.1 in
     fields_are format next fields rec (eqb-true (length fields) (field_count format) count.0) count.1
 
@@ -359,8 +370,8 @@ row_is format next fields rec e =
 is_row : (format : Format) (next : ℕ) (fields : Fields) (rec : Record) → IsRow format next fields rec → record_of format next fields ≡ Ok rec
 unfolding record_of
 is_row format next fields rec h =
-    let bound : next < most_records = subst (λ n. n < most_records) h.number h.bound in
-    let room : nat_lt next most_records ≡ true = lt-ltb next most_records bound in
+    let bound : next < MOST_RECORDS = subst (λ n. n < MOST_RECORDS) h.number h.bound in
+    let room : nat_lt next MOST_RECORDS ≡ true = lt-ltb next MOST_RECORDS bound in
     rw (room, eq-eqb (length fields) (field_count format) h.count) (are_fields format next fields rec h)
 
 -- a row is read as a record exactly where it is the record's row

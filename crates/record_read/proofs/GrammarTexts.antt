@@ -7,7 +7,7 @@ use Rattle.std.proofs.lemmas.Bool.{and_parts, eqb-true, eq-eqb, le-leb, leb-true
 use Rattle.std.proofs.lemmas.List.Sums.{AllPass-from_list_all, list_all-from_AllPass}
 use Rattle.hex.specs.Hex.{decode_of}
 use Rattle.hex.specs.declared.error.FromHexError.{FromHexError}
-use Rattle.apex_types.specs.Bounds.{longest_message, longest_name}
+use Rattle.apex_types.specs.declared.limits.TheConstants.{LONGEST_MESSAGE, LONGEST_NAME}
 use Rattle.record_read.specs.declared.fault.RowFault.{RowFault}
 use Rattle.record_read.specs.declared.fault.RowFault.TheVariants.{BadHex, BadLength, BadName, FieldNotForKind}
 use Rattle.record_read.specs.Grammar.{GoesWith, HoldsData, HoldsIf, HoldsMessage, HoldsName, IsMessageLength}
@@ -18,19 +18,19 @@ use Rattle.record_read.proofs.GrammarFields.{is_unused, no_fault, step_ok, test_
 name_is : (text name : List ℕ) → text ≢ [] → name_of text ≡ Ok name → HoldsName text name
 unfolding name_of
 name_is text name filled e =
-    let t = test_ok (nat_le (length text) longest_name && list_all is_printable text) BadName text name e in
-    let parts = and_parts (nat_le (length text) longest_name) (list_all is_printable text) t.0 in
+    let t = test_ok (nat_le (length text) LONGEST_NAME && list_all is_printable text) BadName text name e in
+    let parts = and_parts (nat_le (length text) LONGEST_NAME) (list_all is_printable text) t.0 in
     record {
       is = sym t.1;
       filled = filled;
-      short = leb-true (length text) longest_name parts.0;
+      short = leb-true (length text) LONGEST_NAME parts.0;
       printable = AllPass-from_list_all is_printable text parts.1;
     }
 
 -- a name that the field holds is read
 is_name : (text name : List ℕ) → HoldsName text name → name_of text ≡ Ok name
 unfolding name_of
-is_name text name h = rw (le-leb (length text) longest_name h.short, list_all-from_AllPass is_printable text h.printable, h.is) refl
+is_name text name h = rw (le-leb (length text) LONGEST_NAME h.short, list_all-from_AllPass is_printable text h.printable, h.is) refl
 
 -- a name that is read is what the field holds, or stands for the empty field
 pub name_holds : (taken : Bool) (text name : List ℕ) → name_in taken text ≡ Ok name → HoldsIf taken [] HoldsName text name
@@ -63,19 +63,19 @@ none_goes argument count none = (λ e. inr (none, eqb-true count 0 e), back)
 pub length_decides : (argument : ℤ) (count : ℕ) → Decides (goes_with argument count) (GoesWith argument count)
 length_decides (pos zero) count = none_goes (pos zero) count (λ h. let l : 1 ≤ 0 = h.0 in absurd (omega arith))
 length_decides (negsuc n) count = none_goes (negsuc n) count (λ h. h)
-length_decides (pos (suc n)) count = by (nat_le (suc n) longest_message) refl
+length_decides (pos (suc n)) count = by (nat_le (suc n) LONGEST_MESSAGE) refl
   where
-    goes : suc n ≤ longest_message → GoesWith (pos (suc n)) count → nat_eq count (suc n) ≡ true
+    goes : suc n ≤ LONGEST_MESSAGE → GoesWith (pos (suc n)) count → nat_eq count (suc n) ≡ true
     goes fits (inl h) = eq-eqb count (suc n) (let e : pos (suc n) ≡ pos count = h.1 in cc)
     goes fits (inr h) = absurd (h.0 (omega arith, fits))
 
-    by : (fits : Bool) → nat_le (suc n) longest_message ≡ fits → Decides (if fits then nat_eq count (suc n) else nat_eq count 0) (GoesWith (pos (suc n)) count)
+    by : (fits : Bool) → nat_le (suc n) LONGEST_MESSAGE ≡ fits → Decides (if fits then nat_eq count (suc n) else nat_eq count 0) (GoesWith (pos (suc n)) count)
     by true fits =
-        let short : suc n ≤ longest_message = leb-true (suc n) longest_message fits in
+        let short : suc n ≤ LONGEST_MESSAGE = leb-true (suc n) LONGEST_MESSAGE fits in
         (λ e. inl ((omega arith, short), ap pos (sym (eqb-true count (suc n) e))), goes short)
     by false long =
-        let over : longest_message < suc n = leb-false (suc n) longest_message long in
-        none_goes (pos (suc n)) count (λ h. let short : suc n ≤ longest_message = h.1 in absurd (omega arith))
+        let over : LONGEST_MESSAGE < suc n = leb-false (suc n) LONGEST_MESSAGE long in
+        none_goes (pos (suc n)) count (λ h. let short : suc n ≤ LONGEST_MESSAGE = h.1 in absurd (omega arith))
 
 -- a message that is read is what the field holds, or stands for the empty field
 pub message_holds : (taken : Bool) (len : ℤ) (text bytes : List ℕ) → message_in taken len text ≡ Ok bytes → HoldsIf taken [] (HoldsMessage len) text bytes
@@ -97,12 +97,12 @@ holds_message false len text bytes h = is_unused text [] bytes h
 pub data_holds : (text bytes : List ℕ) → maybe_message text ≡ Ok bytes → HoldsData text bytes
 unfolding maybe_message
 data_holds text bytes e =
-    let s = step_ok (from_hex (decode_of text)) (λ found. if nat_le (length found) longest_message then Ok found else Err BadLength) bytes e in
-    let t = test_ok (nat_le (length s.0) longest_message) BadLength s.0 bytes s.2 in
+    let s = step_ok (from_hex (decode_of text)) (λ found. if nat_le (length found) LONGEST_MESSAGE then Ok found else Err BadLength) bytes e in
+    let t = test_ok (nat_le (length s.0) LONGEST_MESSAGE) BadLength s.0 bytes s.2 in
     let digits : decode_of text ≡ Ok bytes = hex_is (decode_of text) s.0 s.1 ∙ ap Ok t.1 in
-    record { digits = digits; count = subst (λ given. length given ≤ longest_message) t.1 (leb-true (length s.0) longest_message t.0) }
+    record { digits = digits; count = subst (λ given. length given ≤ LONGEST_MESSAGE) t.1 (leb-true (length s.0) LONGEST_MESSAGE t.0) }
 
 -- a message that a service gives and that the field holds is read
 pub holds_data : (text bytes : List ℕ) → HoldsData text bytes → maybe_message text ≡ Ok bytes
 unfolding maybe_message
-holds_data text bytes h = rw (h.digits, le-leb (length bytes) longest_message h.count) refl
+holds_data text bytes h = rw (h.digits, le-leb (length bytes) LONGEST_MESSAGE h.count) refl

@@ -1,3 +1,4 @@
+pub mod Lengths
 pub mod Empty
 pub mod FirstFaults
 pub mod GrammarFields
@@ -7,7 +8,6 @@ pub mod GrammarNumbers
 pub mod GrammarRows
 pub mod GrammarTexts
 pub mod Hexadecimal
-pub mod Lengths
 pub mod Memory
 pub mod Pieces
 pub mod RowFaults

@@ -37,7 +37,7 @@ pub behind_none : (last : Option Who) (left : List ℕ) → next_process last (f
 unfolding processes_behind
 behind_none last left e = ap (processes_behind last) (pieces_split 59 left) ∙ rw e refl
 
--- the pieces of a text name processes where those that are left name some behind the last
+-- the pieces of a text name processes where those that are left name some after the last
 abbrev pub Judged : List ℕ → Option Who → Option (List ℕ) → Type 0
 Judged text last left = is_some (processes_behind None (pieces_of 59 text)) ≡ is_some (processes_behind last (pieces_left 59 left))
 
@@ -121,7 +121,7 @@ pub next_is : (last result : Option Who) (lent named : List Who) (front left : L
     → last ≡ slice_get lent (length lent - 1) → lent ≡ named → front ≡ front_of 59 left → next_process (last_of named) (front_of 59 left) ≡ result
 next_is last result lent named front left h l n f = sym (h ∙ ap (λ w. next_process w front) (l ∙ ap last_of n) ∙ ap (next_process (last_of named)) f)
 
--- the processes of a list rise, behind a last one if there is one
+-- the processes of a list rise, after a last one if there is one
 abbrev pub RisesBehind : Option Who → List Who → Type 0
 RisesBehind None named = IsRising named
 RisesBehind (Some last) named = RisesFrom last named
@@ -142,7 +142,7 @@ rises_with : (last : Option Who) (who : Who) (more : List Who) → stands_behind
 rises_with None who more behind rises = rises
 rises_with (Some w) who more behind rises = (behind, rises)
 
--- processes of which each stands behind the one before rise
+-- processes of which each comes after the one before rise
 pub rising_behind : (last : Option Who) (pieces : List (List ℕ)) (named : List Who) → processes_behind last pieces ≡ Some named → RisesBehind last named
 unfolding processes_behind
 rising_behind None [] named e = subst IsRising (same_Some [] named e) tt

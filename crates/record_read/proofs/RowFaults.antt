@@ -6,13 +6,13 @@ use Rattle.hex.specs.Hex.{decode_of}
 use Rattle.hex.specs.declared.error.FromHexError.{FromHexError}
 use Rattle.csv_rows.specs.Decimal.{decimal, signed_decimal}
 use Rattle.csv_rows.specs.Stream.{Fields}
-use Rattle.record_read.specs.declared.format.Format.{Format}
+use Rattle.apex_types.specs.declared.format.Format.{Format}
 use Rattle.record_read.specs.declared.kind.Kind.{Kind}
 use Rattle.record_read.specs.declared.kind.Kind.TheVariants as kind
 use Rattle.record_read.specs.declared.fault.RowFault.{RowFault}
 use Rattle.record_read.specs.declared.fault.RowFault.TheVariants as row
 use Rattle.record_read.specs.Field.{all_empty, argument, empty, maybe_number, maybe_signed, number, signed}
-use Rattle.record_read.specs.Format.{stands_in}
+use Rattle.apex_types.specs.Services.{is_in}
 use Rattle.record_read.specs.Named.{code_of, kind_of, out_of, service_named, service_of}
 use Rattle.record_read.specs.Payload.{from_hex, maybe_message, message_in, message_of, name_in, name_of}
 use Rattle.record_read.specs.Row.{body_in, call_in, claim_in, dispatch_in, fields_read, proc_of, record_of, request_in, return_in, seq_in, tick_in, who_in}
@@ -89,7 +89,7 @@ service_read : (format : Format) (text : List ℕ) → IsRead (service_of format
 unfolding service_of
 service_read format [] = wrong row.FieldNotForKind tt
 service_read format (b ∷ bs) = bind (ok_or (service_named (b ∷ bs)) row.BadService) _ (or_fault (service_named (b ∷ bs)) row.BadService tt)
-    (λ service. either (stands_in format service) (Ok service) (Err row.BadService) (fine service) (wrong row.BadService tt))
+    (λ service. either (is_in format service) (Ok service) (Err row.BadService) (fine service) (wrong row.BadService tt))
 
 code_read : (text : List ℕ) → IsRead (code_of text)
 unfolding code_of

@@ -1,77 +1,10 @@
--- Which arguments each service takes, and the request that they make.
-use Rattle.std.specs.Prelude.{ℕ, ℤ, List, true, false}
+-- The request that the arguments of a call make.
+use Rattle.std.specs.Prelude.{ℕ, ℤ, List}
 use Rattle.apex_types.specs.declared.service.Service.{Service}
 use Rattle.apex_types.specs.declared.service.Service.TheVariants as service
 use Rattle.apex_types.specs.declared.object_kind.ObjectKind.TheVariants as kind
 use Rattle.apex_types.specs.declared.request.Request.{Request}
 use Rattle.apex_types.specs.declared.request.Request.TheVariants as request
-use Rattle.record_read.specs.declared.arguments.Arguments.{Arguments}
-
--- so many of n1, n2, n3, from the first on
-abbrev pub plain : ℕ → Arguments
-plain count = record { numbers = count; name = false; message = false }
-
--- a name too
-abbrev pub named : ℕ → Arguments
-named count = record { numbers = count; name = true; message = false }
-
--- a message too, of which n2 is the length
-abbrev pub sending : ℕ → Arguments
-sending count = record { numbers = count; name = false; message = true }
-
--- the arguments that each service takes
-unfoldable pub arguments_of : Service → Arguments
-arguments_of service.CreateProcess = named 2
-arguments_of service.InitializeProcessCoreAffinity = plain 2
-arguments_of service.Start = plain 1
-arguments_of service.Stop = plain 1
-arguments_of service.StopSelf = plain 0
-arguments_of service.Suspend = plain 1
-arguments_of service.SuspendSelf = plain 1
-arguments_of service.Resume = plain 1
-arguments_of service.SetPriority = plain 2
-arguments_of service.GetMyId = plain 0
-arguments_of service.TimedWait = plain 1
-arguments_of service.PeriodicWait = plain 0
-arguments_of service.GetTime = plain 0
-arguments_of service.SetPartitionMode = plain 1
-arguments_of service.CreateBuffer = named 3
-arguments_of service.SendBuffer = sending 3
-arguments_of service.ReceiveBuffer = plain 2
-arguments_of service.CreateBlackboard = named 1
-arguments_of service.DisplayBlackboard = sending 2
-arguments_of service.ReadBlackboard = plain 2
-arguments_of service.ClearBlackboard = plain 1
-arguments_of service.CreateSemaphore = named 3
-arguments_of service.WaitSemaphore = plain 2
-arguments_of service.SignalSemaphore = plain 1
-arguments_of service.CreateEvent = named 0
-arguments_of service.SetEvent = plain 1
-arguments_of service.ResetEvent = plain 1
-arguments_of service.WaitEvent = plain 2
-arguments_of service.CreateMutex = named 2
-arguments_of service.AcquireMutex = plain 2
-arguments_of service.ReleaseMutex = plain 1
-arguments_of service.CreateSamplingPort = named 3
-arguments_of service.WriteSamplingMessage = sending 2
-arguments_of service.ReadSamplingMessage = plain 1
-arguments_of service.CreateQueuingPort = named 3
-arguments_of service.SendQueuingMessage = sending 3
-arguments_of service.ReceiveQueuingMessage = plain 2
-arguments_of service.GetBufferId = named 0
-arguments_of service.GetBufferStatus = plain 1
-arguments_of service.GetBlackboardId = named 0
-arguments_of service.GetBlackboardStatus = plain 1
-arguments_of service.GetSemaphoreId = named 0
-arguments_of service.GetSemaphoreStatus = plain 1
-arguments_of service.GetEventId = named 0
-arguments_of service.GetEventStatus = plain 1
-arguments_of service.GetMutexId = named 0
-arguments_of service.GetMutexStatus = plain 1
-arguments_of service.GetSamplingPortId = named 0
-arguments_of service.GetSamplingPortStatus = plain 1
-arguments_of service.GetQueuingPortId = named 0
-arguments_of service.GetQueuingPortStatus = plain 1
 
 -- the request of a service, from n1, n2, n3, the name and the message; what the service does not take is not used
 unfoldable pub request_of : Service → ℤ → ℤ → ℤ → List ℕ → List ℕ → Request

@@ -1,15 +1,21 @@
 -- Fields of a row: filled or empty, and numbers.
-use Rattle.std.specs.Prelude.{ℕ, zero, suc, ℤ, pos, List, [], ◌∷◌, Bool, true, false, Option, Some, None, Result, Ok, Err}
+use Rattle.std.specs.Prelude.{ℕ, zero, suc, ◌+◌, ◌-◌, ℤ, pos, List, [], ◌∷◌, Bool, true, false, Option, Some, None, Result, Ok, Err}
 use Rattle.std.specs.Option.{ok_or, unwrap_or}
 use Rattle.csv.specs.Records.{field_at}
 use Rattle.csv_rows.specs.Decimal.{decimal, signed_decimal}
+use Rattle.record_read.specs.Column.{place_of}
+use Rattle.record_read.specs.declared.column.Column.{Column}
 use Rattle.record_read.specs.declared.fault.RowFault.{RowFault}
 use Rattle.record_read.specs.declared.fault.RowFault.TheVariants.{FieldNotForKind, BadNumber}
 use Rattle.record_read.specs.Steps.{◌>>=◌}
 
 -- the bytes of the field at this place
-abbrev pub text_at : List (List ℕ) → ℕ → List ℕ
-text_at fields place = unwrap_or (field_at fields place) []
+abbrev pub bytes_at : List (List ℕ) → ℕ → List ℕ
+bytes_at fields place = unwrap_or (field_at fields place) []
+
+-- the text of a column; empty where the row ends before it
+abbrev pub text_at : List (List ℕ) → Column → List ℕ
+text_at fields column = bytes_at fields (place_of column)
 
 -- a field that must be empty
 abbrev pub empty : List ℕ → Result (Unit {0}) RowFault
@@ -19,7 +25,11 @@ empty (b ∷ bs) = Err FieldNotForKind
 -- so many fields from this place on, which must be empty
 unfoldable pub all_empty : List (List ℕ) → ℕ → ℕ → Result (Unit {0}) RowFault
 all_empty fields place zero = Ok tt
-all_empty fields place (suc n) = empty (text_at fields place) >>= (λ u. all_empty fields (suc place) n)
+all_empty fields place (suc n) = empty (bytes_at fields place) >>= (λ u. all_empty fields (suc place) n)
+
+-- the fields from one column to another, which must be empty
+abbrev pub empty_between : List (List ℕ) → Column → Column → Result (Unit {0}) RowFault
+empty_between fields first last = all_empty fields (place_of first) (place_of last + 1 - place_of first)
 
 -- a number from 0 to max, which must be filled
 unfoldable pub number : ℕ → List ℕ → Result ℕ RowFault

@@ -2,18 +2,18 @@
 use Rattle.std.specs.Prelude.{◌≡◌, ◌≢◌, ◌⊎◌, ◌≤◌, ◌-◌, ℕ, ℤ, List, [], ◌∷◌, Bool, true, false, Ok, IsTrue, codes, length, nat_le}
 use Rattle.hex.specs.Hex.{decode_of}
 use Rattle.csv_rows.specs.Stream.{Fields}
-use Rattle.apex_types.specs.Bounds.{greatest_channel, greatest_number, greatest_partition, greatest_priority, longest_message, most_records}
+use Rattle.apex_types.specs.declared.limits.TheConstants.{GREATEST_CHANNEL, GREATEST_NUMBER, GREATEST_PARTITION, GREATEST_PRIORITY, LONGEST_MESSAGE, MOST_RECORDS}
 use Rattle.apex_types.specs.CodeName as CodeName
-use Rattle.apex_types.specs.ServiceName as ServiceName
+use Rattle.apex_types.specs.Services as Services
 use Rattle.apex_types.specs.declared.code.Code.{Code}
 use Rattle.apex_types.specs.declared.service.Service.{Service}
 use Rattle.record_read.specs.declared.fault.RowFault.{RowFault}
 use Rattle.record_read.specs.declared.fault.RowFault.TheVariants.{BadHex, BadKind, BadLength, BadName, BadNumber, BadOut, BadService, BadWoken, FieldCount, FieldNotForKind, SeqGap, TooMany}
-use Rattle.record_read.specs.declared.format.Format.{Format}
+use Rattle.apex_types.specs.declared.format.Format.{Format}
 use Rattle.record_read.specs.declared.kind.Kind.{Kind}
 use Rattle.record_read.specs.declared.kind.Kind.TheVariants as kind
-use Rattle.record_read.specs.Arguments.{arguments_of}
-use Rattle.record_read.specs.Format.{field_count, stands_in}
+use Rattle.apex_types.specs.Services.{arguments_of, is_in}
+use Rattle.apex_types.specs.Format.{field_count}
 use Rattle.record_read.specs.Grammar.{AreEmpty, Columns, GoesWith, HoldsArgument, HoldsName, HoldsNumber, HoldsOutcome, HoldsProcesses, HoldsSigned, MayHold, columns_of}
 
 -- the fault of one field
@@ -55,8 +55,8 @@ MustBeMessageIf false argument text fault = MustBeEmpty (text ∷ []) fault
 
 -- the name of a service of the format
 pub record HoldsService (format : Format) (text : List ℕ) (service : Service) : Type 0 where
-  pub named : text ≡ ServiceName.name_of service
-  pub stands : IsTrue (stands_in format service)
+  pub named : text ≡ Services.name_of service
+  pub stands : IsTrue (is_in format service)
 
 -- the name of a kind of rows
 abbrev pub HoldsKind : List ℕ → Kind → Type 0
@@ -73,11 +73,11 @@ HoldsCode text code = text ≡ CodeName.name_of code
 
 -- the number of the row, which is not the next one
 abbrev pub OtherNumber : ℕ → Columns → RowFault → Type 0
-OtherNumber next row fault = (number : ℕ) × HoldsNumber (most_records - 1) row.seq number × (number ≢ next) × (fault ≡ SeqGap)
+OtherNumber next row fault = (number : ℕ) × HoldsNumber (MOST_RECORDS - 1) row.seq number × (number ≢ next) × (fault ≡ SeqGap)
 
 -- the process of a call or of a return
 abbrev pub ProcessFault : Columns → RowFault → Type 0
-ProcessFault row = MustHold BadNumber (HoldsNumber greatest_partition) row.part or_else MustHold BadNumber (HoldsNumber greatest_number) row.proc
+ProcessFault row = MustHold BadNumber (HoldsNumber GREATEST_PARTITION) row.part or_else MustHold BadNumber (HoldsNumber GREATEST_NUMBER) row.proc
 
 -- the first, second or third number of a call, by the service that the row names
 abbrev pub ArgumentFault : Format → Columns → ℕ → List ℕ → RowFault → Type 0
@@ -110,11 +110,11 @@ RequestFault format row =
 -- what a call claims
 abbrev pub ClaimFault : Columns → RowFault → Type 0
 ClaimFault row =
-    MustHold BadNumber (HoldsNumber greatest_priority) row.prio
+    MustHold BadNumber (HoldsNumber GREATEST_PRIORITY) row.prio
     or_else MustHold BadOut HoldsOutcome row.out
     or_else HoldsNone BadNumber (MayHold HoldsSigned) row.val
-    or_else MustBeBytes (λ count. count ≤ longest_message) row.«data»
-    or_else HoldsNone BadNumber (MayHold (HoldsNumber greatest_channel)) row.chan
+    or_else MustBeBytes (λ count. count ≤ LONGEST_MESSAGE) row.«data»
+    or_else HoldsNone BadNumber (MayHold (HoldsNumber GREATEST_CHANNEL)) row.chan
     or_else HoldsNone BadWoken HoldsProcesses row.woken
     or_else HoldsNone BadNumber (MayHold HoldsSigned) row.val2
     or_else HoldsNone BadNumber (MayHold HoldsSigned) row.val3
@@ -131,7 +131,7 @@ ReturnFault format row =
     or_else MustBeEmpty (row.n1 ∷ row.n2 ∷ row.n3 ∷ row.name ∷ row.msg ∷ row.prio ∷ [])
     or_else MustHold BadOut HoldsCode row.out
     or_else HoldsNone BadNumber (MayHold HoldsSigned) row.val
-    or_else MustBeBytes (λ count. count ≤ longest_message) row.«data»
+    or_else MustBeBytes (λ count. count ≤ LONGEST_MESSAGE) row.«data»
     or_else MustBeEmpty (row.chan ∷ row.woken ∷ [])
     or_else HoldsNone BadNumber (MayHold HoldsSigned) row.val2
     or_else HoldsNone BadNumber (MayHold HoldsSigned) row.val3
@@ -140,12 +140,12 @@ ReturnFault format row =
 abbrev pub DispatchedFault : Columns → RowFault → Type 0
 DispatchedFault row fault =
     ((row.part ≡ []) × MustBeEmpty (row.proc ∷ []) fault)
-    ⊎ ((row.part ≢ []) × MustHold BadNumber (HoldsNumber greatest_number) row.proc fault)
+    ⊎ ((row.part ≢ []) × MustHold BadNumber (HoldsNumber GREATEST_NUMBER) row.proc fault)
 
 -- the fields of a dispatch after its kind
 abbrev pub DispatchFault : Columns → RowFault → Type 0
 DispatchFault row =
-    HoldsNone BadNumber (MayHold (HoldsNumber greatest_partition)) row.part
+    HoldsNone BadNumber (MayHold (HoldsNumber GREATEST_PARTITION)) row.part
     or_else DispatchedFault row
     or_else MustBeEmpty (row.service ∷ row.n1 ∷ row.n2 ∷ row.n3 ∷ row.name ∷ row.msg ∷ row.prio ∷ row.out ∷ row.val ∷ row.«data» ∷ row.chan ∷ row.woken ∷ row.val2 ∷ row.val3 ∷ [])
 
@@ -167,9 +167,9 @@ FaultOf kind.Tick format row fault = TickFault row fault
 -- fewer fields than the format; or else the fault is that of its first faulty field
 abbrev pub IsFirstFault : Format → ℕ → Fields → RowFault → Type 0
 IsFirstFault format next fields =
-    (λ fault. (most_records ≤ next) × (fault ≡ TooMany))
+    (λ fault. (MOST_RECORDS ≤ next) × (fault ≡ TooMany))
     or_else (λ fault. (length fields ≢ field_count format) × (fault ≡ FieldCount))
-    or_else MustHold BadNumber (HoldsNumber (most_records - 1)) (columns_of fields).seq
+    or_else MustHold BadNumber (HoldsNumber (MOST_RECORDS - 1)) (columns_of fields).seq
     or_else OtherNumber next (columns_of fields)
     or_else MustHold BadKind HoldsKind (columns_of fields).kind
     or_else (λ fault. (which : Kind) × HoldsKind (columns_of fields).kind which × FaultOf which format (columns_of fields) fault)

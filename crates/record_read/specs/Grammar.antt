@@ -5,10 +5,10 @@ use Rattle.std.specs.Int.{w64}
 use Rattle.std.specs.List.{All, AllPass, join_by}
 use Rattle.hex.specs.Hex.{decode_of}
 use Rattle.csv_rows.specs.Stream.{Fields}
-use Rattle.apex_types.specs.Bounds.{greatest_channel, greatest_number, greatest_partition, greatest_priority, longest_message, longest_name, most_records}
+use Rattle.apex_types.specs.declared.limits.TheConstants.{GREATEST_CHANNEL, GREATEST_NUMBER, GREATEST_PARTITION, GREATEST_PRIORITY, LONGEST_MESSAGE, LONGEST_NAME, MOST_RECORDS}
 use Rattle.apex_types.specs.CodeName as CodeName
 use Rattle.apex_types.specs.Rising.{IsRising}
-use Rattle.apex_types.specs.ServiceName as ServiceName
+use Rattle.apex_types.specs.Services as Services
 use Rattle.apex_types.specs.declared.record.Body.{Body}
 use Rattle.apex_types.specs.declared.record.Body.TheVariants as body
 use Rattle.apex_types.specs.declared.record.Call.{Call}
@@ -20,10 +20,12 @@ use Rattle.apex_types.specs.declared.record.Return.{Return}
 use Rattle.apex_types.specs.declared.record.Who.{Who}
 use Rattle.apex_types.specs.declared.request.Request.{Request}
 use Rattle.apex_types.specs.declared.service.Service.{Service}
-use Rattle.record_read.specs.declared.format.Format.{Format}
-use Rattle.record_read.specs.Arguments.{arguments_of, request_of}
+use Rattle.apex_types.specs.declared.format.Format.{Format}
+use Rattle.apex_types.specs.Services.{arguments_of, is_in}
+use Rattle.record_read.specs.declared.column.Column.TheVariants as column
+use Rattle.record_read.specs.Arguments.{request_of}
 use Rattle.record_read.specs.Field.{text_at}
-use Rattle.record_read.specs.Format.{field_count, stands_in}
+use Rattle.apex_types.specs.Format.{field_count}
 use Rattle.record_read.specs.Payload.{is_printable}
 
 -- what one field holds
@@ -38,7 +40,7 @@ pub record HoldsNumber (greatest : ℕ) (text : List ℕ) (number : ℕ) : Type 
   pub written : text ≡ decimal number
   pub bound : number ≤ greatest
 
--- a number of 64 bits with a sign: its decimal digits, with no zero in front, and behind a `-` where it is negative
+-- a number of 64 bits with a sign: its decimal digits, with no zero in front, and after a `-` where it is negative
 pub record HoldsSigned (text : List ℕ) (number : ℤ) : Type 0 where
   pub written : text ≡ signed_decimal number
   pub bound : FitsSigned w64 number
@@ -53,12 +55,12 @@ HoldsOutcome text (out.Answer code) = text ≡ CodeName.name_of code
 pub record HoldsName (text name : List ℕ) : Type 0 where
   pub is : name ≡ text
   pub filled : text ≢ []
-  pub short : length text ≤ longest_name
+  pub short : length text ≤ LONGEST_NAME
   pub printable : AllPass is_printable text
 
 -- a length that a message can have
 abbrev pub IsMessageLength : ℤ → Type 0
-IsMessageLength (pos count) = (1 ≤ count) × (count ≤ longest_message)
+IsMessageLength (pos count) = (1 ≤ count) × (count ≤ LONGEST_MESSAGE)
 IsMessageLength (negsuc below) = ⊥
 
 -- so many bytes go with a length argument: just that many where a message can have that length, and none where it can't
@@ -73,7 +75,7 @@ pub record HoldsMessage (argument : ℤ) (text bytes : List ℕ) : Type 0 where
 -- a message that a service gives, or none: two hexadecimal digits a byte, at most 8,192 bytes
 pub record HoldsData (text bytes : List ℕ) : Type 0 where
   pub digits : decode_of text ≡ Ok bytes
-  pub count : length bytes ≤ longest_message
+  pub count : length bytes ≤ LONGEST_MESSAGE
 
 -- the text of a process in a list: its partition, `:` and its number
 abbrev pub process_text : Who → List ℕ
@@ -81,9 +83,9 @@ process_text who = decimal who.part ++ codes ":" ++ decimal who.proc
 
 -- a process that a list can name: not the initialising one, whose number is 0
 pub record IsNameable (who : Who) : Type 0 where
-  pub part : who.part ≤ greatest_partition
+  pub part : who.part ≤ GREATEST_PARTITION
   pub created : 1 ≤ who.proc
-  pub proc : who.proc ≤ greatest_number
+  pub proc : who.proc ≤ GREATEST_NUMBER
 
 -- a list of processes: their texts joined by `;`, in rising order; an empty field is the list of none
 pub record HoldsProcesses (text : List ℕ) (named : List Who) : Type 0 where
@@ -117,24 +119,24 @@ pub record Columns : Type 0 where
 -- the fields from the first to the last
 abbrev pub columns_of : Fields → Columns
 columns_of fields = record {
-  seq = text_at fields 0;
-  kind = text_at fields 1;
-  part = text_at fields 2;
-  proc = text_at fields 3;
-  service = text_at fields 4;
-  n1 = text_at fields 5;
-  n2 = text_at fields 6;
-  n3 = text_at fields 7;
-  name = text_at fields 8;
-  msg = text_at fields 9;
-  prio = text_at fields 10;
-  out = text_at fields 11;
-  val = text_at fields 12;
-  «data» = text_at fields 13;
-  chan = text_at fields 14;
-  woken = text_at fields 15;
-  val2 = text_at fields 16;
-  val3 = text_at fields 17;
+  seq = text_at fields column.Sequence;
+  kind = text_at fields column.Kind;
+  part = text_at fields column.Partition;
+  proc = text_at fields column.Process;
+  service = text_at fields column.Service;
+  n1 = text_at fields column.FirstNumber;
+  n2 = text_at fields column.SecondNumber;
+  n3 = text_at fields column.ThirdNumber;
+  name = text_at fields column.Name;
+  msg = text_at fields column.Message;
+  prio = text_at fields column.Priority;
+  out = text_at fields column.Outcome;
+  val = text_at fields column.Value;
+  «data» = text_at fields column.Data;
+  chan = text_at fields column.Channel;
+  woken = text_at fields column.Woken;
+  val2 = text_at fields column.SecondValue;
+  val3 = text_at fields column.ThirdValue;
 }
 
 -- all these fields are empty
@@ -153,8 +155,8 @@ HoldsArgument service place text number = HoldsIf (nat_le place (arguments_of se
 
 -- the process of a call, of a return or of a dispatch
 pub record NamesProcess (row : Columns) (who : Who) : Type 0 where
-  pub part : HoldsNumber greatest_partition row.part who.part
-  pub proc : HoldsNumber greatest_number row.proc who.proc
+  pub part : HoldsNumber GREATEST_PARTITION row.part who.part
+  pub proc : HoldsNumber GREATEST_NUMBER row.proc who.proc
 
 -- the request of a call: a service of the format by its name, and just the arguments that this service takes
 pub record HoldsRequest (format : Format) (row : Columns) (request : Request) : Type 0 where
@@ -165,8 +167,8 @@ pub record HoldsRequest (format : Format) (row : Columns) (request : Request) : 
   pub name : List ℕ
   pub message : List ℕ
   pub is : request ≡ request_of service n1 n2 n3 name message
-  pub has_service : row.service ≡ ServiceName.name_of service
-  pub stands : IsTrue (stands_in format service)
+  pub has_service : row.service ≡ Services.name_of service
+  pub stands : IsTrue (is_in format service)
   pub has_n1 : HoldsArgument service 1 row.n1 n1
   pub has_n2 : HoldsArgument service 2 row.n2 n2
   pub has_n3 : HoldsArgument service 3 row.n3 n3
@@ -175,13 +177,13 @@ pub record HoldsRequest (format : Format) (row : Columns) (request : Request) : 
 
 -- what a call claims: the priority and the outcome, and what may be left out
 pub record HoldsClaim (row : Columns) (claim : Claim) : Type 0 where
-  pub prio : HoldsNumber greatest_priority row.prio claim.prio
+  pub prio : HoldsNumber GREATEST_PRIORITY row.prio claim.prio
   pub out : HoldsOutcome row.out claim.out
   pub val : MayHold HoldsSigned row.val claim.val
   pub val2 : MayHold HoldsSigned row.val2 claim.val2
   pub val3 : MayHold HoldsSigned row.val3 claim.val3
   pub bytes : HoldsData row.«data» claim.bytes
-  pub chan : MayHold (HoldsNumber greatest_channel) row.chan claim.chan
+  pub chan : MayHold (HoldsNumber GREATEST_CHANNEL) row.chan claim.chan
   pub woken : HoldsProcesses row.woken claim.woken
 
 -- the row of a call
@@ -195,8 +197,8 @@ pub record IsRowOfCall (format : Format) (row : Columns) (call : Call) : Type 0 
 pub record IsRowOfReturn (format : Format) (row : Columns) (ret : Return) : Type 0 where
   pub kind : row.kind ≡ codes "ret"
   pub who : NamesProcess row ret.who
-  pub service : row.service ≡ ServiceName.name_of ret.service
-  pub stands : IsTrue (stands_in format ret.service)
+  pub service : row.service ≡ Services.name_of ret.service
+  pub stands : IsTrue (is_in format ret.service)
   pub code : row.out ≡ CodeName.name_of ret.code
   pub val : MayHold HoldsSigned row.val ret.val
   pub val2 : MayHold HoldsSigned row.val2 ret.val2
@@ -233,6 +235,6 @@ IsRowOf format row (body.Tick woken) = IsRowOfTick row woken
 pub record IsRow (format : Format) (next : ℕ) (fields : Fields) (rec : Record) : Type 0 where
   pub count : length fields ≡ field_count format
   pub number : rec.seq ≡ next
-  pub bound : rec.seq < most_records
+  pub bound : rec.seq < MOST_RECORDS
   pub seq : (columns_of fields).seq ≡ decimal rec.seq
   pub body : IsRowOf format (columns_of fields) rec.body

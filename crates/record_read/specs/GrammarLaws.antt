@@ -3,7 +3,7 @@ use Rattle.std.specs.Prelude.{◌≡◌, ◌↔◌, ℕ, Ok, Err}
 use Rattle.csv_rows.specs.Stream.{Fields}
 use Rattle.apex_types.specs.declared.record.Record.{Record}
 use Rattle.record_read.specs.declared.fault.RowFault.{RowFault}
-use Rattle.record_read.specs.declared.format.Format.{Format}
+use Rattle.apex_types.specs.declared.format.Format.{Format}
 use Rattle.record_read.specs.FirstFault.{IsFirstFault}
 use Rattle.record_read.specs.Grammar.{IsRow}
 use Rattle.record_read.specs.Row.{record_of}

@@ -1,4 +1,5 @@
 pub mod Steps
+pub mod Column
 pub mod Field
 pub mod Format
 pub mod Named

@@ -8,7 +8,7 @@ use Rattle.apex_types.specs.declared.record.Return.{Return}
 use Rattle.apex_types.specs.declared.record.Who.{Who}
 use Rattle.apex_types.specs.declared.service.Service.{Service}
 use Rattle.apex_types.specs.Requested.{service_of}
-use Rattle.record_read.specs.Arguments.{arguments_of}
+use Rattle.apex_types.specs.Services.{arguments_of}
 use Rattle.record_read.specs.Row.{Item}
 
 -- a service that takes a name or a message

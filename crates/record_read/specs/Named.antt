@@ -1,21 +1,21 @@
 -- What is given by its name: kinds of rows, services, codes and outcomes.
-use Rattle.std.specs.Prelude.{ℕ, List, [], ◌∷◌, Option, Some, None, Result, Ok, Err, codes, option_map, if◌then◌else◌}
+use Rattle.std.specs.Prelude.{ℕ, List, [], ◌∷◌, Option, Some, None, Result, Ok, Err, codes, length, map, option_map, if◌then◌else◌}
 use Rattle.std.specs.Option.{ok_or}
 use Rattle.std.specs.Str.{bytes_eq}
 use Rattle.apex_types.specs.declared.code.Code.{Code}
 use Rattle.apex_types.specs.declared.code.Code.TheVariants as code
 use Rattle.apex_types.specs.declared.service.Service.{Service}
-use Rattle.apex_types.specs.declared.service.Service.TheVariants as service
+use Rattle.apex_types.specs.declared.service.ServiceRow.{ServiceRow}
+use Rattle.apex_types.specs.declared.service.TheConstants.{SERVICES}
 use Rattle.apex_types.specs.declared.record.Out.{Out}
 use Rattle.apex_types.specs.declared.record.Out.TheVariants as out
 use Rattle.apex_types.specs.CodeName as CodeName
-use Rattle.apex_types.specs.ServiceName as ServiceName
-use Rattle.record_read.specs.declared.format.Format.{Format}
+use Rattle.apex_types.specs.declared.format.Format.{Format}
 use Rattle.record_read.specs.declared.kind.Kind.{Kind}
 use Rattle.record_read.specs.declared.kind.Kind.TheVariants as kind
 use Rattle.record_read.specs.declared.fault.RowFault.{RowFault}
 use Rattle.record_read.specs.declared.fault.RowFault.TheVariants.{FieldNotForKind, BadKind, BadService, BadOut}
-use Rattle.record_read.specs.Format.{stands_in}
+use Rattle.apex_types.specs.Services.{is_in}
 use Rattle.record_read.specs.Steps.{◌>>=◌}
 
 -- the kinds of rows are `call`, `ret`, `disp` and `tick`
@@ -40,29 +40,18 @@ all_codes = code.NoError ∷ code.NoAction ∷ code.NotAvailable ∷ code.Invali
 abbrev pub code_named : List ℕ → Option Code
 code_named text = code_among all_codes text
 
--- the first of these services that has this name
-unfoldable pub service_among : List Service → List ℕ → Option Service
-service_among [] text = None
-service_among (s ∷ ss) text = if bytes_eq (ServiceName.name_of s) text then Some s else service_among ss text
-
--- the services that rows name
-abbrev pub all_services : List Service
-all_services =
-    service.CreateProcess ∷ service.InitializeProcessCoreAffinity ∷ service.Start ∷ service.Stop ∷ service.StopSelf
-    ∷ service.Suspend ∷ service.SuspendSelf ∷ service.Resume ∷ service.SetPriority ∷ service.GetMyId ∷ service.TimedWait
-    ∷ service.PeriodicWait ∷ service.GetTime ∷ service.SetPartitionMode ∷ service.CreateBuffer ∷ service.SendBuffer
-    ∷ service.ReceiveBuffer ∷ service.CreateBlackboard ∷ service.DisplayBlackboard ∷ service.ReadBlackboard
-    ∷ service.ClearBlackboard ∷ service.CreateSemaphore ∷ service.WaitSemaphore ∷ service.SignalSemaphore
-    ∷ service.CreateEvent ∷ service.SetEvent ∷ service.ResetEvent ∷ service.WaitEvent ∷ service.CreateMutex
-    ∷ service.AcquireMutex ∷ service.ReleaseMutex ∷ service.CreateSamplingPort ∷ service.WriteSamplingMessage
-    ∷ service.ReadSamplingMessage ∷ service.CreateQueuingPort ∷ service.SendQueuingMessage ∷ service.ReceiveQueuingMessage
-    ∷ service.GetBufferId ∷ service.GetBufferStatus ∷ service.GetBlackboardId ∷ service.GetBlackboardStatus ∷ service.GetSemaphoreId
-    ∷ service.GetSemaphoreStatus ∷ service.GetEventId ∷ service.GetEventStatus ∷ service.GetMutexId ∷ service.GetMutexStatus
-    ∷ service.GetSamplingPortId ∷ service.GetSamplingPortStatus ∷ service.GetQueuingPortId ∷ service.GetQueuingPortStatus ∷ []
+-- the service of the first of these rows that has this name
+unfoldable pub service_among : {Name : Type 0} → (Name → List ℕ) → List (ServiceRow Name) → List ℕ → Option Service
+service_among text_of [] text = None
+service_among text_of (row ∷ rows) text = if bytes_eq (text_of row.name) text then Some row.service else service_among text_of rows text
 
 -- the service of this name
 unfoldable pub service_named : List ℕ → Option Service
-service_named text = service_among all_services text
+service_named text = service_among (λ name. name.now) SERVICES text
+
+-- the lengths of the services' names
+abbrev pub name_lengths : List ℕ
+name_lengths = map (λ row. length row.name.now) SERVICES
 
 -- a kind, which must be filled
 unfoldable pub kind_of : List ℕ → Result Kind RowFault
@@ -74,7 +63,7 @@ unfoldable pub service_of : Format → List ℕ → Result Service RowFault
 service_of format [] = Err FieldNotForKind
 service_of format (b ∷ bs) = do
   service ← ok_or (service_named (b ∷ bs)) BadService
-  if stands_in format service then Ok service else Err BadService
+  if is_in format service then Ok service else Err BadService
 
 -- a code, which must be filled
 unfoldable pub code_of : List ℕ → Result Code RowFault

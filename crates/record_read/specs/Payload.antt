@@ -4,7 +4,7 @@ use Rattle.std.specs.List.{list_all}
 use Rattle.std.specs.Result.{result_unwrap_or}
 use Rattle.hex.specs.Hex.{decode_of}
 use Rattle.hex.specs.declared.error.FromHexError.{FromHexError}
-use Rattle.apex_types.specs.Bounds.{longest_message, longest_name}
+use Rattle.apex_types.specs.declared.limits.TheConstants.{LONGEST_MESSAGE, LONGEST_NAME}
 use Rattle.record_read.specs.declared.fault.RowFault.{RowFault}
 use Rattle.record_read.specs.declared.fault.RowFault.TheVariants.{FieldNotForKind, BadName, BadHex, BadLength}
 use Rattle.record_read.specs.Field.{empty}
@@ -16,7 +16,7 @@ is_printable b = nat_le 0x20 b && nat_le b 0x7E
 
 -- a name has at most 32 bytes, all printable
 unfoldable pub name_of : List ℕ → Result (List ℕ) RowFault
-name_of text = if nat_le (length text) longest_name && list_all is_printable text then Ok text else Err BadName
+name_of text = if nat_le (length text) LONGEST_NAME && list_all is_printable text then Ok text else Err BadName
 
 -- a name: filled where the service takes one, and else empty
 unfoldable pub name_in : Bool → List ℕ → Result (List ℕ) RowFault
@@ -39,12 +39,12 @@ IsHex text = decode_of text ≡ Ok (hex_bytes text)
 
 -- a message that may be left out: at most 8,192 bytes
 unfoldable pub maybe_message : List ℕ → Result (List ℕ) RowFault
-maybe_message text = from_hex (decode_of text) >>= (λ bytes. if nat_le (length bytes) longest_message then Ok bytes else Err BadLength)
+maybe_message text = from_hex (decode_of text) >>= (λ bytes. if nat_le (length bytes) LONGEST_MESSAGE then Ok bytes else Err BadLength)
 
 -- whether so many bytes go with this length argument: just that many where it is 1 to 8,192, and none where it is not
 abbrev pub goes_with : ℤ → ℕ → Bool
 goes_with (pos zero) count = nat_eq count 0
-goes_with (pos (suc n)) count = if nat_le (suc n) longest_message then nat_eq count (suc n) else nat_eq count 0
+goes_with (pos (suc n)) count = if nat_le (suc n) LONGEST_MESSAGE then nat_eq count (suc n) else nat_eq count 0
 goes_with (negsuc n) count = nat_eq count 0
 
 -- the message of a service with a length argument

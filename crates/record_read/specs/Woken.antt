@@ -3,7 +3,7 @@ use Rattle.std.specs.Prelude.{◌≡◌, ℕ, List, [], ◌∷◌, Bool, true, O
 use Rattle.std.specs.Option.{ok_or}
 use Rattle.std.specs.Result.{result_unwrap_or}
 use Rattle.csv_rows.specs.Decimal.{decimal}
-use Rattle.apex_types.specs.Bounds.{greatest_number, greatest_partition}
+use Rattle.apex_types.specs.declared.limits.TheConstants.{GREATEST_NUMBER, GREATEST_PARTITION}
 use Rattle.apex_types.specs.declared.record.Who.{Who}
 use Rattle.apex_types.specs.Rising.{is_behind}
 use Rattle.record_read.specs.declared.fault.RowFault.{RowFault}
@@ -14,7 +14,7 @@ abbrev pub front_of : ℕ → List ℕ → List ℕ
 front_of separator [] = []
 front_of separator (b ∷ bs) = if nat_eq b separator then [] else b ∷ front_of separator bs
 
--- the bytes behind the first separator, if there is one
+-- the bytes after the first separator, if there is one
 abbrev pub rest_of : ℕ → List ℕ → Option (List ℕ)
 rest_of separator [] = None
 rest_of separator (b ∷ bs) = if nat_eq b separator then Some bs else rest_of separator bs
@@ -36,19 +36,19 @@ process part number = if nat_eq number 0 then None else Some (record { part = pa
 -- a process: the decimals of its partition and of its number around a `:`
 unfoldable pub process_of : List ℕ → Option Who
 process_of text =
-    option_and_then (λ rest. option_and_then (λ part. option_and_then (λ number. process part number) (decimal greatest_number rest)) (decimal greatest_partition (front_of 58 text)))
+    option_and_then (λ rest. option_and_then (λ part. option_and_then (λ number. process part number) (decimal GREATEST_NUMBER rest)) (decimal GREATEST_PARTITION (front_of 58 text)))
     (rest_of 58 text)
 
--- whether a process stands behind the last, if there is one
+-- whether a process comes after the last, if there is one
 abbrev pub stands_behind : Option Who → Who → Bool
 stands_behind None who = true
 stands_behind (Some last) who = is_behind last who
 
--- a process that stands behind the last
+-- a process that comes after the last
 unfoldable pub next_process : Option Who → List ℕ → Option Who
 next_process last text = option_and_then (λ who. if stands_behind last who then Some who else None) (process_of text)
 
--- the processes that pieces name, each behind the one before
+-- the processes that pieces name, each after the one before
 unfoldable pub processes_behind : Option Who → List (List ℕ) → Option (List Who)
 processes_behind last [] = Some []
 processes_behind last (piece ∷ pieces) =

@@ -2,6 +2,7 @@
 
 ghost use Rattle.std.specs.Prelude.{◌≡◌, ◌≢◌, ◌⊎◌, [], IfOk, IfErr, OnOk, OnErr, Ok, Err};
 ghost use Rattle.csv.specs.Records.{fields_of};
+ghost use Rattle.apex_types.specs.declared.limits.TheConstants.{GREATEST_CHANNEL};
 ghost use Rattle.record_read.specs.Field.{maybe_number, text_at};
 ghost use Rattle.record_read.specs.Memory.{CallNeeds};
 ghost use Rattle.record_read.specs.Payload.{IsHex, hex_bytes};
@@ -9,14 +10,17 @@ ghost use Rattle.record_read.specs.Row.{call_in, claim_in, who_in};
 ghost use Rattle.record_read.specs.Steps.{IsOfRow, Refuses};
 ghost use Rattle.record_read.specs.Woken.{IsList, processes_in};
 
+use crate::column::Column;
 use crate::fault::RowFault;
 use crate::field::{optional_number, optional_signed, required_number, text};
-use crate::format::Format;
 use crate::named::read_out;
 use crate::payload::{copy_message, judge_data};
 use crate::request::{judge_request, make_request};
 use crate::woken::{copy_woken, judge_woken};
-use apex_types::{Call, ChanId, Claim, Out, PartId, ProcId, Who};
+use apex_types::limits::{
+    GREATEST_CHANNEL, GREATEST_NUMBER, GREATEST_PARTITION, GREATEST_PRIORITY,
+};
+use apex_types::{Call, ChanId, Claim, Format, Out, PartId, ProcId, Who};
 use csv::ByteRecord;
 use std::alloc::{AllocError, Global};
 
@@ -59,8 +63,8 @@ pub fn read_who(fields: &ByteRecord) -> Result<Who, RowFault>
     ensures value { result ≡ who_in (fields_of fields.now) }
     ensures own { IfErr result (λ fault. IsOfRow fault) }
 {
-    let part = required_number(text(fields, 2), 31)?;
-    let proc = required_number(text(fields, 3), 2_147_483_647)?;
+    let part = required_number(text(fields, Column::Partition), GREATEST_PARTITION as u64)?;
+    let proc = required_number(text(fields, Column::Process), GREATEST_NUMBER as u64)?;
     Ok(Who {
         part: PartId::new(part as u8),
         proc: ProcId::new(proc as u32),
@@ -70,20 +74,20 @@ pub fn read_who(fields: &ByteRecord) -> Result<Who, RowFault>
 // Judges what a call claims.
 #[tactic(auto, unfolding(crate::specs::Row::claim_in))]
 fn judge_claim(fields: &ByteRecord) -> Result<PlainClaim, RowFault>
-    ensures value { IfOk result (λ plain. claim_in (fields_of fields.now) ≡ Ok (record { prio = plain.prio; out = plain.out; val = plain.val; val2 = plain.val2; val3 = plain.val3; bytes = hex_bytes (text_at (fields_of fields.now) 13); chan = plain.chan; woken = processes_in (text_at (fields_of fields.now) 15) })) }
-    ensures hex { OnOk result (IsHex (text_at (fields_of fields.now) 13)) }
-    ensures list { OnOk result (IsList (text_at (fields_of fields.now) 15)) }
+    ensures value { IfOk result (λ plain. claim_in (fields_of fields.now) ≡ Ok (record { prio = plain.prio; out = plain.out; val = plain.val; val2 = plain.val2; val3 = plain.val3; bytes = hex_bytes (text_at (fields_of fields.now) Column.Data); chan = plain.chan; woken = processes_in (text_at (fields_of fields.now) Column.Woken) })) }
+    ensures hex { OnOk result (IsHex (text_at (fields_of fields.now) Column.Data)) }
+    ensures list { OnOk result (IsList (text_at (fields_of fields.now) Column.Woken)) }
     ensures refused { IfErr result (λ fault. claim_in (fields_of fields.now) ≡ Err fault) }
     ensures own { IfErr result (λ fault. IsOfRow fault) }
 {
-    let prio = required_number(text(fields, 10), 239)?;
-    let out = read_out(text(fields, 11))?;
-    let val = optional_signed(text(fields, 12))?;
-    judge_data(text(fields, 13))?;
-    let chan = read_channel(text(fields, 14))?;
-    judge_woken(text(fields, 15))?;
-    let val2 = optional_signed(text(fields, 16))?;
-    let val3 = optional_signed(text(fields, 17))?;
+    let prio = required_number(text(fields, Column::Priority), GREATEST_PRIORITY as u64)?;
+    let out = read_out(text(fields, Column::Outcome))?;
+    let val = optional_signed(text(fields, Column::Value))?;
+    judge_data(text(fields, Column::Data))?;
+    let chan = read_channel(text(fields, Column::Channel))?;
+    judge_woken(text(fields, Column::Woken))?;
+    let val2 = optional_signed(text(fields, Column::SecondValue))?;
+    let val3 = optional_signed(text(fields, Column::ThirdValue))?;
     Ok(PlainClaim {
         prio: prio as u8,
         out,
@@ -96,13 +100,13 @@ fn judge_claim(fields: &ByteRecord) -> Result<PlainClaim, RowFault>
 
 // The claim of a row that was judged. Memory is refused only where it has a message or a list of processes.
 fn make_claim(alloc: Global, plain: PlainClaim, fields: &ByteRecord) -> Result<Claim, AllocError>
-    requires digits { IsHex (text_at (fields_of fields.now) 13) }
-    requires list { IsList (text_at (fields_of fields.now) 15) }
-    ensures value { IfOk result (λ claim. claim ≡ record { prio = plain.prio; out = plain.out; val = plain.val; val2 = plain.val2; val3 = plain.val3; bytes = hex_bytes (text_at (fields_of fields.now) 13); chan = plain.chan; woken = processes_in (text_at (fields_of fields.now) 15) }) }
-    ensures memory { OnErr result ((hex_bytes (text_at (fields_of fields.now) 13) ≢ []) ⊎ (processes_in (text_at (fields_of fields.now) 15) ≢ [])) }
+    requires digits { IsHex (text_at (fields_of fields.now) Column.Data) }
+    requires list { IsList (text_at (fields_of fields.now) Column.Woken) }
+    ensures value { IfOk result (λ claim. claim ≡ record { prio = plain.prio; out = plain.out; val = plain.val; val2 = plain.val2; val3 = plain.val3; bytes = hex_bytes (text_at (fields_of fields.now) Column.Data); chan = plain.chan; woken = processes_in (text_at (fields_of fields.now) Column.Woken) }) }
+    ensures memory { OnErr result ((hex_bytes (text_at (fields_of fields.now) Column.Data) ≢ []) ⊎ (processes_in (text_at (fields_of fields.now) Column.Woken) ≢ [])) }
 {
-    let bytes = copy_message(alloc, text(fields, 13))?;
-    let woken = copy_woken(alloc, text(fields, 15))?;
+    let bytes = copy_message(alloc, text(fields, Column::Data))?;
+    let woken = copy_woken(alloc, text(fields, Column::Woken))?;
     Ok(Claim {
         prio: plain.prio,
         out: plain.out,
@@ -117,10 +121,10 @@ fn make_claim(alloc: Global, plain: PlainClaim, fields: &ByteRecord) -> Result<C
 
 // The channel in a field, if it is filled.
 fn read_channel(text: &[u8]) -> Result<Option<ChanId>, RowFault>
-    ensures value { result ≡ maybe_number 255 text.now }
+    ensures value { result ≡ maybe_number GREATEST_CHANNEL text.now }
     ensures own { IfErr result (λ fault. IsOfRow fault) }
 {
-    match optional_number(text, 255)? {
+    match optional_number(text, GREATEST_CHANNEL as u64)? {
         Some(number) => Ok(Some(ChanId::new(number as u16))),
         None => Ok(None),
     }

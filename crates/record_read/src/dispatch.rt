@@ -6,9 +6,11 @@ ghost use Rattle.record_read.specs.Memory.{TickNeeds};
 ghost use Rattle.record_read.specs.Row.{dispatch_in, proc_of, tick_in};
 ghost use Rattle.record_read.specs.Steps.{IsOfRow, Refuses};
 
+use crate::column::Column;
 use crate::fault::RowFault;
-use crate::field::{expect_all_empty, expect_empty, optional_number, required_number, text};
+use crate::field::{expect_empty, expect_empty_between, optional_number, required_number, text};
 use crate::woken::{copy_woken, judge_woken};
+use apex_types::limits::{GREATEST_NUMBER, GREATEST_PARTITION};
 use apex_types::{PartId, ProcId, Who, Woken};
 use csv::ByteRecord;
 use std::alloc::Global;
@@ -19,12 +21,12 @@ pub fn read_dispatch(fields: &ByteRecord) -> Result<Option<Who>, RowFault>
     ensures value { result ≡ dispatch_in (fields_of fields.now) }
     ensures own { IfErr result (λ fault. IsOfRow fault) }
 {
-    let part = match optional_number(text(fields, 2), 31)? {
+    let part = match optional_number(text(fields, Column::Partition), GREATEST_PARTITION as u64)? {
         Some(number) => Some(number as u8),
         None => None,
     };
-    let who = read_proc(part, text(fields, 3))?;
-    expect_all_empty(fields, 4, 14)?;
+    let who = read_proc(part, text(fields, Column::Process))?;
+    expect_empty_between(fields, Column::Service, Column::ThirdValue)?;
     Ok(who)
 }
 
@@ -38,7 +40,7 @@ fn read_proc(part: Option<u8>, text: &[u8]) -> Result<Option<Who>, RowFault>
         expect_empty(text)?;
         return Ok(None);
     };
-    let proc = required_number(text, 2_147_483_647)?;
+    let proc = required_number(text, GREATEST_NUMBER as u64)?;
     Ok(Some(Who {
         part: PartId::new(part),
         proc: ProcId::new(proc as u32),
@@ -51,10 +53,10 @@ pub fn read_tick(alloc: Global, fields: &ByteRecord) -> Result<Woken, RowFault>
     ensures value { IfOk result (λ woken. tick_in (fields_of fields.now) ≡ Ok woken) }
     ensures refused { IfErr result (λ fault. Refuses TickNeeds fault (tick_in (fields_of fields.now))) }
 {
-    expect_all_empty(fields, 2, 13)?;
-    let list = text(fields, 15);
+    expect_empty_between(fields, Column::Partition, Column::Channel)?;
+    let list = text(fields, Column::Woken);
     judge_woken(list)?;
-    expect_all_empty(fields, 16, 2)?;
+    expect_empty_between(fields, Column::SecondValue, Column::ThirdValue)?;
     match copy_woken(alloc, list) {
         Ok(woken) => Ok(woken),
         Err(_) => Err(RowFault::Memory),

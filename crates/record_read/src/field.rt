@@ -2,16 +2,25 @@
 
 ghost use Rattle.std.specs.Prelude.{◌≡◌, ◌≤◌, ◌+◌, ◌<◌, ℕ, IfOk, IfErr, IfSome};
 ghost use Rattle.csv.specs.Records.{fields_of};
-ghost use Rattle.record_read.specs.Field.{all_empty, argument, empty, maybe_number, maybe_signed, number, signed, text_at};
+ghost use Rattle.record_read.specs.Column.{place_of};
+ghost use Rattle.record_read.specs.Field.{all_empty, argument, bytes_at, empty, empty_between, maybe_number, maybe_signed, number, signed, text_at};
 ghost use Rattle.record_read.specs.Steps.{IsOfRow};
 
+use crate::column::Column;
 use crate::fault::RowFault;
 use csv::ByteRecord;
 use csv_rows::{read_decimal, read_signed};
 
-/// The bytes of the field at this place, from 0.
-pub fn text(fields: &ByteRecord, place: usize) -> &[u8]
-    ensures { result.now ≡ text_at (fields_of fields.now) place }
+/// The text of a column; empty where the row ends before it.
+pub fn text(fields: &ByteRecord, column: Column) -> &[u8]
+    ensures { result.now ≡ text_at (fields_of fields.now) column }
+{
+    bytes(fields, column.place())
+}
+
+// The bytes of the field at this place.
+fn bytes(fields: &ByteRecord, place: usize) -> &[u8]
+    ensures { result.now ≡ bytes_at (fields_of fields.now) place }
 {
     match fields.get(place) {
         Some(text) => text,
@@ -30,15 +39,28 @@ pub fn expect_empty(text: &[u8]) -> Result<(), RowFault>
     }
 }
 
-/// Sees that so many fields from this place on are empty.
+/// Sees that the fields from one column to another are empty.
+pub fn expect_empty_between(
+    fields: &ByteRecord,
+    first: Column,
+    last: Column,
+) -> Result<(), RowFault>
+    requires { place_of first ≤ place_of last }
+    ensures value { result ≡ empty_between (fields_of fields.now) first last }
+    ensures own { IfErr result (λ fault. IsOfRow fault) }
+{
+    expect_all_empty(fields, first.place(), last.place() + 1 - first.place())
+}
+
+// Sees that so many fields from this place on are empty.
 #[tactic(auto, unfolding(crate::specs::Field::all_empty))]
-pub fn expect_all_empty(fields: &ByteRecord, place: usize, count: usize) -> Result<(), RowFault>
+fn expect_all_empty(fields: &ByteRecord, place: usize, count: usize) -> Result<(), RowFault>
     requires { place + count ≤ 18 }
     ensures value { result ≡ all_empty (fields_of fields.now) place count }
     ensures own { IfErr result (λ fault. IsOfRow fault) }
 {
     for step in 0..count {
-        expect_empty(text(fields, place + step))?;
+        expect_empty(bytes(fields, place + step))?;
     }
     Ok(())
 }

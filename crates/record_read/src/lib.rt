@@ -1,13 +1,13 @@
 //! The records of a core's recording, read row by row.
 //!
 //! Promises: the n-th answer of a source is the record that the n-th row of the text is by the row grammar, or the
-//! first fault of that row from left to right; the end is told only behind the last row. The grammar is a relation between
+//! first fault of that row from left to right; the end is reported only after the last row. The grammar is a relation between
 //! rows and records (`IsRow`), by the recording's format, which its first row tells, and a row is read as a record exactly where
 //! the relation holds. A row that is none is refused with the fault of its first faulty field (`IsFirstFault`).
 #![tactic(auto)]
 
-mod arguments;
 mod call;
+mod column;
 mod dispatch;
 mod fault;
 mod field;
@@ -22,7 +22,9 @@ mod row;
 mod source;
 mod woken;
 
+pub use column::{COLUMNS, Column};
 pub use fault::RowFault;
+pub use field::text;
 pub use kind::{Kind, find_kind};
 pub use laws::{
     faults_are_of_rows, first_faults_decide, one_record_of_a_row, rows_are_the_grammar,

@@ -1,12 +1,13 @@
 // Services, codes and outcomes by their names.
 
-ghost use Rattle.std.specs.Prelude.{◌≡◌, ℕ, List, IfErr, length};
-ghost use Rattle.record_read.specs.Named.{code_among, code_named, code_of, out_named, out_of, service_among, service_named, service_of};
+ghost use Rattle.std.specs.Prelude.{◌≡◌, ◌≤◌, ◌==◌, IfErr, IsTrue, drop, length, not, take};
+ghost use Rattle.std.specs.List.{list_all};
+ghost use Rattle.std.specs.Str.{bytes_eq};
+ghost use Rattle.record_read.specs.Named.{code_among, code_named, code_of, name_lengths, out_named, out_of, service_among, service_named, service_of};
 ghost use Rattle.record_read.specs.Steps.{IsOfRow};
 
 use crate::fault::RowFault;
-use crate::format::Format;
-use apex_types::{Code, Out, Service};
+use apex_types::{Code, Format, Out, SERVICES, Service, ServiceRow};
 
 // All codes, the most frequent one first.
 const CODES: [Code; 7] = [
@@ -106,141 +107,51 @@ fn code_in(text: &[u8], codes: &[Code]) -> Option<Code>
 pub fn find_service(text: &[u8]) -> Option<Service>
     ensures { result ≡ service_named text.now }
 {
-    // Names of one length are few.
-    service_in(text, services_of_length(text.len()))
+    service_from(first_of_length(text.len()), &SERVICES, text)
 }
 
-// The first of these services that has this name.
-#[tactic(auto, unfolding(crate::specs::Named::service_among))]
-fn service_in(text: &[u8], services: &[Service]) -> Option<Service>
-    ensures { result ≡ service_among services.now text.now }
+// The place in the table of the first name of each length. At 51 stand the lengths that no name has.
+const FIRST_OF_LENGTH: [u8; 33] = [
+    51, 51, 51, 51, 3, 2, 7, 5, 12, 4, 10, 15, 6, 11, 0, 19, 20, 17, 13, 34, 31, 33, 32, 36, 48,
+    51, 51, 51, 51, 51, 51, 51, 1,
+];
+
+// The place at which the search for a name of this length begins, so that few names are compared.
+fn first_of_length(len: usize) -> usize
+    ensures bound { result ≤ length name_lengths }
+    ensures earlier { IsTrue (list_all (λ other. not (other == len)) (take result name_lengths)) }
 {
-    for service in services {
-        if service.name() == text {
-            return Some(*service);
+    match FIRST_OF_LENGTH.get(len) {
+        Some(first) => *first as usize,
+        None => 0,
+    }
+}
+
+// The service of the first of the rows from a place on that has this name.
+#[tactic(auto, unfolding(crate::specs::Named::service_among))]
+fn service_from(first: usize, rows: &[ServiceRow<&'static [u8]>], text: &[u8]) -> Option<Service>
+    requires { first ≤ length rows.now }
+    ensures { result ≡ service_among (λ name. name.now) (drop first rows.now) text.now }
+{
+    for row in &rows[first..] {
+        if is_name(row.name, text) {
+            return Some(row.service);
         }
     }
     None
 }
 
-// Every service whose name has this length, so that few names are compared; all services where there is none.
-fn services_of_length(len: usize) -> &'static [Service]
-    ensures { (text : List ℕ) → length text ≡ len → service_among result.now text ≡ service_named text }
+// Whether the text is the name. Most names have another length, which is known without a call.
+#[tactic(auto, using(crate::proofs::Lengths::other_name))]
+fn is_name(name: &[u8], text: &[u8]) -> bool
+    ensures { result ≡ bytes_eq name.now text.now }
 {
-    match len {
-        4 => &[Service::Stop],
-        5 => &[Service::Start],
-        6 => &[Service::Resume],
-        7 => &[Service::Suspend],
-        8 => &[Service::GetTime],
-        9 => &[Service::StopSelf, Service::GetMyId, Service::SetEvent],
-        10 => &[Service::TimedWait, Service::WaitEvent],
-        11 => &[Service::SendBuffer, Service::ResetEvent],
-        12 => &[
-            Service::SuspendSelf,
-            Service::SetPriority,
-            Service::CreateEvent,
-            Service::CreateMutex,
-            Service::GetEventId,
-            Service::GetMutexId,
-        ],
-        13 => &[
-            Service::PeriodicWait,
-            Service::CreateBuffer,
-            Service::AcquireMutex,
-            Service::ReleaseMutex,
-            Service::GetBufferId,
-        ],
-        14 => &[
-            Service::CreateProcess,
-            Service::ReceiveBuffer,
-            Service::WaitSemaphore,
-        ],
-        15 => &[Service::ReadBlackboard],
-        16 => &[
-            Service::ClearBlackboard,
-            Service::CreateSemaphore,
-            Service::SignalSemaphore,
-            Service::GetSemaphoreId,
-            Service::GetEventStatus,
-            Service::GetMutexStatus,
-        ],
-        17 => &[
-            Service::CreateBlackboard,
-            Service::GetBufferStatus,
-            Service::GetBlackboardId,
-        ],
-        18 => &[Service::SetPartitionMode, Service::DisplayBlackboard],
-        19 => &[Service::CreateQueuingPort, Service::GetQueuingPortId],
-        20 => &[
-            Service::CreateSamplingPort,
-            Service::SendQueuingMessage,
-            Service::GetSemaphoreStatus,
-            Service::GetSamplingPortId,
-        ],
-        21 => &[Service::ReadSamplingMessage, Service::GetBlackboardStatus],
-        22 => &[Service::WriteSamplingMessage],
-        23 => &[
-            Service::ReceiveQueuingMessage,
-            Service::GetQueuingPortStatus,
-        ],
-        24 => &[Service::GetSamplingPortStatus],
-        32 => &[Service::InitializeProcessCoreAffinity],
-        _ => &SERVICES,
-    }
+    name.len() == text.len() && are_same(name, text)
 }
 
-// All services.
-const SERVICES: [Service; 51] = [
-    Service::CreateProcess,
-    Service::InitializeProcessCoreAffinity,
-    Service::Start,
-    Service::Stop,
-    Service::StopSelf,
-    Service::Suspend,
-    Service::SuspendSelf,
-    Service::Resume,
-    Service::SetPriority,
-    Service::GetMyId,
-    Service::TimedWait,
-    Service::PeriodicWait,
-    Service::GetTime,
-    Service::SetPartitionMode,
-    Service::CreateBuffer,
-    Service::SendBuffer,
-    Service::ReceiveBuffer,
-    Service::CreateBlackboard,
-    Service::DisplayBlackboard,
-    Service::ReadBlackboard,
-    Service::ClearBlackboard,
-    Service::CreateSemaphore,
-    Service::WaitSemaphore,
-    Service::SignalSemaphore,
-    Service::CreateEvent,
-    Service::SetEvent,
-    Service::ResetEvent,
-    Service::WaitEvent,
-    Service::CreateMutex,
-    Service::AcquireMutex,
-    Service::ReleaseMutex,
-    Service::CreateSamplingPort,
-    Service::WriteSamplingMessage,
-    Service::ReadSamplingMessage,
-    Service::CreateQueuingPort,
-    Service::SendQueuingMessage,
-    Service::ReceiveQueuingMessage,
-    Service::GetBufferId,
-    Service::GetBufferStatus,
-    Service::GetBlackboardId,
-    Service::GetBlackboardStatus,
-    Service::GetSemaphoreId,
-    Service::GetSemaphoreStatus,
-    Service::GetEventId,
-    Service::GetEventStatus,
-    Service::GetMutexId,
-    Service::GetMutexStatus,
-    Service::GetSamplingPortId,
-    Service::GetSamplingPortStatus,
-    Service::GetQueuingPortId,
-    Service::GetQueuingPortStatus,
-];
+// Whether they are the same. Apart, so that the search puts the two texts into memory only where their lengths agree.
+fn are_same(name: &[u8], text: &[u8]) -> bool
+    ensures { result ≡ bytes_eq name.now text.now }
+{
+    name == text
+}

@@ -8,15 +8,10 @@ ghost use Rattle.record_read.specs.Steps.{IsOfRow};
 
 use crate::fault::RowFault;
 use crate::field::expect_empty;
+use apex_types::limits::{LONGEST_MESSAGE, LONGEST_NAME};
 use apex_types::{Message, Name};
 use hex::FromHexError;
 use std::alloc::{AllocError, Global};
-
-// The most bytes of a name.
-const MOST_NAME: usize = 32;
-
-// The most bytes of a message.
-const MOST_MESSAGE: usize = 8192;
 
 /// Judges the name in a field, filled where the service takes one, and else empty. Gives its bytes.
 #[tactic(auto, unfolding(crate::specs::Payload::name_in))]
@@ -43,7 +38,7 @@ fn judge_bytes(text: &[u8]) -> Result<&[u8], RowFault>
     ensures refused { IfErr result (λ fault. name_of text.now ≡ Err fault) }
     ensures own { IfErr result (λ fault. IsOfRow fault) }
 {
-    if text.len() > MOST_NAME || !all_printable(text) {
+    if text.len() > LONGEST_NAME || !all_printable(text) {
         return Err(RowFault::BadName);
     }
     Ok(text)
@@ -80,7 +75,7 @@ pub fn judge_data(text: &[u8]) -> Result<(), RowFault>
     ensures refused { IfErr result (λ fault. maybe_message text.now ≡ Err fault) }
     ensures own { IfErr result (λ fault. IsOfRow fault) }
 {
-    if count_bytes(text)? > MOST_MESSAGE {
+    if count_bytes(text)? > LONGEST_MESSAGE {
         return Err(RowFault::BadLength);
     }
     Ok(())
@@ -136,7 +131,7 @@ fn decode(alloc: Global, digits: &[u8]) -> Result<Vec<u8>, AllocError>
 fn goes_with(len: i64, count: usize) -> bool
     ensures { result ≡ goes_with_of len count }
 {
-    if len >= 1 && len <= MOST_MESSAGE as i64 {
+    if len >= 1 && len <= LONGEST_MESSAGE as i64 {
         count as u64 == len as u64
     } else {
         count == 0

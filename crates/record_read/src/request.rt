@@ -2,18 +2,18 @@
 
 ghost use Rattle.std.specs.Prelude.{◌≡◌, ◌≢◌, ◌⊎◌, [], true, IfOk, IfErr, OnErr, Ok, Err};
 ghost use Rattle.csv.specs.Records.{fields_of};
-ghost use Rattle.record_read.specs.Arguments.{arguments_of, request_of};
+ghost use Rattle.apex_types.specs.Services.{arguments_of};
+ghost use Rattle.record_read.specs.Arguments.{request_of};
 ghost use Rattle.record_read.specs.Payload.{IsHex, hex_bytes};
 ghost use Rattle.record_read.specs.Row.{request_in};
 ghost use Rattle.record_read.specs.Steps.{IsOfRow};
 
-use crate::arguments::taken_by;
+use crate::column::Column;
 use crate::fault::RowFault;
 use crate::field::{read_argument, text};
-use crate::format::Format;
 use crate::named::read_service;
 use crate::payload::{copy_message, copy_name, judge_message, judge_name};
-use apex_types::{Message, Name, ObjectKind, Request, Service};
+use apex_types::{Format, Message, Name, ObjectKind, Request, Service};
 use csv::ByteRecord;
 use std::alloc::{AllocError, Global};
 
@@ -38,13 +38,13 @@ pub fn judge_request(format: Format, fields: &ByteRecord) -> Result<RequestText<
     ensures refused { IfErr result (λ fault. request_in format (fields_of fields.now) ≡ Err fault) }
     ensures own { IfErr result (λ fault. IsOfRow fault) }
 {
-    let service = read_service(format, text(fields, 4))?;
-    let takes = taken_by(service);
-    let n1 = read_argument(takes.numbers >= 1, text(fields, 5))?;
-    let n2 = read_argument(takes.numbers >= 2, text(fields, 6))?;
-    let n3 = read_argument(takes.numbers >= 3, text(fields, 7))?;
-    let name = judge_name(takes.name, text(fields, 8))?;
-    let message = judge_message(takes.message, n2, text(fields, 9))?;
+    let service = read_service(format, text(fields, Column::Service))?;
+    let takes = service.arguments();
+    let n1 = read_argument(takes.numbers >= 1, text(fields, Column::FirstNumber))?;
+    let n2 = read_argument(takes.numbers >= 2, text(fields, Column::SecondNumber))?;
+    let n3 = read_argument(takes.numbers >= 3, text(fields, Column::ThirdNumber))?;
+    let name = judge_name(takes.name, text(fields, Column::Name))?;
+    let message = judge_message(takes.message, n2, text(fields, Column::Message))?;
     Ok(RequestText {
         service,
         n1,

@@ -7,12 +7,12 @@ ghost use Rattle.record_read.specs.Row.{return_in};
 ghost use Rattle.record_read.specs.Steps.{Refuses};
 
 use crate::call::read_who;
+use crate::column::Column;
 use crate::fault::RowFault;
-use crate::field::{expect_all_empty, optional_signed, text};
-use crate::format::Format;
+use crate::field::{expect_empty_between, optional_signed, text};
 use crate::named::{read_code, read_service};
 use crate::payload::{copy_message, judge_data};
-use apex_types::Return;
+use apex_types::{Format, Return};
 use csv::ByteRecord;
 use std::alloc::Global;
 
@@ -23,15 +23,15 @@ pub fn read_return(alloc: Global, format: Format, fields: &ByteRecord) -> Result
     ensures refused { IfErr result (λ fault. Refuses ReturnNeeds fault (return_in format (fields_of fields.now))) }
 {
     let who = read_who(fields)?;
-    let service = read_service(format, text(fields, 4))?;
-    expect_all_empty(fields, 5, 6)?;
-    let code = read_code(text(fields, 11))?;
-    let val = optional_signed(text(fields, 12))?;
-    let data = text(fields, 13);
+    let service = read_service(format, text(fields, Column::Service))?;
+    expect_empty_between(fields, Column::FirstNumber, Column::Priority)?;
+    let code = read_code(text(fields, Column::Outcome))?;
+    let val = optional_signed(text(fields, Column::Value))?;
+    let data = text(fields, Column::Data);
     judge_data(data)?;
-    expect_all_empty(fields, 14, 2)?;
-    let val2 = optional_signed(text(fields, 16))?;
-    let val3 = optional_signed(text(fields, 17))?;
+    expect_empty_between(fields, Column::Channel, Column::Woken)?;
+    let val2 = optional_signed(text(fields, Column::SecondValue))?;
+    let val3 = optional_signed(text(fields, Column::ThirdValue))?;
     match copy_message(alloc, data) {
         Ok(bytes) => Ok(Return {
             who,

@@ -2,19 +2,21 @@
 
 ghost use Rattle.std.specs.Prelude.{◌≡◌, ◌<◌, ◌≤◌, OnOk, IfOk, IfErr, Ok, Err};
 ghost use Rattle.csv.specs.Records.{fields_of};
+ghost use Rattle.apex_types.specs.declared.limits.TheConstants.{MOST_RECORDS};
 ghost use Rattle.record_read.specs.Field.{number, text_at};
 ghost use Rattle.record_read.specs.Memory.{BodyNeeds, NeedsMemory};
 ghost use Rattle.record_read.specs.Row.{body_in, fields_read, record_of, seq_in};
 ghost use Rattle.record_read.specs.Steps.{IsOfRow, Refuses};
 
 use crate::call::read_call;
+use crate::column::Column;
 use crate::dispatch::{read_dispatch, read_tick};
 use crate::fault::RowFault;
 use crate::field::{required_number, text};
-use crate::format::Format;
 use crate::kind::{Kind, read_kind};
 use crate::ret::read_return;
-use apex_types::{Body, Record};
+use apex_types::limits::MOST_RECORDS;
+use apex_types::{Body, Format, Record};
 use csv::ByteRecord;
 use std::alloc::Global;
 
@@ -29,9 +31,9 @@ pub fn read_record(
 ) -> Result<Record, RowFault>
     ensures value { IfOk result (λ made. record_of format next (fields_of fields.now) ≡ Ok made) }
     ensures refused { IfErr result (λ fault. Refuses NeedsMemory fault (record_of format next (fields_of fields.now))) }
-    ensures bound { OnOk result (next < 4294967295) }
+    ensures bound { OnOk result (next < MOST_RECORDS) }
 {
-    if next == u32::MAX {
+    if next == MOST_RECORDS {
         return Err(RowFault::TooMany);
     }
     if fields.len() != format.field_count() {
@@ -51,9 +53,9 @@ fn read_fields(
     ensures value { IfOk result (λ made. fields_read format next (fields_of fields.now) ≡ Ok made) }
     ensures refused { IfErr result (λ fault. Refuses NeedsMemory fault (fields_read format next (fields_of fields.now))) }
 {
-    let given = required_number(text(fields, 0), 4_294_967_294)?;
+    let given = required_number(text(fields, Column::Sequence), MOST_RECORDS as u64 - 1)?;
     let seq = expect_next(next, given)?;
-    let kind = read_kind(text(fields, 1))?;
+    let kind = read_kind(text(fields, Column::Kind))?;
     let body = read_body(alloc, format, kind, fields)?;
     Ok(Record { seq, body })
 }

@@ -7,9 +7,9 @@ ghost use Rattle.record_read.specs.Row.{records_of};
 ghost use Rattle.record_read.specs.Steps.{IsOutside};
 
 use crate::fault::RowFault;
-use crate::format::{Format, format_by};
+use crate::format::format_by;
 use crate::row::read_record;
-use apex_types::Record;
+use apex_types::{Format, Record};
 use csv::ByteRecord;
 use csv_rows::{CsvRows, StreamFault, TextSource};
 use std::alloc::Global;
@@ -71,7 +71,7 @@ impl<R: TextSource> RowSource<R> {
         self.rows.source()
     }
 
-    /// The next record, or None behind the last, then and from then on. After a fault every call answers Ended.
+    /// The next record, or None after the last, then and from then on. After a fault every call answers Ended.
     ///
     /// Read where the source has failed, and else the row's first fault. Memory where `csv` gave up, and for a sound row with a
     /// name, a message or a list of processes.
@@ -82,7 +82,7 @@ impl<R: TextSource> RowSource<R> {
         ensures ends { IfOk result (λ made. self.new.ended ≡ is_none made) }
         ensures stays { self.old.stopped ≡ false → self.old.ended ≡ true → result ≡ Ok None }
         ensures failed { self.old.stopped ≡ false → result ≡ Err RowFault.Read → self.new.failed ≡ true }
-        ensures told { self.old.stopped ≡ false → self.new.failed ≡ true → result ≡ Err RowFault.Read }
+        ensures reported { self.old.stopped ≡ false → self.new.failed ≡ true → result ≡ Err RowFault.Read }
         ensures starved { self.old.stopped ≡ false → self.new.starved ≡ true → result ≡ Err RowFault.Memory }
         ensures memory { self.old.stopped ≡ false → result ≡ Err RowFault.Memory → (self.new.starved ≡ true) ⊎ IfSome self.old.left NextNeedsMemory }
         ensures gives { self.old.stopped ≡ false → IfSome self.old.left (λ items. Gives (IsOutside R.can_fail) items result self.new.left) }

@@ -6,18 +6,19 @@ ghost use Rattle.record_read.specs.Steps.{IsOfRow};
 ghost use Rattle.record_read.specs.Woken.{IsList, front_of, rest_of, next_process, pieces_of, processes_behind, processes_in, stands_behind as behind, woken_of};
 
 use crate::fault::RowFault;
+use apex_types::limits::{GREATEST_NUMBER, GREATEST_PARTITION};
 use apex_types::{PartId, ProcId, Who, Woken};
 use csv_rows::read_decimal;
 use std::alloc::{AllocError, Global};
 
-// A text before its first separator, and behind it if there is one.
+// A text before its first separator, and after it if there is one.
 #[derive(Clone, Copy)]
 struct Split<'a> {
     front: &'a [u8],
     rest: Option<&'a [u8]>,
 }
 
-/// Judges a list of processes: empty, or each process behind the one before.
+/// Judges a list of processes: empty, or each process after the one before.
 #[tactic(auto, unfolding(crate::specs::Woken::woken_of))]
 pub fn judge_woken(text: &[u8]) -> Result<(), RowFault>
     ensures list { OnOk result (IsList text.now) }
@@ -35,7 +36,7 @@ pub fn judge_woken(text: &[u8]) -> Result<(), RowFault>
     }
 }
 
-// Whether the pieces of a text name processes, each behind the one before.
+// Whether the pieces of a text name processes, each after the one before.
 fn are_processes(text: &[u8]) -> bool
     ensures { result ≡ is_some (processes_behind None (pieces_of 59 text.now)) }
 {
@@ -84,15 +85,15 @@ fn copy_processes(alloc: Global, text: &[u8]) -> Result<Vec<Who>, AllocError>
     Ok(named)
 }
 
-// The process that a text names, where it stands behind the last.
+// The process that a text names, where it comes after the last.
 #[tactic(auto, unfolding(crate::specs::Woken::next_process, crate::specs::Woken::process_of))]
 fn read_next(last: Option<Who>, text: &[u8]) -> Option<Who>
     ensures { result ≡ next_process last text.now }
 {
     let split = split_once(text, b':');
     let rest = split.rest?;
-    let part = read_decimal(split.front, 31)? as u8;
-    let proc = read_decimal(rest, 2_147_483_647)? as u32;
+    let part = read_decimal(split.front, GREATEST_PARTITION as u64)? as u8;
+    let proc = read_decimal(rest, GREATEST_NUMBER as u64)? as u32;
     if proc == 0 || !stands_behind(last, part, proc) {
         return None;
     }
@@ -102,7 +103,7 @@ fn read_next(last: Option<Who>, text: &[u8]) -> Option<Who>
     })
 }
 
-// Whether the process of this partition and number stands behind the last.
+// Whether the process of this partition and number comes after the last.
 fn stands_behind(last: Option<Who>, part: u8, proc: u32) -> bool
     ensures { result ≡ behind last (record { part = part; proc = proc }) }
 {

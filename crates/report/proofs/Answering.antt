@@ -7,7 +7,6 @@ use Rattle.module_config.specs.Reading.{configuration_of}
 use Rattle.order_cert.specs.Kept.{none_taken}
 use Rattle.order_cert.specs.Row.{pairs_of}
 use Rattle.placement.specs.declared.fault.InputFault.{InputFault}
-use Rattle.placement.specs.declared.fault.InputFault.TheVariants as input
 use Rattle.placement.specs.Lanes.{IsScanOf}
 use Rattle.placement.specs.Reading.{CanFail}
 use Rattle.placement.specs.Scan.{Scan}
@@ -20,7 +19,7 @@ use Rattle.verdict_merge.specs.Verdicts.{IsRunWhereYes, IsVerdict}
 use Rattle.report.specs.declared.fault.ArgumentFault.{ArgumentFault}
 use Rattle.report.specs.declared.fault.ArgumentFault.TheVariants.{ReaderCount}
 use Rattle.report.specs.declared.fault.CheckFault.{CheckFault}
-use Rattle.report.specs.declared.fault.CheckFault.TheVariants.{Arguments, Config, Cert, Order, Row, Memory}
+use Rattle.report.specs.declared.fault.CheckFault.TheVariants.{Arguments, Config, Input, Memory}
 use Rattle.report.specs.declared.last.LastItem.{LastItem}
 use Rattle.report.specs.declared.settings.Settings.{Settings}
 use Rattle.report.specs.Answers.{IsAnswer}
@@ -43,27 +42,20 @@ refusal_means : (texts : Texts) (readings : Readings) (verdict : Verdict) (end :
 refusal_means texts readings (No pos piece cause) end is = tt
 refusal_means texts readings (Broken pos rule) end is = tt
 refusal_means texts readings (Yes records) (Ok ended) is = tt
-refusal_means texts readings (Yes records) (Err (input.Cert place fault)) is = first_of texts readings (input.Cert place fault) is
-refusal_means texts readings (Yes records) (Err (input.Order place core fault)) is = first_of texts readings (input.Order place core fault) is
-refusal_means texts readings (Yes records) (Err (input.Row core seq fault)) is = first_of texts readings (input.Row core seq fault) is
-refusal_means texts readings (Yes records) (Err input.Memory) is = tt
+refusal_means texts readings (Yes records) (Err fault) is = first_of texts readings fault is
 
 -- a refusal of another kind says nothing of the input
 abbrev IsOfNoText : CheckFault → Type 0
 IsOfNoText (Arguments fault) = Unit {0}
 IsOfNoText (Config fault) = Unit {0}
 IsOfNoText Memory = Unit {0}
-IsOfNoText (Cert place fault) = ⊥
-IsOfNoText (Order place core fault) = ⊥
-IsOfNoText (Row core seq fault) = ⊥
+IsOfNoText (Input fault) = ⊥
 
 nothing_refused : (texts : Texts) (fault : CheckFault) → IsOfNoText fault → RefusalMeansFault texts whole (Err fault)
 nothing_refused texts (Arguments fault) is = tt
 nothing_refused texts (Config fault) is = tt
 nothing_refused texts Memory is = tt
-nothing_refused texts (Cert place fault) is = absurd is
-nothing_refused texts (Order place core fault) is = absurd is
-nothing_refused texts (Row core seq fault) is = absurd is
+nothing_refused texts (Input fault) is = absurd is
 
 -- such a refusal is no Yes and no No, and leaves no last records
 refused : (settings : Settings) (texts : Texts) (can_fail : CanFail) (relations : List Relation) (fault : CheckFault) → IsOfNoText fault → IsOutcome settings texts whole relations (Err fault)
@@ -85,14 +77,14 @@ with_settings : (settings : Settings) (texts : Texts) (readings : Readings) (rel
 with_settings settings texts readings relations result none is = inr (subst (λ found. IsOutcomeWith found texts readings relations result) (sym none) is)
 
 -- a fault of the configuration as the check tells it
-config_told : (fault : ConfigFault) → (fault ≡ config.Memory) ⊎ ((fault ≢ config.Memory) × (config_refusal_of fault ≡ Config fault))
-config_told config.Memory = inl refl
-config_told fault = inr ((λ e. cc), refl)
+config_reported : (fault : ConfigFault) → (fault ≡ config.Memory) ⊎ ((fault ≢ config.Memory) × (config_refusal_of fault ≡ Config fault))
+config_reported config.Memory = inl refl
+config_reported fault = inr ((λ e. cc), refl)
 
 -- the refusal of the configuration
 pub refused_configuration : (settings : Settings) (texts : Texts) (can_fail : CanFail) (relations : List Relation) (fault : ConfigFault) → argument_fault_of settings ≡ None
     → (fault ≢ config.Memory → configuration_of texts.config ≡ Err fault) → IsAnswer settings texts can_fail relations (Err (config_refusal_of fault)) []
-refused_configuration settings texts can_fail relations fault none read = elim (config_told fault) [
+refused_configuration settings texts can_fail relations fault none read = elim (config_reported fault) [
   | inl memory ↦ subst (λ one. IsAnswer settings texts can_fail relations (Err (config_refusal_of one)) []) (sym memory) (want_of_memory settings texts can_fail relations)
   | inr (other, is) ↦ subst (λ one. IsAnswer settings texts can_fail relations (Err one) []) (sym is)
       (refused settings texts can_fail relations (Config fault) tt (with_settings settings texts whole relations (Err (Config fault)) none
@@ -112,7 +104,7 @@ pub record IsEnded (configuration : Configuration) (texts : Texts) (can_fail : C
   pub scanned : Scan
   pub scan : IsScanOf can_fail (length texts.recordings) none_taken 0 (items_at texts.recordings) (pairs_of texts.certificate) scanned
   pub judged : IsJudged configuration relations scanned result
-  pub told : last ≡ last_of result scanned.placed
+  pub reported : last ≡ last_of result scanned.placed
 
 -- the answer after it
 pub answered : (settings : Settings) (texts : Texts) (can_fail : CanFail) (relations : List Relation) (configuration : Configuration) (result : Result Verdict CheckFault) (last : List LastItem)
@@ -136,5 +128,5 @@ answered settings texts can_fail relations configuration result last none read c
       yes = yes_means can_fail texts relations configuration ended.scanned verdict result read count ended.scan runs.0 is;
       no = no_means can_fail texts relations configuration ended.scanned verdict result read count ended.scan runs.1 is;
       refusal = subst (RefusalMeansFault texts so.readings) (sym is) (refusal_means texts so.readings verdict ended.scanned.end (ap (λ one. one.end) so.scan));
-      last_records = last_means can_fail texts relations configuration ended.scanned verdict result last read count ended.scan runs.1 is ended.told;
+      last_records = last_means can_fail texts relations configuration ended.scanned verdict result last read count ended.scan runs.1 is ended.reported;
     }

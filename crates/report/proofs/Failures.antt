@@ -19,7 +19,7 @@ use Rattle.placement.specs.Scan.{and_then, end_of, ends_of, keeping, scan, takin
 use Rattle.placement.proofs.Readings.{put-here, put-other, same_or}
 use Rattle.record_read.specs.declared.fault.RowFault.{RowFault}
 use Rattle.record_read.specs.declared.fault.RowFault.TheVariants as row
-use Rattle.record_read.specs.declared.format.Format.{Format}
+use Rattle.apex_types.specs.declared.format.Format.{Format}
 use Rattle.record_read.specs.Format.{format_of}
 use Rattle.record_read.specs.Row.{Item, record_of}
 use Rattle.record_read.specs.Steps.{IsOfRow}
@@ -29,7 +29,6 @@ use Rattle.verdict_merge.specs.declared.verdict.Verdict.{Verdict}
 use Rattle.verdict_merge.specs.declared.verdict.Verdict.TheVariants.{Yes, No, Broken}
 use Rattle.report.specs.declared.fault.ArgumentFault.{ArgumentFault}
 use Rattle.report.specs.declared.fault.CheckFault.{CheckFault}
-use Rattle.report.specs.declared.fault.CheckFault.TheVariants.{Memory}
 use Rattle.report.specs.Inputs.{Texts, given_of_certificate, given_of_core, items_at, scan_of, whole}
 use Rattle.report.specs.Outcome.{IsOutcomeBy, IsOutcomeUnder, IsOutcomeWith, TellsNoFailure, WholeReadingsTellNoFailure, answer_with, argument_fault_of}
 
@@ -73,7 +72,6 @@ EndsOtherwise (Ok ended) = Unit {0}
 EndsOtherwise (Err (input.Cert place fault)) = fault ≢ cert.Read
 EndsOtherwise (Err (input.Order place core fault)) = Unit {0}
 EndsOtherwise (Err (input.Row core seq fault)) = fault ≢ row.Read
-EndsOtherwise (Err input.Memory) = Unit {0}
 
 first_of_both : (one other : Result (Unit {0}) InputFault) → EndsOtherwise one → EndsOtherwise other → EndsOtherwise (and_then one other)
 first_of_both (Ok ended) other is also = also
@@ -121,7 +119,6 @@ answer_otherwise (Yes records) (Ok ended) is = tt
 answer_otherwise (Yes records) (Err (input.Cert place fault)) is = is
 answer_otherwise (Yes records) (Err (input.Order place core fault)) is = tt
 answer_otherwise (Yes records) (Err (input.Row core seq fault)) is = is
-answer_otherwise (Yes records) (Err input.Memory) is = tt
 
 under : (enough : Bool) (configuration : Configuration) (texts : Texts) (relations : List Relation) (result : Result Verdict CheckFault)
     → IsOutcomeUnder enough configuration texts whole relations result → TellsNoFailure result
@@ -142,6 +139,6 @@ by_settings : (found : Option ArgumentFault) (texts : Texts) (relations : List R
 by_settings (Some fault) texts relations result is = subst TellsNoFailure (sym is) tt
 by_settings None texts relations result is = by_configuration (configuration_of texts.config) texts relations result is
 
-pub no_failure_is_told : WholeReadingsTellNoFailure
-no_failure_is_told settings texts relations result (inl memory) = subst TellsNoFailure (sym memory) tt
-no_failure_is_told settings texts relations result (inr is) = by_settings (argument_fault_of settings) texts relations result is
+pub no_failure_is_reported : WholeReadingsTellNoFailure
+no_failure_is_reported settings texts relations result (inl memory) = subst TellsNoFailure (sym memory) tt
+no_failure_is_reported settings texts relations result (inr is) = by_settings (argument_fault_of settings) texts relations result is

@@ -1,14 +1,13 @@
--- Rounds one behind another, up to the answer.
-use Rattle.std.proofs.Common.{◌≡◌, ◌≢◌, ◌⊎◌, ◌+◌, ◌∙◌, ℕ, List, [], ◌++◌, Option, Some, None, Result, Ok, Err, length, map, refl, sym, ap, subst, inl, inr, arith, append_assoc}
+-- Rounds one after another, up to the answer.
+use Rattle.std.proofs.Common.{◌≡◌, ◌⊎◌, ◌+◌, ◌∙◌, ℕ, List, [], ◌++◌, Option, Some, None, Result, Ok, Err, length, map, refl, sym, ap, subst, inl, inr, arith, append_assoc}
 use Rattle.std.proofs.lemmas.List.{append-nil, length-append}
 use Rattle.apex_types.specs.declared.record.Ordered.{Ordered}
 use Rattle.apex_machine.specs.Configuration.{Configuration}
 use Rattle.apex_machine.specs.Runs.{ArePlaced}
 use Rattle.placement.specs.declared.fault.InputFault.{InputFault}
-use Rattle.placement.specs.declared.fault.InputFault.TheVariants as input
 use Rattle.placement.specs.declared.placer.Filled.{Filled}
-use Rattle.placement.specs.declared.placer.Filled.TheVariants.{Full, Ended}
-use Rattle.placement.specs.Lanes.{IsAhead, IsFilled, IsTheEnd, Lead, Placing}
+use Rattle.placement.specs.declared.placer.Filled.TheVariants as filled
+use Rattle.placement.specs.Lanes.{IsAhead, IsFilled, Lead, Placing}
 use Rattle.placement.specs.Reading.{CanFail}
 use Rattle.placement.specs.Scan.{Scan, led_by}
 use Rattle.placement.proofs.Ahead.{something_ahead}
@@ -34,15 +33,6 @@ use Rattle.report.proofs.LastOnes.{answer_within, kept_is_last, verdict_within}
 
 -- one round
 
--- an end of the input that is no want of memory is the end of what was ahead
-the_end : (can_fail : CanFail) (old : Placing) (records : List Ordered) (end : Result (Unit {0}) InputFault) → end ≢ Err input.Memory → IsTheEnd can_fail old records end
-    → IsAhead can_fail old (record { placed = records; end = end })
-the_end can_fail old records (Ok ended) other is = is
-the_end can_fail old records (Err input.Memory) other is = absurd (other refl)
-the_end can_fail old records (Err (input.Cert place fault)) other is = is
-the_end can_fail old records (Err (input.Order place core fault)) other is = is
-the_end can_fail old records (Err (input.Row core seq fault)) other is = is
-
 -- what decides against a round decides however the input ends
 decides_whatever : (first : ℕ) (found : Option Refused) (broken : Option BrokenView) (verdict : Verdict) (end : Result (Unit {0}) InputFault) → against first found broken ≡ Some verdict
     → Ok verdict ≡ answer_with verdict end
@@ -67,65 +57,62 @@ round_decides configuration relations judging judged records found breach may ro
 
 -- the answer over the last records, by what they decide
 pub last_decided : (configuration : Configuration) (relations : List Relation) (judging judged : Judging) (records : List Ordered) (end : Result (Unit {0}) InputFault) (verdict : Verdict)
-    → end ≢ Err input.Memory → IsDecided configuration relations judging records (Some verdict) judged → IsLastAnswer configuration relations judging records end (Ok verdict)
-last_decided configuration relations judging judged records end verdict other (over, final) =
-    inr (other, (verdict, subst (λ list. IsVerdictFrom configuration relations (parts_of judging) judging.count list verdict) (append-nil records) (over []), final end))
+    → IsDecided configuration relations judging records (Some verdict) judged → IsLastAnswer configuration relations judging records end (Ok verdict)
+last_decided configuration relations judging judged records end verdict (over, final) =
+    inr (verdict, subst (λ list. IsVerdictFrom configuration relations (parts_of judging) judging.count list verdict) (append-nil records) (over []), final end)
 
 pub last_undecided : (configuration : Configuration) (relations : List Relation) (judging judged : Judging) (records : List Ordered) (end : Result (Unit {0}) InputFault)
-    → end ≢ Err input.Memory → IsDecided configuration relations judging records None judged → IsLastAnswer configuration relations judging records end (answer_with (Yes judged.count) end)
-last_undecided configuration relations judging judged records end other (run, counted, meet, ready) = inr (other, (Yes judged.count, (omega (arith, counted), (parts_of judged, run), meet), refl))
+    → IsDecided configuration relations judging records None judged → IsLastAnswer configuration relations judging records end (answer_with (Yes judged.count) end)
+last_undecided configuration relations judging judged records end (run, counted, meet, ready) = inr (Yes judged.count, (omega (arith, counted), (parts_of judged, run), meet), refl)
 
--- round behind round
+-- round after round
 
 pub lead_join : (can_fail : CanFail) (start now next : Placing) (before records : List Ordered) → Lead can_fail start before now → Lead can_fail now records next → Lead can_fail start (before ++ records) next
 lead_join can_fail start now next before records first second scanned ahead =
     subst (λ placed. IsAhead can_fail start (record { placed = placed; end = scanned.end })) (sym (append_assoc before records scanned.placed)) (first (led_by records scanned) (second scanned ahead))
 
--- a round behind others is filled as all of them are
+-- a round after others is filled as all of them are
 pub filled_on : (can_fail : CanFail) (start now next : Placing) (before records : List Ordered) (filled : Filled) → Lead can_fail start before now → IsFilled can_fail now records filled next → IsFilled can_fail start (before ++ records) filled next
-filled_on can_fail start now next before records Full lead is = lead_join can_fail start now next before records lead is
-filled_on can_fail start now next before records (Ended (Ok ended)) lead is = lead (record { placed = records; end = Ok ended }) is
-filled_on can_fail start now next before records (Ended (Err input.Memory)) lead is = tt
-filled_on can_fail start now next before records (Ended (Err (input.Cert place fault))) lead is = lead (record { placed = records; end = Err (input.Cert place fault) }) is
-filled_on can_fail start now next before records (Ended (Err (input.Order place core fault))) lead is = lead (record { placed = records; end = Err (input.Order place core fault) }) is
-filled_on can_fail start now next before records (Ended (Err (input.Row core seq fault))) lead is = lead (record { placed = records; end = Err (input.Row core seq fault) }) is
+filled_on can_fail start now next before records filled.Full lead is = lead_join can_fail start now next before records lead is
+filled_on can_fail start now next before records (filled.Ended end) lead is = lead (record { placed = records; end = end }) is
+filled_on can_fail start now next before records filled.Memory lead is = tt
 
 -- these records were judged, and each of their views meets every relation
-abbrev pub AreBehind : Configuration → List Relation → List Ordered → Judging → Type 0
-AreBehind configuration relations before judging =
+abbrev pub HoldBefore : Configuration → List Relation → List Ordered → Judging → Type 0
+HoldBefore configuration relations before judging =
     AllRun configuration (cold_parts configuration) before (parts_of judging) × ViewsMeet configuration relations (cold_parts configuration) before × (judging.count ≡ length before)
 
--- the verdict over what is behind and what comes
-over_all : (configuration : Configuration) (relations : List Relation) (judging : Judging) (before records : List Ordered) (verdict : Verdict) → AreBehind configuration relations before judging
+-- the verdict over what is after and what comes
+over_all : (configuration : Configuration) (relations : List Relation) (judging : Judging) (before records : List Ordered) (verdict : Verdict) → HoldBefore configuration relations before judging
     → IsVerdictFrom configuration relations (parts_of judging) judging.count records verdict → IsVerdictFrom configuration relations (cold_parts configuration) 0 (before ++ records) verdict
 over_all configuration relations judging before records verdict (run, meet, count) is =
     verdict_on configuration relations (cold_parts configuration) (parts_of judging) 0 before records verdict run meet
     (subst (λ n. IsVerdictFrom configuration relations (parts_of judging) n records verdict) (let e : judging.count ≡ 0 + length before = omega (arith, count) in e) is)
 
 -- the answer over what is ahead, and the last records before its place
-abbrev pub IsToldOf : CanFail → Configuration → List Relation → Placing → Result Verdict CheckFault → List LastItem → Type 0
-IsToldOf can_fail configuration relations start answer last =
+abbrev pub IsReportedOf : CanFail → Configuration → List Relation → Placing → Result Verdict CheckFault → List LastItem → Type 0
+IsReportedOf can_fail configuration relations start answer last =
     (scanned : Scan) × IsAhead can_fail start scanned × IsJudged configuration relations scanned answer × (last ≡ last_of answer scanned.placed)
 
 -- the answer of a check whose last records are answered so
 pub last_on : (can_fail : CanFail) (configuration : Configuration) (relations : List Relation) (start now : Placing) (judging : Judging) (before records : List Ordered) (end : Result (Unit {0}) InputFault) (answer : Result Verdict CheckFault)
-    → IsFilled can_fail start (before ++ records) (Ended end) now → AreBehind configuration relations before judging → ArePlaced judging.count records
+    → IsFilled can_fail start (before ++ records) (filled.Ended end) now → HoldBefore configuration relations before judging → ArePlaced judging.count records
     → IsLastAnswer configuration relations judging records end answer
-    → (answer ≡ Err Memory) ⊎ IsToldOf can_fail configuration relations start answer (kept_behind answer judging.count (keep_last most_last (map item_of before)) records)
+    → (answer ≡ Err Memory) ⊎ IsReportedOf can_fail configuration relations start answer (kept_behind answer judging.count (keep_last most_last (map item_of before)) records)
 last_on can_fail configuration relations start now judging before records end answer filled behind placed (inl memory) = inl memory
-last_on can_fail configuration relations start now judging before records end answer filled behind placed (inr (other, (verdict, is, told))) =
+last_on can_fail configuration relations start now judging before records end answer filled behind placed (inr (verdict, is, reported)) =
     inr (
       record { placed = before ++ records; end = end },
-      the_end can_fail start (before ++ records) end other filled,
-      (verdict, over_all configuration relations judging before records verdict behind is, told),
-      kept_is_last answer judging.count before records [] behind.2 (answer_within verdict end judging.count records answer told (verdict_within configuration relations (parts_of judging) judging.count records verdict placed is))
+      filled,
+      (verdict, over_all configuration relations judging before records verdict behind is, reported),
+      kept_is_last answer judging.count before records [] behind.2 (answer_within verdict end judging.count records answer reported (verdict_within configuration relations (parts_of judging) judging.count records verdict placed is))
           ∙ ap (last_of answer) (append-nil (before ++ records)),
     )
 
 -- the answer of a check in which a round decides
 pub decided_on : (can_fail : CanFail) (configuration : Configuration) (relations : List Relation) (start now : Placing) (judging judged : Judging) (before records : List Ordered) (verdict : Verdict)
-    → Lead can_fail start (before ++ records) now → AreBehind configuration relations before judging → ArePlaced judging.count records → IsDecided configuration relations judging records (Some verdict) judged
-    → (Ok verdict ≡ Err Memory) ⊎ IsToldOf can_fail configuration relations start (Ok verdict) (kept_behind (Ok verdict) judging.count (keep_last most_last (map item_of before)) records)
+    → Lead can_fail start (before ++ records) now → HoldBefore configuration relations before judging → ArePlaced judging.count records → IsDecided configuration relations judging records (Some verdict) judged
+    → (Ok verdict ≡ Err Memory) ⊎ IsReportedOf can_fail configuration relations start (Ok verdict) (kept_behind (Ok verdict) judging.count (keep_last most_last (map item_of before)) records)
 decided_on can_fail configuration relations start now judging judged before records verdict lead behind placed (over, final) =
     let more = something_ahead can_fail now in
     let here = subst (λ list. IsVerdictFrom configuration relations (parts_of judging) judging.count list verdict) (append-nil records) (over []) in
@@ -141,9 +128,9 @@ decided_on can_fail configuration relations start now judging judged before reco
       kept_is_last (Ok verdict) judging.count before records more.0.placed behind.2 (verdict_within configuration relations (parts_of judging) judging.count records verdict placed here),
     )
 
--- what is behind once a round decided nothing
-pub behind_on : (configuration : Configuration) (relations : List Relation) (judging judged : Judging) (before records : List Ordered) → AreBehind configuration relations before judging
-    → IsDecided configuration relations judging records None judged → AreBehind configuration relations (before ++ records) judged
+-- what is after once a round decided nothing
+pub behind_on : (configuration : Configuration) (relations : List Relation) (judging judged : Judging) (before records : List Ordered) → HoldBefore configuration relations before judging
+    → IsDecided configuration relations judging records None judged → HoldBefore configuration relations (before ++ records) judged
 behind_on configuration relations judging judged before records (run, meet, count) (more, counted, also, ready) = (
   all_run_on configuration (cold_parts configuration) (parts_of judging) (parts_of judged) before records run more,
   meet_on configuration relations (cold_parts configuration) (parts_of judging) before records run meet also,

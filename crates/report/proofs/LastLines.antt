@@ -23,7 +23,7 @@ line_by_line [] index item is = let none : ◌≡◌ {A = Option LastItem} None 
 line_by_line (one ∷ items) zero item is = let same : one ≡ item = cc in append-nil (last_line one) ∙ ap last_line same
 line_by_line (one ∷ items) (suc index) item is = ap (λ list. last_line one ++ list) (line_by_line items index item is) ∙ sym (append_assoc (last_line one) (last_lines (take index items)) (last_line item))
 
--- all lines, by those up to an item and what is behind them
+-- all lines, by those up to an item and what is after them
 all_lines : (items : List LastItem) (index : ℕ) → last_lines items ≡ last_lines (take index items) ++ last_lines (drop index items)
 all_lines [] zero = refl
 all_lines [] (suc index) = refl

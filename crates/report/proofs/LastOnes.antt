@@ -18,7 +18,7 @@ use Rattle.report.specs.declared.last.LastItem.{LastItem}
 use Rattle.report.specs.Outcome.{answer_with}
 use Rattle.report.specs.Last.{item_of, kept_behind, last_before, last_of, most_last}
 
--- the last of a list behind another
+-- the last of a list after another
 
 -- of a short list all are kept
 pub all_kept : {X : Type 0} (n : ℕ) (list : List X) → length list ≤ n → keep_last n list ≡ list
@@ -28,7 +28,7 @@ all_kept n list short = ap (λ k. drop k list) (let e : length list - n ≡ 0 = 
 pub kept_few : {X : Type 0} (n : ℕ) (list : List X) → length (keep_last n list) ≤ n
 kept_few n list = omega (arith, length-drop (length list - n) list)
 
--- a list behind another that is as long as what is kept hides the other
+-- a list after another that is as long as what is kept hides the other
 kept_alone : {X : Type 0} (n : ℕ) (front back : List X) → n ≤ length back → keep_last n (front ++ back) ≡ keep_last n back
 kept_alone n front back long =
     ap (λ k. drop k (front ++ back)) (let e : length (front ++ back) - n ≡ length front + (length back - n) = omega (arith, long, length-append front back) in e)
@@ -91,7 +91,7 @@ kept_before first place before records more count least most =
     ∙ take-append-add before (records ++ more) (place - first) ∙ ap (λ list. before ++ list) (take-append-le (place - first) records more most) in
     kept_on most_last (map item_of before) (map item_of front) ∙ ap (keep_last most_last) (sym (ap (map item_of) whole ∙ map-append item_of before front))
 
--- what is kept behind an answer is what is told behind it
+-- what is kept after an answer is what is reported after it
 pub kept_is_last : (answer : Result Verdict CheckFault) (first : ℕ) (before records more : List Ordered) → first ≡ length before → IsWithin answer first records
     → kept_behind answer first (keep_last most_last (map item_of before)) records ≡ last_of answer ((before ++ records) ++ more)
 kept_is_last (Ok (No pos piece cause)) first before records more count (least, most) = kept_before first pos before records more count least most

@@ -6,7 +6,7 @@ use Rattle.std.proofs.lemmas.List.{append-nil}
 use Rattle.apex_machine.specs.Configuration.{Configuration}
 use Rattle.apex_machine.specs.Runs.{ArePlaced}
 use Rattle.apex_types.specs.declared.record.Ordered.{Ordered}
-use Rattle.apex_types.specs.Bounds.{most_records}
+use Rattle.apex_types.specs.declared.limits.TheConstants.{MOST_RECORDS}
 use Rattle.apex_types.specs.declared.record.Pair.{Pair}
 use Rattle.apex_types.specs.declared.record.Record.{Record}
 use Rattle.module_config.specs.Reading.{configuration_of}
@@ -86,7 +86,7 @@ ends_of-good (suc cores) place taken left e core within =
     ended (Ok rec ∷ rest) e = cc
     ended (Err fault ∷ rest) e = cc
 
--- what a scan has placed, from this place on: the first pairs name the first records of each core; behind a scan that ends well
+-- what a scan has placed, from this place on: the first pairs name the first records of each core; after a scan that ends well
 -- nothing is left
 record Placed (cores : ℕ) (taken : ℕ → ℕ) (place : ℕ) (scanned : Scan) (left : ℕ → List Item) (items : List CertItem) : Type 0 where
   pub pairs : List Pair
@@ -105,7 +105,7 @@ some_fault fault e = cc
 
 fits_tells : (cores : ℕ) (taken : ℕ → ℕ) (pair : Pair) → misplaced cores taken pair ≡ None → (pair.core < cores) × (pair.seq ≡ taken pair.core)
 fits_tells cores taken pair e =
-    by (nat_lt pair.core cores) (nat_lt pair.seq (taken pair.core)) (nat_lt (taken pair.core) pair.seq) (nat_le most_records pair.seq) refl refl refl e
+    by (nat_lt pair.core cores) (nat_lt pair.seq (taken pair.core)) (nat_lt (taken pair.core) pair.seq) (nat_le MOST_RECORDS pair.seq) refl refl refl e
   where
     by : (a b c d : Bool) → nat_lt pair.core cores ≡ a → nat_lt pair.seq (taken pair.core) ≡ b → nat_lt (taken pair.core) pair.seq ≡ c
         → (if a then (if b then Some Repeated else (if c || d then Some Skipped else None)) else Some NoSuchCore) ≡ None
@@ -302,18 +302,18 @@ no_means can_fail texts relations configuration scanned verdict (Ok (Broken plac
     let is = found_of verdict (Broken place rule) scanned.end (λ count yes. cc) e in
     lawful_up_to can_fail texts (λ one records. IsBrokenAt one relations records place rule) configuration scanned read count scan (subst (IsRunUpToNo configuration relations scanned.placed) is run)
 
--- what is told behind an answer over what was scanned is of the records that its meaning is about
+-- what is reported after an answer over what was scanned is of the records that its meaning is about
 pub last_means : (can_fail : CanFail) (texts : Texts) (relations : List Relation) (configuration : Configuration) (scanned : Scan) (verdict : Verdict) (result : Result Verdict CheckFault)
     (last : List LastItem) → configuration_of texts.config ≡ Ok configuration → length texts.recordings ≡ configuration.cores
     → IsScanOf can_fail (length texts.recordings) none_taken 0 (items_at texts.recordings) (pairs_of texts.certificate) scanned → IsRunUpToNo configuration relations scanned.placed verdict → result ≡ answer_with verdict scanned.end
     → last ≡ last_of result scanned.placed → IsLastOf texts relations result (settled result last)
-last_means can_fail texts relations configuration scanned verdict (Err fault) last read count scan run e told = refl
-last_means can_fail texts relations configuration scanned verdict (Ok (Yes records)) last read count scan run e told = told
-last_means can_fail texts relations configuration scanned verdict (Ok (No place piece cause)) last read count scan run e told =
+last_means can_fail texts relations configuration scanned verdict (Err fault) last read count scan run e reported = refl
+last_means can_fail texts relations configuration scanned verdict (Ok (Yes records)) last read count scan run e reported = reported
+last_means can_fail texts relations configuration scanned verdict (Ok (No place piece cause)) last read count scan run e reported =
     let is = found_of verdict (No place piece cause) scanned.end (λ count yes. cc) e in
     lawful_up_to can_fail texts (λ one records. IsRefusedAt one relations records place × (last ≡ last_before place records)) configuration scanned read count scan
-    (subst (IsRunUpToNo configuration relations scanned.placed) is run, told)
-last_means can_fail texts relations configuration scanned verdict (Ok (Broken place rule)) last read count scan run e told =
+    (subst (IsRunUpToNo configuration relations scanned.placed) is run, reported)
+last_means can_fail texts relations configuration scanned verdict (Ok (Broken place rule)) last read count scan run e reported =
     let is = found_of verdict (Broken place rule) scanned.end (λ count yes. cc) e in
     lawful_up_to can_fail texts (λ one records. IsBrokenAt one relations records place rule × (last ≡ last_before place records)) configuration scanned read count scan
-    (subst (IsRunUpToNo configuration relations scanned.placed) is run, told)
+    (subst (IsRunUpToNo configuration relations scanned.placed) is run, reported)

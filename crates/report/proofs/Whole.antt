@@ -11,7 +11,7 @@ use Rattle.order_cert.specs.Row.{pairs_of}
 use Rattle.order_cert.specs.Kept.{none_taken, place_of, taken_of}
 use Rattle.placement.specs.Lanes.{AreLeft, IsAhead, IsScanOf, Placing}
 use Rattle.placement.specs.Reading.{CanFail, Reads}
-use Rattle.core_intake.specs.Told.{told}
+use Rattle.core_intake.specs.Answered.{answered}
 use Rattle.placement.specs.Scan.{Scan, scan}
 use Rattle.record_read.specs.declared.fault.RowFault.TheVariants as row
 use Rattle.record_read.specs.Row.{records_of}
@@ -26,8 +26,8 @@ use Rattle.report.proofs.Lawful.{scan_places}
 
 -- what lanes have left that were opened over readers of these texts
 pub known_lanes : {A : Type 0} (known : A → Option (List ℕ)) (readers : List A) (texts : List (List ℕ)) → map known readers ≡ map Some texts
-    → (length readers ≡ length texts) × (length (map (λ reader. told (option_map records_of (known reader)) []) readers) ≡ length texts)
-    × AreLeft (map (λ reader. told (option_map records_of (known reader)) []) readers) (items_at texts)
+    → (length readers ≡ length texts) × (length (map (λ reader. answered (option_map records_of (known reader)) []) readers) ≡ length texts)
+    × AreLeft (map (λ reader. answered (option_map records_of (known reader)) []) readers) (items_at texts)
 known_lanes known [] [] e = (refl, refl, λ core. refl)
 known_lanes known [] (text ∷ texts) e = cc
 known_lanes known (reader ∷ readers) [] e = cc
@@ -37,14 +37,14 @@ known_lanes known (reader ∷ readers) (text ∷ texts) e =
     let rest = known_lanes known readers texts tail in
     (ap suc rest.0, ap suc rest.1, at head rest.2)
   where
-    at : known reader ≡ Some text → AreLeft (map (λ reader. told (option_map records_of (known reader)) []) readers) (items_at texts)
-        → AreLeft (map (λ reader. told (option_map records_of (known reader)) []) (reader ∷ readers)) (items_at (text ∷ texts))
+    at : known reader ≡ Some text → AreLeft (map (λ reader. answered (option_map records_of (known reader)) []) readers) (items_at texts)
+        → AreLeft (map (λ reader. answered (option_map records_of (known reader)) []) (reader ∷ readers)) (items_at (text ∷ texts))
     at h more zero = rw h refl
     at h more (suc core) = more core
 
 -- what is ahead of a placer over lanes and pairs of these texts is a scan of the texts
 pub scanned_texts : (can_fail : CanFail) {A : Type 0} (known : A → Option (List ℕ)) (readers : List A) (texts : List (List ℕ)) (certificate : List ℕ) (bytes : Option (List ℕ)) (placing : Placing) (scanned : Scan)
-    → map known readers ≡ map Some texts → bytes ≡ Some certificate → placing.lanes ≡ map (λ reader. told (option_map records_of (known reader)) []) readers
+    → map known readers ≡ map Some texts → bytes ≡ Some certificate → placing.lanes ≡ map (λ reader. answered (option_map records_of (known reader)) []) readers
     → placing.pairs ≡ option_map pairs_of bytes → taken_of placing.kept ≡ none_taken → place_of placing.kept ≡ 0 → IsAhead can_fail placing scanned
     → IsScanOf can_fail (length texts) none_taken 0 (items_at texts) (pairs_of certificate) scanned
 scanned_texts can_fail known readers texts certificate bytes placing scanned e is opened begun taken place ahead =

@@ -15,7 +15,7 @@ use Rattle.report.specs.declared.last.LastItem.{LastItem}
 use Rattle.report.specs.Inputs.{Texts}
 use Rattle.report.specs.No.{IsLawfulUpTo}
 
--- the most records that are told
+-- the most records that are reported
 abbrev pub most_last : ℕ
 most_last = 8
 
@@ -26,7 +26,7 @@ kind_in (body.Ret ret) = kind.Ret
 kind_in (body.Disp who) = kind.Disp
 kind_in (body.Tick woken) = kind.Tick
 
--- a record as it is told: its place in the proposed order, its core, its number there and its kind
+-- a record as it is reported: its place in the proposed order, its core, its number there and its kind
 abbrev pub item_of : Ordered → LastItem
 item_of ordered = record { place = ordered.pos; core = ordered.core; seq = ordered.rec.seq; kind = kind_in ordered.rec.body }
 
@@ -34,26 +34,26 @@ item_of ordered = record { place = ordered.pos; core = ordered.core; seq = order
 abbrev pub last_before : ℕ → List Ordered → List LastItem
 last_before place records = keep_last most_last (map item_of (take place records))
 
--- what is told behind an answer over these records: the last before the place of a No or of a broken rule, and none behind any other
+-- what is reported after an answer over these records: the last before the place of a No or of a broken rule, and none after any other
 abbrev pub last_of : Result Verdict CheckFault → List Ordered → List LastItem
 last_of (Ok (No pos piece cause)) records = last_before pos records
 last_of (Ok (Broken pos rule)) records = last_before pos records
 last_of (Ok (Yes count)) records = []
 last_of (Err fault) records = []
 
--- what is kept behind an answer, where these were kept before, and the records that come next begin at this place
+-- what is kept after an answer, where these were kept before, and the records that come next begin at this place
 abbrev pub kept_behind : Result Verdict CheckFault → ℕ → List LastItem → List Ordered → List LastItem
 kept_behind (Ok (No pos piece cause)) first kept records = keep_last most_last (kept ++ map item_of (take (pos - first) records))
 kept_behind (Ok (Broken pos rule)) first kept records = keep_last most_last (kept ++ map item_of (take (pos - first) records))
 kept_behind (Ok (Yes count)) first kept records = []
 kept_behind (Err fault) first kept records = []
 
--- what stays of these behind an answer: nothing behind a refusal and want of memory
+-- what stays of these after an answer: nothing after a refusal and want of memory
 abbrev pub settled : Result Verdict CheckFault → List LastItem → List LastItem
 settled (Ok verdict) kept = kept
 settled (Err fault) kept = []
 
--- what is told behind the answer of a check of these texts: of the records that the answer's meaning is about, the last before its place
+-- what is reported after the answer of a check of these texts: of the records that the answer's meaning is about, the last before its place
 abbrev pub IsLastOf : Texts → List Relation → Result Verdict CheckFault → List LastItem → Type 0
 IsLastOf texts relations (Ok (No pos piece cause)) last =
     IsLawfulUpTo texts (λ configuration records. IsRefusedAt configuration relations records pos × (last ≡ last_before pos records))

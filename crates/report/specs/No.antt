@@ -16,7 +16,7 @@ use Rattle.report.specs.Inputs.{Texts, items_at}
 use Rattle.report.specs.Yes.{AreInOrder}
 
 -- the texts are a configuration, with one recording for each core, and a certificate whose first pairs are a lawful order of the
--- first records of the recordings; and of the records in that order this fact holds under the configuration. Behind them
+-- first records of the recordings; and of the records in that order this fact holds under the configuration. After them
 -- the texts are whatever they are
 pub record IsLawfulUpTo (texts : Texts) (Fact : Configuration → List Ordered → Type 0) : Type 0 where
   pub configuration : Configuration

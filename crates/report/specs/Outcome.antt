@@ -1,6 +1,7 @@
 -- The outcome of a check, from its texts and how far they are read.
 use Rattle.std.specs.Prelude.{◌≡◌, ◌≢◌, ◌⊎◌, ◌↔◌, ℕ, List, Bool, true, false, Option, Some, None, Result, Ok, Err, length, nat_eq, nat_lt, if◌then◌else◌}
 use Rattle.std.specs.Option.{option_or}
+use Rattle.apex_types.specs.declared.limits.TheConstants.{GREATEST_DEPTH, MOST_WORKERS}
 use Rattle.apex_machine.specs.Configuration.{Configuration}
 use Rattle.module_config.specs.declared.fault.ConfigFault.{ConfigFault}
 use Rattle.module_config.specs.declared.fault.ConfigFault.TheVariants as config
@@ -17,16 +18,9 @@ use Rattle.verdict_merge.specs.Verdicts.{IsVerdict}
 use Rattle.report.specs.declared.fault.ArgumentFault.{ArgumentFault}
 use Rattle.report.specs.declared.fault.ArgumentFault.TheVariants.{NoWorkers, TooManyWorkers, NoDepth, TooDeep, ReaderCount}
 use Rattle.report.specs.declared.fault.CheckFault.{CheckFault}
-use Rattle.report.specs.declared.fault.CheckFault.TheVariants.{Arguments, Config, Cert, Order, Row, Memory}
+use Rattle.report.specs.declared.fault.CheckFault.TheVariants.{Arguments, Config, Input, Memory}
 use Rattle.report.specs.declared.settings.Settings.{Settings}
 use Rattle.report.specs.Inputs.{Readings, Texts, scan_of, whole}
-
--- the refusal that a fault of the input is
-abbrev pub refusal_of : InputFault → CheckFault
-refusal_of (input.Cert place fault) = Cert place fault
-refusal_of (input.Order place core fault) = Order place core fault
-refusal_of (input.Row core seq fault) = Row core seq fault
-refusal_of input.Memory = Memory
 
 -- the refusal that a fault of the configuration is; want of memory is the check's own
 abbrev pub config_refusal_of : ConfigFault → CheckFault
@@ -38,7 +32,7 @@ abbrev pub answer_with : Verdict → Result (Unit {0}) InputFault → Result Ver
 answer_with (No pos piece cause) end = Ok (No pos piece cause)
 answer_with (Broken pos rule) end = Ok (Broken pos rule)
 answer_with (Yes records) (Ok ended) = Ok (Yes records)
-answer_with (Yes records) (Err fault) = Err (refusal_of fault)
+answer_with (Yes records) (Err fault) = Err (Input fault)
 
 -- the records that were placed are judged, and the input's end with them
 abbrev pub IsJudged : Configuration → List Relation → Scan → Result Verdict CheckFault → Type 0
@@ -56,13 +50,13 @@ IsOutcomeBy (Err fault) texts readings relations result = result ≡ Err (Config
 IsOutcomeBy (Ok configuration) texts readings relations result =
     IsOutcomeUnder (nat_eq (length texts.recordings) configuration.cores) configuration texts readings relations result
 
--- what is wrong with the number of workers: 1 to 64 may judge
+-- what is wrong with the number of workers: 1 to the most may judge
 abbrev pub worker_fault_of : ℕ → Option ArgumentFault
-worker_fault_of workers = if nat_eq workers 0 then Some NoWorkers else if nat_lt 64 workers then Some TooManyWorkers else None
+worker_fault_of workers = if nat_eq workers 0 then Some NoWorkers else if nat_lt MOST_WORKERS workers then Some TooManyWorkers else None
 
--- what is wrong with the depth: 1 to 4,096 records of a core may be read ahead
+-- what is wrong with the depth: 1 record of a core may be read ahead, up to the greatest depth
 abbrev pub depth_fault_of : ℕ → Option ArgumentFault
-depth_fault_of depth = if nat_eq depth 0 then Some NoDepth else if nat_lt 4096 depth then Some TooDeep else None
+depth_fault_of depth = if nat_eq depth 0 then Some NoDepth else if nat_lt GREATEST_DEPTH depth then Some TooDeep else None
 
 -- what is wrong with the settings of a check, the workers first
 abbrev pub argument_fault_of : Settings → Option ArgumentFault
@@ -101,11 +95,11 @@ OneOutcome =
 
 -- this is no failure of a reader
 abbrev pub TellsNoFailure : Result Verdict CheckFault → Type 0
-TellsNoFailure (Err (Cert place fault)) = fault ≢ cert.Read
-TellsNoFailure (Err (Row core seq fault)) = fault ≢ row.Read
+TellsNoFailure (Err (Input (input.Cert place fault))) = fault ≢ cert.Read
+TellsNoFailure (Err (Input (input.Row core seq fault))) = fault ≢ row.Read
 TellsNoFailure (Err (Arguments fault)) = Unit {0}
 TellsNoFailure (Err (Config fault)) = Unit {0}
-TellsNoFailure (Err (Order place core fault)) = Unit {0}
+TellsNoFailure (Err (Input (input.Order place core fault))) = Unit {0}
 TellsNoFailure (Err Memory) = Unit {0}
 TellsNoFailure (Ok verdict) = Unit {0}
 

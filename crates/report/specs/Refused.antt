@@ -2,11 +2,10 @@
 use Rattle.std.specs.Prelude.{List, Result, Ok, Err, length}
 use Rattle.apex_types.specs.declared.record.Pair.{Pair}
 use Rattle.placement.specs.declared.fault.InputFault.{InputFault}
-use Rattle.placement.specs.declared.fault.InputFault.TheVariants as input
 use Rattle.placement.specs.Refusal.{AreTaken, IsFirstFault}
 use Rattle.verdict_merge.specs.declared.verdict.Verdict.{Verdict}
 use Rattle.report.specs.declared.fault.CheckFault.{CheckFault}
-use Rattle.report.specs.declared.fault.CheckFault.TheVariants.{Arguments, Config, Cert, Order, Row, Memory}
+use Rattle.report.specs.declared.fault.CheckFault.TheVariants.{Arguments, Config, Input, Memory}
 use Rattle.report.specs.Inputs.{Readings, Texts, given_of_certificate, given_of_core}
 
 -- this is the first fault of the recordings and the certificate, as far as they are read: all before its place is good
@@ -17,9 +16,7 @@ IsFirstOf texts readings fault =
 
 -- where the recordings, the certificate or the order are refused, they are for their first fault
 abbrev pub RefusalMeansFault : Texts → Readings → Result Verdict CheckFault → Type 0
-RefusalMeansFault texts readings (Err (Cert place fault)) = IsFirstOf texts readings (input.Cert place fault)
-RefusalMeansFault texts readings (Err (Order place core fault)) = IsFirstOf texts readings (input.Order place core fault)
-RefusalMeansFault texts readings (Err (Row core seq fault)) = IsFirstOf texts readings (input.Row core seq fault)
+RefusalMeansFault texts readings (Err (Input fault)) = IsFirstOf texts readings fault
 RefusalMeansFault texts readings (Err (Arguments fault)) = Unit {0}
 RefusalMeansFault texts readings (Err (Config fault)) = Unit {0}
 RefusalMeansFault texts readings (Err Memory) = Unit {0}

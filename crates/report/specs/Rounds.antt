@@ -1,11 +1,10 @@
 -- What the records of a round decide, and how a round is placed.
-use Rattle.std.specs.Prelude.{◌≡◌, ◌≢◌, ◌+◌, ◌⊎◌, List, ◌++◌, Option, Some, None, Result, Ok, Err, false, length}
+use Rattle.std.specs.Prelude.{◌≡◌, ◌+◌, ◌⊎◌, List, ◌++◌, Option, Some, None, Result, Ok, Err, false, length}
 use Rattle.apex_types.specs.declared.record.Ordered.{Ordered}
 use Rattle.apex_machine.specs.Configuration.{Configuration}
 use Rattle.apex_machine.specs.Runs.{ArePlaced, AreOfCores}
 use Rattle.order_cert.specs.Kept.{place_of}
 use Rattle.placement.specs.declared.fault.InputFault.{InputFault}
-use Rattle.placement.specs.declared.fault.InputFault.TheVariants as input
 use Rattle.placement.specs.declared.placer.Filled.{Filled}
 use Rattle.placement.specs.declared.placer.Filled.TheVariants.{Full}
 use Rattle.placement.specs.Lanes.{AreHonest, IsFilled, Placing}
@@ -29,7 +28,7 @@ abbrev pub IsFinal : Verdict → Type 0
 IsFinal verdict = (end : Result (Unit {0}) InputFault) → Ok verdict ≡ answer_with verdict end
 
 -- what the records of a round decide: nothing, where each piece ran over them and each of their views meets every relation; or the
--- verdict over them, whatever stands behind them
+-- verdict over them, whatever comes after them
 abbrev pub IsDecided : Configuration → List Relation → Judging → List Ordered → Option Verdict → Judging → Type 0
 IsDecided configuration relations old records None new =
     AllRun configuration (parts_of old) records (parts_of new) × (new.count ≡ old.count + length records)
@@ -37,14 +36,13 @@ IsDecided configuration relations old records None new =
 IsDecided configuration relations old records (Some verdict) new =
     ((later : List Ordered) → IsVerdictFrom configuration relations (parts_of old) old.count (records ++ later) verdict) × IsFinal verdict
 
--- the answer over the last records, behind which the input ends so; want of memory outranks it
+-- the answer over the last records, after which the input ends so; want of memory outranks it
 abbrev pub IsLastAnswer : Configuration → List Relation → Judging → List Ordered → Result (Unit {0}) InputFault → Result Verdict CheckFault → Type 0
 IsLastAnswer configuration relations judging records end answer =
     (answer ≡ Err Memory)
-    ⊎ ((end ≢ Err input.Memory)
-    × ((verdict : Verdict) × IsVerdictFrom configuration relations (parts_of judging) judging.count records verdict × (answer ≡ answer_with verdict end)))
+    ⊎ ((verdict : Verdict) × IsVerdictFrom configuration relations (parts_of judging) judging.count records verdict × (answer ≡ answer_with verdict end))
 
--- a round was filled so: its records stand at the next places, and what was ahead is known where the recordings were told honestly
+-- a round was filled so: its records stand at the next places, and what was ahead is known where the recordings were answered honestly
 pub record IsPlaced (can_fail : CanFail) (old : Placing) (records : List Ordered) (filled : Filled) (new : Placing) : Type 0 where
   pub known : AreHonest can_fail.recordings new.lanes → IsFilled can_fail old records filled new
   pub honest : AreHonest can_fail.recordings new.lanes → AreHonest can_fail.recordings old.lanes

@@ -8,6 +8,7 @@ use Rattle.order_cert.specs.declared.fault.CertFault.{CertFault}
 use Rattle.order_cert.specs.declared.fault.CertFault.TheVariants as cert
 use Rattle.order_cert.specs.declared.fault.OrderFault.{OrderFault}
 use Rattle.order_cert.specs.declared.fault.OrderFault.TheVariants as order
+use Rattle.placement.specs.declared.fault.InputFault.TheVariants as input
 use Rattle.record_read.specs.declared.fault.RowFault.{RowFault}
 use Rattle.record_read.specs.declared.fault.RowFault.TheVariants as row
 use Rattle.verdict_merge.specs.declared.verdict.Verdict.{Verdict}
@@ -15,7 +16,7 @@ use Rattle.verdict_merge.specs.declared.verdict.Verdict.TheVariants.{Yes, No, Br
 use Rattle.report.specs.declared.fault.ArgumentFault.{ArgumentFault}
 use Rattle.report.specs.declared.fault.ArgumentFault.TheVariants as argument
 use Rattle.report.specs.declared.fault.CheckFault.{CheckFault}
-use Rattle.report.specs.declared.fault.CheckFault.TheVariants.{Arguments, Config, Cert, Order, Row, Memory}
+use Rattle.report.specs.declared.fault.CheckFault.TheVariants.{Arguments, Config, Input, Memory}
 
 -- each cause and each fault by its name
 
@@ -99,10 +100,10 @@ report_of (Ok (No pos piece cause)) =
 report_of (Ok (Broken pos rule)) = codes "NO place=" ++ (decimal pos ++ (codes " rule=" ++ (decimal rule ++ codes "\n")))
 report_of (Err (Arguments fault)) = codes "REFUSED arguments=" ++ (argument_fault_name fault ++ codes "\n")
 report_of (Err (Config fault)) = codes "REFUSED config=" ++ (config_fault_name fault ++ codes "\n")
-report_of (Err (Cert place fault)) =
+report_of (Err (Input (input.Cert place fault))) =
     codes "REFUSED cert place=" ++ (decimal place ++ (codes " fault=" ++ (cert_fault_name fault ++ codes "\n")))
-report_of (Err (Order place core fault)) =
+report_of (Err (Input (input.Order place core fault))) =
     codes "REFUSED order place=" ++ (decimal place ++ (codes " core=" ++ (decimal core ++ (codes " fault=" ++ (order_fault_name fault ++ codes "\n")))))
-report_of (Err (Row core seq fault)) =
+report_of (Err (Input (input.Row core seq fault))) =
     codes "REFUSED row core=" ++ (decimal core ++ (codes " seq=" ++ (decimal seq ++ (codes " fault=" ++ (row_fault_name fault ++ codes "\n")))))
 report_of (Err Memory) = codes "MEMORY\n"

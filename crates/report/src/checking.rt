@@ -1,20 +1,21 @@
 // The check.
 
 ghost use Rattle.std.specs.Prelude.{◌≡◌, ◌≤◌, map};
+ghost use Rattle.apex_types.specs.declared.limits.TheConstants.{LARGEST_ROUND};
 ghost use Rattle.user_rules.specs.Rules.{relations_of};
 ghost use Rattle.report.specs.Answers.{Answers, AnswersWith, given_by};
-ghost use Rattle.report.specs.Outcome.{config_refusal_of};
 
-use crate::fault::{ArgumentFault, CheckFault};
+use crate::fault::{ArgumentFault, CheckFault, config_refusal};
 use crate::inputs::Inputs;
 use crate::last::Last;
-use crate::options::{MOST_RECORDS, Options};
+use crate::options::Options;
 use crate::rounds::judge_all;
 use crate::settings::Settings;
 use crate::witness::{Nobody, Witness};
+use apex_types::limits::LARGEST_ROUND;
 use core_intake::Intake;
 use csv_rows::TextSource;
-use module_config::{Config, ConfigFault};
+use module_config::Config;
 use order_cert::CertSource;
 use partition_workers::Gate;
 use placement::Placer;
@@ -23,16 +24,6 @@ use std::sync::Wait;
 use std::thread::Threads;
 use user_rules::Rule;
 use verdict_merge::Verdict;
-
-// The refusal that a fault of the configuration is.
-fn config_refusal(fault: ConfigFault) -> CheckFault
-    ensures { result ≡ config_refusal_of fault }
-{
-    match fault {
-        ConfigFault::Memory => CheckFault::Memory,
-        _ => CheckFault::Config(fault),
-    }
-}
 
 /// Checks the recordings against the configuration, the order that the certificate proposes, and the user's rules.
 ///
@@ -141,7 +132,7 @@ where
         rules,
         settings,
         gate,
-        MOST_RECORDS,
+        LARGEST_ROUND,
     )
 }
 
@@ -169,7 +160,7 @@ where
     check_inputs(rt, alloc, inputs, rules, options, last, &mut Nobody)
 }
 
-/// The same check with rounds of at most this many records, from 1 to 4,096.
+/// The same check with rounds of at most this many records, from 1 to the largest round.
 pub fn check_in_rounds<T, R, C, G>(
     rt: T,
     alloc: Global,
@@ -187,7 +178,7 @@ where
     C: TextSource + Drop,
     G: Gate + Sync,
     requires least { 1 ≤ size }
-    requires most { size ≤ 4096 }
+    requires most { size ≤ LARGEST_ROUND }
     ensures { Answers (given_by config.now (map R.remaining readers.items) R.can_fail (C.remaining cert) C.can_fail) (relations_of rules.now) settings result }
 {
     let Ok(mut last) = Last::new(alloc) else {

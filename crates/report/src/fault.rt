@@ -1,12 +1,10 @@
 // Why there is no verdict.
 
 ghost use Rattle.std.specs.Prelude.{◌≡◌};
-ghost use Rattle.report.specs.Outcome.{refusal_of};
+ghost use Rattle.report.specs.Outcome.{config_refusal_of};
 
 use module_config::ConfigFault;
-use order_cert::{CertFault, OrderFault};
 use placement::InputFault;
-use record_read::RowFault;
 use thiserror::Error;
 
 /// What is wrong with the arguments of a check. The faults are looked for in this order; those of the configuration come before
@@ -40,39 +38,21 @@ pub enum CheckFault {
     /// The configuration is refused.
     #[error("the configuration: {0}")]
     Config(ConfigFault),
-    /// The row of the certificate for this place has a fault.
-    #[error("the certificate at place {place}: {fault}")]
-    Cert {
-        place: u64,
-        fault: CertFault,
-    },
-    /// The pair of the certificate for this place, of this core, may not stand there.
-    #[error("the order at place {place}, core {core}: {fault}")]
-    Order {
-        place: u64,
-        core: u32,
-        fault: OrderFault,
-    },
-    /// The recording of this core has a fault behind so many records.
-    #[error("the recording of core {core} behind {seq} records: {fault}")]
-    Row {
-        core: u32,
-        seq: u64,
-        fault: RowFault,
-    },
-    /// A growth of memory was refused.
+    /// The certificate, the order or a recording is refused.
+    #[error("{0}")]
+    Input(InputFault),
+    /// A growth of memory was refused, to whichever part of the check asked for it. It is a refusal of its own, and none of the
+    /// part's: it says nothing of what was read, so it may come where another run has a verdict.
     #[error("out of memory")]
     Memory,
 }
 
-// The refusal that a fault of the input is.
-pub fn refusal(fault: InputFault) -> CheckFault
-    ensures { result ≡ refusal_of fault }
+// The refusal that a fault of the configuration is.
+pub(crate) fn config_refusal(fault: ConfigFault) -> CheckFault
+    ensures { result ≡ config_refusal_of fault }
 {
     match fault {
-        InputFault::Cert { place, fault } => CheckFault::Cert { place, fault },
-        InputFault::Order { place, core, fault } => CheckFault::Order { place, core, fault },
-        InputFault::Row { core, seq, fault } => CheckFault::Row { core, seq, fault },
-        InputFault::Memory => CheckFault::Memory,
+        ConfigFault::Memory => CheckFault::Memory,
+        _ => CheckFault::Config(fault),
     }
 }

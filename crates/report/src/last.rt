@@ -12,10 +12,10 @@ use std::alloc::Global;
 use std::marker::Model;
 use verdict_merge::{Memory, Verdict};
 
-// The most records that are told.
+// The most records that are reported.
 const MOST_LAST: usize = 8;
 
-/// A record, told by its place in the proposed order, its core, its number there and its kind.
+/// A record, reported by its place in the proposed order, its core, its number there and its kind.
 #[derive(Clone, Copy, Debug, PartialEq, Eq)]
 pub struct LastItem {
     pub place: Place,
@@ -24,7 +24,7 @@ pub struct LastItem {
     pub kind: Kind,
 }
 
-/// The last records before the place where a check said No, the earliest first; none behind any other answer.
+/// The last records before the place where a check said No, the earliest first; none after any other answer.
 #[derive(Drop)]
 pub struct Last {
     items: HeapCircularBuffer<LastItem>,
@@ -80,7 +80,7 @@ impl Last {
         }
     }
 
-    // Keeps what is told behind an answer over these records, of which the first stands at this place. Takes no memory.
+    // Keeps what is reported after an answer over these records, of which the first stands at this place. Takes no memory.
     pub(crate) fn keep_behind(
         &mut self,
         answer: &Result<Verdict, CheckFault>,
@@ -96,7 +96,7 @@ impl Last {
         }
     }
 
-    // Keeps none behind a refusal and want of memory.
+    // Keeps none after a refusal and want of memory.
     pub(crate) fn settle(&mut self, answer: &Result<Verdict, CheckFault>)
         ensures { self.new ≡ settled answer.now self.old }
     {
@@ -121,7 +121,7 @@ fn before(pos: Place, first: u64, records: &[Ordered]) -> &[Ordered]
     &records[..count as usize]
 }
 
-// A record as it is told.
+// A record as it is reported.
 fn item_of(ordered: &Ordered) -> LastItem
     ensures { result ≡ item_of ordered.now }
 {

@@ -2,7 +2,7 @@
 //!
 //! Promises: the outcome is that of the inputs' bytes and the rules; where it is Yes, the proposed order lists every record of
 //! every core once and in that core's own order, and in that order the records are a run of the configured machine from the cold
-//! state in which every rule holds; where it is No, they are such a run up to the place that is told, and the machine has no step
+//! state in which every rule holds; where it is No, they are such a run up to the place that is reported, and the machine has no step
 //! that takes the record there; where a rule is broken, they are a run up to and with the record there, whose view is the first
 //! that breaks a rule; and for every number of workers the answer is that of one. A report that is answered as written went out
 //! whole.
@@ -35,7 +35,7 @@ pub use inputs::Inputs;
 pub use last::{Last, LastItem};
 pub use last_text::write_last;
 pub use laws::{one_outcome, settings_change_no_outcome, whole_readings_tell_no_failure};
-pub use options::{MOST_RECORDS, Options};
+pub use options::Options;
 pub use partition_workers::{Gate, Open};
 pub use relations::check_relations;
 pub use settings::Settings;

@@ -1,11 +1,10 @@
 // How a check is carried out.
 
 ghost use Rattle.std.specs.Prelude.{◌≡◌, ◌≤◌};
+ghost use Rattle.apex_types.specs.declared.limits.TheConstants.{LARGEST_ROUND};
 
 use crate::settings::Settings;
-
-/// The most records that a round holds.
-pub const MOST_RECORDS: usize = 4096;
+use apex_types::limits::LARGEST_ROUND;
 
 /// How a check is carried out: its settings, the gate that sees each claim and each post, and how many records a round
 /// holds. No answer depends on the gate or the rounds.
@@ -15,28 +14,28 @@ pub struct Options<'a, G> {
     pub settings: Settings,
     /// What sees claims and posts.
     pub gate: &'a G,
-    /// How many records a round holds at most, from 1 to 4,096.
+    /// How many records a round holds at most, from 1 to the largest round.
     pub size: usize,
-    ghost is_size: { (1 ≤ size) × (size ≤ 4096) },
+    ghost is_size: { (1 ≤ size) × (size ≤ LARGEST_ROUND) },
 }
 
 impl<'a, G> Options<'a, G> {
-    /// These settings and this gate, with rounds of 4,096 records.
+    /// These settings and this gate, with the largest rounds.
     pub fn new(settings: Settings, gate: &'a G) -> Options<'a, G>
         ensures settings { result.settings ≡ settings }
-        ensures size { result.size ≡ 4096 }
+        ensures size { result.size ≡ LARGEST_ROUND }
     {
         Options {
             settings,
             gate,
-            size: MOST_RECORDS,
+            size: LARGEST_ROUND,
         }
     }
 
-    /// The same with rounds of at most this many records, from 1 to 4,096.
+    /// The same with rounds of at most this many records, from 1 to the largest round.
     pub fn in_rounds(self, size: usize) -> Options<'a, G>
         requires least { 1 ≤ size }
-        requires most { size ≤ 4096 }
+        requires most { size ≤ LARGEST_ROUND }
         ensures settings { result.settings ≡ self.entry.settings }
         ensures gate { result.gate ≡ self.entry.gate }
         ensures size { result.size ≡ size }

@@ -1,6 +1,6 @@
 // The recording, judged in rounds.
 
-ghost use Rattle.std.specs.Prelude.{◌≡◌, ◌⊎◌, ◌≤◌, ◌↔◌, [], Err, IfOk, IsTrue, length, false};
+ghost use Rattle.std.specs.Prelude.{◌≡◌, ◌⊎◌, ◌≤◌, [], Err, IfOk, length, false};
 ghost use Rattle.std.specs.Thread.{IsSync};
 ghost use Rattle.order_cert.specs.Kept.{place_of};
 ghost use Rattle.placement.specs.Lanes.{AreHonest, IsAhead};
@@ -11,7 +11,7 @@ ghost use Rattle.report.specs.Last.{last_of};
 ghost use Rattle.report.specs.Outcome.{IsJudged, answer_with};
 ghost use Rattle.report.specs.Rounds.{IsDecided, IsLastAnswer, IsPlaced, MayJudge};
 
-use crate::fault::{CheckFault, refusal};
+use crate::fault::CheckFault;
 use crate::last::Last;
 use crate::options::Options;
 use crate::witness::{Witness, tell};
@@ -27,11 +27,11 @@ use std::thread::{Threads, join_mut};
 use user_rules::Rule;
 use verdict_merge::{Memory, Verdict};
 
-/// Judges all records that are ahead of the placer, in rounds. While a round is judged the next one is filled; behind a round with
+/// Judges all records that are ahead of the placer, in rounds. While a round is judged the next one is filled; after a round with
 /// a finding nothing further is taken than that one.
 ///
-/// What is promised holds once the placer's threads are joined, since it is known then what they read. Behind a No the last
-/// records before it are kept, and the witness is told of it.
+/// What is promised holds once the placer's threads are joined, since it is known then what they read. After a No the last
+/// records before it are kept, and the witness receives it.
 pub fn judge_all<
     T: Threads + Wait + Sync,
     R: TextSource,
@@ -72,6 +72,7 @@ pub fn judge_all<
         let first = judge.count();
         match filled {
             Filled::Full => {}
+            Filled::Memory => return Err(CheckFault::Memory),
             Filled::Ended(end) => {
                 let answer = judge_last(rt, config, &mut judge, &round, rules, workers, gate, end);
                 last.keep_behind(&answer, first, &round);
@@ -99,7 +100,7 @@ pub fn judge_all<
     Err(CheckFault::Memory)
 }
 
-// Judges a round and fills the next one: in a thread beside it where there are several workers, and behind it where there is one.
+// Judges a round and fills the next one: in a thread beside it where there are several workers, and after it where there is one.
 fn judge_and_fill<T: Threads + Wait + Sync, R: TextSource, C: TextSource, G: Gate + Sync>(
     rt: &T,
     config: &Config,
@@ -149,7 +150,7 @@ fn fill<T: Wait, R: TextSource, C: TextSource>(
     placer.fill(rt, round, size)
 }
 
-// Judges the last round, behind which the input ends so.
+// Judges the last round, after which the input ends so.
 fn judge_last<T: Threads + Wait + Sync, G: Gate + Sync>(
     rt: &T,
     config: &Config,
@@ -163,9 +164,6 @@ fn judge_last<T: Threads + Wait + Sync, G: Gate + Sync>(
     requires may { MayJudge config.now judge.old round.now }
     ensures { IsLastAnswer config.now (relations_of rules.now) judge.old round.now end result }
 {
-    if is_memory(end) {
-        return Err(CheckFault::Memory);
-    }
     match judge_round(rt, config, judge, round, rules, workers, gate) {
         Ok(Some(verdict)) => Ok(verdict),
         Ok(None) => answer_at(end, judge.count()),
@@ -173,23 +171,13 @@ fn judge_last<T: Threads + Wait + Sync, G: Gate + Sync>(
     }
 }
 
-// Whether the input ended for want of memory.
-fn is_memory(end: Result<(), InputFault>) -> bool
-    ensures { IsTrue result ↔ (end ≡ Err InputFault.Memory) }
-{
-    match end {
-        Err(InputFault::Memory) => true,
-        _ => false,
-    }
-}
-
-// The answer where nothing decides against the records: Yes with the number of those judged, or the refusal behind them.
+// The answer where nothing decides against the records: Yes with the number of those judged, or the refusal after them.
 fn answer_at(end: Result<(), InputFault>, count: u64) -> Result<Verdict, CheckFault>
     ensures { result ≡ answer_with (Yes count) end }
 {
     match end {
         Ok(()) => Ok(Verdict::Yes { records: count }),
-        Err(fault) => Err(refusal(fault)),
+        Err(fault) => Err(CheckFault::Input(fault)),
     }
 }
 

@@ -4,19 +4,14 @@ ghost use Rattle.std.specs.Prelude.{◌≡◌};
 ghost use Rattle.report.specs.Outcome.{argument_fault_of, depth_fault_of, worker_fault_of};
 
 use crate::fault::ArgumentFault;
-
-// The most workers that may judge.
-const MOST_WORKERS: usize = 64;
-
-// The most records of a core that may be read ahead.
-const DEEPEST: usize = 4096;
+use apex_types::limits::{GREATEST_DEPTH, MOST_WORKERS};
 
 /// How a check is carried out. What it answers is the same for all settings that are not refused.
 #[derive(Clone, Copy, Debug, PartialEq, Eq)]
 pub struct Settings {
-    /// How many workers judge the pieces of a round, 1 to 64. Several have a thread each; one has the caller's.
+    /// How many workers judge the pieces of a round, 1 to `MOST_WORKERS`. Several have a thread each; one has the caller's.
     pub workers: usize,
-    /// How many records of a core wait at most in its channel until they are judged: 1 to 4,096.
+    /// How many records of a core wait at most in its channel until they are judged: 1 to `GREATEST_DEPTH`.
     pub depth: usize,
 }
 
@@ -46,7 +41,7 @@ fn depth_fault(depth: usize) -> Option<ArgumentFault>
 {
     match depth {
         0 => Some(ArgumentFault::NoDepth),
-        1..=DEEPEST => None,
+        1..=GREATEST_DEPTH => None,
         _ => Some(ArgumentFault::TooDeep),
     }
 }

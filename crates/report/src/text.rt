@@ -2,6 +2,7 @@
 
 ghost use Rattle.std.specs.Prelude.{◌≡◌, ◌<◌, ℕ, List, OnOk, OnErr};
 ghost use Rattle.sink.specs.Written.{IsCut, IsWritten};
+ghost use Rattle.report.specs.declared.fault.CheckFault.TheVariants.{Input};
 ghost use Rattle.report.specs.Text.{report_of};
 
 use crate::fault::CheckFault;
@@ -10,6 +11,7 @@ use crate::names::{
     name_of_order_fault, name_of_row_fault,
 };
 use itoa::Buffer;
+use placement::InputFault;
 use sink::{Sink, WriteFault, put_parts};
 use verdict_merge::Verdict;
 
@@ -77,8 +79,6 @@ fn write_refusal<W: Sink>(w: &mut W, fault: &CheckFault) -> Result<(), WriteFaul
     ensures cut { OnErr result (IsCut (W.bytes w.old) (report_of (Err fault.now)) (W.bytes w.new)) }
     ensures failed { OnErr result (W.failures w.old < W.failures w.new) }
 {
-    let mut first = Buffer::new();
-    let mut second = Buffer::new();
     match fault {
         CheckFault::Arguments(fault) => put_parts(
             w,
@@ -88,7 +88,22 @@ fn write_refusal<W: Sink>(w: &mut W, fault: &CheckFault) -> Result<(), WriteFaul
             w,
             &[b"REFUSED config=", name_of_config_fault(*fault), b"\n"],
         ),
-        CheckFault::Cert { place, fault } => put_parts(
+        CheckFault::Input(fault) => write_input_refusal(w, fault),
+        CheckFault::Memory => put_parts(w, &[b"MEMORY\n"]),
+    }
+}
+
+// Puts out the report of a refusal of the certificate, the order or a recording.
+fn write_input_refusal<W: Sink>(w: &mut W, fault: &InputFault) -> Result<(), WriteFault>
+    ensures whole { OnOk result (IsWritten (W.bytes w.old) (report_of (Err (Input fault.now))) (W.bytes w.new)) }
+    ensures same { OnOk result (W.failures w.new ≡ W.failures w.old) }
+    ensures cut { OnErr result (IsCut (W.bytes w.old) (report_of (Err (Input fault.now))) (W.bytes w.new)) }
+    ensures failed { OnErr result (W.failures w.old < W.failures w.new) }
+{
+    let mut first = Buffer::new();
+    let mut second = Buffer::new();
+    match fault {
+        InputFault::Cert { place, fault } => put_parts(
             w,
             &[
                 b"REFUSED cert place=",
@@ -98,7 +113,7 @@ fn write_refusal<W: Sink>(w: &mut W, fault: &CheckFault) -> Result<(), WriteFaul
                 b"\n",
             ],
         ),
-        CheckFault::Order { place, core, fault } => put_parts(
+        InputFault::Order { place, core, fault } => put_parts(
             w,
             &[
                 b"REFUSED order place=",
@@ -110,7 +125,7 @@ fn write_refusal<W: Sink>(w: &mut W, fault: &CheckFault) -> Result<(), WriteFaul
                 b"\n",
             ],
         ),
-        CheckFault::Row { core, seq, fault } => put_parts(
+        InputFault::Row { core, seq, fault } => put_parts(
             w,
             &[
                 b"REFUSED row core=",
@@ -122,6 +137,5 @@ fn write_refusal<W: Sink>(w: &mut W, fault: &CheckFault) -> Result<(), WriteFaul
                 b"\n",
             ],
         ),
-        CheckFault::Memory => put_parts(w, &[b"MEMORY\n"]),
     }
 }

@@ -1,4 +1,4 @@
-// Who is told what stands at the place of a No.
+// Who receives what is at the place of a No.
 
 ghost use Rattle.std.specs.Prelude.{◌≡◌, ◌-◌, option_copied, slice_get};
 
@@ -9,7 +9,7 @@ use partition_workers::Judge;
 use piece_check::Piece;
 use verdict_merge::Verdict;
 
-/// Who is told what stands at the place of a No or of a broken rule, to tell it a person. No answer hangs on a witness.
+/// Who receives what is at the place of a No or of a broken rule, to explain it to a person. No answer hangs on a witness.
 pub trait Witness {
     /// The piece refuses this record for this cause. It stands as it stood before the record.
     fn refused(&mut self, config: &Config, piece: &Piece, ordered: &Ordered, cause: Cause);

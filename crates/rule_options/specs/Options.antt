@@ -1,8 +1,9 @@
 -- The rules that options ask for.
 use Rattle.std.specs.Prelude.{◌≡◌, ℕ, pos, int_lt, List, [], ◌∷◌, ◌++◌, Bool, ◌&&◌, not, Option, Some, None, map, option_map, option_and_then}
 use Rattle.std.specs.Ordering.{int_eq}
+use Rattle.apex_types.specs.declared.limits.TheConstants.{GREATEST_OPTION}
 use Rattle.apex_types.specs.declared.view.View.{View}
-use Rattle.apex_types.specs.Numbers.{service_number}
+use Rattle.apex_types.specs.Services.{service_number}
 use Rattle.csv_rows.specs.Decimal.{decimal}
 use Rattle.record_read.specs.Named.{service_named}
 use Rattle.user_rules.specs.declared.relation.Relation.{Relation}
@@ -43,4 +44,4 @@ optional value (Some text) = option_map Some (value text)
 abbrev pub values_of : Option (List ℕ) → Option (List ℕ) → Option RuleOptions
 values_of ticks service =
     option_and_then (λ max_elapsed. option_map (λ forbidden. record { max_elapsed = max_elapsed; forbidden = forbidden }) (optional service_named service))
-    (optional (decimal 4294967295) ticks)
+    (optional (decimal GREATEST_OPTION) ticks)

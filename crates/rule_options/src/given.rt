@@ -1,11 +1,13 @@
 // The options that are given.
 
 ghost use Rattle.std.specs.Prelude.{◌≡◌, IfOk, option_map};
+ghost use Rattle.apex_types.specs.declared.limits.TheConstants.{GREATEST_OPTION};
 ghost use Rattle.csv_rows.specs.Decimal.{decimal};
 ghost use Rattle.rule_options.specs.Options.{in_order, values_of};
 
 use crate::option::RuleOption;
 use apex_types::Service;
+use apex_types::limits::GREATEST_OPTION;
 use csv_rows::read_decimal;
 use record_read::find_service;
 use std::alloc::{AllocError, Global};
@@ -56,9 +58,9 @@ impl RuleOptions {
 
 // The ticks that a text gives.
 fn read_ticks(text: &[u8]) -> Option<u32>
-    ensures { result ≡ decimal 4294967295 text.now }
+    ensures { result ≡ decimal GREATEST_OPTION text.now }
 {
-    match read_decimal(text, u32::MAX as u64) {
+    match read_decimal(text, GREATEST_OPTION as u64) {
         Some(ticks) => Some(ticks as u32),
         None => None,
     }

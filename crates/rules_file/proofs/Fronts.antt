@@ -11,7 +11,7 @@ use Rattle.rules_file.specs.declared.rule.NamedRule.{NamedRule}
 use Rattle.rules_file.specs.Keys.{◌>>=◌, Builds}
 use Rattle.rules_file.specs.Reading.{IsAdded, SaidRule, rule_in, rules_from, said}
 
--- what is read, behind what was read before
+-- what is read, after what was read before
 abbrev pub behind : List SaidRule → Result (List SaidRule) RulesFault → Result (List SaidRule) RulesFault
 behind front (Ok rest) = Ok (front ++ rest)
 behind front (Err fault) = Err fault

@@ -28,7 +28,7 @@ a_level_down (suc levels) _ keys some is = cc
 abbrev pub two_joined : (Bool → Bool → Bool) → Result Holds RuleFault → Result Holds RuleFault → Result Holds RuleFault
 two_joined join one other = one >>= (λ first. other >>= (λ others. Ok (λ seen. join (first seen) (others seen))))
 
--- an item that others stand behind is put together with them
+-- an item that others come after is put together with them
 pub joined-more : (join : Bool → Bool → Bool) (reading : Data → Result Holds RuleFault) (values : List Value) (value : Value) (rest : List Value)
     → IsFirstAndRest values value rest → 0 < length rest
     → joined join reading (items_view values) ≡ two_joined join (reading (view value)) (joined join reading (items_view rest))
@@ -54,7 +54,7 @@ both_built join one other (Some first) (Some others) (Some both) first_is others
 both_built join one other (Some first) None (Some both) first_is others_is together = absurd together
 both_built join one other None others (Some both) first_is others_is together = absurd together
 
--- where those behind an item are refused, the list is
+-- where those after an item are refused, the list is
 pub behind_refused : (join : Bool → Bool → Bool) (one other : Result Holds RuleFault) (first : Option Relation) (fault : RuleFault) → Builds meets (Ok first) one → other ≡ Err fault
     → (result : Result (Option Relation) RuleFault) → IsErrAnd result (λ given. given ≡ fault) → Builds meets result (two_joined join one other)
 behind_refused join one other first fault is refused (Ok found) same = absurd same

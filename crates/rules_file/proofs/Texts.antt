@@ -6,20 +6,21 @@ use Rattle.std.proofs.lemmas.Str.{is_utf8-from_IsUtf8, IsUtf8-from_is_utf8}
 use Rattle.std.proofs.lemmas.Bool.Decides.{nat_tests}
 use Rattle.toml.specs.Data.{Members}
 use Rattle.toml.specs.Parse.{parse_document}
+use Rattle.apex_types.specs.declared.limits.TheConstants.{LONGEST_RULES_FILE}
 use Rattle.rules_file.specs.declared.fault.RuleFault.TheVariants.{NotToml}
 use Rattle.rules_file.specs.declared.fault.RulesFault.TheVariants.{File}
 use Rattle.rules_file.specs.Reading.{document_of, rules_in, rules_of, rules_under}
 
 -- a text that is not too long says what it does as a document
-pub short : (text : List ℕ) → length text ≤ 1048576 → rules_of text ≡ rules_in (document_of text)
-short text few = let e : nat_lt 1048576 (length text) ≡ false = grind (arith, nat_tests) in rw e
+pub short : (text : List ℕ) → length text ≤ LONGEST_RULES_FILE → rules_of text ≡ rules_in (document_of text)
+short text few = let e : nat_lt LONGEST_RULES_FILE (length text) ≡ false = grind (arith, nat_tests) in rw e
 
 -- a text that is read as a table says what the table does
-pub table_text : (text : List ℕ) (keys : Members) → length text ≤ 1048576 → IsUtf8 text → parse_document text ≡ Some keys → rules_of text ≡ rules_under keys
+pub table_text : (text : List ℕ) (keys : Members) → length text ≤ LONGEST_RULES_FILE → IsUtf8 text → parse_document text ≡ Some keys → rules_of text ≡ rules_under keys
 table_text text keys few utf8 parsed = rw (short text few, is_utf8-from_IsUtf8 text utf8, parsed)
 
 -- a text that is no table is not TOML
-pub no_table : (text : List ℕ) → length text ≤ 1048576 → (IsUtf8 text → parse_document text ≡ None) → rules_of text ≡ Err (File NotToml)
+pub no_table : (text : List ℕ) → length text ≤ LONGEST_RULES_FILE → (IsUtf8 text → parse_document text ≡ None) → rules_of text ≡ Err (File NotToml)
 no_table text few refused = rw (short text few) (by (is_utf8 text) refl)
   where
     by : (b : Bool) → is_utf8 text ≡ b → rules_in (if b then parse_document text else None) ≡ Err (File NotToml)

@@ -2,6 +2,7 @@
 use Rattle.std.specs.Prelude.{◌≡◌, ◌≢◌, ℕ, suc, List, length, Option, Some, None, Result, Ok, Err, IsOk, Bool, ◌&&◌, nat_le, if◌then◌else◌}
 use Rattle.std.specs.List.{list_all}
 use Rattle.toml.specs.Data.{Data, string, array, Items, Members, no_members, member}
+use Rattle.apex_types.specs.declared.limits.TheConstants.{LONGEST_RULE_NAME}
 use Rattle.rules_file.specs.declared.fault.RuleFault.{RuleFault}
 use Rattle.rules_file.specs.declared.fault.RuleFault.TheVariants.{BadName, Missing, UnknownKey, WrongType}
 
@@ -55,13 +56,9 @@ list_in _ = Err WrongType
 abbrev pub is_printable : ℕ → Bool
 is_printable byte = nat_le 0x20 byte && nat_le byte 0x7E
 
--- the name of a rule has at most this many bytes
-abbrev pub longest_name : ℕ
-longest_name = 64
-
 -- a text of 1 to 64 bytes, all printable
 abbrev pub is_name : List ℕ → Bool
-is_name text = nat_le 1 (length text) && (nat_le (length text) longest_name && list_all is_printable text)
+is_name text = nat_le 1 (length text) && (nat_le (length text) LONGEST_RULE_NAME && list_all is_printable text)
 
 -- the name of a rule
 abbrev pub name_in : Data → Result (List ℕ) RuleFault

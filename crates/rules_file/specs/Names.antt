@@ -3,7 +3,8 @@ use Rattle.std.specs.Prelude.{ℕ, ℤ, pos, List, [], ◌∷◌, Option, Some, 
 use Rattle.std.specs.Str.{bytes_eq}
 use Rattle.apex_types.specs.declared.view.Field.{Field}
 use Rattle.apex_types.specs.declared.view.Field.TheVariants as field
-use Rattle.apex_types.specs.Numbers.{out_number, service_number}
+use Rattle.apex_types.specs.Numbers.{out_number}
+use Rattle.apex_types.specs.Services.{service_number}
 use Rattle.record_read.specs.declared.kind.Kind.{Kind}
 use Rattle.record_read.specs.declared.kind.Kind.TheVariants as kind
 use Rattle.record_read.specs.Named.{kind_named, out_named, service_named}

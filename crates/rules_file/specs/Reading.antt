@@ -4,6 +4,7 @@ use Rattle.std.specs.Str.{is_utf8}
 use Rattle.std.specs.declared.alloc.Global.{Global}
 use Rattle.toml.specs.Data.{Data, table, Items, no_items, item, Members, get_member}
 use Rattle.toml.specs.Parse.{parse_document}
+use Rattle.apex_types.specs.declared.limits.TheConstants.{LONGEST_RULES_FILE, MOST_LEVELS, MOST_RULES}
 use Rattle.user_rules.specs.Meets.{meets}
 use Rattle.rules_file.specs.declared.fault.RuleFault.{RuleFault}
 use Rattle.rules_file.specs.declared.fault.RuleFault.TheVariants.{NotToml, TooMany, WrongType}
@@ -11,15 +12,7 @@ use Rattle.rules_file.specs.declared.fault.RulesFault.{RulesFault}
 use Rattle.rules_file.specs.declared.fault.RulesFault.TheVariants.{File, Rule}
 use Rattle.rules_file.specs.declared.rule.NamedRule.{NamedRule}
 use Rattle.rules_file.specs.Keys.{◌>>=◌, list_in, name_in, no_more, required}
-use Rattle.rules_file.specs.Relations.{Holds, at_most, most_levels, relation_in}
-
--- a text of rules has at most this many bytes
-abbrev pub longest_text : ℕ
-longest_text = 1048576
-
--- and this many rules
-abbrev pub most_rules : ℕ
-most_rules = 1024
+use Rattle.rules_file.specs.Relations.{Holds, at_most, relation_in}
 
 -- a rule as the text says it: its name, and of which views it holds
 pub record SaidRule : Type 0 where
@@ -30,7 +23,7 @@ pub record SaidRule : Type 0 where
 abbrev pub said : NamedRule → SaidRule
 said rule = record { name = string_bytes rule.name; holds = meets rule.relation }
 
--- rules with one more behind them; there are none where memory ran out
+-- rules with one more after them; there are none where memory ran out
 abbrev pub IsAdded : Option (Vec NamedRule Global) → Option NamedRule → Option (Vec NamedRule Global) → Type 0
 IsAdded rules rule None = Unit {0}
 IsAdded (Some rules) (Some rule) (Some all) = all.items ≡ rules.items ++ rule ∷ []
@@ -41,7 +34,7 @@ abbrev pub rule_under : Members → Result SaidRule RuleFault
 rule_under keys =
     no_more 2 keys >>= (λ _.
     required (get_member (codes "name") keys) >>= name_in >>= (λ name.
-    required (get_member (codes "holds") keys) >>= relation_in most_levels >>= (λ holds.
+    required (get_member (codes "holds") keys) >>= relation_in MOST_LEVELS >>= (λ holds.
     Ok (record { name = name; holds = holds }))))
 
 -- the rule that a value describes, which has to be a table
@@ -68,7 +61,7 @@ rules_from number (item value items) =
 
 -- the list of rules of a table: it stands under `rule`, and there is no other key
 abbrev pub listed_under : Members → Result Items RuleFault
-listed_under keys = no_more 1 keys >>= (λ _. required (get_member (codes "rule") keys) >>= list_in >>= at_most most_rules)
+listed_under keys = no_more 1 keys >>= (λ _. required (get_member (codes "rule") keys) >>= list_in >>= at_most MOST_RULES)
 
 -- the rules of a table
 abbrev pub rules_under : Members → Result (List SaidRule) RulesFault
@@ -85,4 +78,4 @@ rules_in (Some keys) = rules_under keys
 
 -- the rules of a text; a text of more than 1,048,576 bytes is not looked into
 abbrev pub rules_of : List ℕ → Result (List SaidRule) RulesFault
-rules_of text = if nat_lt longest_text (length text) then Err (File TooMany) else rules_in (document_of text)
+rules_of text = if nat_lt LONGEST_RULES_FILE (length text) then Err (File TooMany) else rules_in (document_of text)

@@ -3,6 +3,7 @@ use Rattle.std.specs.Prelude.{ℕ, ℤ, zero, suc, Bool, ◌&&◌, ◌||◌, not
 use Rattle.std.specs.Option.{ok_or}
 use Rattle.std.specs.Ordering.{int_eq}
 use Rattle.toml.specs.Data.{Data, integer, string, table, Items, no_items, item, Members, get_member}
+use Rattle.apex_types.specs.declared.limits.TheConstants.{MOST_RELATIONS}
 use Rattle.apex_types.specs.declared.view.Field.{Field}
 use Rattle.apex_types.specs.declared.view.View.{View}
 use Rattle.apex_types.specs.Fields.{field_of}
@@ -14,14 +15,6 @@ use Rattle.rules_file.specs.Names.{field_named, number_named}
 -- of which views a relation holds
 abbrev pub Holds : Type 0
 Holds = View → Bool
-
--- a relation has at most this many levels
-abbrev pub most_levels : ℕ
-most_levels = 16
-
--- a list has at most this many relations
-abbrev pub most_relations : ℕ
-most_relations = 64
 
 -- the field of this name
 abbrev pub field_in : Data → Result Field RuleFault
@@ -47,7 +40,7 @@ comparison_under keys =
     required (get_member (codes "field") keys) >>= field_in >>= (λ field.
     compared field (get_member (codes "less") keys) (get_member (codes "equal") keys) (get_member (codes "greater") keys)))
 
--- relations put together, one behind the other
+-- relations put together, one after the other
 abbrev pub joined : (Bool → Bool → Bool) → (Data → Result Holds RuleFault) → Items → Result Holds RuleFault
 joined join reading no_items = Err Empty
 joined join reading (item value no_items) = reading value
@@ -67,7 +60,7 @@ at_most most items = if nat_le (item_count items) most then Ok items else Err To
 
 -- the relations of a list of 1 to 64, put together
 abbrev pub joined_in : (Bool → Bool → Bool) → (Data → Result Holds RuleFault) → Data → Result Holds RuleFault
-joined_in join reading value = list_in value >>= at_most most_relations >>= joined join reading
+joined_in join reading value = list_in value >>= at_most MOST_RELATIONS >>= joined join reading
 
 -- a relation that holds where the one of a value does not
 abbrev pub negated_in : (Data → Result Holds RuleFault) → Data → Result Holds RuleFault

@@ -2,7 +2,8 @@
 
 ghost use Rattle.std.specs.Prelude.{◌≡◌, ℕ, List, option_map, pos};
 ghost use Rattle.toml.specs.View.{view};
-ghost use Rattle.apex_types.specs.Numbers.{out_number, service_number};
+ghost use Rattle.apex_types.specs.Numbers.{out_number};
+ghost use Rattle.apex_types.specs.Services.{service_number};
 ghost use Rattle.record_read.specs.Named.{kind_named, out_named, service_named};
 ghost use Rattle.rules_file.specs.Names.{field_among, field_named, kind_number, name_of, number_named};
 ghost use Rattle.rules_file.specs.Relations.{field_in, number_in};

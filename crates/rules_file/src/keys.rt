@@ -7,10 +7,8 @@ ghost use Rattle.toml.specs.View.{view, table_view, items_view};
 ghost use Rattle.rules_file.specs.Keys.{Reads, is_name, is_printable, list_in, member_count, name_in, no_more, required, text_in};
 
 use crate::fault::RuleFault;
+use apex_types::limits::LONGEST_RULE_NAME;
 use toml::{Table, Value};
-
-/// The most bytes that the name of a rule has.
-const LONGEST_NAME: usize = 64;
 
 /// The value under a key, if the key is there.
 pub(crate) fn member<'a>(table: &'a Table, key: &str) -> Option<&'a Value>
@@ -75,7 +73,7 @@ pub(crate) fn name<'a>(value: &'a Value) -> Result<&'a str, RuleFault>
 fn is_name(bytes: &[u8]) -> bool
     ensures { result ≡ is_name bytes.now }
 {
-    !bytes.is_empty() && bytes.len() <= LONGEST_NAME && are_printable(bytes)
+    !bytes.is_empty() && bytes.len() <= LONGEST_RULE_NAME && are_printable(bytes)
 }
 
 // Whether each byte is printable ASCII.

@@ -2,23 +2,19 @@
 
 ghost use Rattle.std.specs.Prelude.{◌≡◌, ◌≤◌, IfSome, Some, length};
 ghost use Rattle.toml.specs.View.{view, table_view, items_view};
+ghost use Rattle.apex_types.specs.declared.limits.TheConstants.{MOST_RELATIONS};
 ghost use Rattle.user_rules.specs.Meets.{meets};
 ghost use Rattle.rules_file.specs.Keys.{Builds, Reads};
 ghost use Rattle.rules_file.specs.Joins.{IsJoined, joins};
-ghost use Rattle.rules_file.specs.Relations.{comparison_under, joined, joined_in, most_relations, negated_in, relation_in, relation_under};
+ghost use Rattle.rules_file.specs.Relations.{comparison_under, joined, joined_in, negated_in, relation_in, relation_under};
 
 use crate::fault::RuleFault;
 use crate::field::{read_field, read_number};
 use crate::keys::{list, member, no_more, required};
+use apex_types::limits::MOST_RELATIONS;
 use std::alloc::Global;
 use toml::{Table, Value};
 use user_rules::Relation;
-
-/// The most levels that a relation has.
-pub(crate) const MOST_LEVELS: u8 = 16;
-
-// The most relations that one list has.
-const MOST_RELATIONS: usize = 64;
 
 /// How relations are put together.
 #[derive(Clone, Copy)]
@@ -98,7 +94,7 @@ fn joined_in(
     joined(alloc, items, join, levels)
 }
 
-// These relations, put together one behind the other.
+// These relations, put together one after the other.
 #[cycle(relation)]
 fn joined(
     alloc: Global,
@@ -106,7 +102,7 @@ fn joined(
     join: Join,
     levels: u8,
 ) -> Result<Option<Relation>, RuleFault>
-    requires { length items.now ≤ most_relations }
+    requires { length items.now ≤ MOST_RELATIONS }
     ensures { Builds meets result (joined (joins join) (relation_in levels) (items_view items.now)) }
 {
     let Some((item, rest)) = items.split_first() else {

@@ -7,7 +7,8 @@ ghost use Rattle.rules_file.specs.Reading.{rule_in, rule_under, said};
 
 use crate::fault::RuleFault;
 use crate::keys::{name, no_more, required};
-use crate::relation::{MOST_LEVELS, read_relation};
+use crate::relation::read_relation;
+use apex_types::limits::MOST_LEVELS;
 use std::alloc::Global;
 use toml::{Table, Value};
 use user_rules::Relation;
@@ -36,7 +37,7 @@ impl NamedRule {
     {
         no_more(keys, 2)?;
         let name = name(required(keys, "name")?)?;
-        let relation = read_relation(alloc, required(keys, "holds")?, MOST_LEVELS)?;
+        let relation = read_relation(alloc, required(keys, "holds")?, MOST_LEVELS as u8)?;
         Ok(named(alloc, name, relation))
     }
 }

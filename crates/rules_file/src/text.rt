@@ -3,6 +3,7 @@
 ghost use Rattle.std.specs.Prelude.{◌≡◌, ◌↔◌, ◌<◌, Err, IfErr, length, map};
 ghost use Rattle.toml.specs.Errors.{IsMemory};
 ghost use Rattle.toml.specs.View.{table_view, items_view};
+ghost use Rattle.apex_types.specs.declared.limits.TheConstants.{LONGEST_RULES_FILE};
 ghost use Rattle.rules_file.specs.declared.fault.RuleFault.TheVariants.{NotToml, TooMany};
 ghost use Rattle.rules_file.specs.declared.fault.RulesFault.TheVariants.{File, Memory};
 ghost use Rattle.rules_file.specs.Keys.{Gives, Reads};
@@ -11,15 +12,10 @@ ghost use Rattle.rules_file.specs.Reading.{IsAdded, listed_under, rules_from, ru
 use crate::fault::{RuleFault, RulesFault};
 use crate::keys::{list, no_more, required};
 use crate::rule::NamedRule;
+use apex_types::limits::{LONGEST_RULES_FILE, MOST_RULES};
 use std::alloc::Global;
 use toml::de::Error;
 use toml::{Table, Value};
-
-/// The most bytes that a text of rules may have.
-const LONGEST_TEXT: usize = 1_048_576;
-
-/// The most rules that a text may have.
-const MOST_RULES: usize = 1024;
 
 /// Reads the rules that a text gives, in TOML, in its order.
 ///
@@ -27,9 +23,9 @@ const MOST_RULES: usize = 1024;
 /// then the list of rules, then each rule in turn. Once the text is a table, each rule is judged whatever memory there is.
 pub fn read(alloc: Global, text: &[u8]) -> Result<Vec<NamedRule>, RulesFault>
     ensures value { Gives Memory (λ rules. map said rules.items) result (rules_of text.now) }
-    ensures too_long { 1048576 < length text.now → result ≡ Err (File TooMany) }
+    ensures too_long { LONGEST_RULES_FILE < length text.now → result ≡ Err (File TooMany) }
 {
-    if text.len() > LONGEST_TEXT {
+    if text.len() > LONGEST_RULES_FILE {
         return Err(RulesFault::File(RuleFault::TooMany));
     }
     match toml::table_from_slice(alloc, text) {
@@ -74,7 +70,7 @@ fn listed_under<'a>(keys: &'a Table) -> Result<&'a [Value], RuleFault>
     Ok(items)
 }
 
-// The rules that the items of a list describe. Where memory runs out the rules behind are judged all the same.
+// The rules that the items of a list describe. Where memory runs out the rules after are judged all the same.
 fn rules_from(alloc: Global, items: &[Value]) -> Result<Vec<NamedRule>, RulesFault>
     ensures value { Gives Memory (λ rules. map said rules.items) result (rules_from 0 (items_view items.now)) }
     ensures refused { IfErr (rules_from 0 (items_view items.now)) (λ fault. result ≡ Err fault) }
@@ -97,7 +93,7 @@ fn rules_from(alloc: Global, items: &[Value]) -> Result<Vec<NamedRule>, RulesFau
     }
 }
 
-// Rules with one more behind them.
+// Rules with one more after them.
 fn added(rules: Option<Vec<NamedRule>>, rule: Option<NamedRule>) -> Option<Vec<NamedRule>>
     ensures { IsAdded rules rule result }
 {

@@ -15,11 +15,11 @@ IsOutSoFar before text left now = (front : List ℕ) × (text ≡ front ++ left)
 -- a put that answers a count leaves the rest
 pub out_more : (before now after : Option (List ℕ)) (text left : List ℕ) (count : ℕ) → IsOutSoFar before text left now → after ≡ with_more now (take count left)
     → IsOutSoFar before text (take (length left - count) (drop count left)) after
-out_more before now after text left count (front, cut, told) put =
+out_more before now after text left count (front, cut, reported) put =
     rw take_rest (
       front ++ take count left,
       cut ∙ ap (λ l. front ++ l) (sym (take-append-drop count left)) ∙ sym (append_assoc front (take count left) (drop count left)),
-      put ∙ ap (λ o. with_more o (take count left)) told ∙ with_more_twice before front (take count left),
+      put ∙ ap (λ o. with_more o (take count left)) reported ∙ with_more_twice before front (take count left),
     )
 
 -- a put that takes something is no failure
@@ -39,17 +39,17 @@ ArePartsOut before all left now = IsOutSoFar before (joined all) (joined left) n
 
 pub part_out : (before now after : Option (List ℕ)) (all rest : List (Bor (List ℕ))) (part : Bor (List ℕ)) → ArePartsOut before all (part ∷ rest) now → IsWritten now part.now after
     → ArePartsOut before all rest after
-part_out before now after all rest part (front, cut, told) written = (
+part_out before now after all rest part (front, cut, reported) written = (
   front ++ part.now,
   cut ∙ sym (append_assoc front part.now (joined rest)),
-  written ∙ ap (λ o. with_more o part.now) told ∙ with_more_twice before front part.now,
+  written ∙ ap (λ o. with_more o part.now) reported ∙ with_more_twice before front part.now,
 )
 
 pub part_cut : (before now after : Option (List ℕ)) (all rest : List (Bor (List ℕ))) (part : Bor (List ℕ)) → ArePartsOut before all (part ∷ rest) now → IsCut now part.now after
     → IsCut before (joined all) after
-part_cut before now after all rest part (front, cut, told) (some, more, split, put) = (
+part_cut before now after all rest part (front, cut, reported) (some, more, split, put) = (
   front ++ some,
   more ++ joined rest,
   cut ∙ ap (λ l. front ++ (l ++ joined rest)) split ∙ ap (λ l. front ++ l) (append_assoc some more (joined rest)) ∙ sym (append_assoc front some (more ++ joined rest)),
-  put ∙ ap (λ o. with_more o some) told ∙ with_more_twice before front some,
+  put ∙ ap (λ o. with_more o some) reported ∙ with_more_twice before front some,
 )

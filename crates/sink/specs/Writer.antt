@@ -6,12 +6,12 @@ pub record WriterView : Type 0 where
   pub bytes : Option (List ℕ)
   pub failures : ℕ
 
--- the bytes that a writer holds now, where it told them from the first on
-abbrev pub told_since : Option (List ℕ) → Option (List ℕ) → Option (List ℕ)
-told_since None now = None
-told_since (Some first) now = now
+-- the bytes that a writer holds now, where it reported them from the first on
+abbrev pub held_since : Option (List ℕ) → Option (List ℕ) → Option (List ℕ)
+held_since None now = None
+held_since (Some first) now = now
 
--- a writer that told its bytes at first tells them still
+-- a writer that reported its bytes at first reports them still
 abbrev pub StillTells : Option (List ℕ) → Option (List ℕ) → Type 0
 StillTells None now = ⊤
 StillTells (Some first) None = ⊥

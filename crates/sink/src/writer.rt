@@ -3,7 +3,7 @@
 ghost use Rattle.std.specs.Prelude.{◌≡◌, ◌<◌, OnErr, OnOk};
 ghost use Rattle.std.specs.Io.{WritesAtMost};
 ghost use Rattle.std.specs.Io.KnownBytes.{WriteAppends};
-ghost use Rattle.sink.specs.Writer.{StillTells, WriterView, told_since};
+ghost use Rattle.sink.specs.Writer.{StillTells, WriterView, held_since};
 
 use crate::count::FailureCount;
 use crate::output::{Sink, SinkFault};
@@ -27,7 +27,7 @@ pub struct WriterSink<W: Write> {
 impl<W: Write> Model for WriterSink<W> {
     ghost Value = { WriterView };
 
-    ghost view = { λ s. record { bytes = told_since (W.contents s.first.value) (W.contents s.writer); failures = s.failures.count } };
+    ghost view = { λ s. record { bytes = held_since (W.contents s.first.value) (W.contents s.writer); failures = s.failures.count } };
 
     ghost invariant = { λ s. StillTells (W.contents s.first.value) (W.contents s.writer) };
 }

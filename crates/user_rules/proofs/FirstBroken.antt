@@ -1,4 +1,4 @@
--- The first broken view: how it is found, that it is one, and what views behind others leave of it.
+-- The first broken view: how it is found, that it is one, and what views after others leave of it.
 use Rattle.std.proofs.Common.{cond, nat_lt, ⊎_elim, ◌≡◌, ◌<◌, ◌≤◌, ◌+◌, ◌∙◌, ℕ, suc, Bool, true, false, not, List, [], ◌∷◌, ◌++◌, Option, Some, None, length, take, drop, get_or, is_some, map, arith, ap, refl, subst, sym, append_assoc, true≢false}
 use Rattle.std.proofs.Math.ListN.{get_or-map}
 use Rattle.std.proofs.Math.Seq.{split_at}
@@ -56,7 +56,7 @@ one_first_broken relations views None (Some other) all first = absurd (none_and_
 one_first_broken relations views (Some one) None first all = absurd (none_and_some relations views one all first)
 one_first_broken relations views (Some one) (Some other) first second = ap Some (one_view_broken relations views one other first second)
 
--- lists of views, one behind another
+-- lists of views, one after another
 
 pub first_broken_behind : (relations : List Relation) (front back : List View) (found : Option Broken)
     → All (MeetsAll relations) front → IsFirstBroken relations back found → IsFirstBroken relations (front ++ back) (behind (length front) found)

@@ -36,7 +36,7 @@ abbrev pub IsFirstBroken : List Relation → List View → Option Broken → Typ
 IsFirstBroken relations views None = All (MeetsAll relations) views
 IsFirstBroken relations views (Some broken) = IsFirstViewBroken relations views broken
 
--- what was found, behind so many views more
+-- what was found, after so many views more
 abbrev pub behind : ℕ → Option Broken → Option Broken
 behind count found = option_map (λ broken. record { view = count + broken.view; rule = broken.rule }) found
 
@@ -48,13 +48,13 @@ OneFirstBroken =
     (relations : List Relation) (views : List View) (one other : Option Broken)
     → IsFirstBroken relations views one → IsFirstBroken relations views other → one ≡ other
 
--- behind views that meet every rule the first broken one is that of the views behind them, counted on
+-- after views that meet every rule the first broken one is that of the views after them, counted on
 abbrev pub FirstBrokenBehind : Type 0
 FirstBrokenBehind =
     (relations : List Relation) (front back : List View) (found : Option Broken)
     → All (MeetsAll relations) front → IsFirstBroken relations back found → IsFirstBroken relations (front ++ back) (behind (length front) found)
 
--- a broken view stays the first, whatever comes behind
+-- a broken view stays the first, whatever comes after
 abbrev pub FirstBrokenStays : Type 0
 FirstBrokenStays =
     (relations : List Relation) (front back : List View) (broken : Broken)

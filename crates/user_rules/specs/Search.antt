@@ -1,4 +1,4 @@
--- The two searches behind the first broken view: for the view, and for the rule that it breaks.
+-- The two searches that find the first broken view: for the view, and for the rule that it breaks.
 use Rattle.std.specs.Prelude.{◌<◌, Bool, ℕ, not, List, Option, Some, None, length, slice_index_or, take}
 use Rattle.std.specs.List.{All, list_all}
 use Rattle.apex_types.specs.declared.view.View.{View}

@@ -7,13 +7,13 @@ pub fn one_first_broken()
     ensures { OneFirstBroken }
 {}
 
-/// Lists of views may be taken one behind another: behind views that meet every rule, the first broken one is that of the views
-/// behind them, counted on.
+/// Lists of views may be taken one after another: after views that meet every rule, the first broken one is that of the views
+/// after them, counted on.
 pub fn first_broken_behind()
     ensures { FirstBrokenBehind }
 {}
 
-/// A broken view stays the first one, whatever views come behind.
+/// A broken view stays the first one, whatever views come after.
 pub fn first_broken_stays()
     ensures { FirstBrokenStays }
 {}

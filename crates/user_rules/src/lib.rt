@@ -1,7 +1,7 @@
 //! Rules of a user over the views of records: a relation that has to hold of each, and the test that finds out.
 //!
 //! Promises: a relation holds of a view exactly where the definitions say that the view meets it. A rule's test agrees with its
-//! relation, so what the tests find is told of the relations. Of a view the first rule is found that it breaks; of a list of views
+//! relation, so what the tests find is said of the relations. Of a view the first rule is found that it breaks; of a list of views
 //! the first that breaks a rule, and the first rule that it breaks: by several threads or by one, the answer is the same.
 //!
 //! A rule is made of any test that agrees with its relation. Whoever has no test of their own takes the relation itself, over a
@@ -19,8 +19,8 @@
 //! first_rule_broken(&rules, &views[3]);   // Some(0)
 //! ```
 //!
-//! A list of views may be judged in parts: the first broken view stays the first whatever comes behind (`first_broken_stays`),
-//! and behind views that meet every rule it is that of the views behind them (`first_broken_behind`).
+//! A list of views may be judged in parts: the first broken view stays the first whatever comes after (`first_broken_stays`),
+//! and after views that meet every rule it is that of the views after them (`first_broken_behind`).
 #![tactic(auto)]
 
 mod broken;

@@ -32,32 +32,32 @@ to_first configuration piece first end (ordered ∷ others) Fact is keeps fact =
         rest (subst Fact (let e : first + suc 0 ≡ suc first = omega arith in e)
         (keeps 0 ordered (omega arith) refl untouched (subst Fact (let e : first ≡ first + 0 = omega arith in e) fact)))
 
--- from behind a record that touches the piece up to the next one, or to the end
-to_next : (configuration : Configuration) (piece : Piece) (first gone end : ℕ) (records : List Ordered) (Fact : ℕ → Type 0) → end ≡ first + length records
-    → gone < length (touching configuration piece first records) → Keeps configuration piece first records Fact
-    → Fact (suc (get_or (touching configuration piece first records) gone end)) → Fact (get_or (touching configuration piece first records) (suc gone) end)
-to_next configuration piece first gone end [] Fact is one keeps fact = absurd (omega (arith, one))
-to_next configuration piece first gone end (ordered ∷ others) Fact is one keeps fact =
-    by (touches configuration piece ordered) gone one fact
+-- from after a record that touches the piece up to the next one, or to the end
+to_next : (configuration : Configuration) (piece : Piece) (first outcome end : ℕ) (records : List Ordered) (Fact : ℕ → Type 0) → end ≡ first + length records
+    → outcome < length (touching configuration piece first records) → Keeps configuration piece first records Fact
+    → Fact (suc (get_or (touching configuration piece first records) outcome end)) → Fact (get_or (touching configuration piece first records) (suc outcome) end)
+to_next configuration piece first outcome end [] Fact is one keeps fact = absurd (omega (arith, one))
+to_next configuration piece first outcome end (ordered ∷ others) Fact is one keeps fact =
+    by (touches configuration piece ordered) outcome one fact
     (λ next. to_first configuration piece (suc first) end others Fact (omega (arith, is)) (keeps_behind configuration piece first ordered others Fact keeps) next)
     (λ later there next. to_next configuration piece (suc first) later end others Fact (omega (arith, is)) there (keeps_behind configuration piece first ordered others Fact keeps) next)
   where
     rest : List ℕ
     rest = touching configuration piece (suc first) others
 
-    by : (touched : Bool) (gone : ℕ) → gone < length (if touched then first ∷ rest else rest)
-        → Fact (suc (get_or (if touched then first ∷ rest else rest) gone end))
+    by : (touched : Bool) (outcome : ℕ) → outcome < length (if touched then first ∷ rest else rest)
+        → Fact (suc (get_or (if touched then first ∷ rest else rest) outcome end))
         → (Fact (suc first) → Fact (get_or rest 0 end))
         → ((later : ℕ) → later < length rest → Fact (suc (get_or rest later end)) → Fact (get_or rest (suc later) end))
-        → Fact (get_or (if touched then first ∷ rest else rest) (suc gone) end)
+        → Fact (get_or (if touched then first ∷ rest else rest) (suc outcome) end)
     by true zero one fact start more = start fact
-    by true (suc gone) one fact start more = more gone (omega (arith, one)) fact
-    by false gone one fact start more = more gone one fact
+    by true (suc outcome) one fact start more = more outcome (omega (arith, one)) fact
+    by false outcome one fact start more = more outcome one fact
 
 pub holds_at_first : (configuration : Configuration) (piece : Piece) (records : List Ordered) (Fact : ℕ → Type 0) → Keeps configuration piece 0 records Fact
     → Fact 0 → Fact (reached configuration piece records 0)
 holds_at_first configuration piece records Fact keeps fact = to_first configuration piece 0 (length records) records Fact (omega arith) keeps fact
 
-pub holds_at_next : (configuration : Configuration) (piece : Piece) (records : List Ordered) (Fact : ℕ → Type 0) (gone : ℕ) → gone < length (touching configuration piece 0 records)
-    → Keeps configuration piece 0 records Fact → Fact (suc (reached configuration piece records gone)) → Fact (reached configuration piece records (suc gone))
-holds_at_next configuration piece records Fact gone one keeps fact = to_next configuration piece 0 gone (length records) records Fact (omega arith) one keeps fact
+pub holds_at_next : (configuration : Configuration) (piece : Piece) (records : List Ordered) (Fact : ℕ → Type 0) (outcome : ℕ) → outcome < length (touching configuration piece 0 records)
+    → Keeps configuration piece 0 records Fact → Fact (suc (reached configuration piece records outcome)) → Fact (reached configuration piece records (suc outcome))
+holds_at_next configuration piece records Fact outcome one keeps fact = to_next configuration piece 0 outcome (length records) records Fact (omega arith) one keeps fact

@@ -37,7 +37,7 @@ seen_at (Some view) index one there = elim (contains_cases (record { index = ind
   | inr none ↦ absurd (contains_none one none)
 ]
 
--- the first breach of what was seen so far, and of one record behind
+-- the first breach of what was seen so far, and of one record after
 pub breach_on : (relations : List Relation) (seen : List Seen) (given : Option View) (index : ℕ) (breach next : Option Breach)
     → ((one : Seen) → Contains seen one → one.index < index) → IsFirstBreach relations seen breach → IsFirstBreach relations (seen_of given index) next
     → IsFirstBreach relations (seen ++ seen_of given index) (first_some breach next)
@@ -153,9 +153,9 @@ all_first Fact views count within each = λ index one less.
     let below : index < count = omega (arith, less, length-take-le count views within) in
     subst Fact (sym (get_or-take count views index one below)) (each index one below)
 
--- the breach that is told of a round is the first of the views before the record that is refused
+-- the breach that is reported of a round is the first of the views before the record that is refused
 module _ (configuration : Configuration) (parts : ℕ → Part) (relations : List Relation) (first : ℕ) (records : List Ordered) (found : Option Refused)
-    (placed : ArePlaced first records) (gone : HaveRun configuration parts records found) where
+    (placed : ArePlaced first records) (outcome : HaveRun configuration parts records found) where
   abbrev wanted : ℕ
   wanted = count_before first records found
 
@@ -165,11 +165,11 @@ module _ (configuration : Configuration) (parts : ℕ → Part) (relations : Lis
       → (views : List View) × AreViews configuration parts (up_to found records) views × (length views ≡ wanted)
       × ((index : ℕ) (one : View) → index < wanted → slot_at slots index ≡ Some (get_or views index one))
   views_of slots whole sound filled =
-      let within : wanted ≤ length slots = wanted_within configuration parts first records found slots placed gone whole in
+      let within : wanted ≤ length slots = wanted_within configuration parts first records found slots placed outcome whole in
       let held = views_in wanted slots within filled in
       let counted : length held.0 ≡ wanted = length_held held.0 wanted slots held.1 within in (
         held.0,
-        views_are_wanted configuration parts first records found slots held.0 placed gone whole sound held.1,
+        views_are_wanted configuration parts first records found slots held.0 placed outcome whole sound held.1,
         counted,
         λ index one less. held_at held.0 wanted slots held.1 index (get_or held.0 index one) (slice_get-get_or held.0 index one (omega (arith, less, counted))),
       )
@@ -184,7 +184,7 @@ module _ (configuration : Configuration) (parts : ℕ → Part) (relations : Lis
         views = are.0;
         viewed = are.1;
         first = λ index one less. met index (get_or are.0 index one) (omega (arith, less, are.2)) (are.3 index one (omega (arith, less, are.2)));
-        told = tt;
+        reported = tt;
       }
 
   -- where one of them breaks a rule: its view is put into its slot
@@ -220,7 +220,7 @@ module _ (configuration : Configuration) (parts : ℕ → Part) (relations : Lis
         viewed = are.1;
         first = view_here relations are.0 at breach.rule breach.seen.view (omega (arith, less, are.2)) before
             (subst (λ one. IsFirstRuleBroken relations one breach.rule) (sym view) is.first);
-        told = slice_get-get_or are.0 at breach.seen.view (omega (arith, less, are.2)) ∙ ap (λ one. Some one) view;
+        reported = slice_get-get_or are.0 at breach.seen.view (omega (arith, less, are.2)) ∙ ap (λ one. Some one) view;
       }
     where
       some_is : (one other : View) → ◌≡◌ {A = Option View} (Some one) (Some other) → one ≡ other

@@ -8,16 +8,16 @@ use Rattle.apex_machine.specs.Demands.{FirstFails, LocalStep, demands}
 use Rattle.apex_machine.specs.Pieces.{Part, Piece, touches}
 use Rattle.apex_machine.specs.Runs.{ArePlaced, AreOfCores, Goes, PieceRun}
 use Rattle.apex_machine.specs.Views.{view_in}
-use Rattle.piece_check.proofs.Parting.{IsBehind_later}
+use Rattle.piece_check.proofs.Parting.{HoldsBefore_later}
 use Rattle.piece_check.proofs.Reaching.{of_core_at, placed_at, reached_at, reached_is_touched}
 use Rattle.piece_check.proofs.Viewing.{view_of_untouched}
-use Rattle.piece_check.specs.Parts.{Holding, IsBehind, IsOf, IsPartOf, piece_at}
+use Rattle.piece_check.specs.Parts.{Holding, HoldsBefore, IsOf, IsPartOf, piece_at}
 use Rattle.piece_check.specs.Touching.{reached, touching}
 use Rattle.user_rules.specs.declared.relation.Relation.{Relation}
 use Rattle.verdict_merge.specs.declared.breach.Seen.{Seen}
 use Rattle.verdict_merge.specs.declared.finding.Refused.{Refused}
-use Rattle.verdict_merge.specs.declared.gone.Gone.{Gone}
-use Rattle.verdict_merge.specs.Rounds.{HasGone, IsGoneOver}
+use Rattle.verdict_merge.specs.declared.outcome.PieceOutcome.{PieceOutcome}
+use Rattle.verdict_merge.specs.Rounds.{HasRunOver, IsJudgedOver}
 use Rattle.verdict_merge.specs.Views.{AreSeen, IsFirstBreach, before_place, seen_of, up_to}
 use Rattle.verdict_merge.proofs.Between.{Keeps}
 use Rattle.verdict_merge.proofs.Going.{passes_by, steps_over}
@@ -30,14 +30,14 @@ pub record HasCome (configuration : Configuration) (number : ℕ) (old : Holding
   pub seen : AreSeen configuration (piece_at configuration number) old.part 0 (take index records) kept
   pub of_module : IsOf configuration now
   pub whose : IsPartOf (piece_at configuration number) now.part
-  pub behind : (place : ℕ) → ArePlaced place records → IsBehind place old.part → IsBehind (place + index) now.part
+  pub holds_before : (place : ℕ) → ArePlaced place records → HoldsBefore place old.part → HoldsBefore (place + index) now.part
 
 take_on : (records : List Ordered) (index : ℕ) (ordered : Ordered) → index < length records → get_or records index ordered ≡ ordered
     → take (suc index) records ≡ take index records ++ ordered ∷ []
 take_on records index ordered within is =
     ap (λ n. take n records) (sym (add-one index)) ∙ take_more records index ordered within ∙ ap (λ one. take index records ++ one ∷ []) is
 
--- what is seen where one more record is gone over
+-- what is seen where one more record is judged
 seen_more : (configuration : Configuration) (piece : Piece) (old now next : Part) (records : List Ordered) (index : ℕ) (ordered : Ordered) (seen : List Seen)
     → index < length records → take (suc index) records ≡ take index records ++ ordered ∷ []
     → PieceRun configuration piece old (take index records) now → Goes (touches configuration piece ordered) configuration now ordered next
@@ -67,7 +67,7 @@ come_past configuration number old records now seen index ordered within is unto
           (seen_more configuration piece old.part now.part now.part records index ordered seen within more here.run goes here.seen);
       of_module = here.of_module;
       whose = here.whose;
-      behind = λ place placed above. IsBehind_later (place + index) (place + suc index) now.part (omega arith) (here.behind place placed above);
+      holds_before = λ place placed above. HoldsBefore_later (place + index) (place + suc index) now.part (omega arith) (here.holds_before place placed above);
     })
 
 -- a record that it accepts
@@ -75,9 +75,9 @@ pub come_over : (configuration : Configuration) (number : ℕ) (old : Holding) (
     → HasCome configuration number old records now seen index → index < length records → get_or records index ordered ≡ ordered
     → touches configuration (piece_at configuration number) ordered ≡ true → LocalStep configuration now.part ordered next.part
     → IsOf configuration next → IsPartOf (piece_at configuration number) next.part
-    → ((place : ℕ) → ArePlaced place records → IsBehind (place + suc index) next.part)
+    → ((place : ℕ) → ArePlaced place records → HoldsBefore (place + suc index) next.part)
     → HasCome configuration number old records next (seen ++ seen_of (view_in now.part ordered) index) (suc index)
-come_over configuration number old records now next seen index ordered come within is touched step of_module whose behind =
+come_over configuration number old records now next seen index ordered come within is touched step of_module whose holds_before =
     let piece = piece_at configuration number in
     let more = take_on records index ordered within is in
     let goes : Goes (touches configuration piece ordered) configuration now.part ordered next.part =
@@ -87,7 +87,7 @@ come_over configuration number old records now next seen index ordered come with
       seen = seen_more configuration piece old.part now.part next.part records index ordered seen within more come.run goes come.seen;
       of_module = of_module;
       whose = whose;
-      behind = λ place placed above. behind place placed;
+      holds_before = λ place placed above. holds_before place placed;
     }
 
 -- before the first record
@@ -98,38 +98,38 @@ come_nowhere configuration number old records of_module whose = record {
   seen = refl;
   of_module = of_module;
   whose = whose;
-  behind = λ place placed above. IsBehind_later place (place + 0) old.part (omega arith) above;
+  holds_before = λ place placed above. HoldsBefore_later place (place + 0) old.part (omega arith) above;
 }
 
--- where the record stands that comes behind so many of a piece's list: it is the next that touches the piece
-pub record Stands (configuration : Configuration) (number first : ℕ) (records : List Ordered) (gone index : ℕ) (ordered : Ordered) : Type 0 where
-  pub listed : gone < length (touching configuration (piece_at configuration number) 0 records)
-  pub reaches : index ≡ reached configuration (piece_at configuration number) records gone
-  pub within : reached configuration (piece_at configuration number) records gone < length records
-  pub is : get_or records (reached configuration (piece_at configuration number) records gone) ordered ≡ ordered
+-- where the record stands that comes after so many of a piece's list: it is the next that touches the piece
+pub record Stands (configuration : Configuration) (number first : ℕ) (records : List Ordered) (outcome index : ℕ) (ordered : Ordered) : Type 0 where
+  pub listed : outcome < length (touching configuration (piece_at configuration number) 0 records)
+  pub reaches : index ≡ reached configuration (piece_at configuration number) records outcome
+  pub within : reached configuration (piece_at configuration number) records outcome < length records
+  pub is : get_or records (reached configuration (piece_at configuration number) records outcome) ordered ≡ ordered
   pub touched : touches configuration (piece_at configuration number) ordered ≡ true
-  pub place : ordered.pos ≡ first + reached configuration (piece_at configuration number) records gone
+  pub place : ordered.pos ≡ first + reached configuration (piece_at configuration number) records outcome
   pub core : ordered.core < configuration.cores
 
 -- the next index of a list is that of a record
-pub next_within : (configuration : Configuration) (number : ℕ) (records : List Ordered) (gone : List ℕ) (index : ℕ) (left : List ℕ)
-    → touching configuration (piece_at configuration number) 0 records ≡ gone ++ index ∷ left
-    → (length gone < length (touching configuration (piece_at configuration number) 0 records)) × (index ≡ reached configuration (piece_at configuration number) records (length gone))
-next_within configuration number records gone index left split =
-    let list = gone ++ index ∷ left in
-    let one : length gone < length list = omega (arith, length-append gone (index ∷ left)) in
-    let at = reached_at configuration (piece_at configuration number) records list (length gone) (sym split) one in
-    (at.0, sym (get_or-append_seam gone index left 0) ∙ at.1)
+pub next_within : (configuration : Configuration) (number : ℕ) (records : List Ordered) (outcome : List ℕ) (index : ℕ) (left : List ℕ)
+    → touching configuration (piece_at configuration number) 0 records ≡ outcome ++ index ∷ left
+    → (length outcome < length (touching configuration (piece_at configuration number) 0 records)) × (index ≡ reached configuration (piece_at configuration number) records (length outcome))
+next_within configuration number records outcome index left split =
+    let list = outcome ++ index ∷ left in
+    let one : length outcome < length list = omega (arith, length-append outcome (index ∷ left)) in
+    let at = reached_at configuration (piece_at configuration number) records list (length outcome) (sym split) one in
+    (at.0, sym (get_or-append_seam outcome index left 0) ∙ at.1)
 
-pub stands : (configuration : Configuration) (number first : ℕ) (records : List Ordered) (gone : List ℕ) (index : ℕ) (left : List ℕ) (ordered : Ordered)
-    → touching configuration (piece_at configuration number) 0 records ≡ gone ++ index ∷ left → ordered ≡ get_or records index ordered
-    → ArePlaced first records → AreOfCores configuration.cores records → Stands configuration number first records (length gone) index ordered
-stands configuration number first records gone index left ordered split is placed cores =
+pub stands : (configuration : Configuration) (number first : ℕ) (records : List Ordered) (outcome : List ℕ) (index : ℕ) (left : List ℕ) (ordered : Ordered)
+    → touching configuration (piece_at configuration number) 0 records ≡ outcome ++ index ∷ left → ordered ≡ get_or records index ordered
+    → ArePlaced first records → AreOfCores configuration.cores records → Stands configuration number first records (length outcome) index ordered
+stands configuration number first records outcome index left ordered split is placed cores =
     let piece = piece_at configuration number in
-    let at = next_within configuration number records gone index left split in
-    let place = reached configuration piece records (length gone) in
+    let at = next_within configuration number records outcome index left split in
+    let place = reached configuration piece records (length outcome) in
     let here : ordered ≡ get_or records place ordered = is ∙ ap (λ n. get_or records n ordered) at.1 in
-    let found = reached_is_touched configuration piece records (length gone) ordered at.0 in
+    let found = reached_is_touched configuration piece records (length outcome) ordered at.0 in
     record {
       listed = at.0;
       reaches = at.1;
@@ -141,20 +141,20 @@ stands configuration number first records gone index left ordered split is place
     }
 
 -- the piece refuses the record that it has come to
-pub refuses_there : (configuration : Configuration) (number first : ℕ) (records : List Ordered) (relations : List Relation) (old now next : Holding) (gone : Gone) (seen : List Seen) (refused : Refused) (index : ℕ)
-    (ordered : Ordered) → gone.found ≡ Some refused → HasCome configuration number old records now seen index → IsFirstBreach relations seen gone.breach → ArePlaced first records
-    → IsBehind first old.part → index < length records → get_or records index ordered ≡ ordered → touches configuration (piece_at configuration number) ordered ≡ true
+pub refuses_there : (configuration : Configuration) (number first : ℕ) (records : List Ordered) (relations : List Relation) (old now next : Holding) (outcome : PieceOutcome) (seen : List Seen) (refused : Refused) (index : ℕ)
+    (ordered : Ordered) → outcome.found ≡ Some refused → HasCome configuration number old records now seen index → IsFirstBreach relations seen outcome.breach → ArePlaced first records
+    → HoldsBefore first old.part → index < length records → get_or records index ordered ≡ ordered → touches configuration (piece_at configuration number) ordered ≡ true
     → (refused.pos ≡ ordered.pos) × (refused.piece ≡ number) × FirstFails (demands configuration now.part ordered) refused.cause × (next.part ≡ now.part)
-    → IsOf configuration next → IsGoneOver configuration number first records relations old gone next
-refuses_there configuration number first records relations old now next gone seen refused index ordered found come breach placed behind within is touched (place, whose, fails, same) of_module =
+    → IsOf configuration next → IsJudgedOver configuration number first records relations old outcome next
+refuses_there configuration number first records relations old now next outcome seen refused index ordered found come breach placed holds_before within is touched (place, whose, fails, same) of_module =
     let piece = piece_at configuration number in
     let cut : drop index records ≡ ordered ∷ drop (suc index) records = subst (λ one. drop index records ≡ one ∷ drop (suc index) records) is (drop-cons records index ordered within) in
     let split : records ≡ take index records ++ ordered ∷ drop (suc index) records = sym (take-append-drop index records) ∙ ap (λ rest. take index records ++ rest) cut in
-    let before : up_to gone.found records ≡ take index records =
+    let before : up_to outcome.found records ≡ take index records =
     ap (λ one. up_to one records) found ∙ ap (before_place refused.pos) split
     ∙ before_of first (take index records) ordered (drop (suc index) records) refused.pos (subst (ArePlaced first) split placed) place in
     record {
-      found = subst (λ one. HasGone configuration number old.part records one next.part) (sym found)
+      found = subst (λ one. HasRunOver configuration number old.part records one next.part) (sym found)
           (whose, (take index records, ordered, drop (suc index) records, split, place, (now.part, come.run, touched, fails)));
       seen = seen;
       are = subst (λ list. AreSeen configuration piece old.part 0 list seen) (sym before) come.seen;
@@ -162,25 +162,25 @@ refuses_there configuration number first records relations old now next gone see
       going = record {
         of_module = of_module;
         whose = subst (IsPartOf piece) (sym same) come.whose;
-        behind = IsBehind_later (first + index) (first + length records) next.part (omega (arith, within)) (subst (IsBehind (first + index)) (sym same) (come.behind first placed behind));
+        holds_before = HoldsBefore_later (first + index) (first + length records) next.part (omega (arith, within)) (subst (HoldsBefore (first + index)) (sym same) (come.holds_before first placed holds_before));
       };
     }
 
--- the piece has come behind the last record
-pub goes_through : (configuration : Configuration) (number first : ℕ) (records : List Ordered) (relations : List Relation) (old now : Holding) (gone : Gone) (seen : List Seen) (index : ℕ)
-    → gone.found ≡ None → HasCome configuration number old records now seen index → IsFirstBreach relations seen gone.breach → index ≡ length records → ArePlaced first records
-    → IsBehind first old.part → IsGoneOver configuration number first records relations old gone now
-goes_through configuration number first records relations old now gone seen index none come breach all placed behind =
+-- the piece has come after the last record
+pub goes_through : (configuration : Configuration) (number first : ℕ) (records : List Ordered) (relations : List Relation) (old now : Holding) (outcome : PieceOutcome) (seen : List Seen) (index : ℕ)
+    → outcome.found ≡ None → HasCome configuration number old records now seen index → IsFirstBreach relations seen outcome.breach → index ≡ length records → ArePlaced first records
+    → HoldsBefore first old.part → IsJudgedOver configuration number first records relations old outcome now
+goes_through configuration number first records relations old now outcome seen index none come breach all placed holds_before =
     let piece = piece_at configuration number in
     let whole : take index records ≡ records = ap (λ n. take n records) all ∙ take-length records in
     record {
-      found = subst (λ one. HasGone configuration number old.part records one now.part) (sym none) (subst (λ list. PieceRun configuration piece old.part list now.part) whole come.run);
+      found = subst (λ one. HasRunOver configuration number old.part records one now.part) (sym none) (subst (λ list. PieceRun configuration piece old.part list now.part) whole come.run);
       seen = seen;
       are = subst (λ list. AreSeen configuration piece old.part 0 list seen) (whole ∙ sym (ap (λ one. up_to one records) none)) come.seen;
       breach = breach;
       going = record {
         of_module = come.of_module;
         whose = come.whose;
-        behind = subst (λ n. IsBehind (first + n) now.part) all (come.behind first placed behind);
+        holds_before = subst (λ n. HoldsBefore (first + n) now.part) all (come.holds_before first placed holds_before);
       };
     }

@@ -98,9 +98,9 @@ length-up_to configuration parts first records found placed stands =
 runs_through : (configuration : Configuration) (parts : ℕ → Part) (first : ℕ) (records : List Ordered) (found : Option Refused) → ArePlaced first records → HaveRun configuration parts records found
     → (before : List Ordered) (ordered : Ordered) (after : List Ordered) → records ≡ before ++ ordered ∷ after → length before < length (up_to found records)
     → (number : ℕ) → number < length (pieces configuration) → Runs configuration parts number (before ++ ordered ∷ [])
-runs_through configuration parts first records None placed gone before ordered after split less number within =
+runs_through configuration parts first records None placed outcome before ordered after split less number within =
     runs_front configuration parts number (before ++ ordered ∷ []) after
-    (subst (Runs configuration parts number) (split ∙ sym (append_assoc before (ordered ∷ []) after)) (gone number within))
+    (subst (Runs configuration parts number) (split ∙ sym (append_assoc before (ordered ∷ []) after)) (outcome number within))
 runs_through configuration parts first records (Some found) placed stands before ordered after split less number within =
     let at = no_at configuration parts first records found placed stands in
     let shorter : length before < length stands.before = omega (arith, less, at, (length-up_to configuration parts first records found placed stands).0) in
@@ -114,10 +114,10 @@ pub all_filled : (configuration : Configuration) (parts : ℕ → Part) (first :
     → ((number : ℕ) → number < length (pieces configuration) → HasFilled configuration parts records slots number)
     → length (up_to found records) ≤ length records
     → (index : ℕ) → index < length (up_to found records) → (view : View) × (slot_at slots index ≡ Some view)
-all_filled configuration parts first records found slots placed whose some gone filled most index within =
+all_filled configuration parts first records found slots placed whose some outcome filled most index within =
     let split = split_at records index (omega (arith, within, most)) in
     let less : length split.0 < length (up_to found records) = omega (arith, within, split.4) in
-    let runs = runs_through configuration parts first records found placed gone split.0 split.1 split.2 split.3 less in
+    let runs = runs_through configuration parts first records found placed outcome split.0 split.1 split.2 split.3 less in
     let by = judged_by configuration parts split.0 split.1 whose (runs 0 some) in
     let there = filled by.0 by.1 split.0 split.1 split.2 split.3 by.2 (runs by.0 by.1) in
     (there.0, ap (slot_at slots) (sym split.4) ∙ there.1)

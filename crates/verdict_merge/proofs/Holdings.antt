@@ -1,4 +1,4 @@
--- Pieces by their numbers, behind a change of one of them.
+-- Pieces by their numbers, after a change of one of them.
 use Rattle.std.proofs.Common.{◌≡◌, ◌≢◌, ◌<◌, ℕ, zero, suc, List, [], ◌∷◌, ◌++◌, length, get_or, set, refl, sym, ap, subst, ◌∙◌, arith, Result, Ok, Err}
 use Rattle.std.specs.Prelude.{OnErr}
 use Rattle.piece_check.specs.Parts.{Holding}
@@ -22,7 +22,7 @@ holding_at-other (holding ∷ others) zero new (suc other) apart = refl
 holding_at-other (holding ∷ others) (suc number) new zero apart = refl
 holding_at-other (holding ∷ others) (suc number) new (suc other) apart = holding_at-other others number new other (λ e. apart (ap suc e))
 
--- behind the end of a list that grows by one
+-- after the end of a list that grows by one
 pub holding_at-last : (holdings : List Holding) (new : Holding) → holding_at (holdings ++ new ∷ []) (length holdings) ≡ new
 holding_at-last [] new = refl
 holding_at-last (holding ∷ others) new = holding_at-last others new

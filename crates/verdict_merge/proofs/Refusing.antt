@@ -106,7 +106,7 @@ broken_at configuration relations records pos rule windows ends placed is =
     let front = placed_front 0 is.through is.after (subst (ArePlaced 0) is.split placed) in
     let run = machine_runs configuration is.through windows front is.runs in
     let views = views_are_of_the_run configuration (cold_state configuration) [] is.through run.0 is.views ends (stays_tied.0 configuration) (λ piece known. refl) is.viewed run.1 in
-    let told : is.broken ≡ broken_of pos rule = same is.broken (omega (arith, is.place)) (sym is.number) in
+    let reported : is.broken ≡ broken_of pos rule = same is.broken (omega (arith, is.place)) (sym is.number) in
     record {
       through = is.through;
       after = is.after;
@@ -114,7 +114,7 @@ broken_at configuration relations records pos rule windows ends placed is =
       place = omega (arith, is.last, is.place);
       final = run.0;
       run = run.1;
-      first = subst (λ list. IsFirstBroken relations list (Some (broken_of pos rule))) views (subst (λ broken. IsFirstBroken relations is.views (Some broken)) told is.first);
+      first = subst (λ list. IsFirstBroken relations list (Some (broken_of pos rule))) views (subst (λ broken. IsFirstBroken relations is.views (Some broken)) reported is.first);
     }
   where
     same : (broken : BrokenView) → broken.view ≡ pos → broken.rule ≡ rule → broken ≡ broken_of pos rule

@@ -1,4 +1,4 @@
--- One round behind another, and a No whatever stands behind it.
+-- One round after another, and a No whatever comes after it.
 use Rattle.std.proofs.Common.{◌≡◌, ◌⊎◌, ◌<◌, ◌≤◌, ◌+◌, ◌∙◌, ℕ, List, [], ◌∷◌, ◌++◌, Option, Some, None, length, refl, sym, ap, subst, arith, append_assoc, inl, inr}
 use Rattle.apex_types.specs.declared.record.Ordered.{Ordered}
 use Rattle.apex_machine.specs.Configuration.{Configuration}
@@ -8,7 +8,7 @@ use Rattle.apex_laws.proofs.Joins.{runs_join}
 use Rattle.piece_check.specs.Parts.{piece_at}
 use Rattle.verdict_merge.specs.declared.finding.Refused.{Refused}
 use Rattle.verdict_merge.specs.Findings.{IsLeastWith, IsLesser, Precedes}
-use Rattle.verdict_merge.specs.Rounds.{AllRun, HasGone, IsNo, RefusesAmong, Runs}
+use Rattle.verdict_merge.specs.Rounds.{AllRun, HasRunOver, IsNo, RefusesAmong, Runs}
 use Rattle.verdict_merge.proofs.Least.{IsNoSooner, no_sooner_next, no_sooner_stays}
 use Rattle.verdict_merge.proofs.Splits.{begins, begins_with, place_behind, up_to}
 
@@ -21,7 +21,7 @@ runs_front configuration parts number front back (final, run) =
     let parted = (runs_join configuration (piece_at configuration number) (parts number) front back final).0 run in
     (parted.0, parted.1)
 
--- a run behind a run
+-- a run after a run
 pub runs_on : (configuration : Configuration) (parts next : ℕ → Part) (number : ℕ) (front back : List Ordered)
     → PieceRun configuration (piece_at configuration number) (parts number) front (next number) → Runs configuration next number back
     → Runs configuration parts number (front ++ back)
@@ -35,7 +35,7 @@ all_run_on configuration old next new front back first second = λ number within
 
 -- a No
 
--- a No behind runs of all pieces
+-- a No after runs of all pieces
 abbrev pub no_on : (configuration : Configuration) (old next : ℕ → Part) (front records : List Ordered) (found : Refused)
     → AllRun configuration old front next → IsNo configuration next records found → IsNo configuration old (front ++ records) found
 no_on configuration old next front records found all stands = record {
@@ -56,7 +56,7 @@ no_on configuration old next front records found all stands = record {
   larger = λ number more within. runs_on configuration old next number front stands.before (all number within) (stands.larger number more within);
 }
 
--- a No stands whatever comes behind it
+-- a No stands whatever comes after it
 abbrev pub no_behind : (configuration : Configuration) (parts : ℕ → Part) (records more : List Ordered) (found : Refused)
     → IsNo configuration parts records found → IsNo configuration parts (records ++ more) found
 no_behind configuration parts records more found stands = record {
@@ -100,7 +100,7 @@ all_run_from configuration one other records final same all = λ number within.
 abbrev pub HasBeen : Configuration → (ℕ → Part) → List Ordered → (ℕ → Part) → Option Refused → ℕ → Type 0
 HasBeen configuration old records new least number =
     PieceRun configuration (piece_at configuration number) (old number) records (new number)
-    ⊎ ((other : Refused) × HasGone configuration number (old number) records (Some other) (new number) × IsNoSooner least other)
+    ⊎ ((other : Refused) × HasRunOver configuration number (old number) records (Some other) (new number) × IsNoSooner least other)
 
 -- a piece that found something later, or the same later, runs through the least finding's record
 runs_before : (configuration : Configuration) (old new : ℕ → Part) (records : List Ordered) (first : ℕ) (found : Refused) (number : ℕ)
@@ -138,7 +138,7 @@ runs_through configuration old new records first found number smaller placed bef
 
 -- the least finding is a No among the records
 pub least_is_no : (configuration : Configuration) (old new : ℕ → Part) (records : List Ordered) (first : ℕ) (found : Refused) (part : Part) → ArePlaced first records
-    → found.piece < length (pieces configuration) → HasGone configuration found.piece (old found.piece) records (Some found) part
+    → found.piece < length (pieces configuration) → HasRunOver configuration found.piece (old found.piece) records (Some found) part
     → ((number : ℕ) → number < length (pieces configuration) → HasBeen configuration old records new (Some found) number)
     → IsNo configuration old records found
 least_is_no configuration old new records first found part placed within (of, (before, ordered, after, split, place, refused)) been = record {
@@ -158,14 +158,14 @@ pub none_ran : (configuration : Configuration) (old new : ℕ → Part) (records
     → ((number : ℕ) → number < length (pieces configuration) → HasBeen configuration old records new None number) → AllRun configuration old records new
 none_ran configuration old new records been = λ number within. elim (been number within) [
   | inl run ↦ run
-  | inr (other, gone, later) ↦ absurd later
+  | inr (other, outcome, later) ↦ absurd later
 ]
 
 -- the least finding so far is of one of the pieces below this number
 abbrev pub IsFound : Configuration → (ℕ → Part) → List Ordered → ℕ → Option Refused → Type 0
 IsFound configuration old records number None = Unit {0}
 IsFound configuration old records number (Some found) =
-    (found.piece < number) × HasGone configuration found.piece (old found.piece) records (Some found) (old found.piece)
+    (found.piece < number) × HasRunOver configuration found.piece (old found.piece) records (Some found) (old found.piece)
 
 -- one more piece
 
@@ -174,17 +174,17 @@ no_sooner_with least None now other is later = subst (λ one. IsNoSooner one oth
 no_sooner_with least (Some next) now other (one, is, lesser) later = subst (λ found. IsNoSooner found other) (sym is) (no_sooner_stays least next one other lesser later)
 
 has_been : (configuration : Configuration) (old next : ℕ → Part) (records : List Ordered) (least found now : Option Refused) (number : ℕ) → IsLeastWith least found now
-    → HasGone configuration number (old number) records found (next number) → HasBeen configuration old records next now number
-has_been configuration old next records least None now number is gone = inl gone
-has_been configuration old next records least (Some found) now number (one, is, lesser) gone =
-    inr (found, gone, subst (λ now. IsNoSooner now found) (sym is) (no_sooner_next least found one lesser))
+    → HasRunOver configuration number (old number) records found (next number) → HasBeen configuration old records next now number
+has_been configuration old next records least None now number is outcome = inl outcome
+has_been configuration old next records least (Some found) now number (one, is, lesser) outcome =
+    inr (found, outcome, subst (λ now. IsNoSooner now found) (sym is) (no_sooner_next least found one lesser))
 
 pub been_more : (configuration : Configuration) (old now next : ℕ → Part) (records : List Ordered) (least found after : Option Refused) (number : ℕ) → IsLeastWith least found after
     → ((one : ℕ) → one < number → HasBeen configuration old records now least one) → ((one : ℕ) → one < number → next one ≡ now one)
-    → HasGone configuration number (old number) records found (next number)
+    → HasRunOver configuration number (old number) records found (next number)
     → (one : ℕ) → one < number + 1 → HasBeen configuration old records next after one
-been_more configuration old now next records least found after number is been same gone =
-    up_to (HasBeen configuration old records next after) number (λ one less. stays one less (been one less)) (has_been configuration old next records least found after number is gone)
+been_more configuration old now next records least found after number is been same outcome =
+    up_to (HasBeen configuration old records next after) number (λ one less. stays one less (been one less)) (has_been configuration old next records least found after number is outcome)
   where
     stays : (one : ℕ) → one < number → HasBeen configuration old records now least one → HasBeen configuration old records next after one
     stays one less (inl run) = inl (subst (λ part. PieceRun configuration (piece_at configuration one) (old one) records part) (sym (same one less)) run)
@@ -197,24 +197,24 @@ found_below configuration old records number None found = tt
 found_below configuration old records number (Some least) found = (omega (arith, found.0), found.1)
 
 found_next : (configuration : Configuration) (old : ℕ → Part) (records : List Ordered) (number : ℕ) (next : Refused) (part : Part)
-    → HasGone configuration number (old number) records (Some next) part → IsFound configuration old records (number + 1) (Some next)
+    → HasRunOver configuration number (old number) records (Some next) part → IsFound configuration old records (number + 1) (Some next)
 found_next configuration old records number next part (of, among) =
     (omega (arith, of), (refl, subst (λ one. RefusesAmong configuration (piece_at configuration one) (old one) records next.pos next.cause) (sym of) among))
 
 found_lesser : (configuration : Configuration) (old : ℕ → Part) (records : List Ordered) (number : ℕ) (least : Option Refused) (next one : Refused) (part : Part)
-    → IsLesser Precedes least next one → IsFound configuration old records number least → HasGone configuration number (old number) records (Some next) part
+    → IsLesser Precedes least next one → IsFound configuration old records number least → HasRunOver configuration number (old number) records (Some next) part
     → IsFound configuration old records (number + 1) (Some one)
-found_lesser configuration old records number None next one part is found gone =
-    subst (λ f. IsFound configuration old records (number + 1) (Some f)) (sym is) (found_next configuration old records number next part gone)
-found_lesser configuration old records number (Some least) next one part (inl (is, sooner)) found gone =
-    subst (λ f. IsFound configuration old records (number + 1) (Some f)) (sym is) (found_next configuration old records number next part gone)
-found_lesser configuration old records number (Some least) next one part (inr (is, kept)) found gone =
+found_lesser configuration old records number None next one part is found outcome =
+    subst (λ f. IsFound configuration old records (number + 1) (Some f)) (sym is) (found_next configuration old records number next part outcome)
+found_lesser configuration old records number (Some least) next one part (inl (is, sooner)) found outcome =
+    subst (λ f. IsFound configuration old records (number + 1) (Some f)) (sym is) (found_next configuration old records number next part outcome)
+found_lesser configuration old records number (Some least) next one part (inr (is, kept)) found outcome =
     subst (λ f. IsFound configuration old records (number + 1) (Some f)) (sym is) (found_below configuration old records number (Some least) found)
 
 pub found_more : (configuration : Configuration) (old : ℕ → Part) (records : List Ordered) (number : ℕ) (least found after : Option Refused) (part : Part)
-    → IsLeastWith least found after → IsFound configuration old records number least → HasGone configuration number (old number) records found part
+    → IsLeastWith least found after → IsFound configuration old records number least → HasRunOver configuration number (old number) records found part
     → IsFound configuration old records (number + 1) after
-found_more configuration old records number least None after part is found gone =
+found_more configuration old records number least None after part is found outcome =
     subst (IsFound configuration old records (number + 1)) (sym is) (found_below configuration old records number least found)
-found_more configuration old records number least (Some next) after part (one, is, lesser) found gone =
-    subst (IsFound configuration old records (number + 1)) (sym is) (found_lesser configuration old records number least next one part lesser found gone)
+found_more configuration old records number least (Some next) after part (one, is, lesser) found outcome =
+    subst (IsFound configuration old records (number + 1)) (sym is) (found_lesser configuration old records number least next one part lesser found outcome)

@@ -24,7 +24,7 @@ use Rattle.verdict_merge.specs.declared.survey.Survey.{Survey}
 use Rattle.verdict_merge.specs.declared.verdict.Verdict.{Verdict}
 use Rattle.verdict_merge.specs.declared.verdict.Verdict.TheVariants.{Yes, No, Broken}
 use Rattle.verdict_merge.specs.declared.breach.Breach.{Breach}
-use Rattle.verdict_merge.specs.Rounds.{AllRun, AreGoing, HaveGone, IsNo, IsRound, IsSurveyed, IsTested, Judging, Runs, cold_parts, parts_of}
+use Rattle.verdict_merge.specs.Rounds.{AllRun, AreGoing, HaveRunOver, IsNo, IsRound, IsSurveyed, IsTested, Judging, Runs, cold_parts, parts_of}
 use Rattle.verdict_merge.specs.Verdicts.{IsBroken, IsRunWhereYes, IsVerdict, IsVerdictFrom, OneVerdict, ViewsMeet, against, no_of}
 use Rattle.verdict_merge.specs.Views.{AreViews, AreViewsBehind, before_place, broken_of, up_to}
 use Rattle.verdict_merge.proofs.Giving.{HaveRun}
@@ -42,8 +42,8 @@ pub views_front : (configuration : Configuration) (parts : ℕ → Part) (before
     → AreViewsBehind configuration parts before (front ++ back) views
     → (first : List View) × (rest : List View) × (views ≡ first ++ rest) × AreViewsBehind configuration parts before front first
 views_front configuration parts before [] back views viewed = ([], views, refl, refl)
-views_front configuration parts before (ordered ∷ front) back views (view, more, is, here, behind) =
-    let further = views_front configuration parts (before ++ ordered ∷ []) front back more behind in
+views_front configuration parts before (ordered ∷ front) back views (view, more, is, here, holds_before) =
+    let further = views_front configuration parts (before ++ ordered ∷ []) front back more holds_before in
     (view ∷ further.0, further.1, is ∙ ap (λ list. view ∷ list) further.2, (view, further.0, refl, here, further.3))
 
 all_front : {A : Type 0} (Fact : A → Type 0) (front back : List A) → All Fact (front ++ back) → All Fact front
@@ -58,7 +58,7 @@ meet_front configuration (relation ∷ relations) parts front back (views, viewe
     let parted = views_front configuration parts [] front back views viewed in
     (parted.0, parted.3, all_front (MeetsAll (relation ∷ relations)) parted.0 parted.1 (subst (All (MeetsAll (relation ∷ relations))) parted.2 meet))
 
--- what follows behind
+-- what follows after
 pub meet_on : (configuration : Configuration) (relations : List Relation) (old new : ℕ → Part) (front back : List Ordered) → AllRun configuration old front new
     → ViewsMeet configuration relations old front → ViewsMeet configuration relations new back → ViewsMeet configuration relations old (front ++ back)
 meet_on configuration [] old new front back all meet also = tt
@@ -172,11 +172,11 @@ run_where_yes configuration relations records (Yes count) windows ends placed (c
 pub round_is : (configuration : Configuration) (old new : Judging) (records : List Ordered) (relations : List Relation) (survey : Survey) → new.count ≡ old.count + length records
     → IsSurveyed configuration old.count records relations old.pieces survey → survey.pieces.items ≡ new.pieces → IsRound configuration old records survey.found new
 round_is configuration old new records relations survey counted surveyed left =
-    by survey.found (subst (HaveGone configuration old.pieces records survey.found) left surveyed.gone)
+    by survey.found (subst (HaveRunOver configuration old.pieces records survey.found) left surveyed.outcome)
   where
-    by : (found : Option Refused) → HaveGone configuration old.pieces records found new.pieces → IsRound configuration old records found new
-    by None gone = (gone, counted, subst (λ place. AreGoing configuration place new.pieces) (sym counted) (subst (AreGoing configuration (old.count + length records)) left surveyed.going))
-    by (Some found) gone = gone
+    by : (found : Option Refused) → HaveRunOver configuration old.pieces records found new.pieces → IsRound configuration old records found new
+    by None outcome = (outcome, counted, subst (λ place. AreGoing configuration place new.pieces) (sym counted) (subst (AreGoing configuration (old.count + length records)) left surveyed.going))
+    by (Some found) outcome = outcome
 
 -- how many views records have
 length_viewed : (configuration : Configuration) (parts : ℕ → Part) (before records : List Ordered) (views : List View) → AreViewsBehind configuration parts before records views
@@ -185,7 +185,7 @@ length_viewed configuration parts before [] views none = ap length none
 length_viewed configuration parts before (ordered ∷ others) views (view, more, is, here, rest) =
     ap length is ∙ ap suc (length_viewed configuration parts (before ++ ordered ∷ []) others more rest)
 
--- the verdict over what is behind a round in which nothing was found is that over the round and it
+-- the verdict over what is after a round in which nothing was found is that over the round and it
 pub verdict_on : (configuration : Configuration) (relations : List Relation) (old new : ℕ → Part) (count : ℕ) (front back : List Ordered) (verdict : Verdict)
     → AllRun configuration old front new → ViewsMeet configuration relations old front
     → IsVerdictFrom configuration relations new (count + length front) back verdict → IsVerdictFrom configuration relations old count (front ++ back) verdict
@@ -216,7 +216,7 @@ verdict_on configuration (relation ∷ relations) old new count front back (Brok
       number = is.number;
     }
 
--- a No in a round stands, whatever comes behind
+-- a No in a round stands, whatever comes after
 pub no_here : (configuration : Configuration) (relations : List Relation) (parts : ℕ → Part) (count : ℕ) (records more : List Ordered) (found : Refused) → ArePlaced count records
     → IsNo configuration parts records found → ViewsMeet configuration relations parts (up_to (Some found) records)
     → IsVerdictFrom configuration relations parts count (records ++ more) (no_of found)
@@ -228,8 +228,8 @@ no_here configuration relations parts count records more found placed stands mee
 -- all pieces run over the front of what stands before a refusal
 run_up_to : (configuration : Configuration) (parts : ℕ → Part) (count : ℕ) (records : List Ordered) (found : Option Refused) → ArePlaced count records → HaveRun configuration parts records found
     → (number : ℕ) → number < length (pieces configuration) → (front back : List Ordered) → up_to found records ≡ front ++ back → Runs configuration parts number front
-run_up_to configuration parts count records None placed gone number within front back split =
-    runs_front configuration parts number front back (subst (Runs configuration parts number) split (gone number within))
+run_up_to configuration parts count records None placed outcome number within front back split =
+    runs_front configuration parts number front back (subst (Runs configuration parts number) split (outcome number within))
 run_up_to configuration parts count records (Some found) placed stands number within front back split =
     let here : up_to (Some found) records ≡ stands.before =
     ap (before_place found.pos) stands.split ∙ before_of count stands.before stands.ordered stands.after found.pos (subst (ArePlaced count) stands.split placed) stands.place in
@@ -263,11 +263,11 @@ first_through relations front back broken counted is =
     no_more [] e = refl
     no_more (one ∷ list) e = absurd (omega (arith, e))
 
--- a view of a round that breaks a rule stands, whatever comes behind
+-- a view of a round that breaks a rule stands, whatever comes after
 pub broken_here : (configuration : Configuration) (relations : List Relation) (parts : ℕ → Part) (count : ℕ) (records more : List Ordered) (found : Option Refused) (views : List View) (broken : BrokenView)
     → ArePlaced count records → HaveRun configuration parts records found → AreViews configuration parts (up_to found records) views → IsFirstBroken relations views (Some broken)
     → IsVerdictFrom configuration relations parts count (records ++ more) (Broken (count + broken.view) broken.rule)
-broken_here configuration relations parts count records more found views broken placed gone viewed first =
+broken_here configuration relations parts count records more found views broken placed outcome viewed first =
     let front = up_to_front records found in
     let counted : length views ≡ length (up_to found records) = length_viewed configuration parts [] (up_to found records) views viewed in
     let inside : broken.view < length (up_to found records) = omega (arith, counted, ap length first.split, length-append first.before (first.view ∷ first.after), first.counted) in
@@ -278,7 +278,7 @@ broken_here configuration relations parts count records more found views broken 
       through = cut.0;
       after = (cut.1 ++ front.0) ++ more;
       split = ap (λ list. list ++ more) (front.1 ∙ ap (λ list. list ++ front.0) cut.2 ∙ append_assoc cut.0 cut.1 front.0) ∙ append_assoc cut.0 (cut.1 ++ front.0) more;
-      runs = λ number within. run_up_to configuration parts count records found placed gone number within cut.0 cut.1 cut.2;
+      runs = λ number within. run_up_to configuration parts count records found placed outcome number within cut.0 cut.1 cut.2;
       views = parted.0;
       viewed = parted.3;
       broken = broken;
@@ -312,7 +312,7 @@ run_of_round : (configuration : Configuration) (old new : Judging) (records : Li
 run_of_round configuration old new records None is = λ number within. (parts_of new number, is.0 number within)
 run_of_round configuration old new records (Some found) is = is
 
--- the verdict that ends a round stands, whatever comes behind
+-- the verdict that ends a round stands, whatever comes after
 pub ends_here : (configuration : Configuration) (relations : List Relation) (old new : Judging) (records more : List Ordered) (found : Option Refused) (breach : Option Breach) (verdict : Verdict)
     → ArePlaced old.count records → IsRound configuration old records found new → IsTested configuration relations (parts_of old) records found breach
     → against old.count found (broken_of breach) ≡ Some verdict → IsVerdictFrom configuration relations (parts_of old) old.count (records ++ more) verdict

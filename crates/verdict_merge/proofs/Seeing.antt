@@ -30,13 +30,13 @@ sees_one : (given : Option View) (index : ℕ) (More : List Seen → Type 0) →
 sees_one None index More more = more
 sees_one (Some view) index More more = ([], refl, more)
 
--- what is seen further, where more is seen behind the first record
+-- what is seen further, where more is seen after the first record
 further : (given : Option View) (index : ℕ) (seen last : List Seen) (Old New : List Seen → Type 0) → ((more : List Seen) → Old more → New (more ++ last))
     → SeesNext given index seen Old → SeesNext given index (seen ++ last) New
 further None index seen last Old New goes_on sees = goes_on seen sees
 further (Some view) index seen last Old New goes_on (more, is, sees) = (more ++ last, ap (λ list. list ++ last) is, goes_on more sees)
 
--- one more record is seen behind the others
+-- one more record is seen after the others
 pub sees_on : (configuration : Configuration) (piece : Piece) (old now next : Part) (index : ℕ) (before : List Ordered) (ordered : Ordered) (seen : List Seen)
     → AreSeen configuration piece old index before seen → PieceRun configuration piece old before now
     → Goes (touches configuration piece ordered) configuration now ordered next
@@ -54,15 +54,15 @@ sees_on configuration piece old now next index (first ∷ before) ordered seen (
   goes',
   further (view_in old first) index seen (seen_of (view_in now ordered) (index + length (first ∷ before)))
       (AreSeen configuration piece then (suc index) before) (AreSeen configuration piece then (suc index) (before ++ ordered ∷ []))
-      (λ more behind.
+      (λ more holds_before.
       subst (λ n. AreSeen configuration piece then (suc index) (before ++ ordered ∷ []) (more ++ seen_of (view_in now ordered) n))
       (let e : suc index + length before ≡ index + suc (length before) = omega arith in e)
-      (sees_on configuration piece then now next (suc index) before ordered more behind
+      (sees_on configuration piece then now next (suc index) before ordered more holds_before
       (subst (λ part. PieceRun configuration piece part before now) (one_next (touches configuration piece first) configuration old first then' then goes'' goes') run) goes))
       sees,
 )
 
--- what was seen of a record: it stands behind so many others, and the piece that has run over these gives its view
+-- what was seen of a record: it comes after so many others, and the piece that has run over these gives its view
 pub record SeenAt (configuration : Configuration) (piece : Piece) (old : Part) (index : ℕ) (records : List Ordered) (one : Seen) : Type 0 where
   pub before : List Ordered
   pub ordered : Ordered
@@ -88,7 +88,7 @@ seen_later configuration piece old next index first others one goes at = record 
   view = at.view;
 }
 
--- one of those seen is that of the first record, or was seen behind it
+-- one of those seen is that of the first record, or was seen after it
 first_or_later : (configuration : Configuration) (piece : Piece) (old : Part) (index : ℕ) (first : Ordered) (others : List Ordered) (seen : List Seen) (one : Seen)
     (given : Option View) (More : List Seen → Type 0) → view_in old first ≡ given → SeesNext given index seen More
     → ((more : List Seen) → More more → Contains more one → SeenAt configuration piece old index (first ∷ others) one)
@@ -106,7 +106,7 @@ first_or_later configuration piece old index first others seen one (Some view) M
         run = refl;
         view = is ∙ ap (λ (seen : Seen). Some seen.view) (sym same);
       }
-      | inr behind ↦ later more sees behind
+      | inr holds_before ↦ later more sees holds_before
     ]
 
 -- each view that was seen is that of a record
@@ -115,17 +115,17 @@ pub seen_is : (configuration : Configuration) (piece : Piece) (old : Part) (inde
 seen_is configuration piece old index [] seen none one there = absurd (contains_none one (subst (λ list. Contains list one) none there))
 seen_is configuration piece old index (first ∷ others) seen (next, goes, sees) one there =
     first_or_later configuration piece old index first others seen one (view_in old first) (AreSeen configuration piece next (suc index) others) refl sees
-    (λ more behind within. seen_later configuration piece old next index first others one goes (seen_is configuration piece next (suc index) others more behind one within))
+    (λ more holds_before within. seen_later configuration piece old next index first others one goes (seen_is configuration piece next (suc index) others more holds_before one within))
     there
 
--- a fact about what was seen behind a record, said of all that was seen
+-- a fact about what was seen after a record, said of all that was seen
 seen_further : (given : Option View) (index : ℕ) (seen : List Seen) (More Fact : List Seen → Type 0)
     → ((view : View) (more : List Seen) → More more → Fact more → Fact (record { index = index; view = view } ∷ more))
     → ((more list : List Seen) → list ≡ more → Fact more → Fact list)
     → ((more : List Seen) → More more → Fact more) → SeesNext given index seen More → Fact seen
-seen_further None index seen More Fact behind same fact sees = fact seen sees
-seen_further (Some view) index seen More Fact behind same fact (more, is, sees) =
-    same (record { index = index; view = view } ∷ more) seen is (behind view more sees (fact more sees))
+seen_further None index seen More Fact holds_before same fact sees = fact seen sees
+seen_further (Some view) index seen More Fact holds_before same fact (more, is, sees) =
+    same (record { index = index; view = view } ∷ more) seen is (holds_before view more sees (fact more sees))
 
 -- each record of which the piece has a view is seen
 pub is_seen : (configuration : Configuration) (piece : Piece) (old : Part) (index : ℕ) (records : List Ordered) (seen : List Seen)
@@ -157,7 +157,7 @@ is_seen configuration piece old index (first ∷ others) seen (next, goes, sees)
     × ((view : View) → view_in reached ordered ≡ Some view → Contains more (record { index = suc index + length before; view = view })))
     (λ view more given there. (there.0, there.1, λ one is. contains_behind (record { index = index; view = view }) (record { index = suc index + length before; view = one }) more (there.2 one is)))
     (λ more list is there. (there.0, there.1, λ one given. subst (λ all. Contains all (record { index = suc index + length before; view = one })) (sym is) (there.2 one given)))
-    (λ more behind. is_seen configuration piece next (suc index) others more behind before ordered after tail) sees in (
+    (λ more holds_before. is_seen configuration piece next (suc index) others more holds_before before ordered after tail) sees in (
       rest.0,
       (next, subst (λ record_. Goes (touches configuration piece record_) configuration old record_ next) same goes, rest.1),
       λ view is. subst (λ n. Contains seen (record { index = n; view = view })) (let e : suc index + length before ≡ index + suc (length before) = omega arith in e) (rest.2 view is),

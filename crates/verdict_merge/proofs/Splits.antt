@@ -7,13 +7,13 @@ use Rattle.apex_types.specs.declared.record.Ordered.{Ordered}
 use Rattle.apex_machine.specs.Runs.{ArePlaced}
 
 -- the shorter front begins the longer one
-pub begins : {A : Type 0} (short behind long rest : List A) → short ++ behind ≡ long ++ rest → length short ≤ length long → (middle : List A) × (long ≡ short ++ middle)
-begins [] behind long rest same less = (long, refl)
-begins (x ∷ short) behind [] rest same less = absurd (omega arith)
-begins (x ∷ short) behind (y ∷ long) rest same less =
+pub begins : {A : Type 0} (short holds_before long rest : List A) → short ++ holds_before ≡ long ++ rest → length short ≤ length long → (middle : List A) × (long ≡ short ++ middle)
+begins [] holds_before long rest same less = (long, refl)
+begins (x ∷ short) holds_before [] rest same less = absurd (omega arith)
+begins (x ∷ short) holds_before (y ∷ long) rest same less =
     let head : x ≡ y = cc in
-    let tail : short ++ behind ≡ long ++ rest = cc in
-    let more = begins short behind long rest tail (omega arith) in
+    let tail : short ++ holds_before ≡ long ++ rest = cc in
+    let more = begins short holds_before long rest tail (omega arith) in
     (more.0, ap (λ one. one ∷ long) (sym head) ∙ ap (λ list. x ∷ list) more.1)
 
 -- an element of one split stands in a longer front
@@ -62,7 +62,7 @@ found_within list index one is = elim (slice_get_cases list index).1 [
     some_or_none : {B : Type 0} (two : B) → ◌≡◌ {A = Option B} (Some two) None → index < length list
     some_or_none two e = cc
 
--- the last of some records stands right before what comes behind them
+-- the last of some records stands right before what comes after them
 pub last_place : (first : ℕ) (records : List Ordered) (last : Ordered) → ArePlaced first records → slice_get records (length records - 1) ≡ Some last → last.pos + 1 ≡ first + length records
 last_place first records last placed is =
     let within = found_within records (length records - 1) last is in

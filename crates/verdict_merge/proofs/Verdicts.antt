@@ -18,7 +18,7 @@ use Rattle.verdict_merge.specs.declared.finding.Refused.{Refused}
 use Rattle.verdict_merge.specs.declared.verdict.Verdict.{Verdict}
 use Rattle.verdict_merge.specs.declared.verdict.Verdict.TheVariants.{Yes, No, Broken}
 use Rattle.verdict_merge.specs.Findings.{IsLeast, Precedes}
-use Rattle.verdict_merge.specs.Rounds.{AllRun, HasGone, IsNo, Runs, cold_parts}
+use Rattle.verdict_merge.specs.Rounds.{AllRun, HasRunOver, IsNo, Runs, cold_parts}
 use Rattle.verdict_merge.specs.Verdicts.{AllFind, Follows, IsVerdict, VerdictIsOfTheFindings, findings_of}
 use Rattle.verdict_merge.proofs.Among.{contains_behind, contains_cases, contains_here, contains_none}
 use Rattle.verdict_merge.proofs.Least.{not_itself, through}
@@ -176,11 +176,11 @@ found_at configuration number (piece ∷ others) records findings (found, later,
       (subst (λ list. Contains list (as_finding number refusal)) (sym (is ∙ ap (λ one. findings_of number one ++ later) some)) (contains_here (as_finding number refusal) later)),
 )
 found_at configuration number (piece ∷ others) records findings (found, later, finds, rest, is) (suc index) within =
-    let behind = found_at configuration (suc number) others records later rest index (omega (arith, within)) in (
-      behind.0,
-      behind.1,
+    let holds_before = found_at configuration (suc number) others records later rest index (omega (arith, within)) in (
+      holds_before.0,
+      holds_before.1,
       λ refusal some. subst (λ n. Contains findings (as_finding n refusal)) (let e : suc number + index ≡ number + suc index = omega arith in e)
-          (subst (λ list. Contains list (as_finding (suc number + index) refusal)) (sym is) (contains_later number found later (as_finding (suc number + index) refusal) (behind.2 refusal some))),
+          (subst (λ list. Contains list (as_finding (suc number + index) refusal)) (sym is) (contains_later number found later (as_finding (suc number + index) refusal) (holds_before.2 refusal some))),
     )
 
 -- who found one of the findings
@@ -315,12 +315,12 @@ no_findings configuration records findings all none number within = by (found_ze
 been_so : (configuration : Configuration) (records : List Ordered) (findings : List Refused) (least : Refused) → AllFind configuration 0 (pieces configuration) records findings
     → ((other : Refused) → Contains findings other → ¬ Precedes other least) → (number : ℕ) → number < length (pieces configuration)
     → (final : Part) × (PieceRun configuration (piece_at configuration number) (cold_parts configuration number) records final
-    ⊎ ((other : Refused) × HasGone configuration number (cold_parts configuration number) records (Some other) final × ¬ Precedes other least))
+    ⊎ ((other : Refused) × HasRunOver configuration number (cold_parts configuration number) records (Some other) final × ¬ Precedes other least))
 been_so configuration records findings least all no_other number within = by (found_zero configuration records findings all number within)
   where
     by : FoundAt configuration records findings number (piece_at configuration number)
         → (final : Part) × (PieceRun configuration (piece_at configuration number) (cold_parts configuration number) records final
-        ⊎ ((other : Refused) × HasGone configuration number (cold_parts configuration number) records (Some other) final × ¬ Precedes other least))
+        ⊎ ((other : Refused) × HasRunOver configuration number (cold_parts configuration number) records (Some other) final × ¬ Precedes other least))
     by (None, finds, tells) =
         let run = (nothing_found_is_a_run configuration (piece_at configuration number) (cold_parts configuration number) records).0 finds in
         (run.0, inl run.1)
@@ -341,7 +341,7 @@ least_no configuration records findings least placed all (there, no_other) =
     let finds = subst (λ number. Finds configuration (piece_at configuration number) (cold_parts configuration number) records (Some (record { pos = least.pos; cause = least.cause }))) (sym at) by.3 in
     let been = part_where (length (pieces configuration))
     (λ number final. PieceRun configuration (piece_at configuration number) (cold_parts configuration number) records final
-    ⊎ ((other : Refused) × HasGone configuration number (cold_parts configuration number) records (Some other) final × ¬ Precedes other least))
+    ⊎ ((other : Refused) × HasRunOver configuration number (cold_parts configuration number) records (Some other) final × ¬ Precedes other least))
     (been_so configuration records findings least all no_other) in
     least_is_no configuration (cold_parts configuration) (λ number. (been number).0) records 0 least (cold_parts configuration least.piece) placed (omega (arith, at, by.1))
     (refl, (found_is_refused configuration (piece_at configuration least.piece) (cold_parts configuration least.piece) records (record { pos = least.pos; cause = least.cause })).0 finds)

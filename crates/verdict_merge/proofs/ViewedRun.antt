@@ -22,7 +22,7 @@ use Rattle.verdict_merge.specs.Rounds.{AllRun, cold_parts}
 use Rattle.verdict_merge.specs.Views.{AreViewsBehind, IsViewOf}
 use Rattle.verdict_merge.proofs.Seeing.{one_end}
 
--- views behind runs of all pieces
+-- views after runs of all pieces
 pub views_on : (configuration : Configuration) (old next : ℕ → Part) (front before records : List Ordered) (views : List View)
     → AllRun configuration old front next → AreViewsBehind configuration next before records views → AreViewsBehind configuration old (front ++ before) records views
 views_on configuration old next front before [] views all none = none
@@ -42,7 +42,7 @@ views_on configuration old next front before (ordered ∷ others) views all (vie
       (views_on configuration old next front (before ++ ordered ∷ []) others more all rest),
 )
 
--- views of records, and of those behind them
+-- views of records, and of those after them
 pub views_join : (configuration : Configuration) (parts : ℕ → Part) (before first second : List Ordered) (views more : List View)
     → AreViewsBehind configuration parts before first views → AreViewsBehind configuration parts (before ++ first) second more
     → AreViewsBehind configuration parts before (first ++ second) (views ++ more)
@@ -53,12 +53,12 @@ views_join configuration parts before [] second views more none rest =
     append_nil : (list : List Ordered) → list ++ [] ≡ list
     append_nil [] = refl
     append_nil (one ∷ list) = ap (λ rest. one ∷ rest) (append_nil list)
-views_join configuration parts before (ordered ∷ first) second views more (view, later, is, here, behind) rest = (
+views_join configuration parts before (ordered ∷ first) second views more (view, later, is, here, holds_before) rest = (
   view,
   later ++ more,
   ap (λ list. list ++ more) is,
   here,
-  views_join configuration parts (before ++ ordered ∷ []) first second later more behind
+  views_join configuration parts (before ++ ordered ∷ []) first second later more holds_before
       (subst (λ list. AreViewsBehind configuration parts list second more) (sym (append_assoc before (ordered ∷ []) first)) rest),
 )
 
@@ -85,7 +85,7 @@ views_from configuration one other before (ordered ∷ others) views same (view,
 one_some : (one other : View) → ◌≡◌ {A = Option View} (Some one) (Some other) → one ≡ other
 one_some one other e = cc
 
--- the view of a record behind these, from the cold state
+-- the view of a record after these, from the cold state
 one_view : (configuration : Configuration) (before : List Ordered) (ordered : Ordered) (one other : View)
     → IsViewOf configuration (cold_parts configuration) before ordered one → IsViewOf configuration (cold_parts configuration) before ordered other → one ≡ other
 one_view configuration before ordered one other here also =

@@ -12,7 +12,7 @@ use Rattle.apex_machine.specs.Views.{judge, view_in}
 use Rattle.piece_check.specs.Parts.{piece_at}
 use Rattle.verdict_merge.specs.declared.finding.Refused.{Refused}
 use Rattle.verdict_merge.specs.declared.breach.Seen.{Seen}
-use Rattle.verdict_merge.specs.Rounds.{HasGone, Runs}
+use Rattle.verdict_merge.specs.Rounds.{HasRunOver, Runs}
 use Rattle.verdict_merge.specs.Views.{AreSeen, AreViewsBehind, IsViewOf, before_place, up_to}
 use Rattle.verdict_merge.proofs.Rounds.{runs_front}
 use Rattle.verdict_merge.proofs.Seeing.{is_seen, seen_is}
@@ -145,10 +145,10 @@ filled_stays configuration parts records seen slots number have filled before or
 
 -- a record through which a piece runs stands before its refusal
 pub stands_before : (configuration : Configuration) (parts : ℕ → Part) (number first : ℕ) (records : List Ordered) (found : Option Refused) (final : Part)
-    → ArePlaced first records → HasGone configuration number (parts number) records found final
+    → ArePlaced first records → HasRunOver configuration number (parts number) records found final
     → (before : List Ordered) (ordered : Ordered) (after : List Ordered) → records ≡ before ++ ordered ∷ after → Runs configuration parts number (before ++ ordered ∷ [])
     → (more : List Ordered) × (up_to found records ≡ before ++ ordered ∷ more)
-stands_before configuration parts number first records None final placed gone before ordered after split runs = (after, split)
+stands_before configuration parts number first records None final placed outcome before ordered after split runs = (after, split)
 stands_before configuration parts number first records (Some found) final placed (of, (before', ordered', after', split', place, refused)) before ordered after split runs =
     elim (order_of (length before) (length before')) [
       | inl less ↦
@@ -177,11 +177,11 @@ stands_before configuration parts number first records (Some found) final placed
 -- one more piece has filled its slots
 pub filled_more : (configuration : Configuration) (parts : ℕ → Part) (number first : ℕ) (records : List Ordered) (found : Option Refused) (final : Part) (seen : List Seen) (slots : List (Option View))
     → ArePlaced first records → Gives configuration parts number → length slots ≡ length records
-    → HasGone configuration number (parts number) records found final
+    → HasRunOver configuration number (parts number) records found final
     → AreSeen configuration (piece_at configuration number) (parts number) 0 (up_to found records) seen
     → HasFilled configuration parts records (put_in seen slots) number
-filled_more configuration parts number first records found final seen slots placed gives whole gone are before ordered after split judges runs =
-    let more = stands_before configuration parts number first records found final placed gone before ordered after split runs in
+filled_more configuration parts number first records found final seen slots placed gives whole outcome are before ordered after split judges runs =
+    let more = stands_before configuration parts number first records found final placed outcome before ordered after split runs in
     let there = is_seen configuration (piece_at configuration number) (parts number) 0 (up_to found records) seen are before ordered more.0 more.1 in
     let view = gives.always before ordered there.0 there.1 judges in
     subst (λ index. (view : View) × (slot_at (put_in seen slots) index ≡ Some view)) (let e : 0 + length before ≡ length before = omega arith in e)

@@ -1,4 +1,4 @@
--- Pieces that have gone over a round, one more each time.
+-- Pieces that have judged a round, one more each time.
 use Rattle.std.proofs.Common.{◌≡◌, ◌<◌, ◌+◌, ◌∙◌, ℕ, List, [], ◌∷◌, ◌++◌, length, get_or, sym, ap, subst, arith}
 use Rattle.std.proofs.lemmas.List.{get_or_append_left}
 use Rattle.std.proofs.Math.Seq.{get_or-append_seam}
@@ -7,21 +7,21 @@ use Rattle.apex_machine.specs.Configuration.{Configuration}
 use Rattle.piece_check.specs.Parts.{Holding}
 use Rattle.user_rules.specs.declared.relation.Relation.{Relation}
 use Rattle.verdict_merge.specs.declared.judged.Judged.{Judged}
-use Rattle.verdict_merge.specs.Rounds.{IsGoneOver, holding_at}
+use Rattle.verdict_merge.specs.Rounds.{IsJudgedOver, holding_at}
 use Rattle.verdict_merge.proofs.Splits.{up_to}
 
--- the piece of this number, if it is among those that have gone over the records, has done so
-abbrev pub HasGoneOver : Configuration → ℕ → List Ordered → List Relation → List Holding → List Judged → ℕ → Type 0
-HasGoneOver configuration first records relations old judged number =
-    (one : Judged) → one ≡ get_or judged number one → IsGoneOver configuration number first records relations (holding_at old number) one.gone one.piece
+-- the piece of this number, if it is among those that have judged the records, has done so
+abbrev pub HasJudgedOver : Configuration → ℕ → List Ordered → List Relation → List Holding → List Judged → ℕ → Type 0
+HasJudgedOver configuration first records relations old judged number =
+    (one : Judged) → one ≡ get_or judged number one → IsJudgedOver configuration number first records relations (holding_at old number) one.outcome one.piece
 
 -- one piece more
 pub over_more : (configuration : Configuration) (first : ℕ) (records : List Ordered) (relations : List Relation) (old : List Holding) (judged : List Judged) (new : Judged) (count : ℕ) → length judged ≡ count
-    → ((number : ℕ) → number < count → HasGoneOver configuration first records relations old judged number)
-    → IsGoneOver configuration count first records relations (holding_at old count) new.gone new.piece
-    → (number : ℕ) → number < count + 1 → HasGoneOver configuration first records relations old (judged ++ new ∷ []) number
+    → ((number : ℕ) → number < count → HasJudgedOver configuration first records relations old judged number)
+    → IsJudgedOver configuration count first records relations (holding_at old count) new.outcome new.piece
+    → (number : ℕ) → number < count + 1 → HasJudgedOver configuration first records relations old (judged ++ new ∷ []) number
 over_more configuration first records relations old judged new count counted each last =
-    up_to (HasGoneOver configuration first records relations old (judged ++ new ∷ [])) count
+    up_to (HasJudgedOver configuration first records relations old (judged ++ new ∷ [])) count
     (λ number less one is. each number less one (is ∙ get_or_append_left judged (new ∷ []) one number (omega (arith, less, counted))))
-    (λ one is. subst (λ judged. IsGoneOver configuration count first records relations (holding_at old count) judged.gone judged.piece)
+    (λ one is. subst (λ judged. IsJudgedOver configuration count first records relations (holding_at old count) judged.outcome judged.piece)
     (sym (is ∙ ap (λ n. get_or (judged ++ new ∷ []) n one) (sym counted) ∙ get_or-append_seam judged new [] one)) last)

@@ -1,8 +1,7 @@
 -- What decides against a recording, and the first of it.
 use Rattle.std.specs.Prelude.{◌≡◌, ◌⊎◌, ◌<◌, ◌≤◌, ℕ, List, [], Option, Some, None, Contains}
-use Rattle.apex_types.specs.declared.cause.Cause.TheVariants as cause
 use Rattle.piece_check.specs.declared.fault.PieceFault.{PieceFault}
-use Rattle.piece_check.specs.declared.fault.PieceFault.TheVariants.{Unlawful, OutsideProfile, Memory}
+use Rattle.piece_check.specs.declared.fault.PieceFault.TheVariants.{Rejected, Memory}
 use Rattle.verdict_merge.specs.declared.finding.Finding.{Finding}
 use Rattle.verdict_merge.specs.declared.finding.Finding.TheVariants as finding
 use Rattle.verdict_merge.specs.declared.finding.Refused.{Refused}
@@ -30,8 +29,7 @@ IsLeastWith least (Some next) found = (one : Refused) × (found ≡ Some one) ×
 
 -- the refusal that a fault of the piece of this number is; want of memory is none
 abbrev pub refusal_of : PieceFault → ℕ → Option Refused
-refusal_of (Unlawful pos cause) piece = Some (record { pos = pos; piece = piece; cause = cause })
-refusal_of (OutsideProfile pos) piece = Some (record { pos = pos; piece = piece; cause = cause.OutsideProfile })
+refusal_of (Rejected pos cause) piece = Some (record { pos = pos; piece = piece; cause = cause })
 refusal_of Memory piece = None
 
 -- findings of pieces and of rules

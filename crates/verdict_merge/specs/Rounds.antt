@@ -8,14 +8,14 @@ use Rattle.apex_machine.specs.Pieces.{ModulePart, Part, Piece, part, pieces}
 use Rattle.apex_machine.specs.Runs.{PieceRun, Refuses}
 use Rattle.apex_machine.specs.State.{cold_state}
 use Rattle.piece_check.specs.declared.fault.PieceFault.{PieceFault}
-use Rattle.piece_check.specs.Parts.{Holding, IsBehind, IsOf, IsPartOf, piece_at}
+use Rattle.piece_check.specs.Parts.{Holding, HoldsBefore, IsOf, IsPartOf, piece_at}
 use Rattle.apex_types.specs.declared.view.View.{View}
 use Rattle.user_rules.specs.declared.relation.Relation.{Relation}
 use Rattle.user_rules.specs.FirstBroken.{IsFirstBroken}
 use Rattle.verdict_merge.specs.declared.breach.Breach.{Breach}
 use Rattle.verdict_merge.specs.declared.breach.Seen.{Seen}
 use Rattle.verdict_merge.specs.declared.finding.Refused.{Refused}
-use Rattle.verdict_merge.specs.declared.gone.Gone.{Gone}
+use Rattle.verdict_merge.specs.declared.outcome.PieceOutcome.{PieceOutcome}
 use Rattle.verdict_merge.specs.Findings.{refusal_of}
 use Rattle.verdict_merge.specs.declared.survey.Survey.{Survey}
 use Rattle.verdict_merge.specs.declared.judged.Judged.{Judged}
@@ -35,7 +35,7 @@ AllRun configuration old records new =
     (number : ℕ) → number < length (pieces configuration) → PieceRun configuration (piece_at configuration number) (old number) records (new number)
 
 -- a No among records: the piece runs up to the record at that place and refuses it for that cause; the pieces of smaller number
--- run through it, all others run up to it; nothing is said of the records behind it
+-- run through it, all others run up to it; nothing is said of the records after it
 pub record IsNo (configuration : Configuration) (parts : ℕ → Part) (records : List Ordered) (found : Refused) : Type 0 where
   pub before : List Ordered
   pub ordered : Ordered
@@ -56,21 +56,21 @@ RefusesAmong configuration piece old records place cause =
     × Refuses configuration piece old before ordered cause
 
 -- what became of the piece of this number: it ran over the records, or refused one of them
-abbrev pub HasGone : Configuration → ℕ → Part → List Ordered → Option Refused → Part → Type 0
-HasGone configuration number old records None new = PieceRun configuration (piece_at configuration number) old records new
-HasGone configuration number old records (Some found) new =
+abbrev pub HasRunOver : Configuration → ℕ → Part → List Ordered → Option Refused → Part → Type 0
+HasRunOver configuration number old records None new = PieceRun configuration (piece_at configuration number) old records new
+HasRunOver configuration number old records (Some found) new =
     (found.piece ≡ number) × RefusesAmong configuration (piece_at configuration number) old records found.pos found.cause
 
--- the piece of this number may go over records from this place on: it is of this module, and behind the place
+-- the piece of this number may go over records from this place on: it is of this module, and holds before the place
 pub record IsGoing (configuration : Configuration) (number place : ℕ) (holding : Holding) : Type 0 where
   pub of_module : IsOf configuration holding
   pub whose : IsPartOf (piece_at configuration number) holding.part
-  pub behind : IsBehind place holding.part
+  pub holds_before : HoldsBefore place holding.part
 
 -- what the piece of this number made of a record that touches it: its step; or a refusal with the first demand that fails, which leaves
 -- its part
 abbrev pub HasJudged : Configuration → ℕ → Ordered → Holding → Option Refused → Holding → Type 0
-HasJudged configuration number ordered old None new = LocalStep configuration old.part ordered new.part × IsBehind (ordered.pos + 1) new.part
+HasJudged configuration number ordered old None new = LocalStep configuration old.part ordered new.part × HoldsBefore (ordered.pos + 1) new.part
 HasJudged configuration number ordered old (Some refused) new =
     (refused.pos ≡ ordered.pos) × (refused.piece ≡ number) × FirstFails (demands configuration old.part ordered) refused.cause × (new.part ≡ old.part)
 
@@ -80,12 +80,12 @@ IsRefusal fault number None = ⊥
 IsRefusal fault number (Some refused) = refusal_of fault number ≡ Some refused
 
 -- the piece of this number went over records from this place on: what became of it, what it has seen up to its refusal, and the first
--- of that which breaks a rule; it may go over those behind them
-pub record IsGoneOver (configuration : Configuration) (number first : ℕ) (records : List Ordered) (relations : List Relation) (old : Holding) (gone : Gone) (new : Holding) : Type 0 where
-  pub found : HasGone configuration number old.part records gone.found new.part
+-- of that which breaks a rule; it may go over those after them
+pub record IsJudgedOver (configuration : Configuration) (number first : ℕ) (records : List Ordered) (relations : List Relation) (old : Holding) (outcome : PieceOutcome) (new : Holding) : Type 0 where
+  pub found : HasRunOver configuration number old.part records outcome.found new.part
   pub seen : List Seen
-  pub are : AreSeen configuration (piece_at configuration number) old.part 0 (up_to gone.found records) seen
-  pub breach : IsFirstBreach relations seen gone.breach
+  pub are : AreSeen configuration (piece_at configuration number) old.part 0 (up_to outcome.found records) seen
+  pub breach : IsFirstBreach relations seen outcome.breach
   pub going : IsGoing configuration number (first + length records) new
 
 -- all pieces together
@@ -99,7 +99,7 @@ pub record Judging : Type 0 where
 
 -- a piece by its number
 abbrev pub holding_at : List Holding → ℕ → Holding
-holding_at [] number = record { part = ModulePart []; settings = None; spent = false }
+holding_at [] number = record { part = ModulePart []; settings = None; exhausted = false }
 holding_at (holding ∷ others) zero = holding
 holding_at (holding ∷ others) (suc number) = holding_at others number
 
@@ -117,15 +117,15 @@ pub record AreGoing (configuration : Configuration) (place : ℕ) (holdings : Li
   pub each : (number : ℕ) → number < length (pieces configuration) → IsGoing configuration number place (holding_at holdings number)
 
 -- what became of all pieces: each ran over the records; or one is the first to refuse a record among them
-abbrev pub HaveGone : Configuration → List Holding → List Ordered → Option Refused → List Holding → Type 0
-HaveGone configuration old records None new = AllRun configuration (parts_in old) records (parts_in new)
-HaveGone configuration old records (Some found) new = IsNo configuration (parts_in old) records found
+abbrev pub HaveRunOver : Configuration → List Holding → List Ordered → Option Refused → List Holding → Type 0
+HaveRunOver configuration old records None new = AllRun configuration (parts_in old) records (parts_in new)
+HaveRunOver configuration old records (Some found) new = IsNo configuration (parts_in old) records found
 
 -- each of these pieces went over records from this place on; one for each stands at its number
-pub record AreGoneOver (configuration : Configuration) (first : ℕ) (records : List Ordered) (relations : List Relation) (old : List Holding) (judged : List Judged) : Type 0 where
+pub record AreJudgedOver (configuration : Configuration) (first : ℕ) (records : List Ordered) (relations : List Relation) (old : List Holding) (judged : List Judged) : Type 0 where
   pub whole : length judged ≡ length old
   pub each : (number : ℕ) → number < length old → (one : Judged) → one ≡ slice_index_or judged number one
-      → IsGoneOver configuration number first records relations (holding_at old number) one.gone one.piece
+      → IsJudgedOver configuration number first records relations (holding_at old number) one.outcome one.piece
 
 -- the pieces, as they were left
 abbrev pub pieces_in : List Judged → List Holding
@@ -136,16 +136,16 @@ pub record IsTested (configuration : Configuration) (relations : List Relation) 
   pub views : List View
   pub viewed : AreViews configuration parts (up_to found records) views
   pub first : IsFirstBroken relations views (broken_of breach)
-  pub told : IfSome breach (λ one. slice_get views one.seen.index ≡ Some one.seen.view)
+  pub reported : IfSome breach (λ one. slice_get views one.seen.index ≡ Some one.seen.view)
 
 -- all pieces went over records from this place on: what became of them, and the first view that breaks a rule; they may go over those
--- behind them
+-- after them
 pub record IsSurveyed (configuration : Configuration) (first : ℕ) (records : List Ordered) (relations : List Relation) (old : List Holding) (survey : Survey) : Type 0 where
-  pub gone : HaveGone configuration old records survey.found survey.pieces.items
+  pub outcome : HaveRunOver configuration old records survey.found survey.pieces.items
   pub tested : IsTested configuration relations (parts_in old) records survey.found survey.breach
   pub going : AreGoing configuration (first + length records) survey.pieces.items
 
--- all pieces are there, and may go over the records behind those that they have judged
+-- all pieces are there, and may go over the records after those that they have judged
 abbrev pub IsReady : Configuration → Judging → Type 0
 IsReady configuration judging = AreGoing configuration judging.count judging.pieces
 

@@ -29,8 +29,8 @@ ViewsMeet configuration [] parts records = Unit {0}
 ViewsMeet configuration (relation ∷ relations) parts records =
     (views : List View) × AreViews configuration parts records views × All (MeetsAll (relation ∷ relations)) views
 
--- a broken rule among records behind so many that the pieces have judged: all pieces run through the record at that place, the views
--- before it meet every relation, and its own view is the first that does not, by this rule; nothing is said of the records behind it
+-- a broken rule among records after so many that the pieces have judged: all pieces run through the record at that place, the views
+-- before it meet every relation, and its own view is the first that does not, by this rule; nothing is said of the records after it
 pub record IsBroken (configuration : Configuration) (relations : List Relation) (parts : ℕ → Part) (count : ℕ) (records : List Ordered) (pos rule : ℕ) : Type 0 where
   pub through : List Ordered
   pub after : List Ordered
@@ -44,7 +44,7 @@ pub record IsBroken (configuration : Configuration) (relations : List Relation) 
   pub place : pos ≡ count + broken.view
   pub number : rule ≡ broken.rule
 
--- the verdict over records behind so many that the pieces have judged, where these are their parts: Yes with the number of all
+-- the verdict over records after so many that the pieces have judged, where these are their parts: Yes with the number of all
 -- where each piece has a run over them and each view meets every relation; else a No by what stands up to its place, whose views
 -- meet every relation; or the first rule that is broken
 abbrev pub IsVerdictFrom : Configuration → List Relation → (ℕ → Part) → ℕ → List Ordered → Verdict → Type 0

@@ -22,7 +22,7 @@ abbrev pub seen_of : Option View → ℕ → List Seen
 seen_of None index = []
 seen_of (Some view) index = record { index = index; view = view } ∷ []
 
--- what is seen of one record and behind it: its view, at this index, where the piece gives one
+-- what is seen of one record and after it: its view, at this index, where the piece gives one
 abbrev pub SeesNext : Option View → ℕ → List Seen → (List Seen → Type 0) → Type 0
 SeesNext None index seen More = More seen
 SeesNext (Some view) index seen More = (more : List Seen) × (seen ≡ record { index = index; view = view } ∷ more) × More more
@@ -87,7 +87,7 @@ broken_of breach = option_map (λ one. record { view = one.seen.index; rule = on
 
 -- the views of all records
 
--- this is the view of a record that stands behind these ones: what the piece that judges it sees in it, once it has run over them
+-- this is the view of a record that comes after these ones: what the piece that judges it sees in it, once it has run over them
 pub record IsViewOf (configuration : Configuration) (parts : ℕ → Part) (before : List Ordered) (ordered : Ordered) (view : View) : Type 0 where
   pub number : ℕ
   pub within : number < length (pieces configuration)

@@ -29,12 +29,7 @@ pub(crate) fn refused_by(fault: PieceFault, piece: usize) -> Option<Refused>
     ensures { result ≡ refusal_of fault piece }
 {
     match fault {
-        PieceFault::Unlawful { pos, cause } => Some(Refused { pos, piece, cause }),
-        PieceFault::OutsideProfile { pos } => Some(Refused {
-            pos,
-            piece,
-            cause: Cause::OutsideProfile,
-        }),
+        PieceFault::Rejected { pos, cause } => Some(Refused { pos, piece, cause }),
         PieceFault::Memory => None,
     }
 }

@@ -6,7 +6,7 @@ ghost use Rattle.verdict_merge.specs.Views.{breach_before, count_before, earlier
 
 use crate::breach::{Breach, breach_before, earlier};
 use crate::finding::{Refused, least_with};
-use crate::gone::Gone;
+use crate::outcome::PieceOutcome;
 use apex_types::Ordered;
 
 /// The least refusal so far, and the breach of the first record so far.
@@ -29,12 +29,12 @@ impl Gathering {
     }
 
     /// Takes in what became of the next piece.
-    pub fn take_in(&mut self, gone: &Gone)
-        ensures found { IsLeastWith self.old.found gone.now.found self.new.found }
-        ensures breach { self.new.breach ≡ earlier self.old.breach gone.now.breach }
+    pub fn take_in(&mut self, outcome: &PieceOutcome)
+        ensures found { IsLeastWith self.old.found outcome.now.found self.new.found }
+        ensures breach { self.new.breach ≡ earlier self.old.breach outcome.now.breach }
     {
-        self.breach = earlier(self.breach, gone.breach);
-        self.found = least_with(self.found, gone.found);
+        self.breach = earlier(self.breach, outcome.breach);
+        self.found = least_with(self.found, outcome.found);
     }
 
     /// The breach of the first record, where it comes before the record that is refused. The first record stands at this place.

@@ -4,10 +4,10 @@ ghost use Rattle.std.specs.Prelude.{◌<◌, IfOk, length};
 ghost use Rattle.apex_machine.specs.Pieces.{pieces};
 ghost use Rattle.apex_machine.specs.Runs.{ArePlaced, AreOfCores};
 ghost use Rattle.user_rules.specs.Rules.{relations_of};
-ghost use Rattle.verdict_merge.specs.Rounds.{AreGoing, AreGoneOver, IsGoing, IsGoneOver};
+ghost use Rattle.verdict_merge.specs.Rounds.{AreGoing, AreJudgedOver, IsGoing, IsJudgedOver};
 
 use crate::fault::Memory;
-use crate::gone::{Gone, Lent, go_over};
+use crate::outcome::{Lent, PieceOutcome, go_over};
 use piece_check::Piece;
 use std::alloc::Global;
 use user_rules::Rule;
@@ -16,7 +16,7 @@ use user_rules::Rule;
 #[derive(Drop)]
 pub struct Judged {
     pub piece: Piece,
-    pub gone: Gone,
+    pub outcome: PieceOutcome,
 }
 
 /// The piece of this number goes over the records of the round that touch it, up to its first refusal, and its views are tested
@@ -33,10 +33,10 @@ pub fn judge_piece(
     requires going { IsGoing lent.now.config.now number lent.now.first piece }
     requires placed { ArePlaced lent.now.first lent.now.records.now }
     requires cores { AreOfCores lent.now.config.now.cores lent.now.records.now }
-    ensures { IfOk result (λ one. IsGoneOver lent.now.config.now number lent.now.first lent.now.records.now (relations_of rules.now) piece one.gone one.piece) }
+    ensures { IfOk result (λ one. IsJudgedOver lent.now.config.now number lent.now.first lent.now.records.now (relations_of rules.now) piece one.outcome one.piece) }
 {
     match go_over(lent, rules, number, &mut piece) {
-        Ok(gone) => Ok(Judged { piece, gone }),
+        Ok(outcome) => Ok(Judged { piece, outcome }),
         Err(memory) => {
             drop(piece);
             Err(memory)
@@ -57,7 +57,7 @@ pub fn judge_in_turn(
     requires going { AreGoing lent.now.config.now lent.now.first pieces.items }
     requires placed { ArePlaced lent.now.first lent.now.records.now }
     requires cores { AreOfCores lent.now.config.now.cores lent.now.records.now }
-    ensures { IfOk result (λ judged. AreGoneOver lent.now.config.now lent.now.first lent.now.records.now (relations_of rules.now) pieces.items judged.items) }
+    ensures { IfOk result (λ judged. AreJudgedOver lent.now.config.now lent.now.first lent.now.records.now (relations_of rules.now) pieces.items judged.items) }
 {
     let Ok(mut judged) = Vec::with_capacity(alloc, pieces.len()) else {
         return Err(Memory);

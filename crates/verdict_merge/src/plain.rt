@@ -10,8 +10,8 @@ ghost use Rattle.verdict_merge.specs.Rounds.{IsSurveyed, cold_parts, parts_in};
 ghost use Rattle.verdict_merge.specs.Verdicts.{IsRunWhereYes, IsVerdict};
 
 use crate::fault::Memory;
-use crate::gone::Lent;
 use crate::judged::judge_in_turn;
+use crate::outcome::Lent;
 use crate::start::start_pieces;
 use crate::survey::{Survey, gather_round};
 use crate::verdict::Verdict;

@@ -4,14 +4,14 @@ ghost use Rattle.std.specs.Prelude.{◌≡◌, List, IfOk};
 ghost use Rattle.apex_machine.specs.Runs.{ArePlaced, AreOfCores};
 ghost use Rattle.piece_check.specs.Parts.{Holding};
 ghost use Rattle.user_rules.specs.declared.relation.Relation.{Relation};
-ghost use Rattle.verdict_merge.specs.Rounds.{AreGoing, AreGoneOver, IsSurveyed, pieces_in};
+ghost use Rattle.verdict_merge.specs.Rounds.{AreGoing, AreJudgedOver, IsSurveyed, pieces_in};
 
 use crate::breach::Breach;
 use crate::fault::Memory;
 use crate::finding::Refused;
 use crate::gathering::Gathering;
-use crate::gone::Lent;
 use crate::judged::Judged;
+use crate::outcome::Lent;
 use piece_check::Piece;
 use std::alloc::Global;
 
@@ -30,14 +30,14 @@ pub struct Survey {
 ///
 /// Memory where a growth was refused.
 pub fn gather_round(alloc: Global, lent: &Lent, judged: Vec<Judged>) -> Result<Survey, Memory>
-    requires gone { (relations : List Relation) × (old : List Holding) × AreGoing lent.now.config.now lent.now.first old × AreGoneOver lent.now.config.now lent.now.first lent.now.records.now relations old judged.items }
+    requires outcome { (relations : List Relation) × (old : List Holding) × AreGoing lent.now.config.now lent.now.first old × AreJudgedOver lent.now.config.now lent.now.first lent.now.records.now relations old judged.items }
     requires placed { ArePlaced lent.now.first lent.now.records.now }
     requires cores { AreOfCores lent.now.config.now.cores lent.now.records.now }
-    ensures { (relations : List Relation) (old : List Holding) → AreGoing lent.now.config.now lent.now.first old → AreGoneOver lent.now.config.now lent.now.first lent.now.records.now relations old judged.items → IfOk result (IsSurveyed lent.now.config.now lent.now.first lent.now.records.now relations old) }
+    ensures { (relations : List Relation) (old : List Holding) → AreGoing lent.now.config.now lent.now.first old → AreJudgedOver lent.now.config.now lent.now.first lent.now.records.now relations old judged.items → IfOk result (IsSurveyed lent.now.config.now lent.now.first lent.now.records.now relations old) }
 {
     let mut gathering = Gathering::new();
     'pieces: for number in 0..judged.len() {
-        gathering.take_in(&judged[number].gone);
+        gathering.take_in(&judged[number].outcome);
     }
     let breach = gathering.breach_in(lent.first, lent.records);
     let found = gathering.found;
@@ -59,7 +59,7 @@ fn pieces_left(alloc: Global, judged: Vec<Judged>) -> Result<Vec<Piece>, Memory>
         return Err(Memory);
     };
     'judged: for one in judged {
-        let Judged { piece, gone: _ } = one;
+        let Judged { piece, outcome: _ } = one;
         left.push_reserved(piece);
     }
     Ok(left)

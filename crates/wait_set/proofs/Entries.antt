@@ -6,7 +6,7 @@ use Rattle.std.specs.Option.{is_some}
 use Rattle.apex_types.specs.declared.discipline.Discipline.{Discipline}
 use Rattle.apex_types.specs.declared.record.Who.{Who}
 use Rattle.apex_machine.specs.declared.state.Entry.{Entry}
-use Rattle.apex_machine.specs.Answer.{whos}
+use Rattle.apex_machine.specs.Answer.{waiters_of}
 use Rattle.apex_machine.specs.Demands.{stands_in}
 use Rattle.apex_machine.specs.State.{is_named, is_same}
 use Rattle.wait_set.specs.declared.rank.Rank.{Rank}
@@ -14,7 +14,7 @@ use Rattle.wait_set.specs.Kept.{has_rank, is_rank, place_of}
 use Rattle.wait_set.specs.Ranks.{rank_of}
 use Rattle.wait_set.specs.Sets.{NobodyTwice, PlacesRise, StandBehind, entered, has_place}
 use Rattle.wait_set.proofs.Tests.{either_swap, neither, neither_first, neither_later}
-use Rattle.wait_set.proofs.Whos.{same_apart, same_swap, stands-named}
+use Rattle.wait_set.proofs.WaitersOf.{same_apart, same_swap, stands-named}
 
 -- who stands in a set is found there with a place
 pub found-stands : (who : Who) (entries : List Entry) → is_some (place_of who entries) ≡ stands_in who entries
@@ -50,7 +50,7 @@ has_rank-entered discipline rank entry (other ∷ others) =
 
 -- who waits, once an entry has entered
 pub named-entered : (who : Who) (entry : Entry) (entries : List Entry)
-    → is_named who (whos (entered entry entries)) ≡ (is_same who entry.who || is_named who (whos entries))
+    → is_named who (waiters_of (entered entry entries)) ≡ (is_same who entry.who || is_named who (waiters_of entries))
 named-entered who entry [] = refl
 named-entered who entry (other ∷ others) =
     elim (cases_Bool (nat_lt other.place entry.place)) [
@@ -59,8 +59,8 @@ named-entered who entry (other ∷ others) =
     ]
 
 -- a new entry makes nobody stand twice
-pub once-entered : (entry : Entry) (entries : List Entry) → stands_in entry.who entries ≡ false → NobodyTwice (whos entries)
-    → NobodyTwice (whos (entered entry entries))
+pub once-entered : (entry : Entry) (entries : List Entry) → stands_in entry.who entries ≡ false → NobodyTwice (waiters_of entries)
+    → NobodyTwice (waiters_of (entered entry entries))
 once-entered entry [] new once = (refl, tt)
 once-entered entry (other ∷ others) new once =
     elim (cases_Bool (nat_lt other.place entry.place)) [
@@ -71,12 +71,12 @@ once-entered entry (other ∷ others) new once =
       | inr behind ↦ rw behind (stands-named entry.who (other ∷ others) ∙ new, once)
     ]
 
--- who stands behind a place stands behind each smaller one
+-- who comes after a place comes after each smaller one
 pub behind_smaller : (place smaller : ℕ) (entries : List Entry) → smaller < place → StandBehind place entries → StandBehind smaller entries
 behind_smaller place smaller [] below behind = tt
 behind_smaller place smaller (entry ∷ entries) below behind = (omega arith, behind_smaller place smaller entries below behind.1)
 
--- an entry of a greater place stands behind it too
+-- an entry of a greater place comes after it too
 pub behind-entered : (place : ℕ) (entry : Entry) (entries : List Entry) → place < entry.place → StandBehind place entries
     → StandBehind place (entered entry entries)
 behind-entered place entry [] above behind = (above, tt)

@@ -16,8 +16,8 @@ use Rattle.wait_set.specs.Kept.{IsKept, by_place, has_rank, is_rank}
 use Rattle.wait_set.specs.Ranks.{rank_of}
 use Rattle.wait_set.specs.Sets.{NobodyTwice, PlacesRise, StandBehind, entry_of}
 use Rattle.wait_set.proofs.Leaving.{entry_of-stands}
-use Rattle.wait_set.proofs.Whos.{same_is, same_itself, stands-named}
-use Rattle.apex_machine.specs.Answer.{whos}
+use Rattle.wait_set.proofs.WaitersOf.{same_is, same_itself, stands-named}
+use Rattle.apex_machine.specs.Answer.{waiters_of}
 use Rattle.apex_machine.specs.Demands.{stands_in}
 use Rattle.apex_machine.specs.State.{is_named, is_same}
 use Rattle.std.specs.Option.{is_some}
@@ -91,7 +91,7 @@ first-before discipline rank (entry ∷ entries) first none is =
               rw (← same) none.0
         ]
 
--- a rank of those behind a place has a greater place
+-- a rank of those after a place has a greater place
 behind-rank : (discipline : Discipline) (rank : Rank) (place : ℕ) (entries : List Entry) → StandBehind place entries
     → has_rank discipline rank entries ≡ true → place < rank.place
 behind-rank discipline rank place [] behind has = absurd (true≢false (sym has))
@@ -197,7 +197,7 @@ first_of_none discipline stored places ranks kept none =
         absurd (true≢false (sym (rw (rank_itself (rank_of discipline entry)) at (ranked (rank_of discipline entry)))))
 
 -- the first of a set is the one entry of its process
-pub first_is_its_own : (discipline : Discipline) (entries : List Entry) (first : Entry) → NobodyTwice (whos entries)
+pub first_is_its_own : (discipline : Discipline) (entries : List Entry) (first : Entry) → NobodyTwice (waiters_of entries)
     → first_waiter discipline entries ≡ Some first → entry_of first.who entries ≡ Some first
 first_is_its_own discipline [] first once is = cc
 first_is_its_own discipline (entry ∷ entries) first once is =
@@ -207,7 +207,7 @@ first_is_its_own discipline (entry ∷ entries) first once is =
     own same = subst (λ (one : Entry). entry_of one.who (entry ∷ entries) ≡ Some one) same (rw (same_itself entry.who) refl)
 
     by : (found : Option Entry) → first_waiter discipline entries ≡ found → sooner_entry discipline entry found ≡ Some first
-        → ((other : Entry) → NobodyTwice (whos entries) → first_waiter discipline entries ≡ Some other → entry_of other.who entries ≡ Some other)
+        → ((other : Entry) → NobodyTwice (waiters_of entries) → first_waiter discipline entries ≡ Some other → entry_of other.who entries ≡ Some other)
         → entry_of first.who (entry ∷ entries) ≡ Some first
     by None e is_first rest = own (let same : entry ≡ first = cc in same)
     by (Some other) e is_first rest =
@@ -228,8 +228,8 @@ first_is_its_own discipline (entry ∷ entries) first once is =
             elim (cases_Bool (is_same first.who entry.who)) [
               | inl same ↦
                   let stands : stands_in first.who entries ≡ true = sym (entry_of-stands first.who entries) ∙ ap is_some later in
-                  let named : is_named entry.who (whos entries) ≡ true =
-                  ap (λ who. is_named who (whos entries)) (sym (same_is first.who entry.who same)) ∙ stands-named first.who entries ∙ stands in
+                  let named : is_named entry.who (waiters_of entries) ≡ true =
+                  ap (λ who. is_named who (waiters_of entries)) (sym (same_is first.who entry.who same)) ∙ stands-named first.who entries ∙ stands in
                   absurd (true≢false (sym named ∙ once.0))
               | inr differs ↦ differs
             ]

@@ -24,7 +24,7 @@ use Rattle.wait_set.proofs.Leaving.{has_rank-without, once-without, place_of-wit
 use Rattle.wait_set.proofs.Maps.{insert-by_place, lookup-by_place, lookup-same, place-updated, rank-updated, remove-by_place, values-by_place}
 use Rattle.wait_set.proofs.Orders.{who_is}
 use Rattle.wait_set.proofs.Tests.{by_first, neither, neither_first, neither_later}
-use Rattle.wait_set.proofs.Whos.{same_is, same_swap}
+use Rattle.wait_set.proofs.WaitersOf.{same_is, same_swap}
 
 -- the place that is found for a process
 pub asked-place : (discipline : Discipline) (stored : List (ℕ × Entry)) (places : List (Who × ℕ)) (ranks : List Rank) (who : Who) (found : Option ℕ)

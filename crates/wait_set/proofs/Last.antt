@@ -2,11 +2,11 @@
 use Rattle.std.proofs.Common.{◌≡◌, ◌<◌, List, [], ◌∷◌, ◌++◌, Bool, true, false, nat_lt, refl, ap, arith}
 use Rattle.std.proofs.lemmas.Bool.Decides.{nat_tests}
 use Rattle.apex_machine.specs.declared.state.Entry.{Entry}
-use Rattle.wait_set.specs.Laws.{EntersLast, RisingIsRoll, StandBefore}
+use Rattle.wait_set.specs.Laws.{EntersLast, RisingIsListOfWaiters, StandBefore}
 use Rattle.wait_set.specs.Sets.{entered}
-use Rattle.wait_set.proofs.Rolls.{once-rising}
+use Rattle.wait_set.proofs.WaiterLists.{once-rising}
 
--- an entry behind all others enters as the last
+-- an entry after all others enters as the last
 pub last : (entry : Entry) (entries : List Entry) → StandBefore entry.place entries → entered entry entries ≡ entries ++ entry ∷ []
 last entry [] before = refl
 last entry (other ∷ others) before =
@@ -17,5 +17,5 @@ last entry (other ∷ others) before =
 pub enters_last : EntersLast
 enters_last = last
 
-pub rising_is_roll : RisingIsRoll
-rising_is_roll entries named rising exact = (exact, once-rising named rising)
+pub rising_is_list_of_waiters : RisingIsListOfWaiters
+rising_is_list_of_waiters entries named rising exact = (exact, once-rising named rising)

@@ -7,7 +7,7 @@ use Rattle.std.specs.Option.{IsSome, is_some}
 use Rattle.apex_types.specs.declared.discipline.Discipline.{Discipline}
 use Rattle.apex_types.specs.declared.record.Who.{Who}
 use Rattle.apex_machine.specs.declared.state.Entry.{Entry}
-use Rattle.apex_machine.specs.Answer.{NamesExactly, whos}
+use Rattle.apex_machine.specs.Answer.{NamesExactly, waiters_of}
 use Rattle.apex_machine.specs.Demands.{stands_in}
 use Rattle.apex_machine.specs.State.{is_named, is_same}
 use Rattle.apex_machine.specs.Waiting.{without}
@@ -18,10 +18,10 @@ use Rattle.wait_set.specs.declared.object.Actor.{Actor}
 use Rattle.wait_set.specs.Actors.{entry_with, joined_by}
 use Rattle.wait_set.specs.Kept.{has_rank, is_rank, place_of}
 use Rattle.wait_set.specs.Ranks.{rank_of}
-use Rattle.wait_set.specs.Sets.{NobodyTwice, PlacesRise, StandBehind, entered, entry_of, has_place, whos_of, without_found, without_named, without_one}
+use Rattle.wait_set.specs.Sets.{NobodyTwice, PlacesRise, StandBehind, entered, entry_of, has_place, waiter_of, without_found, without_named, without_one}
 use Rattle.wait_set.proofs.Orders.{number_swap}
 use Rattle.wait_set.proofs.Tests.{neither, neither_first, neither_later}
-use Rattle.wait_set.proofs.Whos.{same_is, same_itself, same_swap, stands-named}
+use Rattle.wait_set.proofs.WaitersOf.{same_is, same_itself, same_swap, stands-named}
 
 -- the place of a process, once those who leave have left
 pub place_of-without : (leaves : Who → Bool) (who : Who) (entries : List Entry)
@@ -29,16 +29,16 @@ pub place_of-without : (leaves : Who → Bool) (who : Who) (entries : List Entry
 place_of-without leaves who [] = elim (cases_Bool (leaves who)) [ inl e ↦ rw e refl | inr e ↦ rw e refl ]
 place_of-without leaves who (entry ∷ entries) =
     elim (cases_Bool (leaves entry.who)) [
-      | inl gone ↦ rw gone (place_of-without leaves who entries ∙ left gone (leaves who) refl)
+      | inl departed ↦ rw departed (place_of-without leaves who entries ∙ left departed (leaves who) refl)
       | inr stays ↦ rw stays (kept stays (is_same who entry.who) refl (place_of-without leaves who entries))
     ]
   where
     left : leaves entry.who ≡ true → (b : Bool) → leaves who ≡ b
         → (if b then None else place_of who entries) ≡ (if b then None else place_of who (entry ∷ entries))
-    left gone true e = refl
-    left gone false e =
+    left departed true e = refl
+    left departed false e =
         elim (cases_Bool (is_same who entry.who)) [
-          | inl same ↦ absurd (true≢false (sym gone ∙ ap leaves (sym (same_is who entry.who same)) ∙ e))
+          | inl same ↦ absurd (true≢false (sym departed ∙ ap leaves (sym (same_is who entry.who same)) ∙ e))
           | inr differs ↦ rw differs refl
         ]
 
@@ -49,31 +49,31 @@ place_of-without leaves who (entry ∷ entries) =
     kept stays false differs rest = rw differs rest
 
 -- who does not wait does not wait once others have left
-pub unnamed-without : (leaves : Who → Bool) (who : Who) (entries : List Entry) → is_named who (whos entries) ≡ false
-    → is_named who (whos (without leaves entries)) ≡ false
+pub unnamed-without : (leaves : Who → Bool) (who : Who) (entries : List Entry) → is_named who (waiters_of entries) ≡ false
+    → is_named who (waiters_of (without leaves entries)) ≡ false
 unnamed-without leaves who [] none = refl
 unnamed-without leaves who (entry ∷ entries) none =
     elim (cases_Bool (leaves entry.who)) [
-      | inl gone ↦ rw gone (unnamed-without leaves who entries (neither_later _ _ none))
+      | inl departed ↦ rw departed (unnamed-without leaves who entries (neither_later _ _ none))
       | inr stays ↦ rw stays (neither _ _ (neither_first _ _ none) (unnamed-without leaves who entries (neither_later _ _ none)))
     ]
 
 -- who leaves makes nobody stand twice
-pub once-without : (leaves : Who → Bool) (entries : List Entry) → NobodyTwice (whos entries) → NobodyTwice (whos (without leaves entries))
+pub once-without : (leaves : Who → Bool) (entries : List Entry) → NobodyTwice (waiters_of entries) → NobodyTwice (waiters_of (without leaves entries))
 once-without leaves [] once = tt
 once-without leaves (entry ∷ entries) once =
     elim (cases_Bool (leaves entry.who)) [
-      | inl gone ↦ rw gone (once-without leaves entries once.1)
+      | inl departed ↦ rw departed (once-without leaves entries once.1)
       | inr stays ↦ rw stays (unnamed-without leaves entry.who entries once.0, once-without leaves entries once.1)
     ]
 
--- who leaves keeps the others behind
+-- who leaves keeps the others after
 pub behind-without : (leaves : Who → Bool) (place : ℕ) (entries : List Entry) → StandBehind place entries
     → StandBehind place (without leaves entries)
 behind-without leaves place [] behind = tt
 behind-without leaves place (entry ∷ entries) behind =
     elim (cases_Bool (leaves entry.who)) [
-      | inl gone ↦ rw gone (behind-without leaves place entries behind.1)
+      | inl departed ↦ rw departed (behind-without leaves place entries behind.1)
       | inr stays ↦ rw stays (behind.0, behind-without leaves place entries behind.1)
     ]
 
@@ -82,7 +82,7 @@ pub rising-without : (leaves : Who → Bool) (entries : List Entry) → PlacesRi
 rising-without leaves [] rising = tt
 rising-without leaves (entry ∷ entries) rising =
     elim (cases_Bool (leaves entry.who)) [
-      | inl gone ↦ rw gone (rising-without leaves entries rising.1)
+      | inl departed ↦ rw departed (rising-without leaves entries rising.1)
       | inr stays ↦ rw stays (behind-without leaves entry.place entries rising.0, rising-without leaves entries rising.1)
     ]
 
@@ -117,7 +117,7 @@ entry_of-stands who [] = refl
 entry_of-stands who (entry ∷ entries) =
     elim (cases_Bool (is_same who entry.who)) [ inl e ↦ rw e refl | inr e ↦ rw e (entry_of-stands who entries) ]
 
--- an entry behind a place has a greater place
+-- an entry after a place has a greater place
 pub found-behind : (who : Who) (place : ℕ) (entries : List Entry) (entry : Entry) → StandBehind place entries
     → entry_of who entries ≡ Some entry → place < entry.place
 found-behind who place [] entry behind found = cc
@@ -142,7 +142,7 @@ differ one other below =
       | inr apart ↦ apart
     ]
 
--- a rank of a smaller place is none of those behind it
+-- a rank of a smaller place is none of those after it
 pub unranked-behind : (discipline : Discipline) (rank : Rank) (place : ℕ) (entries : List Entry) → StandBehind place entries
     → rank.place ≡ place → has_rank discipline rank entries ≡ false
 unranked-behind discipline rank place [] behind is = refl
@@ -155,7 +155,7 @@ rank_swap one other = rw (number_swap one.urgency.0 other.urgency.0, number_swap
 
 -- the ranks of a set, once a process has left: all but that of its entry
 pub has_rank-without : (discipline : Discipline) (rank : Rank) (who : Who) (entry : Entry) (entries : List Entry) → PlacesRise entries
-    → NobodyTwice (whos entries) → entry_of who entries ≡ Some entry
+    → NobodyTwice (waiters_of entries) → entry_of who entries ≡ Some entry
     → has_rank discipline rank (without_one who entries)
     ≡ (if is_rank (rank_of discipline entry) rank then false else has_rank discipline rank entries)
 has_rank-without discipline rank who entry [] rising once found = cc
@@ -164,7 +164,7 @@ has_rank-without discipline rank who entry (other ∷ others) rising once found 
       | inl same ↦
           let here : Some other ≡ Some entry = rw same at found in
           let is : other ≡ entry = cc in
-          let named : is_named who (whos others) ≡ false = ap (λ w. is_named w (whos others)) (same_is who other.who same) ∙ once.0 in
+          let named : is_named who (waiters_of others) ≡ false = ap (λ w. is_named w (waiters_of others)) (same_is who other.who same) ∙ once.0 in
           let absent : stands_in who others ≡ false = sym (stands-named who others) ∙ named in
           rw (same_swap other.who who ∙ same, without-absent who others absent, ← is) (first (is_rank (rank_of discipline other) rank) refl)
       | inr differs ↦
@@ -224,7 +224,7 @@ pub without-at : (who : Who) (index : ℕ) (named : List Who) (entries : List En
 without-at who index named entries within is =
     rw (drop-cons named index who within, ← is, add-one) (without-next who (drop (suc index) named) entries)
 
--- behind the last nobody is named
+-- after the last nobody is named
 pub without-end : (index : ℕ) (named : List Who) (entries : List Entry) → length named ≤ index → without_named (drop index named) entries ≡ entries
 without-end index named entries behind = rw (drop_of_length-le named behind) (without-nobody entries)
 
@@ -252,7 +252,7 @@ without-named_one who named (entry ∷ entries) is =
     by false e rest = ap (λ more. entry ∷ more) rest
 
 -- once the first has left, whom a list names and no other, those who are named leave what they leave otherwise
-pub without-named_first : (found : Option Entry) (named : List Who) (entries : List Entry) → NamesExactly (whos_of found) named
+pub without-named_first : (found : Option Entry) (named : List Who) (entries : List Entry) → NamesExactly (waiter_of found) named
     → without_named named (without_found found entries) ≡ without_named named entries
 without-named_first None named entries exact = refl
 without-named_first (Some entry) named entries exact =

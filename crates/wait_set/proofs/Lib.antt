@@ -1,14 +1,14 @@
 pub mod Tests
 pub mod Results
 pub mod Orders
-pub mod Whos
+pub mod WaitersOf
 pub mod Entries
 pub mod Leaving
 pub mod Maps
 pub mod Members
 pub mod Keeping
 pub mod Firsts
-pub mod Rolls
+pub mod WaiterLists
 pub mod Last
 pub mod Failing
 pub mod Calls

@@ -14,7 +14,7 @@ use Rattle.apex_types.specs.declared.discipline.Discipline.{Discipline}
 use Rattle.apex_types.specs.declared.record.Who.{Who}
 use Rattle.apex_types.specs.contracts.record.WhoOrd.TheImpl as who_order
 use Rattle.apex_machine.specs.declared.state.Entry.{Entry}
-use Rattle.apex_machine.specs.Answer.{whos}
+use Rattle.apex_machine.specs.Answer.{waiters_of}
 use Rattle.apex_machine.specs.Demands.{stands_in}
 use Rattle.apex_machine.specs.State.{is_named, is_same}
 use Rattle.wait_set.specs.declared.rank.Rank.{Rank}
@@ -26,7 +26,7 @@ use Rattle.wait_set.proofs.Entries.{found-stands, has_rank-entered, once-entered
 use Rattle.wait_set.proofs.Leaving.{found-behind, found-entry, has_rank-without, once-without, place_of-without, rank_swap, rising-without, without-absent}
 use Rattle.wait_set.proofs.Orders.{number_is, number_swap, rank_is, who_is}
 use Rattle.wait_set.proofs.Tests.{neither, neither_first, neither_later}
-use Rattle.wait_set.proofs.Whos.{same_is, same_swap, stands-named}
+use Rattle.wait_set.proofs.WaitersOf.{same_is, same_swap, stands-named}
 
 -- a search by either of two tests that agree
 
@@ -106,7 +106,7 @@ lookup-by_place who place (entry ∷ entries) rising found =
         grind (arith, nat_tests)
 
 -- what is removed at the place of a process is its entry alone
-pub remove-by_place : (who : Who) (place : ℕ) (entries : List Entry) → PlacesRise entries → NobodyTwice (whos entries)
+pub remove-by_place : (who : Who) (place : ℕ) (entries : List Entry) → PlacesRise entries → NobodyTwice (waiters_of entries)
     → place_of who entries ≡ Some place → remove_entry (is_at (nat_cmp place)) (by_place entries) ≡ by_place (without_one who entries)
 remove-by_place who place [] rising once found = refl
 remove-by_place who place (entry ∷ entries) rising once found =
@@ -114,7 +114,7 @@ remove-by_place who place (entry ∷ entries) rising once found =
       | inl same ↦
           let here : Some entry.place ≡ Some place = rw same at found in
           let is : place ≡ entry.place = cc in
-          let named : is_named who (whos entries) ≡ false = ap (λ w. is_named w (whos entries)) (same_is who entry.who same) ∙ once.0 in
+          let named : is_named who (waiters_of entries) ≡ false = ap (λ w. is_named w (waiters_of entries)) (same_is who entry.who same) ∙ once.0 in
           let absent : stands_in who entries ≡ false = sym (stands-named who entries) ∙ named in
           rw (same_swap entry.who who ∙ same, number_is place entry.place, eq-eqb place entry.place is, without-absent who entries absent) refl
       | inr differs ↦

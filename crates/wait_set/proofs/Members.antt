@@ -20,7 +20,7 @@ use Rattle.wait_set.proofs.Entries.{found-stands}
 use Rattle.wait_set.proofs.Maps.{lookup-same}
 use Rattle.wait_set.proofs.Orders.{pair_above, who_is}
 use Rattle.wait_set.proofs.Tests.{neither_first, neither_later}
-use Rattle.wait_set.proofs.Whos.{same_is, same_itself, same_swap}
+use Rattle.wait_set.proofs.WaitersOf.{same_is, same_itself, same_swap}
 
 -- the order of processes is by their partition first: who does not stand above another is of no greater one
 pub part_below : (one other : Who) → IsLeBy who_order.cmp-value.it one other → one.part ≤ other.part

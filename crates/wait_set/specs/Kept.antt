@@ -5,7 +5,7 @@ use Rattle.std.specs.Map.{values_of, lookup}
 use Rattle.apex_types.specs.declared.discipline.Discipline.{Discipline}
 use Rattle.apex_types.specs.declared.record.Who.{Who}
 use Rattle.apex_machine.specs.declared.state.Entry.{Entry}
-use Rattle.apex_machine.specs.Answer.{whos}
+use Rattle.apex_machine.specs.Answer.{waiters_of}
 use Rattle.apex_machine.specs.State.{is_same}
 use Rattle.wait_set.specs.declared.rank.Rank.{Rank}
 use Rattle.wait_set.specs.Ranks.{rank_of}
@@ -37,4 +37,4 @@ pub record IsKept (discipline : Discipline) (stored : List (ℕ × Entry)) (plac
   pub rising : PlacesRise (values_of stored)
   pub found : (who : Who) → lookup (is_same who) places ≡ place_of who (values_of stored)
   pub ranked : (rank : Rank) → list_any (is_rank rank) ranks ≡ has_rank discipline rank (values_of stored)
-  pub once : NobodyTwice (whos (values_of stored))
+  pub once : NobodyTwice (waiters_of (values_of stored))

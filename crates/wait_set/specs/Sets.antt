@@ -3,7 +3,7 @@ use Rattle.std.specs.Prelude.{◌<◌, ℕ, List, [], ◌∷◌, Option, Some, N
 use Rattle.apex_types.specs.declared.discipline.Discipline.{Discipline}
 use Rattle.apex_types.specs.declared.record.Who.{Who}
 use Rattle.apex_machine.specs.declared.state.Entry.{Entry}
-use Rattle.apex_machine.specs.Answer.{NamesExactly, whos}
+use Rattle.apex_machine.specs.Answer.{NamesExactly, waiters_of}
 use Rattle.apex_machine.specs.Demands.{stands_in}
 use Rattle.apex_machine.specs.State.{is_named, is_same}
 use Rattle.apex_machine.specs.Waiting.{first_waiter, without}
@@ -15,7 +15,7 @@ pub record Waiters : Type 0 where
 
 -- who enters
 
--- the entries with one more at its place: behind those of smaller places, before the others
+-- the entries with one more at its place: after those of smaller places, before the others
 abbrev pub entered : Entry → List Entry → List Entry
 entered entry [] = entry ∷ []
 entered entry (other ∷ others) = if nat_lt other.place entry.place then other ∷ entered entry others else entry ∷ other ∷ others
@@ -56,9 +56,9 @@ without_found None entries = entries
 without_found (Some entry) entries = without_one entry.who entries
 
 -- the process of this one, if it is one
-abbrev pub whos_of : Option Entry → List Who
-whos_of None = []
-whos_of (Some entry) = entry.who ∷ []
+abbrev pub waiter_of : Option Entry → List Who
+waiter_of None = []
+waiter_of (Some entry) = entry.who ∷ []
 
 -- the entries of all but the process that goes on first
 abbrev pub without_first : Discipline → List Entry → List Entry
@@ -80,8 +80,8 @@ NobodyTwice [] = Unit {0}
 NobodyTwice (who ∷ others) = IsFalse (is_named who others) × NobodyTwice others
 
 -- a list names exactly those who wait, each once
-abbrev pub IsRollOf : List Entry → List Who → Type 0
-IsRollOf entries named = NamesExactly (whos entries) named × NobodyTwice named
+abbrev pub IsListOfWaiters : List Entry → List Who → Type 0
+IsListOfWaiters entries named = NamesExactly (waiters_of entries) named × NobodyTwice named
 
 -- several sets
 

@@ -40,7 +40,7 @@ impl Conditions {
         }
     }
 
-    /// These conditions, and behind them this code where its condition holds. The caller sees to it that there is room.
+    /// These conditions, and after them this code where its condition holds. The caller sees to it that there is room.
     pub fn with(mut self, holds: bool, code: Code) -> Conditions
         requires { length self < Self.LIMIT }
         ensures value { result ≡ self ++ when holds code }

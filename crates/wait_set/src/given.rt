@@ -113,7 +113,7 @@ impl<'a> Given<'a> {
 /// Judges the claim of an operation that is done at once, and by which the waits of all in a set end. The cause is that of
 /// the first demand that fails.
 pub fn judge_waking_all(set: &WaitSet, claim: &Claim) -> Result<(), Cause>
-    ensures { Judges (answer_demands (answer.waking (answer.whos set.now.entries)) claim.now) result }
+    ensures { Judges (answer_demands (answer.waking (answer.waiters_of set.now.entries)) claim.now) result }
 {
     judge_outcome(Out::Answer(Code::NoError), None, &[], claim)?;
     if !names_all(set, claim) {
@@ -180,7 +180,7 @@ pub fn has_no_values(claim: &Claim) -> bool
 
 // Whether a claim names exactly those who wait in a set.
 fn names_all(set: &WaitSet, claim: &Claim) -> bool
-    ensures { IsTrue result ↔ NamesExactly (answer.whos set.now.entries) claim.now.woken }
+    ensures { IsTrue result ↔ NamesExactly (answer.waiters_of set.now.entries) claim.now.woken }
 {
     set.is_exactly(claim.woken.as_slice())
 }

@@ -1,13 +1,13 @@
 // The laws on waiting sets, each the contract of a function without code.
 
-ghost use Rattle.wait_set.specs.Laws.{EntersLast, RisingIsRoll};
+ghost use Rattle.wait_set.specs.Laws.{EntersLast, RisingIsListOfWaiters};
 
-/// An entry whose place is behind all others enters a waiting set as the last.
+/// An entry whose place is after all others enters a waiting set as the last.
 pub fn enters_last()
     ensures { EntersLast }
 {}
 
 /// A list in rising order that names exactly those who wait names each of them once.
-pub fn rising_is_roll()
-    ensures { RisingIsRoll }
+pub fn rising_is_list_of_waiters()
+    ensures { RisingIsListOfWaiters }
 {}

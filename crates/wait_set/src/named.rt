@@ -31,7 +31,7 @@ pub(crate) fn names_nobody_twice(named: &[Who]) -> bool
     rises(named) || differ(named)
 }
 
-// Whether each process of a list stands behind the one before.
+// Whether each process of a list comes after the one before.
 fn rises(named: &[Who]) -> bool
     ensures { IsTrue result ↔ IsRising named.now }
 {
@@ -47,7 +47,7 @@ fn rises(named: &[Who]) -> bool
     true
 }
 
-// Whether each process of a list differs from those behind it.
+// Whether each process of a list differs from those after it.
 fn differ(named: &[Who]) -> bool
     ensures { IsTrue result ↔ NobodyTwice named.now }
 {
@@ -61,7 +61,7 @@ fn differ(named: &[Who]) -> bool
     true
 }
 
-// Whether a process stands behind another: by its partition, and in one partition by its number.
+// Whether a process comes after another: by its partition, and in one partition by its number.
 fn is_behind(last: Who, who: Who) -> bool
     ensures { result ≡ rising.is_behind last who }
 {

@@ -3,12 +3,12 @@
 ghost use Rattle.std.specs.Prelude.{◌≡◌, ◌↔◌, ◌<◌, ◌^◌, [], None, Some, length, IfErr, IfOk, IfSome, IsTrue, OnErr, OnOk};
 ghost use Rattle.std.specs.List.{list_all};
 ghost use Rattle.std.specs.Option.{option_copied};
-ghost use Rattle.apex_machine.specs.Answer.{NamesExactly, whos};
+ghost use Rattle.apex_machine.specs.Answer.{NamesExactly, waiters_of};
 ghost use Rattle.apex_machine.specs.Demands.{stands_in};
 ghost use Rattle.apex_machine.specs.Waiting.{first_waiter, is_waiting};
 ghost use Rattle.wait_set.specs.Actors.{WaitsAlone, entry_with, joined_by};
 ghost use Rattle.wait_set.specs.Sets as sets;
-ghost use Rattle.wait_set.specs.Sets.{IsNew, IsRollOf, NobodyTwice, PlacesRise, entered, whos_of, without_first, without_named, without_one, without_part};
+ghost use Rattle.wait_set.specs.Sets.{IsNew, IsListOfWaiters, NobodyTwice, PlacesRise, entered, waiter_of, without_first, without_named, without_one, without_part};
 
 use crate::named::names_nobody_twice;
 use crate::object::Actor;
@@ -152,7 +152,7 @@ impl WaitSet {
     /// Takes out the entry that goes on first, where a list names its process and nobody else, or None where the list names
     /// nobody and nobody waits. Takes no memory.
     pub fn release_first(&mut self, named: &[Who]) -> Option<Entry>
-        requires { NamesExactly (whos_of (first_waiter self.old.discipline self.old.entries)) named.now }
+        requires { NamesExactly (waiter_of (first_waiter self.old.discipline self.old.entries)) named.now }
         ensures first { result ≡ first_waiter self.old.discipline self.old.entries }
         ensures left { self.new ≡ record self.old { entries = without_named named.now self.old.entries } }
     {
@@ -185,7 +185,7 @@ impl WaitSet {
 
     /// Whether a list names exactly those who wait here, each once. Takes no memory.
     pub fn is_exactly(&self, named: &[Who]) -> bool
-        ensures { IsTrue result ↔ IsRollOf self.now.entries named.now }
+        ensures { IsTrue result ↔ IsListOfWaiters self.now.entries named.now }
     {
         if named.len() != self.entries.len() {
             return false;
@@ -214,7 +214,7 @@ impl WaitSet {
         ensures len { result ≡ length self.now.entries }
         ensures small { result < 2 ^ 63 }
         ensures rising { PlacesRise self.now.entries }
-        ensures once { NobodyTwice (whos self.now.entries) }
+        ensures once { NobodyTwice (waiters_of self.now.entries) }
     {
         self.entries.len()
     }

@@ -1,9 +1,9 @@
-// What is told of an object, and whether a claim is that.
+// The status of an object, and whether a claim is that.
 
 ghost use Rattle.std.specs.Prelude.{◌≡◌, ◌↔◌, IsTrue, Some, option_map, pos};
 ghost use Rattle.apex_machine.specs.Answer.{HasValues};
 ghost use Rattle.apex_machine.specs.Demands.{Judges, answer_demands};
-ghost use Rattle.apex_machine.specs.Statuses.{first_told, second_told, telling, third_told};
+ghost use Rattle.apex_machine.specs.Statuses.{first_reported, second_reported, telling, third_reported};
 
 use crate::given::has_no_values;
 use crate::named::names_only;
@@ -32,7 +32,7 @@ pub fn judge_status(status: Option<Status>, claim: &Claim) -> Result<(), Cause>
 
 // Whether a claim has just the numbers of a status as its values.
 fn has_status(status: Option<Status>, claim: &Claim) -> bool
-    ensures { IsTrue result ↔ HasValues (first_told status) (second_told status) (third_told status) claim.now }
+    ensures { IsTrue result ↔ HasValues (first_reported status) (second_reported status) (third_reported status) claim.now }
 {
     match status {
         Some(status) => {

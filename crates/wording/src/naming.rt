@@ -5,10 +5,10 @@ use apex_types::{Code, ObjectKind, Out, Who};
 use std::fmt::Write;
 use std::{fmt, str};
 
-/// How many bytes of a message are told.
+/// How many bytes of a message are shown.
 const MOST_BYTES: usize = 16;
 
-/// How many bytes of a text from outside are told.
+/// How many bytes of a text from outside are shown.
 const MOST_TEXT: usize = 60;
 
 /// A process with its partition.

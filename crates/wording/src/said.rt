@@ -5,7 +5,7 @@ use crate::request::tell_request;
 use crate::words::Words;
 use apex_types::{Body, Call, Claim, Ordered, Out, Return, Who};
 
-/// How many processes of a list are told.
+/// How many processes of a list are shown.
 const MOST_NAMED: usize = 8;
 
 /// Tells what a record says.

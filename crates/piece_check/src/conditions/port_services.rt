@@ -6,7 +6,7 @@ ghost use Rattle.apex_machine.specs.Configuration.{Configuration};
 ghost use Rattle.apex_machine.specs.PortConditions as codes;
 ghost use Rattle.apex_machine.specs.ServiceConditions.{condition_codes};
 ghost use Rattle.apex_machine.specs.State.{given_object};
-ghost use Rattle.module_config.specs.Ports.{told_queuing, told_sampling};
+ghost use Rattle.module_config.specs.Ports.{configured_queuing, configured_sampling};
 ghost use Rattle.partition_state.specs.Calls.{creates_port};
 ghost use Rattle.ports.specs.Guards.{IsGuard};
 ghost use Rattle.piece_check.specs.Subjects.{carries_message};
@@ -101,7 +101,7 @@ fn create_queuing(
 
 // Whether a sampling port is created as it is configured; the refresh period counts at a destination only.
 fn is_sampling_port(port: SamplingPort, size: i64, direction: i64, refresh: i64) -> bool
-    ensures { result ≡ codes.is_sampling_port (Some (told_sampling port)) size direction refresh }
+    ensures { result ≡ codes.is_sampling_port (Some (configured_sampling port)) size direction refresh }
 {
     let suits_refresh = port.direction == Direction::Source || is_number(refresh, port.refresh);
     is_number(size, u64::from(port.size))
@@ -111,7 +111,7 @@ fn is_sampling_port(port: SamplingPort, size: i64, direction: i64, refresh: i64)
 
 // Whether a queuing port is created as it is configured.
 fn is_queuing_port(port: QueuingPort, size: i64, capacity: i64, both: i64) -> bool
-    ensures { result ≡ codes.is_queuing_port (Some (told_queuing port)) size capacity both }
+    ensures { result ≡ codes.is_queuing_port (Some (configured_queuing port)) size capacity both }
 {
     is_number(size, u64::from(port.size))
         && is_number(capacity, u64::from(port.capacity))
@@ -120,7 +120,7 @@ fn is_queuing_port(port: QueuingPort, size: i64, capacity: i64, both: i64) -> bo
 
 // The number that tells the direction and the discipline of a queuing port.
 fn both_number(port: QueuingPort) -> u64
-    ensures { result ≡ codes.both_number (told_queuing port) }
+    ensures { result ≡ codes.both_number (configured_queuing port) }
 {
     direction_number(port.direction) + 2 * discipline_number(port.discipline)
 }

@@ -2,7 +2,7 @@
 
 ghost use Rattle.std.specs.Prelude.{◌≡◌, ◌<◌, ◌++◌, ◌∷◌, [], Some, pos, IsTrue, OnOk, OnErr};
 ghost use Rattle.std.specs.Fn.{FnOnceReturnsAtMut};
-ghost use Rattle.apex_types.specs.Bounds.{place_count};
+ghost use Rattle.apex_types.specs.declared.limits.TheConstants.{PLACE_COUNT};
 ghost use Rattle.apex_machine.specs.declared.state.Process.{Process as ProcessValue};
 ghost use Rattle.apex_machine.specs.Answer.{is_new};
 ghost use Rattle.apex_machine.specs.Processes.{after_normal, granted, new_process, released, restored, started, stopped, woken_by};
@@ -24,7 +24,7 @@ use apex_types::{CoreId, Message, Name, Place, ProcId};
 use std::alloc::AllocError;
 
 impl ProcTable {
-    /// Adds a new process behind the others: dormant, on the partition's first core; aperiodic where the period is below 0.
+    /// Adds a new process after the others: dormant, on the partition's first core; aperiodic where the period is below 0.
     /// The caller sees to it that no process has its number.
     ///
     /// AllocError where memory is refused; nothing has changed then.
@@ -282,7 +282,7 @@ impl ProcTable {
 pub(super) fn time_at(cores: &[CoreState], core: CoreId) -> u64
     requires { TimesFit cores.now }
     ensures value { result ≡ time_of cores.now core }
-    ensures below { result < place_count }
+    ensures below { result < PLACE_COUNT }
 {
     time_among(cores, core)
 }

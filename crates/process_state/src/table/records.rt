@@ -8,11 +8,11 @@ ghost use Rattle.std.specs.Map.{keys_of};
 ghost use Rattle.apex_machine.specs.declared.state.Process.{Process as ProcessValue};
 ghost use Rattle.apex_machine.specs.DueTimes as due_times;
 ghost use Rattle.apex_machine.specs.State.{Partition, each_item, item_at, time_of};
-ghost use Rattle.apex_machine.specs.Processes.{gift_of, set_by};
+ghost use Rattle.apex_machine.specs.Processes.{message_handed_over, set_by};
 ghost use Rattle.apex_machine.specs.After as after;
 ghost use Rattle.process_state.specs.Changes.{only, with_each};
-ghost use Rattle.process_state.specs.Fellows.{fellow_woken, stopped_by};
-ghost use Rattle.process_state.specs.Gifts.{AreCopies};
+ghost use Rattle.process_state.specs.Peers.{peer_woken, stopped_by};
+ghost use Rattle.process_state.specs.HandedOver.{AreCopies};
 ghost use Rattle.process_state.specs.Prepared.{IsPreparedFor, creates_process};
 ghost use Rattle.process_state.specs.Processes.{processes_of};
 ghost use Rattle.process_state.specs.Settled.{settled};
@@ -23,11 +23,11 @@ ghost use Rattle.process_state.specs.Transfers.{IsTransferOf};
 use super::ProcTable;
 use super::changes::time_at;
 use crate::caller::{Settling, is_done, settling_of};
-use crate::fellow::{answers_no_error, wakes};
-use crate::gift::gifts_of;
+use crate::message::messages_for;
 use crate::moment::Moment;
 use crate::number::claimed_number;
 use crate::order::is_of;
+use crate::peer::{answers_no_error, wakes};
 use crate::prepared::{Prepared, prepared_for};
 use crate::process::next_release;
 use crate::transfer::Transfer;
@@ -67,7 +67,7 @@ impl ProcTable {
         ensures unchanged { OnErr result (self.new ≡ self.old) }
         ensures memory { OnErr result (IsTrue (creates_process call.now.request)) }
     {
-        let Prepared { outcome, gifts } = prepared;
+        let Prepared { outcome, messages } = prepared;
         let now = time_at(moment.cores, moment.core);
         let next = self.next_release(call);
         let settling = settling_of(moment.place, now, next, call, outcome);
@@ -79,8 +79,8 @@ impl ProcTable {
         if stands {
             self.settle(call.who.proc, now, settling);
         }
-        self.stop_fellow(call);
-        self.wake_fellows(moment.place, call, gifts);
+        self.stop_peer(call);
+        self.wake_peers(moment.place, call, messages);
         Ok(())
     }
 
@@ -88,17 +88,17 @@ impl ProcTable {
     /// message that the call hands over.
     ///
     /// AllocError where memory for the messages is refused; nothing has changed then.
-    pub fn rouse(&mut self, part: PartId, place: Place, call: &Call) -> Result<(), AllocError>
-        ensures ok { OnOk result (self.new ≡ with_each (λ number process. after.roused place call.now (record { part = part; proc = number }) process) self.old) }
+    pub fn wake_named(&mut self, part: PartId, place: Place, call: &Call) -> Result<(), AllocError>
+        ensures ok { OnOk result (self.new ≡ with_each (λ number process. after.woken_if_named place call.now (record { part = part; proc = number }) process) self.old) }
         ensures unchanged { OnErr result (self.new ≡ self.old) }
     {
         let alloc = *self.processes.allocator();
         let woken = call.claim.woken.as_slice();
-        let mut gifts = gifts_of(alloc, &call.request, woken.len())?;
+        let mut messages = messages_for(alloc, &call.request, woken.len())?;
         for who in woken {
             if is_of(*who, part) {
-                if let Some(gift) = gifts.pop() {
-                    self.wake(who.proc, place, gift);
+                if let Some(message) = messages.pop() {
+                    self.wake(who.proc, place, message);
                 }
             }
         }
@@ -164,7 +164,7 @@ impl ProcTable {
     }
 
     // STOP of another process than the caller.
-    fn stop_fellow(&mut self, call: &Call)
+    fn stop_peer(&mut self, call: &Call)
         ensures { self.new ≡ with_each (stopped_by call.now) self.old }
     {
         if let Request::Stop { process } = &call.request {
@@ -174,18 +174,18 @@ impl ProcTable {
         }
     }
 
-    // The waits of the caller's fellows end that the call names and does not stop: each gets one of these messages.
-    fn wake_fellows(&mut self, place: Place, call: &Call, gifts: Vec<Message>)
-        requires enough { length call.now.claim.woken ≤ vec_len gifts }
-        requires alike { AreCopies (gift_of call.now.request) gifts.items }
-        ensures { self.new ≡ with_each (fellow_woken place call.now) self.old }
+    // The waits of the caller's peers end that the call names and does not stop: each gets one of these messages.
+    fn wake_peers(&mut self, place: Place, call: &Call, messages: Vec<Message>)
+        requires enough { length call.now.claim.woken ≤ vec_len messages }
+        requires alike { AreCopies (message_handed_over call.now.request) messages.items }
+        ensures { self.new ≡ with_each (peer_woken place call.now) self.old }
     {
-        let mut gifts = gifts;
+        let mut messages = messages;
         let woken = call.claim.woken.as_slice();
         for who in woken {
             if wakes(call, *who) {
-                if let Some(gift) = gifts.pop() {
-                    self.wake(who.proc, place, gift);
+                if let Some(message) = messages.pop() {
+                    self.wake(who.proc, place, message);
                 }
             }
         }

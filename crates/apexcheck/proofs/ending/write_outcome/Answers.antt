@@ -13,7 +13,7 @@ returns-in_err-write_report-clause-cut g c =
     c.in_err-write_report.ensures.cut in
     search rules
 
--- where the lines behind are cut
+-- where the lines after are cut
 behind_cut : {A : Type 0} (answer : Result A WriteFault) (before now after : Option (List ℕ)) (first second : List ℕ) → IsWritten before first now → OnErr answer (IsCut now second after)
     → OnErr answer (IsCut before (first ++ second) after)
 behind_cut (Ok value) before now after first second out cut = cut

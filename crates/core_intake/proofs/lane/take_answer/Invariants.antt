@@ -2,7 +2,7 @@ use Rattle.std.proofs.Common.{◌≡◌, ◌++◌, List}
 use Rattle.crossbeam_channel.specs.Claims.{view, IsSeatAt}
 use Rattle.crossbeam_channel.specs.Ends.{receives_on}
 use Rattle.core_intake.specs.Relay.{log}
-use Rattle.core_intake.specs.Told.{Answer}
+use Rattle.core_intake.specs.Answered.{Answer}
 use Rattle.core_intake.specs.Batches.{all_answers}
 use Rattle.core_intake.proofs.lane.take_answer.Given as goal
 

@@ -1,4 +1,4 @@
--- A piece other than the module is the partition, or behind the partitions the channel, of its place.
+-- A piece other than the module is the partition, or after the partitions the channel, of its place.
 use Rattle.std.proofs.Common.{◌<◌, ◌≤◌, ◌-◌, length, refl, arith}
 use Rattle.apex_machine.specs.Channels.{channel_numbers}
 use Rattle.piece_check.proofs.Numbering.{channel_fits, length-pieces, piece_at_channel, piece_at_partition}

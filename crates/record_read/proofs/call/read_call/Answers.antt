@@ -1,6 +1,7 @@
 use Rattle.std.proofs.Common.{refl, sym, inl, inr}
 use Rattle.csv.specs.Records.{fields_of}
 use Rattle.apex_types.specs.declared.record.Call.{Call}
+use Rattle.record_read.specs.declared.column.Column.TheVariants as column
 use Rattle.record_read.specs.Arguments.{request_of}
 use Rattle.record_read.specs.Field.{text_at}
 use Rattle.record_read.specs.Payload.{hex_bytes}
@@ -23,9 +24,9 @@ returns-in_default-clause-refused c =
         val = plain.val;
         val2 = plain.val2;
         val3 = plain.val3;
-        bytes = hex_bytes (text_at (fields_of c.args.fields.now) 13);
+        bytes = hex_bytes (text_at (fields_of c.args.fields.now) column.Data);
         chan = plain.chan;
-        woken = processes_in (text_at (fields_of c.args.fields.now) 15);
+        woken = processes_in (text_at (fields_of c.args.fields.now) column.Woken);
       };
     } in
     rw (sym c.in_ok-who.ensures.value, c.in_ok-request.ensures.value, c.in_ok-claim.ensures.value)

@@ -6,4 +6,4 @@ use Rattle.record_read.proofs.field.expect_all_empty.Goals as goal
 
 pub loop-step-preserved : goal.loop-step-preserved
 loop-step-preserved c = c.loop-step.invariant ∙ next_empty (fields_of c.args.fields.now) c.args.place c.loop-step.step c.args.count c.loop-step-test.true
-    (ap empty (sym c.text.ensures) ∙ sym c.in_ok-expect_empty.ensures.value)
+    (ap empty (sym c.bytes.ensures) ∙ sym c.in_ok-expect_empty.ensures.value)

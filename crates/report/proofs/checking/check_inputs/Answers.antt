@@ -78,7 +78,7 @@ returns g c = λ recordings certificate e is.
     ))
     (elim (rw same at (c.judge_all-answer.ensures c.close.ensures.honest)) [
       | inl memory ↦ inl memory
-      | inr (scanned, ahead, judged, told) ↦ inr (record {
+      | inr (scanned, ahead, judged, reported) ↦ inr (record {
         scanned = scanned;
         scan = subst (λ given. IsScanOf given.can_fail (length recordings) none_taken 0 (items_at recordings) (pairs_of certificate) scanned) c.inputs.view_is
             (scanned_texts (record { recordings = g.R.TextSource.can_fail; certificate = g.C.TextSource.can_fail }) (λ reader. g.R.TextSource.remaining reader) c.inputs.inside.recordings.items recordings certificate
@@ -86,6 +86,6 @@ returns g c = λ recordings certificate e is.
             (ap (λ given. given.recordings) c.inputs.view_is ∙ e) (ap (λ given. given.certificate) c.inputs.view_is ∙ is) (c.new-placer.ensures.lanes ∙ c.in-Ok-open.ensures.open) (c.new-placer.ensures.pairs ∙ c.new-2.ensures.left)
             c.new-placer.ensures.taken c.new-placer.ensures.place ahead);
         judged = judged;
-        told = told;
+        reported = reported;
       })
     ]))

@@ -10,7 +10,7 @@ use Rattle.report.specs.declared.fault.CheckFault.TheVariants.{Memory}
 use Rattle.report.specs.declared.last.LastItem.{LastItem}
 use Rattle.report.specs.Last.{item_of, kept_behind, most_last}
 use Rattle.report.specs.Rounds.{IsDecided}
-use Rattle.report.proofs.Going.{IsToldOf, behind_on, decided_on, filled_on, last_on}
+use Rattle.report.proofs.Going.{IsReportedOf, behind_on, decided_on, filled_on, last_on}
 use Rattle.report.proofs.LastOnes.{kept_on}
 use Rattle.report.proofs.rounds.judge_all.Goals as goal
 
@@ -19,16 +19,16 @@ returns-in-Ended g c =
     let can_fail : CanFail = record { recordings = g.R.TextSource.can_fail; certificate = g.C.TextSource.can_fail } in
     let config = c.args.config.now in
     let relations = relations_of c.args.rules.now in
-    let gone = c.rounds.invariant.gone in
+    let outcome = c.rounds.invariant.outcome in
     let round : List Ordered = c.rounds.round.items in
-    let kept : List LastItem = keep_last most_last (map item_of gone.0) in
+    let kept : List LastItem = keep_last most_last (map item_of outcome.0) in
     let last : c.keep_behind.new.self ≡ kept_behind c.judge_last-answer.result c.rounds.judge.count kept round =
     rw c.deref-in-Ended.ensures.value at c.keep_behind.ensures
     ∙ ap (λ first. kept_behind c.judge_last-answer.result first c.rounds.last round) c.count-first.ensures
-    ∙ ap (λ before. kept_behind c.judge_last-answer.result c.rounds.judge.count before round) gone.3 in λ honest.
-    subst (λ told. (c.judge_last-answer.result ≡ Err Memory) ⊎ IsToldOf can_fail config relations c.args.placer.now c.judge_last-answer.result told) (sym last)
-    (last_on can_fail config relations c.args.placer.now c.rounds.placer c.rounds.judge gone.0 round c.in-Ended.end c.judge_last-answer.result
-    (subst (λ filled. IsFilled can_fail c.args.placer.now (gone.0 ++ round) filled c.rounds.placer) c.in-Ended.is (gone.1 honest)) gone.2 c.rounds.invariant.may.placed
+    ∙ ap (λ before. kept_behind c.judge_last-answer.result c.rounds.judge.count before round) outcome.3 in λ honest.
+    subst (λ reported. (c.judge_last-answer.result ≡ Err Memory) ⊎ IsReportedOf can_fail config relations c.args.placer.now c.judge_last-answer.result reported) (sym last)
+    (last_on can_fail config relations c.args.placer.now c.rounds.placer c.rounds.judge outcome.0 round c.in-Ended.end c.judge_last-answer.result
+    (subst (λ filled. IsFilled can_fail c.args.placer.now (outcome.0 ++ round) filled c.rounds.placer) c.in-Ended.is (outcome.1 honest)) outcome.2 c.rounds.invariant.may.placed
     (rw c.deref.ensures.value at c.judge_last-answer.ensures))
 
 pub returns-in-Ok-Some : goal.returns-in-Ok-Some
@@ -36,21 +36,21 @@ returns-in-Ok-Some g c =
     let can_fail : CanFail = record { recordings = g.R.TextSource.can_fail; certificate = g.C.TextSource.can_fail } in
     let config = c.args.config.now in
     let relations = relations_of c.args.rules.now in
-    let gone = c.rounds.invariant.gone in
+    let outcome = c.rounds.invariant.outcome in
     let round : List Ordered = c.rounds.round.items in
-    let kept : List LastItem = keep_last most_last (map item_of gone.0) in
+    let kept : List LastItem = keep_last most_last (map item_of outcome.0) in
     let verdict = c.in-Ok-Some.verdict in
-    let lead : AreHonest can_fail.recordings c.rounds.placer.lanes → Lead can_fail c.args.placer.now (gone.0 ++ round) c.rounds.placer =
-    λ honest. subst (λ filled. IsFilled can_fail c.args.placer.now (gone.0 ++ round) filled c.rounds.placer) c.in-Full.is (gone.1 honest) in
+    let lead : AreHonest can_fail.recordings c.rounds.placer.lanes → Lead can_fail c.args.placer.now (outcome.0 ++ round) c.rounds.placer =
+    λ honest. subst (λ filled. IsFilled can_fail c.args.placer.now (outcome.0 ++ round) filled c.rounds.placer) c.in-Full.is (outcome.1 honest) in
     let decided : IsDecided config relations c.rounds.judge round (Some verdict) c.judge_and_fill-decided.new.judge =
     rw c.in-Ok-Some.field-0-is at (rw c.in-Ok-Some.is at (rw c.deref-in-rounds.ensures.value at c.judge_and_fill-decided.ensures.decided)) in
     let last : c.keep_behind-in-Ok-Some.new.self ≡ kept_behind (Ok verdict) c.rounds.judge.count kept round =
     rw c.deref-in-Ok-Some.ensures.value at c.keep_behind-in-Ok-Some.ensures
     ∙ ap (λ first. kept_behind (Ok verdict) first c.rounds.last round) c.count-first.ensures
-    ∙ ap (λ before. kept_behind (Ok verdict) c.rounds.judge.count before round) gone.3 in λ honest.
-    subst (λ told. (Ok verdict ≡ Err Memory) ⊎ IsToldOf can_fail config relations c.args.placer.now (Ok verdict) told) (sym last)
-    (decided_on can_fail config relations c.args.placer.now c.rounds.placer c.rounds.judge c.judge_and_fill-decided.new.judge gone.0 round verdict
-    (lead (c.judge_and_fill-decided.ensures.placed.honest honest)) gone.2 c.rounds.invariant.may.placed decided)
+    ∙ ap (λ before. kept_behind (Ok verdict) c.rounds.judge.count before round) outcome.3 in λ honest.
+    subst (λ reported. (Ok verdict ≡ Err Memory) ⊎ IsReportedOf can_fail config relations c.args.placer.now (Ok verdict) reported) (sym last)
+    (decided_on can_fail config relations c.args.placer.now c.rounds.placer c.rounds.judge c.judge_and_fill-decided.new.judge outcome.0 round verdict
+    (lead (c.judge_and_fill-decided.ensures.placed.honest honest)) outcome.2 c.rounds.invariant.may.placed decided)
 
 pub rounds-preserved : goal.rounds-preserved
 rounds-preserved g c =
@@ -58,29 +58,29 @@ rounds-preserved g c =
     let config = c.args.config.now in
     let relations = relations_of c.args.rules.now in
     let is = c.rounds.invariant in
-    let gone = is.gone in
+    let outcome = is.outcome in
     let round : List Ordered = c.rounds.round.items in
     let next : List Ordered = c.judge_and_fill-decided.new.next.items in
     let placed = c.judge_and_fill-decided.ensures.placed in
-    let lead : AreHonest can_fail.recordings c.rounds.placer.lanes → Lead can_fail c.args.placer.now (gone.0 ++ round) c.rounds.placer =
-    λ honest. subst (λ filled. IsFilled can_fail c.args.placer.now (gone.0 ++ round) filled c.rounds.placer) c.in-Full.is (gone.1 honest) in
+    let lead : AreHonest can_fail.recordings c.rounds.placer.lanes → Lead can_fail c.args.placer.now (outcome.0 ++ round) c.rounds.placer =
+    λ honest. subst (λ filled. IsFilled can_fail c.args.placer.now (outcome.0 ++ round) filled c.rounds.placer) c.in-Full.is (outcome.1 honest) in
     let decided : IsDecided config relations c.rounds.judge round None c.judge_and_fill-decided.new.judge =
     rw c.in-Ok-None.field-0-is at (rw c.in-Ok-None.is at (rw c.deref-in-rounds.ensures.value at c.judge_and_fill-decided.ensures.decided)) in
     let count = decided.1 ∙ sym (is.place c.in-Full.is) in
-    let kept : c.keep.new.self ≡ keep_last most_last (map item_of (gone.0 ++ round)) =
+    let kept : c.keep.new.self ≡ keep_last most_last (map item_of (outcome.0 ++ round)) =
     rw c.deref-in-Ok-None.ensures.value at c.keep.ensures
-    ∙ ap (λ before. keep_last most_last (before ++ map item_of round)) gone.3
-    ∙ kept_on most_last (map item_of gone.0) (map item_of round) ∙ ap (keep_last most_last) (sym (map-append item_of gone.0 round)) in
+    ∙ ap (λ before. keep_last most_last (before ++ map item_of round)) outcome.3
+    ∙ kept_on most_last (map item_of outcome.0) (map item_of round) ∙ ap (keep_last most_last) (sym (map-append item_of outcome.0 round)) in
     rw c.swap.ensures.x_after record {
       may = record {
         ready = decided.3;
         placed = subst (λ place. ArePlaced place next) (sym count) placed.placed;
         cores = subst (λ cores. AreOfCores cores next) is.lanes placed.cores;
       };
-      gone = (
-        gone.0 ++ round,
-        (λ honest. filled_on can_fail c.args.placer.now c.rounds.placer c.judge_and_fill-decided.new.placer (gone.0 ++ round) next c.judge_and_fill-decided.result.1 (lead (placed.honest honest)) (placed.known honest)),
-        behind_on config relations c.rounds.judge c.judge_and_fill-decided.new.judge gone.0 round gone.2 decided,
+      outcome = (
+        outcome.0 ++ round,
+        (λ honest. filled_on can_fail c.args.placer.now c.rounds.placer c.judge_and_fill-decided.new.placer (outcome.0 ++ round) next c.judge_and_fill-decided.result.1 (lead (placed.honest honest)) (placed.known honest)),
+        behind_on config relations c.rounds.judge c.judge_and_fill-decided.new.judge outcome.0 round outcome.2 decided,
         kept,
       );
       going = placed.going;

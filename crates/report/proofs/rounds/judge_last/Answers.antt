@@ -1,5 +1,4 @@
-use Rattle.std.proofs.Common.{◌≢◌, ◌∙◌, subst, sym, true≢false, Err}
-use Rattle.placement.specs.declared.fault.InputFault.TheVariants as input
+use Rattle.std.proofs.Common.{subst, sym}
 use Rattle.user_rules.specs.Rules.{relations_of}
 use Rattle.verdict_merge.specs.declared.verdict.Verdict.TheVariants.{Yes}
 use Rattle.report.specs.Outcome.{answer_with}
@@ -9,13 +8,11 @@ use Rattle.report.proofs.rounds.judge_last.Goals as goal
 
 pub returns-in-Ok-Some : goal.returns-in-Ok-Some
 returns-in-Ok-Some g c =
-    let other : c.args.end ≢ Err input.Memory = λ e. true≢false (sym (c.is_memory.ensures.1 e) ∙ c.if-is_memory.false) in
-    last_decided c.args.config.now (relations_of c.args.rules.now) c.args.judge.now c.judge_round.new.judge c.args.round.now c.args.end c.in-Ok-Some.verdict other
+    last_decided c.args.config.now (relations_of c.args.rules.now) c.args.judge.now c.judge_round.new.judge c.args.round.now c.args.end c.in-Ok-Some.verdict
     (rw c.in-Ok-Some.field-0-is at c.in-Ok-Some.ensures)
 
 pub returns-in-Ok-None : goal.returns-in-Ok-None
 returns-in-Ok-None g c =
-    let other : c.args.end ≢ Err input.Memory = λ e. true≢false (sym (c.is_memory.ensures.1 e) ∙ c.if-is_memory.false) in
     subst (λ answer. IsLastAnswer c.args.config.now (relations_of c.args.rules.now) c.args.judge.now c.args.round.now c.args.end answer) (sym c.answer_at.ensures)
     (subst (λ count. IsLastAnswer c.args.config.now (relations_of c.args.rules.now) c.args.judge.now c.args.round.now c.args.end (answer_with (Yes count) c.args.end)) (sym c.count.ensures)
-    (last_undecided c.args.config.now (relations_of c.args.rules.now) c.args.judge.now c.judge_round.new.judge c.args.round.now c.args.end other (rw c.in-Ok-None.field-0-is at c.in-Ok-None.ensures)))
+    (last_undecided c.args.config.now (relations_of c.args.rules.now) c.args.judge.now c.judge_round.new.judge c.args.round.now c.args.end (rw c.in-Ok-None.field-0-is at c.in-Ok-None.ensures)))

@@ -5,27 +5,3 @@ returns-in-Arguments-clause-whole g c = rw c.in-Arguments.is (rw c.name_of_argum
 
 pub returns-in-Config-clause-whole : goal.returns-in-Config-clause-whole
 returns-in-Config-clause-whole g c = rw c.in-Config.is (rw c.name_of_config_fault.ensures at c.put_parts-in-Config.ensures.whole)
-
-pub returns-in-Cert-clause-whole : goal.returns-in-Cert-clause-whole
-returns-in-Cert-clause-whole g c =
-    rw c.in-Cert.is (rw (c.as_bytes.ensures.value, c.format.ensures.text, c.name_of_cert_fault.ensures) at c.put_parts-in-Cert.ensures.whole)
-
-pub returns-in-Order-clause-whole : goal.returns-in-Order-clause-whole
-returns-in-Order-clause-whole g c =
-    rw c.in-Order.is (rw (
-      c.as_bytes-in-Order.ensures.value,
-      c.format-in-Order.ensures.text,
-      c.as_bytes-in-Order-2.ensures.value,
-      c.format-in-Order-2.ensures.text,
-      c.name_of_order_fault.ensures,
-    ) at c.put_parts-in-Order.ensures.whole)
-
-pub returns-in-Row-clause-whole : goal.returns-in-Row-clause-whole
-returns-in-Row-clause-whole g c =
-    rw c.in-Row.is (rw (
-      c.as_bytes-in-Row.ensures.value,
-      c.format-in-Row.ensures.text,
-      c.as_bytes-in-Row-2.ensures.value,
-      c.format-in-Row-2.ensures.text,
-      c.name_of_row_fault.ensures,
-    ) at c.put_parts-in-Row.ensures.whole)

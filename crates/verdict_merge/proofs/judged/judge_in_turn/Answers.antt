@@ -2,7 +2,7 @@ use Rattle.std.proofs.Common.{◌≡◌, ◌<◌, ◌∙◌, ◌++◌, ◌∷◌
 use Rattle.std.proofs.lemmas.List.{length-append}
 use Rattle.std.proofs.Math.Seq.{get_or-append_seam}
 use Rattle.user_rules.specs.Rules.{relations_of}
-use Rattle.verdict_merge.specs.Rounds.{IsGoing, IsGoneOver, holding_at}
+use Rattle.verdict_merge.specs.Rounds.{IsGoing, IsJudgedOver, holding_at}
 use Rattle.verdict_merge.proofs.Holdings.{holding_at-get}
 use Rattle.verdict_merge.proofs.Working.{over_more}
 use Rattle.verdict_merge.proofs.judged.judge_in_turn.Goals as goal
@@ -35,9 +35,9 @@ pieces-preserved g c =
     let all : c.pieces.yielded ++ piece ∷ rest ≡ old = subst (λ left. c.pieces.yielded ++ left ≡ old) c.in-Some.ensures.steps.0 c.pieces.invariant.0 in
     let within : number < length old = omega (arith, ap length all, length-append c.pieces.yielded (piece ∷ rest)) in
     let here : holding_at old number ≡ piece = holding_at-get old number piece within ∙ ap (λ items. get_or items number piece) (sym all) ∙ get_or-append_seam c.pieces.yielded piece rest piece in
-    let over : IsGoneOver config number first records relations (holding_at old number) one.gone one.piece =
-    subst (λ holding. IsGoneOver config number first records relations holding one.gone one.piece) (sym here)
-    (subst (λ n. IsGoneOver config n first records relations piece one.gone one.piece) (c.len-in-pieces.ensures ∙ c.pieces.invariant.1) c.in-Ok-judge_piece.ensures) in
+    let over : IsJudgedOver config number first records relations (holding_at old number) one.outcome one.piece =
+    subst (λ holding. IsJudgedOver config number first records relations holding one.outcome one.piece) (sym here)
+    (subst (λ n. IsJudgedOver config n first records relations piece one.outcome one.piece) (c.len-in-pieces.ensures ∙ c.pieces.invariant.1) c.in-Ok-judge_piece.ensures) in
     let counted : length c.pieces.judged.items ≡ number = omega (arith, c.pieces.judged.ok, c.pieces.invariant.1) in
     let more = over_more config first records relations old c.pieces.judged.items one number counted c.pieces.invariant.3 over in (
       append_assoc c.pieces.yielded (piece ∷ []) rest ∙ all,

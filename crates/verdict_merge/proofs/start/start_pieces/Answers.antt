@@ -3,7 +3,7 @@ use Rattle.std.proofs.lemmas.List.{length-append}
 use Rattle.apex_machine.specs.Pieces.{pieces}
 use Rattle.apex_machine.specs.State.{cold_state}
 use Rattle.piece_check.proofs.Viewing.{IsPartOf_state}
-use Rattle.piece_check.specs.Parts.{IsBehind, IsOf, IsPartOf, piece_at}
+use Rattle.piece_check.specs.Parts.{HoldsBefore, IsOf, IsPartOf, piece_at}
 use Rattle.verdict_merge.specs.Rounds.{cold_parts, holding_at}
 use Rattle.verdict_merge.proofs.Holdings.{holding_at-front, holding_at-last}
 use Rattle.verdict_merge.proofs.Splits.{up_to}
@@ -28,7 +28,7 @@ pieces-preserved c =
           (up_to (λ one. IsOf config (holding_at (items ++ piece ∷ []) one)) number
           (λ one less. subst (IsOf config) (sym (holding_at-front items piece one (omega (arith, less, c.pieces.invariant.count)))) (c.pieces.invariant.of_module one less))
           (subst (IsOf config) (sym last) c.in-Ok-start.ensures.of_module));
-      behind = up_to (λ one. IsBehind 0 (cold_parts config one)) number c.pieces.invariant.behind (subst (IsBehind 0) c.in-Ok-start.ensures.part c.in-Ok-start.ensures.behind);
+      holds_before = up_to (λ one. HoldsBefore 0 (cold_parts config one)) number c.pieces.invariant.holds_before (subst (HoldsBefore 0) c.in-Ok-start.ensures.part c.in-Ok-start.ensures.holds_before);
     }
 
 pub returns-clause-going : goal.returns-clause-going
@@ -42,6 +42,6 @@ returns-clause-going c =
           record {
             of_module = c.pieces.invariant.of_module number less;
             whose = subst (IsPartOf (piece_at config number)) (sym (c.pieces.invariant.cold number less)) (IsPartOf_state (piece_at config number) (cold_state config));
-            behind = subst (IsBehind 0) (sym (c.pieces.invariant.cold number less)) (c.pieces.invariant.behind number less);
+            holds_before = subst (HoldsBefore 0) (sym (c.pieces.invariant.cold number less)) (c.pieces.invariant.holds_before number less);
           };
     }

@@ -2,7 +2,7 @@ use Rattle.std.proofs.Common.{rules, tests, sym, ◌∙◌}
 use Rattle.std.proofs.lemmas.Iterator.{YieldsList-from_slice}
 use Rattle.std.proofs.lemmas.Iterator.Search.{any_from_yields_List}
 use Rattle.apex_machine.specs.State.{is_same}
-use Rattle.wait_set.proofs.Whos.{is_named-any}
+use Rattle.wait_set.proofs.WaitersOf.{is_named-any}
 use Rattle.wait_set.proofs.named.is_named.Goals as goal
 
 pub returns : goal.returns

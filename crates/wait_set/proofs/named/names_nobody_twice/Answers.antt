@@ -1,4 +1,4 @@
-use Rattle.wait_set.proofs.Rolls.{once-rising}
+use Rattle.wait_set.proofs.WaiterLists.{once-rising}
 use Rattle.wait_set.proofs.named.names_nobody_twice.Goals as goal
 
 pub returns-then-rises : goal.returns-then-rises

@@ -28,6 +28,6 @@ returns g c =
     let last = c.check_ruled-outcome.new.last in
     let answers : AnswersRuled given c.in-Ok.options.items rules asked.settings outcome last =
     rw (c.new-inputs.ensures, c.deref.ensures.value, c.deref-2.ensures.value, c.deref-3.ensures.value) at (c.check_ruled-outcome.ensures c.in-Ok-new.ensures) in
-    subst (λ told. IsRuledEnding given (in_order asked.options) text asked.settings asked.last (Checked outcome told)) (sym c.where_asked.ensures)
+    subst (λ reported. IsRuledEnding given (in_order asked.options) text asked.settings asked.last (Checked outcome reported)) (sym c.where_asked.ensures)
     (ends given (in_order asked.options) text asked.settings asked.last rules outcome last (ap rules_given (sym same) ∙ c.in-Ok-read_rules.ensures)
     (subst (λ (options : List RuleOption). AnswersRuled given options rules asked.settings outcome last) c.in-Ok.ensures answers))

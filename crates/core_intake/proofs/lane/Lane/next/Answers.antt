@@ -1,6 +1,6 @@
 use Rattle.std.proofs.Common.{rules, ap, option_map}
 use Rattle.record_read.specs.Row.{records_of}
-use Rattle.core_intake.specs.Told.{told}
+use Rattle.core_intake.specs.Answered.{answered}
 use Rattle.core_intake.proofs.Chains.{ends_on, splits_on, takes_one}
 use Rattle.core_intake.proofs.lane.Lane.next.Goals as goal
 
@@ -17,4 +17,4 @@ invariant_of-self g c =
 pub returns-clause-gives : goal.returns-clause-gives
 returns-clause-gives g c going =
     let taken = c.take_answer-answer.ensures.taken _ c.self.invariant.3 in
-    rw (← c.self.view_is) (ap (told (option_map records_of (g.R.TextSource.remaining c.self.inside.reader.promise.reader.value))) (takes_one _ _ _ _ taken))
+    rw (← c.self.view_is) (ap (answered (option_map records_of (g.R.TextSource.remaining c.self.inside.reader.promise.reader.value))) (takes_one _ _ _ _ taken))

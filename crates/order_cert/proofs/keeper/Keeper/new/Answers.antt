@@ -1,4 +1,5 @@
 use Rattle.std.proofs.Common.{◌≡◌, ℕ, zero, suc, get_or, replicate, refl}
+use Rattle.apex_types.specs.declared.limits.TheConstants.{MOST_CORES}
 use Rattle.order_cert.proofs.Lawful.{follows_none}
 use Rattle.order_cert.proofs.keeper.Keeper.new.Goals as goal
 
@@ -8,4 +9,4 @@ zeros (suc n) zero = refl
 zeros (suc n) (suc core) = zeros n core
 
 pub returns-clause-follows : goal.returns-clause-follows
-returns-clause-follows c = follows_none _ (zeros 16)
+returns-clause-follows c = follows_none _ (zeros MOST_CORES)

@@ -1,4 +1,5 @@
 use Rattle.std.proofs.Common.{◌≡◌, ◌∙◌, ◌*◌, ◌+◌, set, ap, arith, length, sum, refl}
+use Rattle.apex_types.specs.declared.limits.TheConstants.{MOST_RECORDS, PLACE_COUNT}
 use Rattle.order_cert.specs.Order.{pair_of}
 use Rattle.order_cert.specs.Kept.{taken_of}
 use Rattle.order_cert.proofs.Counts.{sum_below}
@@ -28,8 +29,8 @@ returns-then-seq-taken-2-clause-unlawful c pairs f h =
 pub new-place-requires : goal.new-place-requires
 new-place-requires c =
     let i = c.self.invariant in
-    let below = sum_below 4294967295 c.self.inside.counts c.args.core i.2 (omega (arith, c.self.told, i.0, c.if-core-self.false)) (omega (arith, i.2 c.args.core, c.if-taken.false)) in
-    let long : length c.self.inside.counts * 4294967295 ≡ 68719476720 = rw c.self.told refl in
+    let below = sum_below MOST_RECORDS c.self.inside.counts c.args.core i.2 (omega (arith, c.self.told, i.0, c.if-core-self.false)) (omega (arith, i.2 c.args.core, c.if-taken.false)) in
+    let long : length c.self.inside.counts * MOST_RECORDS ≡ PLACE_COUNT = rw c.self.told refl in
     omega (arith, below, long, i.1)
 
 pub returns-clause-follows : goal.returns-clause-follows

@@ -1,6 +1,6 @@
 -- The objects are those after the call, and so are the processes.
 use Rattle.std.proofs.Common.{◌<◌, ap, refl, sym, ◌∙◌, arith}
-use Rattle.apex_types.specs.Bounds.{place_count}
+use Rattle.apex_types.specs.declared.limits.TheConstants.{PLACE_COUNT}
 use Rattle.apex_machine.specs.Demands.{AllHold}
 use Rattle.apex_machine.specs.State.{time_of}
 use Rattle.process_state.specs.Processes.{Processes, processes_of}
@@ -21,7 +21,7 @@ call-requires-clause-sound c =
     let after = c.self-2.view_is ∙ c.in_ok-transfer.ensures.after in
     let same = ap processes_of after ∙ served_keeps config place call a.self.now call.request in
     let served : AllHold (served_demands (time_of cores core) a.self.now call) = rw c.requires.now at c.in_ok-transfer.ensures.ok in
-    let below : place < place_count = omega (arith, c.number-place.ensures.number, c.number-place.ensures.bound) in
+    let below : place < PLACE_COUNT = omega (arith, c.number-place.ensures.number, c.number-place.ensures.bound) in
     rw (ap (λ (processes : Processes). processes.table) same)
     (sound_served config cores place core a.self.now call c.requires.clear served c.keeps_limits.ensures.limits.cores_most c.keeps_limits.ensures.cores
     c.keep_numbers.ensures below)

@@ -1,6 +1,6 @@
 -- The objects stay but for the port of a read, and the processes are those after the call.
 use Rattle.std.proofs.Common.{◌<◌, ap, refl, sym, ◌∙◌, arith}
-use Rattle.apex_types.specs.Bounds.{place_count}
+use Rattle.apex_types.specs.declared.limits.TheConstants.{PLACE_COUNT}
 use Rattle.apex_laws.specs.PartLaws.{IsOwnCall}
 use Rattle.process_state.specs.Processes.{processes_of}
 use Rattle.partition_state.specs.Calls.{objects_noted}
@@ -12,7 +12,7 @@ use Rattle.partition_state.proofs.state.PartitionState.note.Goals as goal
 pub call-requires-clause-sound : goal.call-requires-clause-sound
 call-requires-clause-sound c =
     let a = c.args in
-    let below : a.moment.now.place < place_count = omega (arith, c.number-place.ensures.number, c.number-place.ensures.bound) in
+    let below : a.moment.now.place < PLACE_COUNT = omega (arith, c.number-place.ensures.number, c.number-place.ensures.bound) in
     let bounded = rw (← c.self.view_is) at c.requires.bounded in
     sound_noted a.moment.now.place _ a.call.now bounded c.requires.leaves below
 

@@ -1,4 +1,4 @@
--- What is told is told at each time.
+-- What is reported is reported at each time.
 use Rattle.std.proofs.lemmas.Result.{on_ok_weaker}
 use Rattle.partition_state.proofs.state.PartitionState.operate_on_others.Goals as goal
 

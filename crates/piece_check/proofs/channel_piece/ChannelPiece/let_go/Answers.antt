@@ -33,8 +33,8 @@ returns-in-Some-clause-after c = λ configuration now ordered at body.
       c.release.ensures,
       c.as_slice.ensures.list,
       after_letting_go configuration now c.args.place held.number call held.channel ordered apart at body,
-      left_with_target call target c.args.place held.channel.senders none stopped c.requires.behind.senders,
-      left_with_target call target c.args.place held.channel.receivers none stopped c.requires.behind.receivers,
+      left_with_target call target c.args.place held.channel.senders none stopped c.requires.holds_before.senders,
+      left_with_target call target c.args.place held.channel.receivers none stopped c.requires.holds_before.receivers,
     )
     refl
 
@@ -49,7 +49,7 @@ returns-in_default-clause-after c = λ configuration now ordered at body.
       c.release.ensures,
       c.as_slice.ensures.list,
       after_letting_go configuration now c.args.place held.number call held.channel ordered apart at body,
-      left_alone call c.args.place held.channel.senders none stopped c.requires.behind.senders,
-      left_alone call c.args.place held.channel.receivers none stopped c.requires.behind.receivers,
+      left_alone call c.args.place held.channel.senders none stopped c.requires.holds_before.senders,
+      left_alone call c.args.place held.channel.receivers none stopped c.requires.holds_before.receivers,
     )
     refl

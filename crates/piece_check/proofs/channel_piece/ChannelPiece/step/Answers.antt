@@ -8,7 +8,7 @@ use Rattle.piece_check.proofs.channel_piece.ChannelPiece.step.Goals as goal
 pub apply-requires-clause-below : goal.apply-requires-clause-below
 apply-requires-clause-below c =
     let channel = c.args.self.now.channel.channel in
-    let kept = c.requires.behind.kept in
+    let kept = c.requires.holds_before.kept in
     (stand_before c.args.ordered.now.pos channel.senders kept.senders, stand_before c.args.ordered.now.pos channel.receivers kept.receivers)
 
 pub returns-then-eq-clause-refused : goal.returns-then-eq-clause-refused
@@ -29,7 +29,7 @@ returns-then-eq-clause-configured c =
 pub advance-requires-clause-time : goal.advance-requires-clause-time
 advance-requires-clause-time c =
     let core = c.args.ordered.now.core in
-    omega (arith, c.requires.place, c.requires.behind.times core, time_at_is c.args.self.now.times core)
+    omega (arith, c.requires.place, c.requires.holds_before.times core, time_at_is c.args.self.now.times core)
 
 pub returns-else-eq-clause-configured : goal.returns-else-eq-clause-configured
 returns-else-eq-clause-configured c = c.let_go.ensures.configured c.args.config.now c.requires.configured

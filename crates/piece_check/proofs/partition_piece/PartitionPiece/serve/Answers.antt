@@ -7,7 +7,7 @@ use Rattle.piece_check.proofs.partition_piece.PartitionPiece.serve.Goals as goal
 
 pub serve-requires-clause-times : goal.serve-requires-clause-times
 serve-requires-clause-times c =
-    rw c.states.ensures (TimesFit_behind c.args.ordered.now.pos c.args.self.now.clock.cores c.requires.place c.requires.behind.times)
+    rw c.states.ensures (TimesFit_behind c.args.ordered.now.pos c.args.self.now.clock.cores c.requires.place c.requires.holds_before.times)
 
 pub returns-clause-refused : goal.returns-clause-refused
 returns-clause-refused c =

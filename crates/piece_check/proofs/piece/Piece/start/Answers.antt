@@ -1,4 +1,4 @@
--- A piece starts with its part of the cold state, which knows the cores and is behind place 0.
+-- A piece starts with its part of the cold state, which knows the cores and is after place 0.
 use Rattle.piece_check.specs.Parts.{piece_at}
 use Rattle.piece_check.proofs.Parting.{cold_behind, cold_has_cores}
 use Rattle.piece_check.proofs.piece.Piece.start.Goals as goal
@@ -8,5 +8,5 @@ returns-clause-of_module c =
     let config = c.args.config.now in
     record { cores = rw c.in_ok-held.ensures.part (cold_has_cores config (piece_at config c.args.piece)); channel = c.in_ok-held.ensures.agrees }
 
-pub returns-clause-behind : goal.returns-clause-behind
-returns-clause-behind c = rw c.in_ok-held.ensures.part (cold_behind c.args.config.now (piece_at c.args.config.now c.args.piece))
+pub returns-clause-holds_before : goal.returns-clause-holds_before
+returns-clause-holds_before c = rw c.in_ok-held.ensures.part (cold_behind c.args.config.now (piece_at c.args.config.now c.args.piece))

@@ -28,10 +28,10 @@ returns-in-Ok-None-clause-filled g c =
     let can : CanFail = record { recordings = g.R.TextSource.can_fail; certificate = g.C.TextSource.can_fail } in
     λ honest. end_on can c.args.self.now c.records.self c.records.round.items (Ok tt) (c.records.invariant.lead (c.in-Ok-None.ensures.honest honest)) (rw c.in-Ok-None.field-0-is at (c.in-Ok-None.ensures.next honest))
 
-pub returns-in-Err-clause-filled : goal.returns-in-Err-clause-filled
-returns-in-Err-clause-filled g c =
+pub returns-in-Err-Input-clause-filled : goal.returns-in-Err-Input-clause-filled
+returns-in-Err-Input-clause-filled g c =
     let can : CanFail = record { recordings = g.R.TextSource.can_fail; certificate = g.C.TextSource.can_fail } in
-    λ honest. end_on can c.args.self.now c.records.self c.records.round.items (Err c.in-Err.fault) (c.records.invariant.lead (c.in-Err.ensures.honest honest)) (c.in-Err.ensures.next honest)
+    λ honest. end_on can c.args.self.now c.records.self c.records.round.items (Err c.in-Err-Input.fault) (c.records.invariant.lead (c.in-Err-Input.ensures.honest honest)) (rw c.in-Err-Input.field-0-is at (c.in-Err-Input.ensures.next honest))
 
 pub records-preserved : goal.records-preserved
 records-preserved g c =

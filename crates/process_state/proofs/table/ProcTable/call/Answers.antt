@@ -1,8 +1,8 @@
--- The partition between, then its caller, then its caller's fellows.
+-- The partition between, then its caller, then its caller's peers.
 use Rattle.std.proofs.Common.{◌≡◌, ℕ, sym, ap, ◌∙◌}
 use Rattle.apex_machine.specs.Processes.{caller_after}
 use Rattle.process_state.specs.Changes.{with_each}
-use Rattle.process_state.specs.Fellows.{stopped_by}
+use Rattle.process_state.specs.Peers.{stopped_by}
 use Rattle.process_state.proofs.Called.{adjusted-done, adjusted-not, between, called-absent-in, called-stands-in, caller-settled}
 use Rattle.process_state.proofs.table.ProcTable.call.Goals as goal
 use Rattle.process_state.proofs.table.ProcTable.call.Goals.{then-is_done+in_ok-carry_out, else-is_done, then-stands, else-stands}
@@ -21,14 +21,14 @@ returns-clause-ok c = λ configuration partition first_is period_is seen tied.
     ] in
     elim c.if-stands.branch [
       | then-stands w ↦
-          called-stands-in configuration m.place m.core a.period a.first_core m.cores.now call partition a.self.now c.if-is_done.self c.if-stands.self c.stop_fellow.new.self c.wake_fellows.new.self
+          called-stands-in configuration m.place m.core a.period a.first_core m.cores.now call partition a.self.now c.if-is_done.self c.if-stands.self c.stop_peer.new.self c.wake_peers.new.self
           _ c.proc.result seen first_is period_is middle c.requires.sound c.proc.ensures (sym c.is_some-stands.ensures ∙ w.if-stands.true)
           (λ process. ap (λ (now : ℕ). caller_after m.place now call process) c.time_at-now.ensures.value)
           (caller-settled m.place c.time_at-now.result a.period a.first_core m.cores.now call partition a.self.now c.if-is_done.self c.if-stands.self c.next_release-next.result _
           middle c.next_release-next.ensures.distinct c.settling_of-settling.ensures c.next_release-next.ensures.value (w.self-is ∙ w.settle.ensures))
-          c.stop_fellow.ensures c.wake_fellows.ensures
+          c.stop_peer.ensures c.wake_peers.ensures
       | else-stands w ↦
-          called-absent-in configuration m.place m.core a.period a.first_core m.cores.now call partition a.self.now c.if-is_done.self c.stop_fellow.new.self c.wake_fellows.new.self
+          called-absent-in configuration m.place m.core a.period a.first_core m.cores.now call partition a.self.now c.if-is_done.self c.stop_peer.new.self c.wake_peers.new.self
           c.proc.result seen first_is period_is middle c.requires.sound c.proc.ensures (sym c.is_some-stands.ensures ∙ w.if-stands.false)
-          (c.stop_fellow.ensures ∙ ap (with_each (stopped_by call)) w.self-is) c.wake_fellows.ensures
+          (c.stop_peer.ensures ∙ ap (with_each (stopped_by call)) w.self-is) c.wake_peers.ensures
     ]

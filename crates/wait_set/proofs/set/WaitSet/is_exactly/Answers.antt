@@ -2,7 +2,7 @@ use Rattle.std.proofs.Common.{◌≡◌, List, sym, ◌∙◌, true≢false}
 use Rattle.std.proofs.lemmas.Map.Entries.{length-values_of}
 use Rattle.std.specs.Map.{values_of}
 use Rattle.apex_machine.specs.declared.state.Entry.{Entry}
-use Rattle.wait_set.proofs.Rolls.{all-stand, roll-exact, roll-length, stand-all, stands-exact}
+use Rattle.wait_set.proofs.WaiterLists.{all-stand, waiter_list-exact, waiter_list-length, stand-all, stands-exact}
 use Rattle.wait_set.proofs.set.WaitSet.is_exactly.Goals as goal
 
 pub returns-then-named-len : goal.returns-then-named-len
@@ -10,7 +10,7 @@ returns-then-named-len c =
     let entries : List Entry = values_of c.self.inside.entries.entries in
     rw (← c.self.view_is) (
       λ is. absurd (true≢false (sym is)),
-      λ roll. absurd (c.if-named-len.true (roll-length entries c.args.named.now c.self.invariant.once roll.0 roll.1
+      λ waiter_list. absurd (c.if-named-len.true (waiter_list-length entries c.args.named.now c.self.invariant.once waiter_list.0 waiter_list.1
           ∙ length-values_of c.self.inside.entries.entries ∙ sym c.len.ensures.len)),
     )
 
@@ -21,10 +21,10 @@ returns-then-names_nobody_twice c =
     let all = rw (← c.self.view_is) at c.all_stand.ensures in
     rw (← c.self.view_is) (
       λ is. (
-        roll-exact entries c.args.named.now c.self.invariant.once once
+        waiter_list-exact entries c.args.named.now c.self.invariant.once once
             (c.if-named-len.false ∙ c.len.ensures.len ∙ sym (length-values_of c.self.inside.entries.entries))
             (all-stand entries c.args.named.now (sym all ∙ is)),
         once,
       ),
-      λ roll. all ∙ stand-all entries c.args.named.now (stands-exact entries c.args.named.now roll.0),
+      λ waiter_list. all ∙ stand-all entries c.args.named.now (stands-exact entries c.args.named.now waiter_list.0),
     )

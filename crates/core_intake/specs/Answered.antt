@@ -1,0 +1,50 @@
+-- What is answered of a recording that another thread reads.
+use Rattle.std.specs.Prelude.{◌≡◌, ◌||◌, ℕ, List, [], ◌∷◌, ◌++◌, Bool, true, false, Option, Some, None, Result, Ok, Err, IfSome, slice_index_or}
+use Rattle.apex_types.specs.declared.record.Record.{Record}
+use Rattle.csv_rows.specs.Source.{Gives}
+use Rattle.record_read.specs.declared.fault.RowFault.{RowFault}
+use Rattle.record_read.specs.Row.{Item}
+use Rattle.record_read.specs.Steps.{IsOutside}
+
+-- an answer of a source: the next record, the end, or a fault
+abbrev pub Answer : Type 0
+Answer = Result (Option Record) RowFault
+
+-- what callers see of a core: what the text of its reader is read as, where the reader tells its bytes, and the answers so far
+pub record Answered : Type 0 where
+  pub items : Option (List Item)
+  pub given : List Answer
+
+abbrev pub answered : Option (List Item) → List Answer → Answered
+answered items given = record { items = items; given = given }
+
+-- what is answered of the core of this number
+abbrev pub answered_at : List Answered → ℕ → Answered
+answered_at cores core = slice_index_or cores core (answered None [])
+
+-- one answer more
+abbrev pub after : Answered → Answer → Answered
+after core answer = answered core.items (core.given ++ answer ∷ [])
+
+-- after the end and after a fault there is no answer
+abbrev pub is_last : Answer → Bool
+is_last (Ok (Some rec)) = false
+is_last (Ok None) = true
+is_last (Err fault) = true
+
+-- the end or a fault was answered
+abbrev pub has_ended : List Answer → Bool
+has_ended [] = false
+has_ended (answer ∷ later) = is_last answer || has_ended later
+
+-- the answers of a source that can fail, or cannot, and has these items left, where they are known: each is one of what those
+-- before it left, and none is after the end or a fault
+abbrev pub AreAnswers : Bool → Option (List Item) → List Answer → Type 0
+AreAnswers can_fail left [] = Unit {0}
+AreAnswers can_fail left (answer ∷ later) =
+    (next : Option (List Item)) × IfSome left (λ items. Gives (IsOutside can_fail) items answer next) × (is_last answer ≡ true → later ≡ [])
+    × AreAnswers can_fail next later
+
+-- what was answered of a core are answers of a source of its recording, which can fail or cannot
+abbrev pub IsHonest : Bool → Answered → Type 0
+IsHonest can_fail core = AreAnswers can_fail core.items core.given

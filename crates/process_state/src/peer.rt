@@ -1,0 +1,37 @@
+// The other processes of a caller's partition: which of them a call stops or wakes.
+
+ghost use Rattle.std.specs.Prelude.{◌≡◌, ◌&&◌, nat_eq};
+ghost use Rattle.apex_machine.specs.Waiting as waiting;
+ghost use Rattle.process_state.specs.Peers as peers;
+
+use apex_types::{Call, Code, Out, ProcId, Request, Who};
+
+/// Whether a call that names this process ends its wait: the process is of the caller's partition, not the caller, and not
+/// stopped by the call.
+pub fn wakes(call: &Call, who: Who) -> bool
+    ensures { result ≡ nat_eq who.part call.now.who.part && peers.wakes call.now who.proc }
+{
+    who.part == call.who.part && who.proc != call.who.proc && !stops(call, who.proc)
+}
+
+/// Whether a call stops the process of this number of its caller's partition.
+pub fn stops(call: &Call, number: ProcId) -> bool
+    ensures { result ≡ waiting.stops call.now (peers.peer_at call.now number) }
+{
+    match &call.request {
+        Request::Stop { process } => {
+            answers_no_error(call.claim.out) && *process == number.number() as i64
+        }
+        _ => false,
+    }
+}
+
+/// Whether a call answers NO_ERROR.
+pub fn answers_no_error(out: Out) -> bool
+    ensures { result ≡ waiting.is_no_error out }
+{
+    match out {
+        Out::Answer(Code::NoError) => true,
+        Out::Waits | Out::Never | Out::Answer(_) => false,
+    }
+}

@@ -1,0 +1,175 @@
+// A piece goes over the records of a round.
+
+ghost use Rattle.std.specs.Prelude.{◌≡◌, ◌<◌, IfOk, OnErr, IsTrue, length};
+ghost use Rattle.apex_machine.specs.Pieces.{pieces};
+ghost use Rattle.apex_machine.specs.Runs.{ArePlaced, AreOfCores};
+ghost use Rattle.apex_machine.specs.Views.{view_in};
+ghost use Rattle.piece_check.specs.Parts.{HoldsBefore, IsOf, holder};
+ghost use Rattle.piece_check.specs.Touching.{AreSortedOut, indices_of};
+ghost use Rattle.user_rules.specs.Rules.{relations_of};
+ghost use Rattle.verdict_merge.specs.Rounds.{HasJudged, IsGoing, IsJudgedOver, IsRefusal};
+ghost use Rattle.verdict_merge.specs.Views.{HasTested, IsFirstBreach, first_some, seen_of};
+
+use crate::breach::{Breach, Seen};
+use crate::fault::Memory;
+use crate::finding::{Refused, refused_by};
+use apex_types::Ordered;
+use module_config::Config;
+use piece_check::{Piece, PieceFault, Touched, subject_of};
+use user_rules::{Rule, first_rule_broken};
+
+/// What is lent to each piece of a round.
+#[derive(Clone, Copy)]
+pub struct Lent<'a> {
+    pub config: &'a Config,
+    /// The place of the first record.
+    pub first: u64,
+    /// The next records, each at its place.
+    pub records: &'a [Ordered],
+    /// Which of them touch each piece.
+    pub touched: &'a Touched,
+    pub ghost sorted: { AreSortedOut config.now records.now (indices_of touched.now) },
+}
+
+impl<'a> Lent<'a> {
+    /// What is lent of records that are sorted out. Takes no memory.
+    pub fn new(
+        config: &'a Config,
+        first: u64,
+        records: &'a [Ordered],
+        touched: &'a Touched,
+    ) -> Lent<'a>
+        requires { AreSortedOut config.now records.now (indices_of touched.now) }
+        ensures config { result.config.now ≡ config.now }
+        ensures first { result.first ≡ first }
+        ensures records { result.records.now ≡ records.now }
+    {
+        Lent {
+            config,
+            first,
+            records,
+            touched,
+        }
+    }
+}
+
+/// What became of a piece that went over the records of a round.
+#[derive(Clone, Copy, Debug)]
+pub struct PieceOutcome {
+    /// Its refusal, if it refused a record.
+    pub found: Option<Refused>,
+    /// The first view that breaks a rule, of the records that it judges up to the one that it refused.
+    pub breach: Option<Breach>,
+}
+
+/// The piece of this number goes over the records that touch it, up to its first refusal. The view of each record that it judges
+/// is tested by the rules; where there is no rule it makes no view.
+///
+/// Memory where the piece was refused memory.
+pub fn go_over(
+    lent: &Lent,
+    rules: &[Rule],
+    number: usize,
+    piece: &mut Piece,
+) -> Result<PieceOutcome, Memory>
+    requires piece { number < length (pieces lent.now.config.now) }
+    requires going { IsGoing lent.now.config.now number lent.now.first piece.old }
+    requires placed { ArePlaced lent.now.first lent.now.records.now }
+    requires cores { AreOfCores lent.now.config.now.cores lent.now.records.now }
+    ensures outcome { IfOk result (λ outcome. IsJudgedOver lent.now.config.now number lent.now.first lent.now.records.now (relations_of rules.now) piece.old outcome piece.new) }
+    ensures memory { OnErr result (IsTrue piece.new.exhausted) }
+{
+    let subject = subject_of(lent.config, number);
+    let records = lent.records;
+    let mut breach = None;
+    for index in lent.touched.of(&subject) {
+        match judge_one(
+            lent,
+            rules,
+            number,
+            piece,
+            index,
+            &records[index],
+            &mut breach,
+        ) {
+            Ok(None) => {}
+            Ok(Some(refused)) => {
+                return Ok(PieceOutcome {
+                    found: Some(refused),
+                    breach,
+                });
+            }
+            Err(memory) => return Err(memory),
+        }
+    }
+    Ok(PieceOutcome {
+        found: None,
+        breach,
+    })
+}
+
+// The piece of this number judges a record that touches it, of this index: its refusal, if it refuses it; else the breach so far is
+// kept, or that of the view that the piece gives of the record. Memory where the piece was refused memory.
+fn judge_one(
+    lent: &Lent,
+    rules: &[Rule],
+    number: usize,
+    piece: &mut Piece,
+    index: usize,
+    ordered: &Ordered,
+    breach: &mut Option<Breach>,
+) -> Result<Option<Refused>, Memory>
+    requires core { ordered.now.core < lent.now.config.now.cores }
+    requires of_module { IsOf lent.now.config.now piece.old }
+    requires holds_before { HoldsBefore ordered.now.pos piece.old.part }
+    ensures judged { IfOk result (λ refused. HasJudged lent.now.config.now number ordered.now piece.old refused piece.new) }
+    ensures tested { IfOk result (λ refused. HasTested (relations_of rules.now) (view_in piece.old.part ordered.now) index refused breach.old breach.new) }
+    ensures of_module { IfOk result (λ _. IsOf lent.now.config.now piece.new) }
+    ensures whose { holder piece.new.part ≡ holder piece.old.part }
+    ensures memory { OnErr result (IsTrue piece.new.exhausted) }
+{
+    let next = breach_of(rules, piece, index, ordered);
+    match piece.step(lent.config, ordered) {
+        Ok(()) => {
+            keep_first(breach, next);
+            Ok(None)
+        }
+        Err(fault) => refused(fault, number),
+    }
+}
+
+// The refusal of the piece of this number; want of memory is none.
+fn refused(fault: PieceFault, number: usize) -> Result<Option<Refused>, Memory>
+    ensures judged { IfOk result (IsRefusal fault number) }
+    ensures memory { OnErr result (fault ≡ PieceFault.Memory) }
+{
+    match refused_by(fault, number) {
+        Some(found) => Ok(Some(found)),
+        None => Err(Memory),
+    }
+}
+
+// The breach of the view that the piece gives of the record of this index, if it gives one that breaks a rule.
+fn breach_of(rules: &[Rule], piece: &Piece, index: usize, ordered: &Ordered) -> Option<Breach>
+    requires { HoldsBefore ordered.now.pos piece.now.part }
+    ensures { IsFirstBreach (relations_of rules.now) (seen_of (view_in piece.now.part ordered.now) index) result }
+{
+    if rules.is_empty() {
+        return None;
+    }
+    let view = piece.view(ordered)?;
+    let rule = first_rule_broken(rules, &view)?;
+    Some(Breach {
+        seen: Seen { index, view },
+        rule,
+    })
+}
+
+// Keeps the next breach where there is none so far. Where there is no next one nothing is copied, as at each record without rules.
+fn keep_first(breach: &mut Option<Breach>, next: Option<Breach>)
+    ensures { breach.new ≡ first_some breach.old next }
+{
+    if breach.is_none() && next.is_some() {
+        *breach = next;
+    }
+}
