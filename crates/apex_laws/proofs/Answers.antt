@@ -2,6 +2,7 @@
 use Rattle.std.proofs.Common.{◌≡◌, ℕ, ℤ, pos, negsuc, [], ◌∷◌, Option, Some, None, Bool, true, false, cond, refl, sym, ap, ◌∙◌, arith, true≢false}
 use Rattle.std.proofs.lemmas.Bool.{eqb-true, leb-true}
 use Rattle.apex_types.specs.declared.record.Who.{Who}
+use Rattle.apex_types.specs.declared.operation.{CallerOperation.CallerOperation, ProcessOperation.ProcessOperation}
 use Rattle.apex_types.specs.declared.request.Request.TheVariants as request
 use Rattle.apex_machine.specs.declared.state.Process.{Process}
 use Rattle.apex_machine.specs.declared.state.Wait.{Wait}
@@ -65,12 +66,12 @@ resuming_by target found answer (IsResuming.was_marked process at not_suspended 
 resuming_by target found answer (IsResuming.nobody none gives) = gives ∙ sym (ap (resuming target) none)
 
 pub answer_is_the_sentence : AnswerIsTheSentence
-answer_is_the_sentence now who partition (request.SuspendSelf time_out) answer = over_or_waits (time_out ≡ pos 0) (is_over time_out) answer (over_is time_out) (λ is. ap is_over is)
-answer_is_the_sentence now who partition (request.TimedWait ticks) answer = over_or_waits (ticks ≡ pos 0) (is_over ticks) answer (over_is ticks) (λ is. ap is_over is)
-answer_is_the_sentence now who partition request.PeriodicWait answer =
+answer_is_the_sentence now who partition (request.Caller (CallerOperation.SuspendSelf time_out)) answer = over_or_waits (time_out ≡ pos 0) (is_over time_out) answer (over_is time_out) (λ is. ap is_over is)
+answer_is_the_sentence now who partition (request.Caller (CallerOperation.TimedWait ticks)) answer = over_or_waits (ticks ≡ pos 0) (is_over ticks) answer (over_is ticks) (λ is. ap is_over is)
+answer_is_the_sentence now who partition (request.Caller CallerOperation.PeriodicWait) answer =
     over_or_waits (IsAtRelease now (item_at partition.table who.proc)) (is_released now (item_at partition.table who.proc)) answer
     (release_is now (item_at partition.table who.proc)) (release_by now (item_at partition.table who.proc))
-answer_is_the_sentence now who partition (request.Resume process) answer =
+answer_is_the_sentence now who partition (request.Process process ProcessOperation.Resume) answer =
     (resuming_says (peer who process) (created partition.table process) answer, resuming_by (peer who process) (created partition.table process) answer)
 answer_is_the_sentence now who partition _ answer = (λ gives. gives, λ gives. gives)
 

@@ -1,5 +1,5 @@
 -- Plain facts about tests, which the other lemmas take.
-use Rattle.std.proofs.Common.{◌≡◌, ℕ, Bool, true, false, ◌||◌, ◌&&◌, nat_eq, refl, sym, true≢false}
+use Rattle.std.proofs.Common.{◌≡◌, ℕ, Bool, true, false, ◌||◌, ◌&&◌, nat_eq, refl, sym, true≢false, cond}
 use Rattle.std.proofs.lemmas.Bool.{eq-eqb}
 
 -- a number is equal to itself
@@ -58,3 +58,8 @@ not_second false other fails = refl
 pub or_false : (test : Bool) → (test || false) ≡ test
 or_false true = refl
 or_false false = refl
+
+-- either way the same
+pub same_if : {Value : Type 0} (test : Bool) (value : Value) → cond test value value ≡ value
+same_if true value = refl
+same_if false value = refl

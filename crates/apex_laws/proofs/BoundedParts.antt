@@ -10,6 +10,7 @@ use Rattle.apex_types.specs.declared.record.Claim.{Claim}
 use Rattle.apex_types.specs.declared.record.Out.{Out}
 use Rattle.apex_types.specs.declared.record.Out.TheVariants as out
 use Rattle.apex_types.specs.declared.record.Who.{Who}
+use Rattle.apex_types.specs.declared.operation.{CallerOperation.CallerOperation, MutexOperation.MutexOperation, NewObject.NewObject, ProcessOperation.ProcessOperation, QueuingOperation.QueuingOperation, SamplingOperation.SamplingOperation}
 use Rattle.apex_types.specs.declared.request.Request.{Request}
 use Rattle.apex_types.specs.declared.request.Request.TheVariants as request
 use Rattle.apex_machine.specs.declared.state.CoreState.{CoreState}
@@ -29,7 +30,7 @@ use Rattle.apex_machine.specs.Demands.{AllHold, WakesHere, call_demands, outcome
 use Rattle.apex_machine.specs.DueTimes.{NamesThoseDue, due_by, entry_wait, falls_due, is_released, is_suspension, next_release, release_after, waits_for_normal}
 use Rattle.apex_machine.specs.Objects.{acquired, acquired_again, acquired_from, handed_on, is_owner, mutex_released, not_acquired, released_once}
 use Rattle.apex_machine.specs.Ports.{channel_of}
-use Rattle.apex_machine.specs.Processes.{by_mutex, message_handed_over, new_process, on_ownership, release_reached, release_taken, released, set_by, started, stopped, woken_by}
+use Rattle.apex_machine.specs.Processes.{by_mutex, message_handed_over, new_process, on_ownership, release_reached, release_taken, released, set_by, started, stopped, woken_by, set_in}
 use Rattle.apex_machine.specs.ServiceConditions.{condition_codes}
 use Rattle.apex_machine.specs.Services.{answer_of}
 use Rattle.apex_machine.specs.State.{Mutex, Partition, Table, change_at, cold_partition, each_item, first_processes, given_object, initialising_process, is_named, item_at, names_one_of, time_of}
@@ -134,14 +135,15 @@ counts_later place mutexes all number mutex at = let most = all number mutex at 
 -- the mutexes that a call uses or creates
 used_counts : (configuration : Configuration) (place : ℕ) (who : Who) (claimed : Option ℤ) (asked : Request) (partition : Partition) → AllFound (CountsTo place) partition.mutexes
     → AllFound (CountsTo (place + 1)) (objects_by configuration who claimed asked partition).mutexes
-used_counts configuration place who claimed (request.CreateMutex name priority discipline) partition all =
+used_counts configuration place who claimed (request.Create name (NewObject.Mutex priority discipline)) partition all =
     joined_has (CountsTo (place + 1)) partition.mutexes _ (counts_later place partition.mutexes all) (numbered_has (CountsTo (place + 1)) claimed _ (omega arith))
-used_counts configuration place who claimed (request.AcquireMutex mutex time_out) partition all =
+used_counts configuration place who claimed (request.Mutex mutex (MutexOperation.Acquire time_out)) partition all =
     change_counts place (natural_of mutex) (λ found. (acquired who.proc time_out found).next) partition.mutexes
     (λ found most. acquired_counts place found.owner who.proc time_out found most) all
-used_counts configuration place who claimed (request.ReleaseMutex mutex) partition all =
+used_counts configuration place who claimed (request.Mutex mutex MutexOperation.Release) partition all =
     change_counts place (natural_of mutex) (λ found. (mutex_released (first_waiter found.discipline found.waiters) found).next) partition.mutexes
     (λ found most. released_counts place (first_waiter found.discipline found.waiters) found most) all
+used_counts configuration place who claimed (request.SamplingPort port SamplingOperation.Read) partition all = counts_later place partition.mutexes all
 used_counts configuration place who claimed _ partition all = counts_later place partition.mutexes all
 
 -- a change of the waiting sets leaves the counts
@@ -204,23 +206,18 @@ mutex_keeps : (found : Option Mutex) (change : Mutex → Mutex) (number : ℕ) (
 mutex_keeps None change number x = (refl, refl)
 mutex_keeps (Some mutex) change number x = ownership_keeps (is_owner mutex.owner number) (is_owner (change mutex).owner number) mutex.priority x
 
+set_in_keeps : (place period now : ℕ) (mode : Mode) (operation : ProcessOperation) (x : Process) → KeepsRelease x (set_in place period now mode operation x)
+set_in_keeps place period now mode ProcessOperation.Start x = (refl, refl)
+set_in_keeps place period now mode _ x = (refl, refl)
+
 -- what a call sets in a process leaves both
 set_by_keeps : (place period : ℕ) (cores : List CoreState) (partition : Partition) (caller : ℕ) (asked : Request) (number : ℕ) (x : Process)
     → KeepsRelease x (set_by place period cores partition caller asked number x)
-set_by_keeps place period cores partition caller (request.InitializeProcessCoreAffinity process core) number x =
-    one_keeps (is_number process number) (record x { affinity = natural_of core }) x (refl, refl)
-set_by_keeps place period cores partition caller (request.Start process) number x =
-    one_keeps (is_number process number) (started place period (time_of cores x.affinity) partition.mode x) x (refl, refl)
-set_by_keeps place period cores partition caller (request.Suspend process) number x =
-    one_keeps (is_number process number) (record x { suspended = true }) x (refl, refl)
-set_by_keeps place period cores partition caller (request.Resume process) number x =
-    one_keeps (is_number process number) (record x { suspended = false; ready_position = place }) x (refl, refl)
-set_by_keeps place period cores partition caller (request.SetPriority process priority) number x =
-    one_keeps (is_number process number) (record x { current_priority = natural_of priority; ready_position = place }) x (refl, refl)
+set_by_keeps place period cores partition caller (request.Process process operation) number x =
+    one_keeps (is_number process number) (set_in place period (time_of cores x.affinity) partition.mode operation x) x (set_in_keeps place period (time_of cores x.affinity) partition.mode operation x)
 set_by_keeps place period cores partition caller (request.SetPartitionMode next) number x =
     one_keeps (waits_for_normal x.wait) (record x { wait = entry_wait period (time_of cores x.affinity) x.period; ready_position = place }) x (refl, refl)
-set_by_keeps place period cores partition caller (request.AcquireMutex mutex time_out) number x = mutex_keeps (given_object partition.mutexes mutex) _ number x
-set_by_keeps place period cores partition caller (request.ReleaseMutex mutex) number x = mutex_keeps (given_object partition.mutexes mutex) _ number x
+set_by_keeps place period cores partition caller (request.Mutex mutex operation) number x = mutex_keeps (given_object partition.mutexes mutex) _ number x
 set_by_keeps place period cores partition caller _ number x = (refl, refl)
 
 adjusted_keeps : (place period : ℕ) (cores : List CoreState) (partition : Partition) (call : CallRecord) (number : ℕ) (x : Process)
@@ -263,7 +260,7 @@ woken_if_named_keeps place call who x ends =
 -- where a service wakes somebody it starts nobody and lets nobody enter NORMAL
 waking_keeps_wait : (place period : ℕ) (cores : List CoreState) (partition : Partition) (now : ℕ) (caller : Who) (asked : Request) (number : ℕ) (x : Process) (one : Who)
     → is_named one (answer_of now caller partition asked).woken ≡ true → waits_for_normal x.wait ≡ false → (set_by place period cores partition caller.proc asked number x).wait ≡ x.wait
-waking_keeps_wait place period cores partition now caller (request.Start process) number x one named normal = nobody one [] refl named
+waking_keeps_wait place period cores partition now caller (request.Process process ProcessOperation.Start) number x one named normal = nobody one [] refl named
 waking_keeps_wait place period cores partition now caller asked number x one named normal = set_by_wait place period cores partition caller.proc asked number x tt normal
 
 -- what an own call sets in a process whose wait it ends leaves a wait that ends with no release
@@ -292,7 +289,7 @@ own_ends number place now period cores partition caller asked claim sound [] Non
 
 -- PERIODIC_WAIT that answers NO_ERROR found the release reached
 release_found : (codes : List Code) (number now : ℕ) (partition : Partition) (caller : Who) (claim : Claim) → AreErrors codes
-    → AllHold (outcome_demands codes None number request.PeriodicWait (answer_of now caller partition request.PeriodicWait) claim) → is_no_error claim.out ≡ true
+    → AllHold (outcome_demands codes None number (request.Caller CallerOperation.PeriodicWait) (answer_of now caller partition (request.Caller CallerOperation.PeriodicWait)) claim) → is_no_error claim.out ≡ true
     → is_released now (item_at partition.table caller.proc) ≡ true
 release_found (code ∷ codes) number now partition caller claim errors hold no_error =
     absurd (true≢false (sym (no_error_is_done claim.out no_error) ∙ not_done (code ∷ codes) claim.out errors hold.1.0))
@@ -302,8 +299,8 @@ release_found [] number now partition caller claim errors hold no_error =
       | false ↦ λ is. is
     ] (ap is_no_error (sym hold.1.0) ∙ no_error)
 
-taken_bounded : (place : ℕ) (asked : Request) (x : Process) → x.last_release ≤ place → (asked ≡ request.PeriodicWait → next_release x ≤ place) → release_taken asked x ≤ place + 1
-taken_bounded place request.PeriodicWait x last reached = let most = reached refl in omega (arith, most)
+taken_bounded : (place : ℕ) (asked : Request) (x : Process) → x.last_release ≤ place → (asked ≡ (request.Caller CallerOperation.PeriodicWait) → next_release x ≤ place) → release_taken asked x ≤ place + 1
+taken_bounded place (request.Caller CallerOperation.PeriodicWait) x last reached = let most = reached refl in omega (arith, most)
 taken_bounded place _ x last reached = omega (arith, last)
 
 caller_bounded : (place now : ℕ) (call : CallRecord) (given : Out) (x : Process) → IsBounded place x → (is_no_error given ≡ true → release_taken call.request x ≤ place + 1)
@@ -336,9 +333,9 @@ caller_takes : (configuration : Configuration) (number place now : ℕ) (partiti
 caller_takes configuration number place now partition call x new most keeps at hold bounded no_error =
     taken_bounded place call.request new bounded.0
     (λ asked.
-    (let own : OutcomeHolds configuration number now partition call request.PeriodicWait = subst (OutcomeHolds configuration number now partition call) asked hold in
-    let reached = release_found (condition_codes configuration call.who partition request.PeriodicWait) number now partition call.who call.claim
-    (are_errors configuration call.who partition request.PeriodicWait) own no_error in
+    (let own : OutcomeHolds configuration number now partition call (request.Caller CallerOperation.PeriodicWait) = subst (OutcomeHolds configuration number now partition call) asked hold in
+    let reached = release_found (condition_codes configuration call.who partition (request.Caller CallerOperation.PeriodicWait)) number now partition call.who call.claim
+    (are_errors configuration call.who partition (request.Caller CallerOperation.PeriodicWait)) own no_error in
     let here : is_released now (Some x) ≡ true = subst (λ one. is_released now one ≡ true) at reached in
     let before : next_release x ≤ now = leb-true (next_release x) now here in
     let same = next_kept x new keeps in
@@ -396,9 +393,9 @@ created_bounded most core call _ fits = λ number item at. (let no : ◌≡◌ {
 -- whom it names here waits in a channel's set
 foreign_ends : (asked : Request) (chan : Option ℕ) (number : ℕ) (table : Table) (others : List Who) → WakesHere asked chan number table others → (who : Who) → who.part ≡ number
     → is_named who others ≡ true → (x : Process) → item_at table who.proc ≡ Some x → EndsNoRelease x.wait
-foreign_ends (request.SendQueuingMessage port length time_out message) (Some channel) number table others wakes who here named x at =
+foreign_ends (request.QueuingPort port (QueuingOperation.Send length time_out message)) (Some channel) number table others wakes who here named x at =
     waiter_ends table (set.ChannelReceivers channel) who.proc x (named_wait (set.ChannelReceivers channel) number table others wakes who here named) at
-foreign_ends (request.ReceiveQueuingMessage port time_out) (Some channel) number table others wakes who here named x at =
+foreign_ends (request.QueuingPort port (QueuingOperation.Receive time_out)) (Some channel) number table others wakes who here named x at =
     waiter_ends table (set.ChannelSenders channel) who.proc x (named_wait (set.ChannelSenders channel) number table others wakes who here named) at
 foreign_ends _ chan number table others wakes who here named x at = absurd wakes
 

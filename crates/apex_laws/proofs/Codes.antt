@@ -2,21 +2,22 @@
 use Rattle.std.proofs.Common.{◌≡◌, ℕ, List, [], ◌∷◌, ◌++◌, Bool, true, false, Option, Some, None, option_map, refl, sym, ◌∙◌, inl, inr, true≢false}
 use Rattle.apex_types.specs.declared.code.Code.{Code}
 use Rattle.apex_types.specs.declared.code.Code.TheVariants as code
-use Rattle.apex_types.specs.declared.object_kind.ObjectKind.TheVariants as kind
 use Rattle.apex_types.specs.declared.record.Claim.{Claim}
 use Rattle.apex_types.specs.declared.record.Out.{Out}
 use Rattle.apex_types.specs.declared.record.Out.TheVariants as out
 use Rattle.apex_types.specs.declared.record.Who.{Who}
+use Rattle.apex_types.specs.declared.operation.{BlackboardOperation.BlackboardOperation, BufferOperation.BufferOperation, CallerOperation.CallerOperation, EventOperation.EventOperation, MutexOperation.MutexOperation, NewObject.NewObject, ProcessOperation.ProcessOperation, QueuingOperation.QueuingOperation, SamplingOperation.SamplingOperation, SemaphoreOperation.SemaphoreOperation}
 use Rattle.apex_types.specs.declared.request.Request.{Request}
 use Rattle.apex_types.specs.declared.request.Request.TheVariants as request
 use Rattle.apex_machine.specs.After.{is_done}
 use Rattle.apex_machine.specs.ProcessConditions.{start_codes}
 use Rattle.apex_machine.specs.Conditions.{codes_for, when}
+use Rattle.apex_machine.specs.CreationConditions.{parameter_codes}
 use Rattle.apex_machine.specs.Configuration.{Configuration}
 use Rattle.apex_machine.specs.ServiceConditions.{condition_codes}
 use Rattle.apex_machine.specs.Services.{Answer}
 use Rattle.apex_machine.specs.declared.state.Process.{Process}
-use Rattle.apex_machine.specs.State.{Blackboard, Buffer, Partition, created, given_object}
+use Rattle.apex_machine.specs.State.{objects_of, Blackboard, Buffer, Partition, created, given_object}
 use Rattle.apex_machine.specs.Step.{HasCode, HasOutcome, IsAmong}
 use Rattle.apex_machine.specs.Waiting.{is_no_error}
 
@@ -51,64 +52,56 @@ start_errors : (target : Option Process) → AreErrors (start_codes target)
 start_errors None = record { all = (refl, tt) }
 start_errors (Some process) = one_error process.alive code.NoAction refl
 
+parameter_errors : (configuration : Configuration) (number : ℕ) (name : List ℕ) (object : NewObject) → AreErrors (parameter_codes configuration number name object)
+parameter_errors configuration number name (NewObject.Buffer size capacity discipline) = both _ _ (both _ _ (one_error _ _ refl) (one_error _ _ refl)) (one_error _ _ refl)
+parameter_errors configuration number name (NewObject.Semaphore value maximum discipline) = both _ _ (both _ _ (one_error _ _ refl) (one_error _ _ refl)) (one_error _ _ refl)
+parameter_errors configuration number name (NewObject.Mutex priority discipline) = both _ _ (one_error _ _ refl) (one_error _ _ refl)
+parameter_errors configuration number name NewObject.Event = none
+parameter_errors configuration number name (NewObject.Blackboard size) = one_error _ _ refl
+parameter_errors configuration number name (NewObject.SamplingPort size direction refresh) = one_error _ _ refl
+parameter_errors configuration number name (NewObject.QueuingPort size capacity direction discipline) = one_error _ _ refl
+
 -- the codes of every call are codes of errors
 pub are_errors : (configuration : Configuration) (who : Who) (partition : Partition) (asked : Request) → AreErrors (condition_codes configuration who partition asked)
 are_errors configuration who partition (request.CreateProcess name priority period) =
     both _ _ (both _ _ (both _ _ (both _ _ (both _ _ (one_error _ _ refl) (one_error _ _ refl)) (one_error _ _ refl)) (one_error _ _ refl)) (one_error _ _ refl)) (one_error _ _ refl)
-are_errors configuration who partition (request.InitializeProcessCoreAffinity process core) =
+are_errors configuration who partition (request.Process process (ProcessOperation.InitializeCoreAffinity core)) =
     both _ _ (both _ _ (one_error _ _ refl) (one_error _ _ refl)) (one_error _ _ refl)
-are_errors configuration who partition (request.Start process) = start_errors _
-are_errors configuration who partition (request.Stop process) = both _ _ (for_created (created partition.table process) _ (λ found. one_error _ _ refl)) (one_error _ _ refl)
-are_errors configuration who partition (request.Suspend process) = both _ _ (for_created (created partition.table process) _ (λ found. both _ _ (one_error _ _ refl) (one_error _ _ refl))) (one_error _ _ refl)
-are_errors configuration who partition (request.SuspendSelf time_out) = both _ _ (both _ _ (one_error _ _ refl) (one_error _ _ refl)) (one_error _ _ refl)
-are_errors configuration who partition (request.Resume process) = both _ _ (for_created (created partition.table process) _ (λ found. both _ _ (one_error _ _ refl) (one_error _ _ refl))) (one_error _ _ refl)
-are_errors configuration who partition (request.SetPriority process priority) = both _ _ (for_created (created partition.table process) _ (λ found. one_error _ _ refl)) (one_error _ _ refl)
-are_errors configuration who partition request.GetMyId = one_error _ _ refl
-are_errors configuration who partition (request.TimedWait delay) = both _ _ (one_error _ _ refl) (one_error _ _ refl)
-are_errors configuration who partition request.PeriodicWait = both _ _ (one_error _ _ refl) (one_error _ _ refl)
+are_errors configuration who partition (request.Process process ProcessOperation.Start) = start_errors _
+are_errors configuration who partition (request.Process process ProcessOperation.Stop) = both _ _ (for_created (created partition.table process) _ (λ found. one_error _ _ refl)) (one_error _ _ refl)
+are_errors configuration who partition (request.Process process ProcessOperation.Suspend) = both _ _ (for_created (created partition.table process) _ (λ found. both _ _ (one_error _ _ refl) (one_error _ _ refl))) (one_error _ _ refl)
+are_errors configuration who partition (request.Caller (CallerOperation.SuspendSelf time_out)) = both _ _ (both _ _ (one_error _ _ refl) (one_error _ _ refl)) (one_error _ _ refl)
+are_errors configuration who partition (request.Process process ProcessOperation.Resume) = both _ _ (for_created (created partition.table process) _ (λ found. both _ _ (one_error _ _ refl) (one_error _ _ refl))) (one_error _ _ refl)
+are_errors configuration who partition (request.Process process (ProcessOperation.SetPriority priority)) = both _ _ (for_created (created partition.table process) _ (λ found. one_error _ _ refl)) (one_error _ _ refl)
+are_errors configuration who partition (request.Caller CallerOperation.GetMyId) = one_error _ _ refl
+are_errors configuration who partition (request.Caller (CallerOperation.TimedWait delay)) = both _ _ (one_error _ _ refl) (one_error _ _ refl)
+are_errors configuration who partition (request.Caller CallerOperation.PeriodicWait) = both _ _ (one_error _ _ refl) (one_error _ _ refl)
 are_errors configuration who partition (request.SetPartitionMode mode) = both _ _ (both _ _ (one_error _ _ refl) (one_error _ _ refl)) (one_error _ _ refl)
-are_errors configuration who partition (request.CreateBuffer name size capacity discipline) =
-    both _ _ (both _ _ (both _ _ (both _ _ (both _ _ (one_error _ _ refl) (one_error _ _ refl)) (one_error _ _ refl)) (one_error _ _ refl)) (one_error _ _ refl)) (one_error _ _ refl)
-are_errors configuration who partition (request.SendBuffer buffer length time_out message) =
+are_errors configuration who partition (request.Create name object) =
+    both _ _ (both _ _ (both _ _ (one_error _ _ refl) (one_error _ _ refl)) (one_error _ _ refl)) (parameter_errors configuration who.part name object)
+are_errors configuration who partition (request.Buffer buffer (BufferOperation.Send length time_out message)) =
     both _ _ (both _ _ (both _ _ (for_created (option_map (λ (found : Buffer). found.size) (given_object partition.buffers buffer)) _ (λ found. one_error _ _ refl)) (one_error _ _ refl)) (one_error _ _ refl)) (one_error _ _ refl)
-are_errors configuration who partition (request.ReceiveBuffer buffer time_out) = both _ _ (both _ _ (for_created (given_object partition.buffers buffer) _ (λ found. none)) (one_error _ _ refl)) (one_error _ _ refl)
-are_errors configuration who partition (request.CreateBlackboard name size) =
-    both _ _ (both _ _ (both _ _ (one_error _ _ refl) (one_error _ _ refl)) (one_error _ _ refl)) (one_error _ _ refl)
-are_errors configuration who partition (request.DisplayBlackboard blackboard length message) = both _ _ (for_created (option_map (λ (found : Blackboard). found.size) (given_object partition.blackboards blackboard)) _ (λ found. one_error _ _ refl)) (one_error _ _ refl)
-are_errors configuration who partition (request.ReadBlackboard blackboard time_out) = both _ _ (both _ _ (for_created (given_object partition.blackboards blackboard) _ (λ found. none)) (one_error _ _ refl)) (one_error _ _ refl)
-are_errors configuration who partition (request.ClearBlackboard blackboard) = for_created (given_object partition.blackboards blackboard) _ (λ found. none)
-are_errors configuration who partition (request.CreateSemaphore name value maximum discipline) =
-    both _ _ (both _ _ (both _ _ (both _ _ (both _ _ (one_error _ _ refl) (one_error _ _ refl)) (one_error _ _ refl)) (one_error _ _ refl)) (one_error _ _ refl)) (one_error _ _ refl)
-are_errors configuration who partition (request.WaitSemaphore semaphore time_out) = both _ _ (both _ _ (for_created (given_object partition.semaphores semaphore) _ (λ found. none)) (one_error _ _ refl)) (one_error _ _ refl)
-are_errors configuration who partition (request.SignalSemaphore semaphore) = for_created (given_object partition.semaphores semaphore) _ (λ found. none)
-are_errors configuration who partition (request.CreateEvent name) = both _ _ (both _ _ (one_error _ _ refl) (one_error _ _ refl)) (one_error _ _ refl)
-are_errors configuration who partition (request.SetEvent event) = for_created (given_object partition.events event) _ (λ found. none)
-are_errors configuration who partition (request.ResetEvent event) = for_created (given_object partition.events event) _ (λ found. none)
-are_errors configuration who partition (request.WaitEvent event time_out) = both _ _ (both _ _ (for_created (given_object partition.events event) _ (λ found. none)) (one_error _ _ refl)) (one_error _ _ refl)
-are_errors configuration who partition (request.CreateMutex name priority discipline) =
-    both _ _ (both _ _ (both _ _ (both _ _ (one_error _ _ refl) (one_error _ _ refl)) (one_error _ _ refl)) (one_error _ _ refl)) (one_error _ _ refl)
-are_errors configuration who partition (request.AcquireMutex mutex time_out) =
+are_errors configuration who partition (request.Buffer buffer (BufferOperation.Receive time_out)) = both _ _ (both _ _ (for_created (given_object partition.buffers buffer) _ (λ found. none)) (one_error _ _ refl)) (one_error _ _ refl)
+are_errors configuration who partition (request.Blackboard blackboard (BlackboardOperation.Display length message)) = both _ _ (for_created (option_map (λ (found : Blackboard). found.size) (given_object partition.blackboards blackboard)) _ (λ found. one_error _ _ refl)) (one_error _ _ refl)
+are_errors configuration who partition (request.Blackboard blackboard (BlackboardOperation.Read time_out)) = both _ _ (both _ _ (for_created (given_object partition.blackboards blackboard) _ (λ found. none)) (one_error _ _ refl)) (one_error _ _ refl)
+are_errors configuration who partition (request.Blackboard blackboard BlackboardOperation.Clear) = for_created (given_object partition.blackboards blackboard) _ (λ found. none)
+are_errors configuration who partition (request.Semaphore semaphore (SemaphoreOperation.Wait time_out)) = both _ _ (both _ _ (for_created (given_object partition.semaphores semaphore) _ (λ found. none)) (one_error _ _ refl)) (one_error _ _ refl)
+are_errors configuration who partition (request.Semaphore semaphore SemaphoreOperation.Signal) = for_created (given_object partition.semaphores semaphore) _ (λ found. none)
+are_errors configuration who partition (request.Event event EventOperation.Set) = for_created (given_object partition.events event) _ (λ found. none)
+are_errors configuration who partition (request.Event event EventOperation.Reset) = for_created (given_object partition.events event) _ (λ found. none)
+are_errors configuration who partition (request.Event event (EventOperation.Wait time_out)) = both _ _ (both _ _ (for_created (given_object partition.events event) _ (λ found. none)) (one_error _ _ refl)) (one_error _ _ refl)
+are_errors configuration who partition (request.Mutex mutex (MutexOperation.Acquire time_out)) =
     both _ _ (both _ _ (both _ _ (for_created (given_object partition.mutexes mutex) _ (λ found. one_error _ _ refl)) (one_error _ _ refl)) (one_error _ _ refl)) (one_error _ _ refl)
-are_errors configuration who partition (request.ReleaseMutex mutex) = for_created (given_object partition.mutexes mutex) _ (λ found. one_error _ _ refl)
-are_errors configuration who partition (request.CreateSamplingPort name size direction refresh) =
-    both _ _ (both _ _ (both _ _ (one_error _ _ refl) (one_error _ _ refl)) none) (one_error _ _ refl)
-are_errors configuration who partition (request.WriteSamplingMessage port length message) =
+are_errors configuration who partition (request.Mutex mutex MutexOperation.Release) = for_created (given_object partition.mutexes mutex) _ (λ found. one_error _ _ refl)
+are_errors configuration who partition (request.SamplingPort port (SamplingOperation.Write length message)) =
     both _ _ (for_created (given_object partition.sampling_ports port) _ (λ found. both _ _ (one_error _ _ refl) (one_error _ _ refl))) (one_error _ _ refl)
-are_errors configuration who partition (request.ReadSamplingMessage port) = for_created (given_object partition.sampling_ports port) _ (λ found. one_error _ _ refl)
-are_errors configuration who partition (request.CreateQueuingPort name size capacity both_given) =
-    both _ _ (both _ _ (both _ _ (one_error _ _ refl) (one_error _ _ refl)) none) (one_error _ _ refl)
-are_errors configuration who partition (request.SendQueuingMessage port length time_out message) =
+are_errors configuration who partition (request.SamplingPort port SamplingOperation.Read) = for_created (given_object partition.sampling_ports port) _ (λ found. one_error _ _ refl)
+are_errors configuration who partition (request.QueuingPort port (QueuingOperation.Send length time_out message)) =
     both _ _ (both _ _ (both _ _ (for_created (given_object partition.queuing_ports port) _ (λ found. both _ _ (one_error _ _ refl) (one_error _ _ refl))) (one_error _ _ refl)) (one_error _ _ refl)) (one_error _ _ refl)
-are_errors configuration who partition (request.ReceiveQueuingMessage port time_out) =
+are_errors configuration who partition (request.QueuingPort port (QueuingOperation.Receive time_out)) =
     both _ _ (both _ _ (for_created (given_object partition.queuing_ports port) _ (λ found. one_error _ _ refl)) (one_error _ _ refl)) (one_error _ _ refl)
 are_errors configuration who partition (request.GetId kind name) = one_error _ _ refl
-are_errors configuration who partition (request.GetStatus kind.Buffer object) = for_created (given_object partition.buffers object) _ (λ found. none)
-are_errors configuration who partition (request.GetStatus kind.Blackboard object) = for_created (given_object partition.blackboards object) _ (λ found. none)
-are_errors configuration who partition (request.GetStatus kind.Semaphore object) = for_created (given_object partition.semaphores object) _ (λ found. none)
-are_errors configuration who partition (request.GetStatus kind.Event object) = for_created (given_object partition.events object) _ (λ found. none)
-are_errors configuration who partition (request.GetStatus kind.Mutex object) = for_created (given_object partition.mutexes object) _ (λ found. none)
-are_errors configuration who partition (request.GetStatus kind.SamplingPort object) = for_created (given_object partition.sampling_ports object) _ (λ found. none)
-are_errors configuration who partition (request.GetStatus kind.QueuingPort object) = for_created (given_object partition.queuing_ports object) _ (λ found. none)
+are_errors configuration who partition (request.GetStatus of object) = for_created (given_object (objects_of partition of) object) _ (λ found. none)
 are_errors configuration who partition _ = none
 
 -- what answers one of these codes is not done

@@ -4,27 +4,29 @@ use Rattle.std.specs.Prelude.{◌<ℤ◌, IsTrue}
 use Rattle.apex_types.specs.declared.code.Code.{Code}
 use Rattle.apex_types.specs.declared.code.Code.TheVariants as code
 use Rattle.apex_types.specs.declared.limits.TheConstants.{GREATEST_MAXIMUM, LONGEST_MESSAGE, MOST_MESSAGES}
-use Rattle.apex_types.specs.declared.object_kind.ObjectKind.TheVariants as kind
 use Rattle.apex_types.specs.declared.record.Who.{Who}
+use Rattle.apex_types.specs.declared.operation.{BlackboardOperation.BlackboardOperation, BufferOperation.BufferOperation, CallerOperation.CallerOperation, EventOperation.EventOperation, MutexOperation.MutexOperation, NewObject.NewObject, ProcessOperation.ProcessOperation, QueuingOperation.QueuingOperation, SamplingOperation.SamplingOperation, SemaphoreOperation.SemaphoreOperation}
 use Rattle.apex_types.specs.declared.request.Request.{Request}
 use Rattle.apex_types.specs.declared.request.Request.TheVariants as request
+use Rattle.apex_types.specs.Requested.{kind_of}
 use Rattle.apex_machine.specs.declared.state.Direction.TheVariants as direction
 use Rattle.apex_machine.specs.declared.state.Mode.TheVariants as mode
 use Rattle.apex_machine.specs.declared.state.Process.{Process}
 use Rattle.apex_machine.specs.Arguments.{is_capacity, is_discipline, is_length, is_longer, is_maximum, is_mode, is_negative, is_normal_mode, is_number, is_over, is_period, is_priority, is_size, is_time_out, is_warm_start_mode, suits_maximum, suits_period}
 use Rattle.apex_machine.specs.Channels.{queuing_port, sampling_port}
 use Rattle.apex_machine.specs.Conditions.{codes_for, creation_codes, is_cold_start, is_normal, is_taken, may_not_wait, of_caller, time_out_codes, waiting_codes, when}
-use Rattle.apex_machine.specs.Configuration.{Configuration, is_core, object_limit, period_of, process_limit}
+use Rattle.apex_machine.specs.CreationConditions.{is_full, parameter_codes}
+use Rattle.apex_machine.specs.Configuration.{Configuration, is_core, period_of, process_limit}
 use Rattle.apex_machine.specs.Names.{number_of}
 use Rattle.apex_machine.specs.ObjectConditions.{message_codes, object_codes, owns_another}
 use Rattle.apex_machine.specs.Objects.{is_owner}
 use Rattle.apex_machine.specs.PortConditions.{destination_codes, is_queuing_port, is_sampling_port, is_source, source_codes}
 use Rattle.apex_machine.specs.ProcessConditions.{created_count, is_periodic, is_suspended, start_codes}
 use Rattle.apex_machine.specs.ServiceConditions.{condition_codes}
-use Rattle.apex_machine.specs.State.{Blackboard, Buffer, Event, Mutex, Partition, Port, Semaphore, created, given_object, item_at}
+use Rattle.apex_machine.specs.State.{name_in, objects_of, Partition, Port, created, given_object, item_at}
 use Rattle.apex_machine.specs.Step.{IsAmong}
 use Rattle.apex_laws.specs.ConditionSentences.{AllAreCreated, HasCondition, HasTimeOut, IsCalledBy, IsCalledByPeriodic, IsCoreOf, IsDiscipline, IsFrom, IsObject, IsPriority, IsQueuingPort, IsSamplingPort, IsSetUp, IsSize, MayNotWait, NameIsTaken, NamesNoProcess, NamesNone, NamesNothing, WaitsFor}
-use Rattle.apex_laws.proofs.ConditionTests.{Tells, at_most_tells, below_tells, between_tells, caller_tells, cold_start_tells, core_tells, created_is, destination_tells, equal_tells, longer_tells, may_not_wait_tells, mode_tells, named_tells, negative_tells, no_length_tells, no_multiple_tells, no_object_is, no_period_tells, no_process_is, no_time_out_tells, normal_mode_tells, normal_tells, number_tells, object_is, over_tells, owner_tells, periodic_caller_tells, periodic_tells, priority_tells, queuing_port_tells, sampling_port_tells, second_tells, source_tells, suspended_tells, tells_both, tells_not, unnamed_tells, value_tells, warm_start_mode_tells}
+use Rattle.apex_laws.proofs.ConditionTests.{full_tells, Tells, at_most_tells, below_tells, between_tells, caller_tells, cold_start_tells, core_tells, created_is, destination_tells, equal_tells, longer_tells, may_not_wait_tells, mode_tells, named_tells, negative_tells, no_length_tells, no_multiple_tells, no_object_is, no_period_tells, no_process_is, no_time_out_tells, normal_mode_tells, normal_tells, number_tells, object_is, over_tells, owner_tells, periodic_caller_tells, periodic_tells, priority_tells, queuing_port_tells, sampling_port_tells, second_tells, source_tells, suspended_tells, tells_both, tells_not, unnamed_tells, value_tells, warm_start_mode_tells}
 
 -- a fact about each of some codes
 pub record Each (codes : List Code) (Goal : Code → Type 0) : Type 0 where
@@ -190,6 +192,37 @@ module _ (configuration : Configuration) (who : Who) (partition : Partition) whe
       caller_tells (λ process. nat_lt priority process.current_priority) (λ process. priority < process.current_priority) (λ process. below_tells priority process.current_priority)
       (item_at partition.table who.proc)
 
+  -- what a creation is given
+  parameters_say : (name : List ℕ) (object : NewObject) → Each (parameter_codes configuration who.part name object) (Holds (request.Create name object))
+  parameters_say name (NewObject.Buffer size capacity discipline) =
+      let asked : Request = request.Create name (NewObject.Buffer size capacity discipline) in
+      each_of_both _ _ (Holds asked)
+      (each_of_both _ _ (Holds asked)
+      (number_fails asked (is_size size) (IsSize size) code.InvalidParam (between_tells 1 LONGEST_MESSAGE size) HasCondition.create_buffer_size)
+      (number_fails asked (is_capacity capacity) (IsFrom (pos 1) (pos MOST_MESSAGES) capacity) code.InvalidParam (between_tells 1 MOST_MESSAGES capacity) HasCondition.create_buffer_capacity))
+      (number_fails asked (is_discipline discipline) (IsDiscipline discipline) code.InvalidParam (between_tells 0 1 discipline) HasCondition.create_buffer_discipline)
+  parameters_say name (NewObject.Blackboard size) =
+      number_fails (request.Create name (NewObject.Blackboard size)) (is_size size) (IsSize size) code.InvalidParam (between_tells 1 LONGEST_MESSAGE size) HasCondition.create_blackboard_size
+  parameters_say name (NewObject.Semaphore value maximum discipline) =
+      let asked : Request = request.Create name (NewObject.Semaphore value maximum discipline) in
+      each_of_both _ _ (Holds asked)
+      (each_of_both _ _ (Holds asked)
+      (number_fails asked (is_maximum maximum) (IsFrom (pos 1) (pos GREATEST_MAXIMUM) maximum) code.InvalidParam (between_tells 1 GREATEST_MAXIMUM maximum) HasCondition.create_semaphore_maximum)
+      (number_fails asked (suits_maximum maximum value) (IsFrom (pos 0) maximum value) code.InvalidParam (value_tells maximum value) HasCondition.create_semaphore_value))
+      (number_fails asked (is_discipline discipline) (IsDiscipline discipline) code.InvalidParam (between_tells 0 1 discipline) HasCondition.create_semaphore_discipline)
+  parameters_say name NewObject.Event = none (Holds (request.Create name NewObject.Event))
+  parameters_say name (NewObject.Mutex priority discipline) =
+      let asked : Request = request.Create name (NewObject.Mutex priority discipline) in
+      each_of_both _ _ (Holds asked)
+      (number_fails asked (is_priority priority) (IsPriority priority) code.InvalidParam (priority_tells priority) HasCondition.create_mutex_priority)
+      (number_fails asked (is_discipline discipline) (IsDiscipline discipline) code.InvalidParam (between_tells 0 1 discipline) HasCondition.create_mutex_discipline)
+  parameters_say name (NewObject.SamplingPort size way refresh) =
+      number_fails (request.Create name (NewObject.SamplingPort size way refresh)) (is_sampling_port (sampling_port configuration who.part name) size way refresh)
+      (IsSamplingPort configuration who.part name size way refresh) code.InvalidConfig (sampling_port_tells configuration who.part name size way refresh) HasCondition.create_sampling_port
+  parameters_say name (NewObject.QueuingPort size capacity way order) =
+      number_fails (request.Create name (NewObject.QueuingPort size capacity way order)) (is_queuing_port (queuing_port configuration who.part name) size capacity way order)
+      (IsQueuingPort configuration who.part name size capacity way order) code.InvalidConfig (queuing_port_tells configuration who.part name size capacity way order) HasCondition.create_queuing_port
+
   -- each code of a call is that of a condition which holds
   pub says : (asked : Request) → Each (condition_codes configuration who partition asked) (Holds asked)
   says (request.CreateProcess name priority period) =
@@ -204,24 +237,24 @@ module _ (configuration : Configuration) (who : Who) (partition : Partition) whe
       (each_when (not (is_period period)) code.InvalidParam (Holds asked) (λ fails. let facts = (no_period_tells period).0 fails in HasCondition.create_process_period facts.0 facts.1)))
       (each_when (not (suits_period (period_of configuration who.part) period)) code.InvalidConfig (Holds asked)
       (λ fails. let facts = (no_multiple_tells (period_of configuration who.part) period).0 fails in HasCondition.create_process_multiple facts.0 facts.1))
-  says (request.InitializeProcessCoreAffinity process core) =
-      let asked : Request = request.InitializeProcessCoreAffinity process core in
+  says (request.Process process (ProcessOperation.InitializeCoreAffinity core)) =
+      let asked : Request = request.Process process (ProcessOperation.InitializeCoreAffinity core) in
       each_of_both _ _ (Holds asked)
       (each_of_both _ _ (Holds asked) (nobody_says asked process (λ names. names)) (normal_says asked tt))
       (number_fails asked (is_core configuration who.part core) (IsCoreOf configuration who.part core) code.InvalidConfig (core_tells configuration who.part core) HasCondition.affinity_core)
-  says (request.Start process) =
-      each_code_of_start (created partition.table process) (Holds (request.Start process)) (λ nobody. HasCondition.names_nothing (no_process_is partition process nobody))
+  says (request.Process process ProcessOperation.Start) =
+      each_code_of_start (created partition.table process) (Holds (request.Process process ProcessOperation.Start)) (λ nobody. HasCondition.names_nothing (no_process_is partition process nobody))
       (λ found at alive. HasCondition.start_alive found (created_is partition process found at) alive)
-  says (request.Stop process) =
-      let asked : Request = request.Stop process in
+  says (request.Process process ProcessOperation.Stop) =
+      let asked : Request = request.Process process ProcessOperation.Stop in
       each_of_both _ _ (Holds asked)
       (each_created (created partition.table process) (λ found. when (not found.alive) code.NoAction) (Holds asked)
       (λ nobody. HasCondition.names_nothing (no_process_is partition process nobody))
       (λ found at. dormant_says asked found.alive code.NoAction (λ dormant. HasCondition.stop_dormant found (created_is partition process found at) dormant)))
       (each_when (is_number process who.proc) code.InvalidParam (Holds asked) (λ holds. HasCondition.stop_itself ((number_tells process who.proc).0 holds)))
-  says request.StopSelf = none (Holds request.StopSelf)
-  says (request.Suspend process) =
-      let asked : Request = request.Suspend process in
+  says (request.Caller CallerOperation.StopSelf) = none (Holds (request.Caller CallerOperation.StopSelf))
+  says (request.Process process ProcessOperation.Suspend) =
+      let asked : Request = request.Process process ProcessOperation.Suspend in
       each_of_both _ _ (Holds asked)
       (each_created (created partition.table process) (λ found. when (not found.alive || is_periodic found) code.InvalidMode ++ when (is_suspended found) code.NoAction) (Holds asked)
       (λ nobody. HasCondition.names_nothing (no_process_is partition process nobody))
@@ -231,15 +264,15 @@ module _ (configuration : Configuration) (who : Who) (partition : Partition) whe
       (each_when (is_suspended found) code.NoAction (Holds asked)
       (λ holds. HasCondition.suspend_suspended found (created_is partition process found at) ((suspended_tells found).0 holds)))))
       (itself_says asked process HasCondition.suspend_itself)
-  says (request.SuspendSelf time_out) =
-      let asked : Request = request.SuspendSelf time_out in
+  says (request.Caller (CallerOperation.SuspendSelf time_out)) =
+      let asked : Request = request.Caller (CallerOperation.SuspendSelf time_out) in
       each_of_both _ _ (Holds asked)
       (each_of_both _ _ (Holds asked) (time_out_says asked time_out refl)
       (each_when (of_caller is_periodic (item_at partition.table who.proc)) code.InvalidMode (Holds asked)
       (λ holds. HasCondition.suspend_self_periodic ((periodic_caller_tells who partition).0 holds))))
       (waits_says asked HasCondition.suspend_self_waits)
-  says (request.Resume process) =
-      let asked : Request = request.Resume process in
+  says (request.Process process ProcessOperation.Resume) =
+      let asked : Request = request.Process process ProcessOperation.Resume in
       each_of_both _ _ (Holds asked)
       (each_created (created partition.table process)
       (λ found. when (not found.alive || is_periodic found) code.InvalidMode ++ when (found.alive && not (is_suspended found)) code.NoAction) (Holds asked)
@@ -250,26 +283,26 @@ module _ (configuration : Configuration) (who : Who) (partition : Partition) whe
       (running_says asked found.alive (is_suspended found) code.NoAction
       (λ alive fails. HasCondition.resume_running found (created_is partition process found at) alive (λ suspended. true≢false (sym ((suspended_tells found).1 suspended) ∙ fails))))))
       (itself_says asked process HasCondition.resume_itself)
-  says (request.SetPriority process priority) =
-      let asked : Request = request.SetPriority process priority in
+  says (request.Process process (ProcessOperation.SetPriority priority)) =
+      let asked : Request = request.Process process (ProcessOperation.SetPriority priority) in
       each_of_both _ _ (Holds asked)
       (each_created (created partition.table process) (λ found. when (not found.alive) code.InvalidMode) (Holds asked)
       (λ nobody. HasCondition.names_nothing (no_process_is partition process nobody))
       (λ found at. dormant_says asked found.alive code.InvalidMode (λ dormant. HasCondition.set_priority_dormant found (created_is partition process found at) dormant)))
       (number_fails asked (is_priority priority) (IsPriority priority) code.InvalidParam (priority_tells priority) HasCondition.set_priority_priority)
-  says request.GetMyId =
-      each_when (nat_eq who.proc 0) code.InvalidMode (Holds request.GetMyId) (λ holds. HasCondition.get_my_id_initialising ((equal_tells who.proc 0).0 holds))
-  says (request.TimedWait ticks) =
-      let asked : Request = request.TimedWait ticks in
+  says (request.Caller CallerOperation.GetMyId) =
+      each_when (nat_eq who.proc 0) code.InvalidMode (Holds (request.Caller CallerOperation.GetMyId)) (λ holds. HasCondition.get_my_id_initialising ((equal_tells who.proc 0).0 holds))
+  says (request.Caller (CallerOperation.TimedWait ticks)) =
+      let asked : Request = request.Caller (CallerOperation.TimedWait ticks) in
       each_of_both _ _ (Holds asked)
       (each_when (is_negative ticks) code.InvalidParam (Holds asked) (λ holds. HasCondition.timed_wait_delay ((negative_tells ticks).0 holds)))
       (waits_says asked HasCondition.timed_wait_waits)
-  says request.PeriodicWait =
-      each_of_both _ _ (Holds request.PeriodicWait)
-      (number_fails request.PeriodicWait (of_caller is_periodic (item_at partition.table who.proc)) (IsCalledByPeriodic who partition) code.InvalidMode
+  says (request.Caller CallerOperation.PeriodicWait) =
+      each_of_both _ _ (Holds (request.Caller CallerOperation.PeriodicWait))
+      (number_fails (request.Caller CallerOperation.PeriodicWait) (of_caller is_periodic (item_at partition.table who.proc)) (IsCalledByPeriodic who partition) code.InvalidMode
       (periodic_caller_tells who partition) HasCondition.periodic_wait_aperiodic)
-      (waits_says request.PeriodicWait HasCondition.periodic_wait_waits)
-  says request.GetTime = none (Holds request.GetTime)
+      (waits_says (request.Caller CallerOperation.PeriodicWait) HasCondition.periodic_wait_waits)
+  says (request.Caller CallerOperation.GetTime) = none (Holds (request.Caller CallerOperation.GetTime))
   says (request.SetPartitionMode next) =
       let asked : Request = request.SetPartitionMode next in
       each_of_both _ _ (Holds asked)
@@ -281,64 +314,31 @@ module _ (configuration : Configuration) (who : Who) (partition : Partition) whe
       (each_when (is_warm_start_mode next && is_cold_start partition.mode) code.InvalidMode (Holds asked)
       (λ holds. let facts = (tells_both (is_warm_start_mode next) (is_cold_start partition.mode) (next ≡ pos 2) (partition.mode ≡ mode.ColdStart)
       (warm_start_mode_tells next) (cold_start_tells partition.mode)).0 holds in HasCondition.set_mode_warm facts.0 facts.1))
-  says (request.CreateBuffer name size capacity discipline) =
-      let asked : Request = request.CreateBuffer name size capacity discipline in
-      each_of_both _ _ (Holds asked)
-      (each_of_both _ _ (Holds asked)
-      (each_of_both _ _ (Holds asked)
-      (creation_says asked (is_taken (λ (buffer : Buffer). buffer.name) name partition.buffers) _ tt
-      (named_tells (λ (buffer : Buffer). buffer.name) name partition.buffers).0 (at_most_tells (object_limit configuration (λ limits. limits.buffers) who.part) (length partition.buffers)).0)
-      (number_fails asked (is_size size) (IsSize size) code.InvalidParam (between_tells 1 LONGEST_MESSAGE size) HasCondition.create_buffer_size))
-      (number_fails asked (is_capacity capacity) (IsFrom (pos 1) (pos MOST_MESSAGES) capacity) code.InvalidParam (between_tells 1 MOST_MESSAGES capacity) HasCondition.create_buffer_capacity))
-      (number_fails asked (is_discipline discipline) (IsDiscipline discipline) code.InvalidParam (between_tells 0 1 discipline) HasCondition.create_buffer_discipline)
-  says (request.SendBuffer buffer length time_out message) =
-      let asked : Request = request.SendBuffer buffer length time_out message in
+  says (request.Create name object) =
+      let of = kind_of object in
+      each_of_both _ _ (Holds (request.Create name object))
+      (creation_says (request.Create name object) (is_taken (name_in of) name (objects_of partition of)) (is_full configuration who.part partition of) tt
+      (named_tells (name_in of) name (objects_of partition of)).0 (full_tells configuration who.part partition of).0)
+      (parameters_say name object)
+  says (request.Buffer buffer (BufferOperation.Send length time_out message)) =
+      let asked : Request = request.Buffer buffer (BufferOperation.Send length time_out message) in
       each_of_both _ _ (Holds asked)
       (each_of_both _ _ (Holds asked)
       (message_says asked partition.buffers buffer length (λ found. found.size) (λ names. names) HasCondition.send_buffer_empty HasCondition.send_buffer_long)
       (time_out_says asked time_out refl))
       (waiting_says asked time_out refl)
-  says (request.ReceiveBuffer buffer time_out) = object_says (request.ReceiveBuffer buffer time_out) partition.buffers buffer time_out (λ names. names) refl refl
-  says (request.CreateBlackboard name size) =
-      let asked : Request = request.CreateBlackboard name size in
-      each_of_both _ _ (Holds asked)
-      (creation_says asked (is_taken (λ (blackboard : Blackboard). blackboard.name) name partition.blackboards) _ tt
-      (named_tells (λ (blackboard : Blackboard). blackboard.name) name partition.blackboards).0
-      (at_most_tells (object_limit configuration (λ limits. limits.blackboards) who.part) (length partition.blackboards)).0)
-      (number_fails asked (is_size size) (IsSize size) code.InvalidParam (between_tells 1 LONGEST_MESSAGE size) HasCondition.create_blackboard_size)
-  says (request.DisplayBlackboard blackboard length message) =
-      message_says (request.DisplayBlackboard blackboard length message) partition.blackboards blackboard length (λ found. found.size) (λ names. names) HasCondition.display_empty HasCondition.display_long
-  says (request.ReadBlackboard blackboard time_out) = object_says (request.ReadBlackboard blackboard time_out) partition.blackboards blackboard time_out (λ names. names) refl refl
-  says (request.ClearBlackboard blackboard) = created_says (request.ClearBlackboard blackboard) partition.blackboards blackboard (λ names. names)
-  says (request.CreateSemaphore name value maximum discipline) =
-      let asked : Request = request.CreateSemaphore name value maximum discipline in
-      each_of_both _ _ (Holds asked)
-      (each_of_both _ _ (Holds asked)
-      (each_of_both _ _ (Holds asked)
-      (creation_says asked (is_taken (λ (semaphore : Semaphore). semaphore.name) name partition.semaphores) _ tt
-      (named_tells (λ (semaphore : Semaphore). semaphore.name) name partition.semaphores).0
-      (at_most_tells (object_limit configuration (λ limits. limits.semaphores) who.part) (length partition.semaphores)).0)
-      (number_fails asked (is_maximum maximum) (IsFrom (pos 1) (pos GREATEST_MAXIMUM) maximum) code.InvalidParam (between_tells 1 GREATEST_MAXIMUM maximum) HasCondition.create_semaphore_maximum))
-      (number_fails asked (suits_maximum maximum value) (IsFrom (pos 0) maximum value) code.InvalidParam (value_tells maximum value) HasCondition.create_semaphore_value))
-      (number_fails asked (is_discipline discipline) (IsDiscipline discipline) code.InvalidParam (between_tells 0 1 discipline) HasCondition.create_semaphore_discipline)
-  says (request.WaitSemaphore semaphore time_out) = object_says (request.WaitSemaphore semaphore time_out) partition.semaphores semaphore time_out (λ names. names) refl refl
-  says (request.SignalSemaphore semaphore) = created_says (request.SignalSemaphore semaphore) partition.semaphores semaphore (λ names. names)
-  says (request.CreateEvent name) =
-      creation_says (request.CreateEvent name) (is_taken (λ (event : Event). event.name) name partition.events) _ tt
-      (named_tells (λ (event : Event). event.name) name partition.events).0 (at_most_tells (object_limit configuration (λ limits. limits.events) who.part) (length partition.events)).0
-  says (request.SetEvent event) = created_says (request.SetEvent event) partition.events event (λ names. names)
-  says (request.ResetEvent event) = created_says (request.ResetEvent event) partition.events event (λ names. names)
-  says (request.WaitEvent event time_out) = object_says (request.WaitEvent event time_out) partition.events event time_out (λ names. names) refl refl
-  says (request.CreateMutex name priority discipline) =
-      let asked : Request = request.CreateMutex name priority discipline in
-      each_of_both _ _ (Holds asked)
-      (each_of_both _ _ (Holds asked)
-      (creation_says asked (is_taken (λ (mutex : Mutex). mutex.name) name partition.mutexes) _ tt
-      (named_tells (λ (mutex : Mutex). mutex.name) name partition.mutexes).0 (at_most_tells (object_limit configuration (λ limits. limits.mutexes) who.part) (length partition.mutexes)).0)
-      (number_fails asked (is_priority priority) (IsPriority priority) code.InvalidParam (priority_tells priority) HasCondition.create_mutex_priority))
-      (number_fails asked (is_discipline discipline) (IsDiscipline discipline) code.InvalidParam (between_tells 0 1 discipline) HasCondition.create_mutex_discipline)
-  says (request.AcquireMutex mutex time_out) =
-      let asked : Request = request.AcquireMutex mutex time_out in
+  says (request.Buffer buffer (BufferOperation.Receive time_out)) = object_says (request.Buffer buffer (BufferOperation.Receive time_out)) partition.buffers buffer time_out (λ names. names) refl refl
+  says (request.Blackboard blackboard (BlackboardOperation.Display length message)) =
+      message_says (request.Blackboard blackboard (BlackboardOperation.Display length message)) partition.blackboards blackboard length (λ found. found.size) (λ names. names) HasCondition.display_empty HasCondition.display_long
+  says (request.Blackboard blackboard (BlackboardOperation.Read time_out)) = object_says (request.Blackboard blackboard (BlackboardOperation.Read time_out)) partition.blackboards blackboard time_out (λ names. names) refl refl
+  says (request.Blackboard blackboard BlackboardOperation.Clear) = created_says (request.Blackboard blackboard BlackboardOperation.Clear) partition.blackboards blackboard (λ names. names)
+  says (request.Semaphore semaphore (SemaphoreOperation.Wait time_out)) = object_says (request.Semaphore semaphore (SemaphoreOperation.Wait time_out)) partition.semaphores semaphore time_out (λ names. names) refl refl
+  says (request.Semaphore semaphore SemaphoreOperation.Signal) = created_says (request.Semaphore semaphore SemaphoreOperation.Signal) partition.semaphores semaphore (λ names. names)
+  says (request.Event event EventOperation.Set) = created_says (request.Event event EventOperation.Set) partition.events event (λ names. names)
+  says (request.Event event EventOperation.Reset) = created_says (request.Event event EventOperation.Reset) partition.events event (λ names. names)
+  says (request.Event event (EventOperation.Wait time_out)) = object_says (request.Event event (EventOperation.Wait time_out)) partition.events event time_out (λ names. names) refl refl
+  says (request.Mutex mutex (MutexOperation.Acquire time_out)) =
+      let asked : Request = request.Mutex mutex (MutexOperation.Acquire time_out) in
       each_of_both _ _ (Holds asked)
       (each_of_both _ _ (Holds asked)
       (each_of_both _ _ (Holds asked)
@@ -351,40 +351,26 @@ module _ (configuration : Configuration) (who : Who) (partition : Partition) whe
       (each_when (nat_eq who.proc 0) code.InvalidMode (Holds asked) (λ holds. HasCondition.acquire_initialising ((equal_tells who.proc 0).0 holds))))
       (each_when (owns_another partition.mutexes mutex who.proc) code.InvalidMode (Holds asked)
       (λ holds. let facts = (second_tells partition mutex who.proc).0 holds in HasCondition.acquire_second facts.0 facts.1 facts.2))
-  says (request.ReleaseMutex mutex) =
-      let asked : Request = request.ReleaseMutex mutex in
+  says (request.Mutex mutex MutexOperation.Release) =
+      let asked : Request = request.Mutex mutex MutexOperation.Release in
       each_created (given_object partition.mutexes mutex) (λ found. when (not (is_owner found.owner who.proc)) code.InvalidMode) (Holds asked)
       (λ nobody. HasCondition.names_nothing (no_object_is partition.mutexes mutex nobody))
       (λ found at. number_fails asked (is_owner found.owner who.proc) (found.owner ≡ Some who.proc) code.InvalidMode (owner_tells found.owner who.proc)
       (HasCondition.release_not_owner found (object_is partition.mutexes mutex found at)))
-  says (request.CreateSamplingPort name size direction refresh) =
-      let asked : Request = request.CreateSamplingPort name size direction refresh in
-      each_of_both _ _ (Holds asked)
-      (creation_says asked (is_taken (λ (port : Port). port.name) name partition.sampling_ports) false tt
-      (named_tells (λ (port : Port). port.name) name partition.sampling_ports).0 (λ never. absurd (true≢false (sym never))))
-      (number_fails asked (is_sampling_port (sampling_port configuration who.part name) size direction refresh) (IsSamplingPort configuration who.part name size direction refresh) code.InvalidConfig
-      (sampling_port_tells configuration who.part name size direction refresh) HasCondition.create_sampling_port)
-  says (request.WriteSamplingMessage port length message) =
-      source_says (request.WriteSamplingMessage port length message) partition.sampling_ports port length (λ names. names)
+  says (request.SamplingPort port (SamplingOperation.Write length message)) =
+      source_says (request.SamplingPort port (SamplingOperation.Write length message)) partition.sampling_ports port length (λ names. names)
       HasCondition.write_empty HasCondition.write_long HasCondition.write_no_source
-  says (request.ReadSamplingMessage port) =
-      destination_says (request.ReadSamplingMessage port) partition.sampling_ports port (λ names. names) HasCondition.read_no_destination
-  says (request.CreateQueuingPort name size capacity both) =
-      let asked : Request = request.CreateQueuingPort name size capacity both in
-      each_of_both _ _ (Holds asked)
-      (creation_says asked (is_taken (λ (port : Port). port.name) name partition.queuing_ports) false tt
-      (named_tells (λ (port : Port). port.name) name partition.queuing_ports).0 (λ never. absurd (true≢false (sym never))))
-      (number_fails asked (is_queuing_port (queuing_port configuration who.part name) size capacity both) (IsQueuingPort configuration who.part name size capacity both) code.InvalidConfig
-      (queuing_port_tells configuration who.part name size capacity both) HasCondition.create_queuing_port)
-  says (request.SendQueuingMessage port length time_out message) =
-      let asked : Request = request.SendQueuingMessage port length time_out message in
+  says (request.SamplingPort port SamplingOperation.Read) =
+      destination_says (request.SamplingPort port SamplingOperation.Read) partition.sampling_ports port (λ names. names) HasCondition.read_no_destination
+  says (request.QueuingPort port (QueuingOperation.Send length time_out message)) =
+      let asked : Request = request.QueuingPort port (QueuingOperation.Send length time_out message) in
       each_of_both _ _ (Holds asked)
       (each_of_both _ _ (Holds asked)
       (source_says asked partition.queuing_ports port length (λ names. names) HasCondition.send_empty HasCondition.send_long HasCondition.send_no_source)
       (time_out_says asked time_out refl))
       (waiting_says asked time_out refl)
-  says (request.ReceiveQueuingMessage port time_out) =
-      let asked : Request = request.ReceiveQueuingMessage port time_out in
+  says (request.QueuingPort port (QueuingOperation.Receive time_out)) =
+      let asked : Request = request.QueuingPort port (QueuingOperation.Receive time_out) in
       each_of_both _ _ (Holds asked)
       (each_of_both _ _ (Holds asked)
       (destination_says asked partition.queuing_ports port (λ names. names) HasCondition.receive_no_destination)
@@ -392,10 +378,4 @@ module _ (configuration : Configuration) (who : Who) (partition : Partition) whe
       (waiting_says asked time_out refl)
   says (request.GetId of name) =
       each_when (is_none (number_of partition of name)) code.InvalidConfig (Holds (request.GetId of name)) (λ holds. HasCondition.get_id_unnamed ((unnamed_tells partition of name).0 holds))
-  says (request.GetStatus kind.Buffer object) = created_says (request.GetStatus kind.Buffer object) partition.buffers object (λ names. names)
-  says (request.GetStatus kind.Blackboard object) = created_says (request.GetStatus kind.Blackboard object) partition.blackboards object (λ names. names)
-  says (request.GetStatus kind.Semaphore object) = created_says (request.GetStatus kind.Semaphore object) partition.semaphores object (λ names. names)
-  says (request.GetStatus kind.Event object) = created_says (request.GetStatus kind.Event object) partition.events object (λ names. names)
-  says (request.GetStatus kind.Mutex object) = created_says (request.GetStatus kind.Mutex object) partition.mutexes object (λ names. names)
-  says (request.GetStatus kind.SamplingPort object) = created_says (request.GetStatus kind.SamplingPort object) partition.sampling_ports object (λ names. names)
-  says (request.GetStatus kind.QueuingPort object) = created_says (request.GetStatus kind.QueuingPort object) partition.queuing_ports object (λ names. names)
+  says (request.GetStatus of object) = created_says (request.GetStatus of object) (objects_of partition of) object (λ names. names)

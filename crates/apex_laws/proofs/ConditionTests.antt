@@ -1,5 +1,5 @@
 -- Which facts the tests of the error conditions tell.
-use Rattle.std.proofs.Common.{◌≡◌, ◌⊎◌, ℕ, zero, suc, ◌+◌, ◌*◌, ◌/◌, ◌%◌, ◌<◌, ◌≤◌, ℤ, pos, negsuc, List, [], ◌∷◌, Option, Some, None, Bool, true, false, not, ◌&&◌, ◌||◌, nat_eq, nat_lt, nat_le, is_none, is_some, refl, sym, ap, subst, ◌∙◌, inl, inr, arith, true≢false}
+use Rattle.std.proofs.Common.{◌≡◌, ◌⊎◌, ℕ, zero, suc, ◌+◌, ◌*◌, ◌/◌, ◌%◌, ◌<◌, ◌≤◌, ℤ, pos, negsuc, List, [], ◌∷◌, Option, Some, None, Bool, true, false, not, ◌&&◌, ◌||◌, nat_eq, nat_lt, nat_le, is_none, is_some, refl, sym, ap, subst, ◌∙◌, inl, inr, arith, true≢false, length}
 use Rattle.std.specs.Prelude.{◌≤ℤ◌, ◌<ℤ◌, Contains, T, IsTrue}
 use Rattle.std.specs.List.{list_any}
 use Rattle.std.specs.Str.{bytes_eq}
@@ -24,16 +24,17 @@ use Rattle.apex_machine.specs.declared.state.Wait.TheVariants as wait
 use Rattle.apex_machine.specs.Arguments.{direction_number, discipline_number, is_between, is_length, is_longer, is_mode, is_negative, is_normal_mode, is_number, is_over, is_period, is_priority, is_time_out, is_warm_start_mode, suits_maximum, suits_period}
 use Rattle.apex_machine.specs.Channels.{QueuingPort, SamplingPort, queuing_port, sampling_port}
 use Rattle.apex_machine.specs.Conditions.{is_cold_start, is_normal, is_taken, may_not_wait, of_caller, owns_mutex}
-use Rattle.apex_machine.specs.Configuration.{Configuration, PartitionLimits, has_core, is_core, limits_of}
+use Rattle.apex_machine.specs.Configuration.{Configuration, PartitionLimits, has_core, is_core, limits_of, object_limit}
 use Rattle.apex_machine.specs.DueTimes.{is_suspension}
 use Rattle.apex_machine.specs.ObjectConditions.{owns_another}
 use Rattle.apex_machine.specs.Names.{number_named, number_of}
 use Rattle.apex_machine.specs.Objects.{is_owner}
-use Rattle.apex_machine.specs.PortConditions.{both_number, is_queuing_port, is_sampling_port, is_source, suits_refresh}
+use Rattle.apex_machine.specs.PortConditions.{is_queuing_port, is_sampling_port, is_source, suits_refresh}
 use Rattle.apex_machine.specs.ProcessConditions.{is_periodic, is_suspended}
 use Rattle.apex_machine.specs.State.{Blackboard, Buffer, Event, Mutex, Partition, Port, Semaphore, Table, created, given_object, item_at}
-use Rattle.apex_laws.specs.ConditionSentences.{IsCalledByPeriodic, IsCoreOf, IsDirection, IsDirectionAndDiscipline, IsFrom, IsMultipleOf, IsObject, IsPeriodic, IsPriority, IsProcess, IsQueuingPort, IsSamplingPort, IsSuspended, MayNotWait, NamesNoProcess, NamesNone, OneIsNamed, OneOfKindIsNamed, Owns}
+use Rattle.apex_laws.specs.ConditionSentences.{KindIsFull, IsCalledByPeriodic, IsCoreOf, IsDirection, TellsDiscipline, IsFrom, IsMultipleOf, IsObject, IsPeriodic, IsPriority, IsProcess, IsQueuingPort, IsSamplingPort, IsSuspended, MayNotWait, NamesNoProcess, NamesNone, OneIsNamed, OneOfKindIsNamed, Owns}
 use Rattle.apex_laws.proofs.Booleans.{is_itself}
+use Rattle.apex_machine.specs.CreationConditions.{is_full}
 
 -- a test tells a fact: it holds exactly where the fact does
 abbrev pub Tells : Bool → Type 0 → Type 0
@@ -430,14 +431,9 @@ direction_tells : (way : Direction) (given : ℤ) → Tells (is_number given (di
 direction_tells direction.Source given = number_tells given 0
 direction_tells direction.Destination given = number_tells given 1
 
-both_tells : (port : QueuingPort) (given : ℤ) → Tells (is_number given (both_number port)) (IsDirectionAndDiscipline port.direction port.discipline given)
-both_tells port given = by port.direction port.discipline
-  where
-    by : (way : Direction) (rule : Discipline) → Tells (is_number given (direction_number way + 2 * discipline_number rule)) (IsDirectionAndDiscipline way rule given)
-    by direction.Source discipline.Fifo = number_tells given 0
-    by direction.Destination discipline.Fifo = number_tells given 1
-    by direction.Source discipline.Priority = number_tells given 2
-    by direction.Destination discipline.Priority = number_tells given 3
+discipline_tells : (rule : Discipline) (given : ℤ) → Tells (is_number given (discipline_number rule)) (TellsDiscipline rule given)
+discipline_tells discipline.Fifo given = number_tells given 0
+discipline_tells discipline.Priority given = number_tells given 1
 
 pub sampling_port_tells : (configuration : Configuration) (partition : ℕ) (name : List ℕ) (size way refresh : ℤ)
     → Tells (is_sampling_port (sampling_port configuration partition name) size way refresh) (IsSamplingPort configuration partition name size way refresh)
@@ -462,24 +458,36 @@ sampling_port_tells configuration partition name size way refresh = by (sampling
           subst (λ one. is_sampling_port (Some one) size way refresh ≡ true) same ((tests fact.port).1 (fact.has_size, (fact.has_direction, fact.has_refresh))),
     )
 
-pub queuing_port_tells : (configuration : Configuration) (partition : ℕ) (name : List ℕ) (size capacity both : ℤ)
-    → Tells (is_queuing_port (queuing_port configuration partition name) size capacity both) (IsQueuingPort configuration partition name size capacity both)
-queuing_port_tells configuration partition name size capacity both = by (queuing_port configuration partition name) refl
+pub queuing_port_tells : (configuration : Configuration) (partition : ℕ) (name : List ℕ) (size capacity way order : ℤ)
+    → Tells (is_queuing_port (queuing_port configuration partition name) size capacity way order) (IsQueuingPort configuration partition name size capacity way order)
+queuing_port_tells configuration partition name size capacity way order = by (queuing_port configuration partition name) refl
   where
-    tests : (port : QueuingPort) → Tells (is_queuing_port (Some port) size capacity both)
-        ((size ≡ pos port.size) × ((capacity ≡ pos port.capacity) × (IsDirectionAndDiscipline port.direction port.discipline both)))
+    Ends : QueuingPort → Type 0
+    Ends port = (IsDirection port.direction way) × (TellsDiscipline port.discipline order)
+
+    tests : (port : QueuingPort) → Tells (is_queuing_port (Some port) size capacity way order) ((size ≡ pos port.size) × ((capacity ≡ pos port.capacity) × Ends port))
     tests port =
-        tells_both (is_number size port.size) (is_number capacity port.capacity && is_number both (both_number port))
-        (size ≡ pos port.size) ((capacity ≡ pos port.capacity) × (IsDirectionAndDiscipline port.direction port.discipline both))
-        (number_tells size port.size)
-        (tells_both (is_number capacity port.capacity) (is_number both (both_number port)) (capacity ≡ pos port.capacity) (IsDirectionAndDiscipline port.direction port.discipline both)
-        (number_tells capacity port.capacity) (both_tells port both))
+        tells_both (is_number size port.size) _ (size ≡ pos port.size) ((capacity ≡ pos port.capacity) × Ends port) (number_tells size port.size)
+        (tells_both (is_number capacity port.capacity) _ (capacity ≡ pos port.capacity) (Ends port) (number_tells capacity port.capacity)
+        (tells_both (is_number way (direction_number port.direction)) _ (IsDirection port.direction way) (TellsDiscipline port.discipline order)
+        (direction_tells port.direction way) (discipline_tells port.discipline order)))
 
     by : (found : Option QueuingPort) → queuing_port configuration partition name ≡ found
-        → Tells (is_queuing_port found size capacity both) (IsQueuingPort configuration partition name size capacity both)
+        → Tells (is_queuing_port found size capacity way order) (IsQueuingPort configuration partition name size capacity way order)
     by None none = (λ holds. absurd (true≢false (sym holds)), λ fact. absurd (absent fact.port (sym none ∙ fact.configured)))
     by (Some port) of = (
-      λ holds. let found = (tests port).0 holds in record { port = port; configured = of; has_size = found.0; has_capacity = found.1.0; has_both = found.1.1 },
+      λ holds. let found = (tests port).0 holds in
+          record { port = port; configured = of; has_size = found.0; has_capacity = found.1.0; has_direction = found.1.1.0; has_discipline = found.1.1.1 },
       λ fact. let same : fact.port ≡ port = (let one : ◌≡◌ {A = Option QueuingPort} (Some port) (Some fact.port) = sym of ∙ fact.configured in cc) in
-          subst (λ one. is_queuing_port (Some one) size capacity both ≡ true) same ((tests fact.port).1 (fact.has_size, (fact.has_capacity, fact.has_both))),
+          subst (λ one. is_queuing_port (Some one) size capacity way order ≡ true) same
+          ((tests fact.port).1 (fact.has_size, (fact.has_capacity, (fact.has_direction, fact.has_discipline)))),
     )
+
+-- as many of a kind as a partition may create
+pub full_tells : (configuration : Configuration) (number : ℕ) (partition : Partition) (of : ObjectKind) → Tells (is_full configuration number partition of) (KindIsFull configuration number partition of)
+full_tells configuration number partition kind.Buffer = at_most_tells (object_limit configuration (λ limits. limits.buffers) number) (length partition.buffers)
+full_tells configuration number partition kind.Blackboard = at_most_tells (object_limit configuration (λ limits. limits.blackboards) number) (length partition.blackboards)
+full_tells configuration number partition kind.Semaphore = at_most_tells (object_limit configuration (λ limits. limits.semaphores) number) (length partition.semaphores)
+full_tells configuration number partition kind.Event = at_most_tells (object_limit configuration (λ limits. limits.events) number) (length partition.events)
+full_tells configuration number partition kind.Mutex = at_most_tells (object_limit configuration (λ limits. limits.mutexes) number) (length partition.mutexes)
+full_tells configuration number partition _ = (λ full. absurd (true≢false (sym full)), λ full. absurd full)

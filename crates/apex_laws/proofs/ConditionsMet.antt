@@ -5,16 +5,17 @@ use Rattle.std.proofs.lemmas.Bool.{and_from}
 use Rattle.apex_types.specs.declared.code.Code.{Code}
 use Rattle.apex_types.specs.declared.code.Code.TheVariants as code
 use Rattle.apex_types.specs.declared.limits.TheConstants.{GREATEST_MAXIMUM, LONGEST_MESSAGE, MOST_MESSAGES}
-use Rattle.apex_types.specs.declared.object_kind.ObjectKind.TheVariants as kind
 use Rattle.apex_types.specs.declared.record.Who.{Who}
+use Rattle.apex_types.specs.declared.operation.{BlackboardOperation.BlackboardOperation, BufferOperation.BufferOperation, CallerOperation.CallerOperation, EventOperation.EventOperation, MutexOperation.MutexOperation, ProcessOperation.ProcessOperation, QueuingOperation.QueuingOperation, SamplingOperation.SamplingOperation, SemaphoreOperation.SemaphoreOperation}
 use Rattle.apex_types.specs.declared.request.Request.{Request}
 use Rattle.apex_types.specs.declared.request.Request.TheVariants as request
+use Rattle.apex_types.specs.Requested.{kind_of}
 use Rattle.apex_machine.specs.declared.state.Direction.TheVariants as direction
 use Rattle.apex_machine.specs.declared.state.Mode.TheVariants as mode
 use Rattle.apex_machine.specs.declared.state.Process.{Process}
 use Rattle.apex_machine.specs.Arguments.{is_capacity, is_discipline, is_length, is_longer, is_maximum, is_mode, is_negative, is_normal_mode, is_number, is_over, is_period, is_priority, is_size, is_time_out, is_warm_start_mode, suits_maximum, suits_period}
 use Rattle.apex_machine.specs.Channels.{queuing_port, sampling_port}
-use Rattle.apex_machine.specs.Conditions.{codes_for, creation_codes, is_cold_start, is_normal, is_taken, may_not_wait, of_caller, time_out_codes, waiting_codes, when}
+use Rattle.apex_machine.specs.Conditions.{codes_for, creation_codes, is_cold_start, is_normal, may_not_wait, of_caller, time_out_codes, waiting_codes, when}
 use Rattle.apex_machine.specs.Configuration.{Configuration, is_core, period_of}
 use Rattle.apex_machine.specs.Names.{number_of}
 use Rattle.apex_machine.specs.ObjectConditions.{message_codes, owns_another}
@@ -22,7 +23,7 @@ use Rattle.apex_machine.specs.Objects.{is_owner}
 use Rattle.apex_machine.specs.PortConditions.{destination_codes, is_queuing_port, is_sampling_port, is_source, source_codes}
 use Rattle.apex_machine.specs.ProcessConditions.{is_periodic, is_suspended}
 use Rattle.apex_machine.specs.ServiceConditions.{condition_codes}
-use Rattle.apex_machine.specs.State.{Blackboard, Buffer, Event, Mutex, Partition, Port, Semaphore, created, given_object, item_at}
+use Rattle.apex_machine.specs.State.{name_in, objects_of, Partition, Port, created, given_object, item_at}
 use Rattle.apex_machine.specs.Step.{IsAmong}
 use Rattle.apex_laws.specs.ConditionSentences.{AllAreCreated, HasCondition, HasTimeOut, IsCalledByPeriodic, IsCoreOf, IsDiscipline, IsFrom, IsObject, IsPeriodic, IsPriority, IsProcess, IsQueuingPort, IsSamplingPort, IsSize, IsSuspended, IsSetUp, MayNotWait, NameIsTaken, NamesNoProcess, NamesNone, NamesNothing, WaitsFor}
 use Rattle.apex_laws.proofs.Booleans.{first_holds, later_holds}
@@ -76,39 +77,33 @@ module _ (configuration : Configuration) (who : Who) (partition : Partition) whe
       (ap (option_map size_of) (tests.no_object_by objects given names)))
 
   nothing_met : (asked : Request) → NamesNothing partition asked → Has asked code.InvalidParam
-  nothing_met (request.InitializeProcessCoreAffinity process core) names =
+  nothing_met (request.Process process (ProcessOperation.InitializeCoreAffinity core)) names =
       in_first _ _ code.InvalidParam (in_first _ _ code.InvalidParam (in_when (is_none (created partition.table process)) code.InvalidParam (ap is_none (tests.no_process_by partition process names))))
-  nothing_met (request.Start process) names = rw (tests.no_process_by partition process names) (record { among = inl refl })
-  nothing_met (request.Stop process) names = in_first _ _ code.InvalidParam (no_process process _ names)
-  nothing_met (request.Suspend process) names = in_first _ _ code.InvalidParam (no_process process _ names)
-  nothing_met (request.Resume process) names = in_first _ _ code.InvalidParam (no_process process _ names)
-  nothing_met (request.SetPriority process priority) names = in_first _ _ code.InvalidParam (no_process process _ names)
-  nothing_met (request.SendBuffer buffer length time_out message) names =
+  nothing_met (request.Process process ProcessOperation.Start) names = rw (tests.no_process_by partition process names) (record { among = inl refl })
+  nothing_met (request.Process process ProcessOperation.Stop) names = in_first _ _ code.InvalidParam (no_process process _ names)
+  nothing_met (request.Process process ProcessOperation.Suspend) names = in_first _ _ code.InvalidParam (no_process process _ names)
+  nothing_met (request.Process process ProcessOperation.Resume) names = in_first _ _ code.InvalidParam (no_process process _ names)
+  nothing_met (request.Process process (ProcessOperation.SetPriority priority)) names = in_first _ _ code.InvalidParam (no_process process _ names)
+  nothing_met (request.Buffer buffer (BufferOperation.Send length time_out message)) names =
       in_first _ _ code.InvalidParam (in_first _ _ code.InvalidParam (no_message partition.buffers buffer length (λ found. found.size) names))
-  nothing_met (request.ReceiveBuffer buffer time_out) names = in_first _ _ code.InvalidParam (in_first _ _ code.InvalidParam (no_object partition.buffers buffer _ names))
-  nothing_met (request.DisplayBlackboard blackboard length message) names = no_message partition.blackboards blackboard length (λ found. found.size) names
-  nothing_met (request.ReadBlackboard blackboard time_out) names = in_first _ _ code.InvalidParam (in_first _ _ code.InvalidParam (no_object partition.blackboards blackboard _ names))
-  nothing_met (request.ClearBlackboard blackboard) names = no_object partition.blackboards blackboard _ names
-  nothing_met (request.WaitSemaphore semaphore time_out) names = in_first _ _ code.InvalidParam (in_first _ _ code.InvalidParam (no_object partition.semaphores semaphore _ names))
-  nothing_met (request.SignalSemaphore semaphore) names = no_object partition.semaphores semaphore _ names
-  nothing_met (request.SetEvent event) names = no_object partition.events event _ names
-  nothing_met (request.ResetEvent event) names = no_object partition.events event _ names
-  nothing_met (request.WaitEvent event time_out) names = in_first _ _ code.InvalidParam (in_first _ _ code.InvalidParam (no_object partition.events event _ names))
-  nothing_met (request.AcquireMutex mutex time_out) names =
+  nothing_met (request.Buffer buffer (BufferOperation.Receive time_out)) names = in_first _ _ code.InvalidParam (in_first _ _ code.InvalidParam (no_object partition.buffers buffer _ names))
+  nothing_met (request.Blackboard blackboard (BlackboardOperation.Display length message)) names = no_message partition.blackboards blackboard length (λ found. found.size) names
+  nothing_met (request.Blackboard blackboard (BlackboardOperation.Read time_out)) names = in_first _ _ code.InvalidParam (in_first _ _ code.InvalidParam (no_object partition.blackboards blackboard _ names))
+  nothing_met (request.Blackboard blackboard BlackboardOperation.Clear) names = no_object partition.blackboards blackboard _ names
+  nothing_met (request.Semaphore semaphore (SemaphoreOperation.Wait time_out)) names = in_first _ _ code.InvalidParam (in_first _ _ code.InvalidParam (no_object partition.semaphores semaphore _ names))
+  nothing_met (request.Semaphore semaphore SemaphoreOperation.Signal) names = no_object partition.semaphores semaphore _ names
+  nothing_met (request.Event event EventOperation.Set) names = no_object partition.events event _ names
+  nothing_met (request.Event event EventOperation.Reset) names = no_object partition.events event _ names
+  nothing_met (request.Event event (EventOperation.Wait time_out)) names = in_first _ _ code.InvalidParam (in_first _ _ code.InvalidParam (no_object partition.events event _ names))
+  nothing_met (request.Mutex mutex (MutexOperation.Acquire time_out)) names =
       in_first _ _ code.InvalidParam (in_first _ _ code.InvalidParam (in_first _ _ code.InvalidParam (no_object partition.mutexes mutex _ names)))
-  nothing_met (request.ReleaseMutex mutex) names = no_object partition.mutexes mutex _ names
-  nothing_met (request.WriteSamplingMessage port length message) names = in_first _ _ code.InvalidParam (no_object partition.sampling_ports port _ names)
-  nothing_met (request.ReadSamplingMessage port) names = no_object partition.sampling_ports port _ names
-  nothing_met (request.SendQueuingMessage port length time_out message) names =
+  nothing_met (request.Mutex mutex MutexOperation.Release) names = no_object partition.mutexes mutex _ names
+  nothing_met (request.SamplingPort port (SamplingOperation.Write length message)) names = in_first _ _ code.InvalidParam (no_object partition.sampling_ports port _ names)
+  nothing_met (request.SamplingPort port SamplingOperation.Read) names = no_object partition.sampling_ports port _ names
+  nothing_met (request.QueuingPort port (QueuingOperation.Send length time_out message)) names =
       in_first _ _ code.InvalidParam (in_first _ _ code.InvalidParam (in_first _ _ code.InvalidParam (no_object partition.queuing_ports port _ names)))
-  nothing_met (request.ReceiveQueuingMessage port time_out) names = in_first _ _ code.InvalidParam (in_first _ _ code.InvalidParam (no_object partition.queuing_ports port _ names))
-  nothing_met (request.GetStatus kind.Buffer object) names = no_object partition.buffers object _ names
-  nothing_met (request.GetStatus kind.Blackboard object) names = no_object partition.blackboards object _ names
-  nothing_met (request.GetStatus kind.Semaphore object) names = no_object partition.semaphores object _ names
-  nothing_met (request.GetStatus kind.Event object) names = no_object partition.events object _ names
-  nothing_met (request.GetStatus kind.Mutex object) names = no_object partition.mutexes object _ names
-  nothing_met (request.GetStatus kind.SamplingPort object) names = no_object partition.sampling_ports object _ names
-  nothing_met (request.GetStatus kind.QueuingPort object) names = no_object partition.queuing_ports object _ names
+  nothing_met (request.QueuingPort port (QueuingOperation.Receive time_out)) names = in_first _ _ code.InvalidParam (in_first _ _ code.InvalidParam (no_object partition.queuing_ports port _ names))
+  nothing_met (request.GetStatus of object) names = no_object (objects_of partition of) object _ names
   nothing_met _ names = absurd names
 
   -- time-outs
@@ -118,17 +113,17 @@ module _ (configuration : Configuration) (who : Who) (partition : Partition) whe
       in_when (not (is_time_out given)) code.InvalidParam ((tests.no_time_out_tells given).1 (subst (λ one. one <ℤ negsuc 0) same under))
 
   time_out_met : (asked : Request) (time_out : ℤ) → HasTimeOut asked time_out → time_out <ℤ negsuc 0 → Has asked code.InvalidParam
-  time_out_met (request.SuspendSelf given) time_out same under = in_first _ _ code.InvalidParam (in_first _ _ code.InvalidParam (below_met given time_out same under))
-  time_out_met (request.AcquireMutex mutex given) time_out same under =
+  time_out_met (request.Caller (CallerOperation.SuspendSelf given)) time_out same under = in_first _ _ code.InvalidParam (in_first _ _ code.InvalidParam (below_met given time_out same under))
+  time_out_met (request.Mutex mutex (MutexOperation.Acquire given)) time_out same under =
       in_first _ _ code.InvalidParam (in_first _ _ code.InvalidParam (in_later _ _ code.InvalidParam (below_met given time_out same under)))
-  time_out_met (request.SendBuffer buffer length given message) time_out same under = in_first _ _ code.InvalidParam (in_later _ _ code.InvalidParam (below_met given time_out same under))
-  time_out_met (request.ReceiveBuffer buffer given) time_out same under = in_first _ _ code.InvalidParam (in_later _ _ code.InvalidParam (below_met given time_out same under))
-  time_out_met (request.ReadBlackboard blackboard given) time_out same under = in_first _ _ code.InvalidParam (in_later _ _ code.InvalidParam (below_met given time_out same under))
-  time_out_met (request.WaitSemaphore semaphore given) time_out same under = in_first _ _ code.InvalidParam (in_later _ _ code.InvalidParam (below_met given time_out same under))
-  time_out_met (request.WaitEvent event given) time_out same under = in_first _ _ code.InvalidParam (in_later _ _ code.InvalidParam (below_met given time_out same under))
-  time_out_met (request.SendQueuingMessage port length given message) time_out same under =
+  time_out_met (request.Buffer buffer (BufferOperation.Send length given message)) time_out same under = in_first _ _ code.InvalidParam (in_later _ _ code.InvalidParam (below_met given time_out same under))
+  time_out_met (request.Buffer buffer (BufferOperation.Receive given)) time_out same under = in_first _ _ code.InvalidParam (in_later _ _ code.InvalidParam (below_met given time_out same under))
+  time_out_met (request.Blackboard blackboard (BlackboardOperation.Read given)) time_out same under = in_first _ _ code.InvalidParam (in_later _ _ code.InvalidParam (below_met given time_out same under))
+  time_out_met (request.Semaphore semaphore (SemaphoreOperation.Wait given)) time_out same under = in_first _ _ code.InvalidParam (in_later _ _ code.InvalidParam (below_met given time_out same under))
+  time_out_met (request.Event event (EventOperation.Wait given)) time_out same under = in_first _ _ code.InvalidParam (in_later _ _ code.InvalidParam (below_met given time_out same under))
+  time_out_met (request.QueuingPort port (QueuingOperation.Send length given message)) time_out same under =
       in_first _ _ code.InvalidParam (in_later _ _ code.InvalidParam (below_met given time_out same under))
-  time_out_met (request.ReceiveQueuingMessage port given) time_out same under = in_first _ _ code.InvalidParam (in_later _ _ code.InvalidParam (below_met given time_out same under))
+  time_out_met (request.QueuingPort port (QueuingOperation.Receive given)) time_out same under = in_first _ _ code.InvalidParam (in_later _ _ code.InvalidParam (below_met given time_out same under))
   time_out_met _ time_out same under = absurd same
 
   -- a caller that may not wait
@@ -139,13 +134,13 @@ module _ (configuration : Configuration) (who : Who) (partition : Partition) whe
       (and_from _ _ ((tests.tells_not (is_over given) (given ≡ pos 0) (tests.over_tells given)).1 (λ over. not_over (same ∙ over))) ((tests.may_not_wait_tells who partition).1 may_not))
 
   waits_met : (asked : Request) (time_out : ℤ) → WaitsFor asked time_out → ¬ (time_out ≡ pos 0) → MayNotWait who partition → Has asked code.InvalidMode
-  waits_met (request.SendBuffer buffer length given message) time_out same not_over may_not = in_later _ _ code.InvalidMode (waiting_met given time_out same not_over may_not)
-  waits_met (request.ReceiveBuffer buffer given) time_out same not_over may_not = in_later _ _ code.InvalidMode (waiting_met given time_out same not_over may_not)
-  waits_met (request.ReadBlackboard blackboard given) time_out same not_over may_not = in_later _ _ code.InvalidMode (waiting_met given time_out same not_over may_not)
-  waits_met (request.WaitSemaphore semaphore given) time_out same not_over may_not = in_later _ _ code.InvalidMode (waiting_met given time_out same not_over may_not)
-  waits_met (request.WaitEvent event given) time_out same not_over may_not = in_later _ _ code.InvalidMode (waiting_met given time_out same not_over may_not)
-  waits_met (request.SendQueuingMessage port length given message) time_out same not_over may_not = in_later _ _ code.InvalidMode (waiting_met given time_out same not_over may_not)
-  waits_met (request.ReceiveQueuingMessage port given) time_out same not_over may_not = in_later _ _ code.InvalidMode (waiting_met given time_out same not_over may_not)
+  waits_met (request.Buffer buffer (BufferOperation.Send length given message)) time_out same not_over may_not = in_later _ _ code.InvalidMode (waiting_met given time_out same not_over may_not)
+  waits_met (request.Buffer buffer (BufferOperation.Receive given)) time_out same not_over may_not = in_later _ _ code.InvalidMode (waiting_met given time_out same not_over may_not)
+  waits_met (request.Blackboard blackboard (BlackboardOperation.Read given)) time_out same not_over may_not = in_later _ _ code.InvalidMode (waiting_met given time_out same not_over may_not)
+  waits_met (request.Semaphore semaphore (SemaphoreOperation.Wait given)) time_out same not_over may_not = in_later _ _ code.InvalidMode (waiting_met given time_out same not_over may_not)
+  waits_met (request.Event event (EventOperation.Wait given)) time_out same not_over may_not = in_later _ _ code.InvalidMode (waiting_met given time_out same not_over may_not)
+  waits_met (request.QueuingPort port (QueuingOperation.Send length given message)) time_out same not_over may_not = in_later _ _ code.InvalidMode (waiting_met given time_out same not_over may_not)
+  waits_met (request.QueuingPort port (QueuingOperation.Receive given)) time_out same not_over may_not = in_later _ _ code.InvalidMode (waiting_met given time_out same not_over may_not)
   waits_met _ time_out same not_over may_not = absurd same
 
   -- creations
@@ -162,53 +157,23 @@ module _ (configuration : Configuration) (who : Who) (partition : Partition) whe
   normal_met : (asked : Request) → IsSetUp asked → partition.mode ≡ mode.Normal → Has asked code.InvalidMode
   normal_met (request.CreateProcess name priority period) sets normal =
       in_first _ _ code.InvalidMode (in_first _ _ code.InvalidMode (in_first _ _ code.InvalidMode (in_normal_met _ _ normal)))
-  normal_met (request.InitializeProcessCoreAffinity process core) sets normal =
+  normal_met (request.Process process (ProcessOperation.InitializeCoreAffinity core)) sets normal =
       in_first _ _ code.InvalidMode (in_later _ _ code.InvalidMode (in_when (is_normal partition.mode) code.InvalidMode ((tests.normal_tells partition.mode).1 normal)))
-  normal_met (request.CreateBuffer name size capacity discipline) sets normal =
-      in_first _ _ code.InvalidMode (in_first _ _ code.InvalidMode (in_first _ _ code.InvalidMode (in_normal_met _ _ normal)))
-  normal_met (request.CreateBlackboard name size) sets normal = in_first _ _ code.InvalidMode (in_normal_met _ _ normal)
-  normal_met (request.CreateSemaphore name value maximum discipline) sets normal =
-      in_first _ _ code.InvalidMode (in_first _ _ code.InvalidMode (in_first _ _ code.InvalidMode (in_normal_met _ _ normal)))
-  normal_met (request.CreateEvent name) sets normal = in_normal_met _ _ normal
-  normal_met (request.CreateMutex name priority discipline) sets normal = in_first _ _ code.InvalidMode (in_first _ _ code.InvalidMode (in_normal_met _ _ normal))
-  normal_met (request.CreateSamplingPort name size direction refresh) sets normal =
-      in_first _ (when (not (is_sampling_port (sampling_port configuration who.part name) size direction refresh)) code.InvalidConfig) code.InvalidMode (in_normal_met _ false normal)
-  normal_met (request.CreateQueuingPort name size capacity both) sets normal =
-      in_first _ (when (not (is_queuing_port (queuing_port configuration who.part name) size capacity both)) code.InvalidConfig) code.InvalidMode (in_normal_met _ false normal)
+  normal_met (request.Create name object) sets normal = in_first _ _ code.InvalidMode (in_normal_met _ _ normal)
   normal_met _ sets normal = absurd sets
 
   taken_met : (asked : Request) → NameIsTaken partition asked → Has asked code.NoAction
   taken_met (request.CreateProcess name priority period) named =
       in_first _ _ code.NoAction (in_first _ _ code.NoAction (in_first _ _ code.NoAction (is_taken_met _ _ ((tests.named_tells (λ (process : Process). process.name) name partition.table).1 named))))
-  taken_met (request.CreateBuffer name size capacity discipline) named =
-      in_first _ _ code.NoAction (in_first _ _ code.NoAction (in_first _ _ code.NoAction
-      (is_taken_met _ _ ((tests.named_tells (λ (buffer : Buffer). buffer.name) name partition.buffers).1 named))))
-  taken_met (request.CreateBlackboard name size) named =
-      in_first _ _ code.NoAction (is_taken_met _ _ ((tests.named_tells (λ (blackboard : Blackboard). blackboard.name) name partition.blackboards).1 named))
-  taken_met (request.CreateSemaphore name value maximum discipline) named =
-      in_first _ _ code.NoAction (in_first _ _ code.NoAction (in_first _ _ code.NoAction
-      (is_taken_met _ _ ((tests.named_tells (λ (semaphore : Semaphore). semaphore.name) name partition.semaphores).1 named))))
-  taken_met (request.CreateEvent name) named = is_taken_met _ _ ((tests.named_tells (λ (event : Event). event.name) name partition.events).1 named)
-  taken_met (request.CreateMutex name priority discipline) named =
-      in_first _ _ code.NoAction (in_first _ _ code.NoAction (is_taken_met _ _ ((tests.named_tells (λ (mutex : Mutex). mutex.name) name partition.mutexes).1 named)))
-  taken_met (request.CreateSamplingPort name size direction refresh) named =
-      in_first _ (when (not (is_sampling_port (sampling_port configuration who.part name) size direction refresh)) code.InvalidConfig) code.NoAction
-      (is_taken_met _ false ((tests.named_tells (λ (port : Port). port.name) name partition.sampling_ports).1 named))
-  taken_met (request.CreateQueuingPort name size capacity both) named =
-      in_first _ (when (not (is_queuing_port (queuing_port configuration who.part name) size capacity both)) code.InvalidConfig) code.NoAction
-      (is_taken_met _ false ((tests.named_tells (λ (port : Port). port.name) name partition.queuing_ports).1 named))
+  taken_met (request.Create name object) named =
+      let of = kind_of object in
+      in_first _ _ code.NoAction (is_taken_met _ _ ((tests.named_tells (name_in of) name (objects_of partition of)).1 named))
   taken_met _ named = absurd named
 
   all_met : (asked : Request) → AllAreCreated configuration who.part partition asked → Has asked code.InvalidConfig
   all_met (request.CreateProcess name priority period) all =
       in_first _ _ code.InvalidConfig (in_first _ _ code.InvalidConfig (in_first _ _ code.InvalidConfig (is_full_met _ _ ((tests.at_most_tells _ _).1 all))))
-  all_met (request.CreateBuffer name size capacity discipline) all =
-      in_first _ _ code.InvalidConfig (in_first _ _ code.InvalidConfig (in_first _ _ code.InvalidConfig (is_full_met _ _ ((tests.at_most_tells _ _).1 all))))
-  all_met (request.CreateBlackboard name size) all = in_first _ _ code.InvalidConfig (is_full_met _ _ ((tests.at_most_tells _ _).1 all))
-  all_met (request.CreateSemaphore name value maximum discipline) all =
-      in_first _ _ code.InvalidConfig (in_first _ _ code.InvalidConfig (in_first _ _ code.InvalidConfig (is_full_met _ _ ((tests.at_most_tells _ _).1 all))))
-  all_met (request.CreateEvent name) all = is_full_met _ _ ((tests.at_most_tells _ _).1 all)
-  all_met (request.CreateMutex name priority discipline) all = in_first _ _ code.InvalidConfig (in_first _ _ code.InvalidConfig (is_full_met _ _ ((tests.at_most_tells _ _).1 all)))
+  all_met (request.Create name object) all = in_first _ _ code.InvalidConfig (is_full_met _ _ ((tests.full_tells configuration who.part partition (kind_of object)).1 all))
   all_met _ all = absurd all
 
   -- targets
@@ -333,11 +298,11 @@ module _ (configuration : Configuration) (who : Who) (partition : Partition) whe
       in_later _ _ code.InvalidMode (in_when (is_warm_start_mode next && is_cold_start partition.mode) code.InvalidMode
       (and_from _ _ ((tests.warm_start_mode_tells next).1 two) ((tests.cold_start_tells partition.mode).1 cold)))
   met (HasCondition.create_buffer_size {size = size} other) =
-      in_first _ _ code.InvalidParam (in_first _ _ code.InvalidParam (in_later _ _ code.InvalidParam (fails_met (is_size size) (IsSize size) code.InvalidParam (tests.between_tells 1 LONGEST_MESSAGE size) other)))
+      in_later _ _ code.InvalidParam (in_first _ _ code.InvalidParam (in_first _ _ code.InvalidParam (fails_met (is_size size) (IsSize size) code.InvalidParam (tests.between_tells 1 LONGEST_MESSAGE size) other)))
   met (HasCondition.create_buffer_capacity {capacity = capacity} other) =
-      in_first _ _ code.InvalidParam (in_later _ _ code.InvalidParam
-      (fails_met (is_capacity capacity) (IsFrom (pos 1) (pos MOST_MESSAGES) capacity) code.InvalidParam (tests.between_tells 1 MOST_MESSAGES capacity) other))
-  met (HasCondition.create_buffer_discipline {given = given} other) = in_later _ _ code.InvalidParam (discipline_met given other)
+      in_later _ _ code.InvalidParam (in_first _ _ code.InvalidParam (in_later _ _ code.InvalidParam
+      (fails_met (is_capacity capacity) (IsFrom (pos 1) (pos MOST_MESSAGES) capacity) code.InvalidParam (tests.between_tells 1 MOST_MESSAGES capacity) other)))
+  met (HasCondition.create_buffer_discipline {given = given} other) = in_later _ _ code.InvalidParam (in_later _ _ code.InvalidParam (discipline_met given other))
   met (HasCondition.send_buffer_empty {length = length} empty) =
       in_first _ _ code.InvalidParam (in_first _ _ code.InvalidParam (in_later _ _ code.InvalidParam (empty_met length empty)))
   met (HasCondition.send_buffer_long {buffer = buffer} {length = length} found is long) =
@@ -347,15 +312,15 @@ module _ (configuration : Configuration) (who : Who) (partition : Partition) whe
   met (HasCondition.display_empty {length = length} empty) = in_later _ _ code.InvalidParam (empty_met length empty)
   met (HasCondition.display_long {blackboard = blackboard} {length = length} found is long) = long_met partition.blackboards blackboard length (λ found. found.size) found is long
   met (HasCondition.create_semaphore_maximum {maximum = maximum} other) =
-      in_first _ _ code.InvalidParam (in_first _ _ code.InvalidParam (in_later _ _ code.InvalidParam
+      in_later _ _ code.InvalidParam (in_first _ _ code.InvalidParam (in_first _ _ code.InvalidParam
       (fails_met (is_maximum maximum) (IsFrom (pos 1) (pos GREATEST_MAXIMUM) maximum) code.InvalidParam (tests.between_tells 1 GREATEST_MAXIMUM maximum) other)))
   met (HasCondition.create_semaphore_value {value = value} {maximum = maximum} other) =
-      in_first _ _ code.InvalidParam (in_later _ _ code.InvalidParam
-      (fails_met (suits_maximum maximum value) (IsFrom (pos 0) maximum value) code.InvalidParam (tests.value_tells maximum value) other))
-  met (HasCondition.create_semaphore_discipline {given = given} other) = in_later _ _ code.InvalidParam (discipline_met given other)
+      in_later _ _ code.InvalidParam (in_first _ _ code.InvalidParam (in_later _ _ code.InvalidParam
+      (fails_met (suits_maximum maximum value) (IsFrom (pos 0) maximum value) code.InvalidParam (tests.value_tells maximum value) other)))
+  met (HasCondition.create_semaphore_discipline {given = given} other) = in_later _ _ code.InvalidParam (in_later _ _ code.InvalidParam (discipline_met given other))
   met (HasCondition.create_mutex_priority {priority = priority} other) =
-      in_first _ _ code.InvalidParam (in_later _ _ code.InvalidParam (fails_met (is_priority priority) (IsPriority priority) code.InvalidParam (tests.priority_tells priority) other))
-  met (HasCondition.create_mutex_discipline {given = given} other) = in_later _ _ code.InvalidParam (discipline_met given other)
+      in_later _ _ code.InvalidParam (in_first _ _ code.InvalidParam (fails_met (is_priority priority) (IsPriority priority) code.InvalidParam (tests.priority_tells priority) other))
+  met (HasCondition.create_mutex_discipline {given = given} other) = in_later _ _ code.InvalidParam (in_later _ _ code.InvalidParam (discipline_met given other))
   met (HasCondition.acquire_initialising none) =
       in_first _ _ code.InvalidMode (in_later _ _ code.InvalidMode (in_when (nat_eq who.proc 0) code.InvalidMode ((tests.equal_tells who.proc 0).1 none)))
   met (HasCondition.acquire_second {mutex = mutex} held owns other) =
@@ -371,13 +336,13 @@ module _ (configuration : Configuration) (who : Who) (partition : Partition) whe
       in_some (given_object partition.mutexes mutex) (λ found. when (not (is_owner found.owner who.proc)) code.InvalidMode) found code.InvalidMode (tests.object_by partition.mutexes mutex found is)
       (fails_met (is_owner found.owner who.proc) (found.owner ≡ Some who.proc) code.InvalidMode (tests.owner_tells found.owner who.proc) other)
   met (HasCondition.create_sampling_port {name = name} {size = size} {way = way} {refresh = refresh} other) =
-      in_later (creation_codes partition (is_taken (λ (port : Port). port.name) name partition.sampling_ports) false) _ code.InvalidConfig
+      in_later _ _ code.InvalidConfig
       (fails_met (is_sampling_port (sampling_port configuration who.part name) size way refresh) (IsSamplingPort configuration who.part name size way refresh) code.InvalidConfig
       (tests.sampling_port_tells configuration who.part name size way refresh) other)
-  met (HasCondition.create_queuing_port {name = name} {size = size} {capacity = capacity} {both = both} other) =
-      in_later (creation_codes partition (is_taken (λ (port : Port). port.name) name partition.queuing_ports) false) _ code.InvalidConfig
-      (fails_met (is_queuing_port (queuing_port configuration who.part name) size capacity both) (IsQueuingPort configuration who.part name size capacity both) code.InvalidConfig
-      (tests.queuing_port_tells configuration who.part name size capacity both) other)
+  met (HasCondition.create_queuing_port {name = name} {size = size} {capacity = capacity} {way = way} {order = order} other) =
+      in_later _ _ code.InvalidConfig
+      (fails_met (is_queuing_port (queuing_port configuration who.part name) size capacity way order) (IsQueuingPort configuration who.part name size capacity way order) code.InvalidConfig
+      (tests.queuing_port_tells configuration who.part name size capacity way order) other)
   met (HasCondition.write_empty {length = length} empty) = in_later _ _ code.InvalidParam (empty_met length empty)
   met (HasCondition.write_long {port = port} {length = length} found is long) = too_long_met partition.sampling_ports port length found is long
   met (HasCondition.write_no_source {port = port} {length = length} found is other) = no_source_met partition.sampling_ports port length found is other

@@ -10,6 +10,7 @@ use Rattle.apex_types.specs.declared.record.Claim.{Claim}
 use Rattle.apex_types.specs.declared.record.Ordered.{Ordered}
 use Rattle.apex_types.specs.declared.record.Return.{Return}
 use Rattle.apex_types.specs.declared.record.Who.{Who}
+use Rattle.apex_types.specs.declared.operation.{QueuingOperation.QueuingOperation, SamplingOperation.SamplingOperation}
 use Rattle.apex_types.specs.declared.request.Request.{Request}
 use Rattle.apex_types.specs.declared.request.Request.TheVariants as request
 use Rattle.apex_machine.specs.declared.state.Entry.{Entry}
@@ -58,24 +59,24 @@ module_demanded configuration state core (Ret ret) law =
 
 -- who is woken through a channel: a send those who wait to receive, a receive those who wait to send
 abbrev pub WaitsAcross : Request → (ℕ → Partition) → Configuration → ℕ → Who → Type 0
-WaitsAcross (request.SendQueuingMessage port length time_out message) partitions configuration channel who =
+WaitsAcross (request.QueuingPort port (QueuingOperation.Send length time_out message)) partitions configuration channel who =
     IsTrue (is_receiver configuration channel who.part) × IsTrue (waits_at (set.ChannelReceivers channel) (found partitions who))
-WaitsAcross (request.ReceiveQueuingMessage port time_out) partitions configuration channel who =
+WaitsAcross (request.QueuingPort port (QueuingOperation.Receive time_out)) partitions configuration channel who =
     IsTrue (is_sender configuration channel who.part) × IsTrue (waits_at (set.ChannelSenders channel) (found partitions who))
 WaitsAcross _ partitions configuration channel who = ⊥
 
 pub across : (configuration : Configuration) (state : State) (now channel partition : ℕ) (asked : Request) → AreTied configuration state → IsTrue (suits_use configuration channel partition (use_of asked) (state.channels channel))
     → (who : Who) → is_named who (channel_answer configuration now partition asked state.channels channel).woken ≡ true → WaitsAcross asked state.partitions configuration channel who
-across configuration state now channel partition (request.SendQueuingMessage port length time_out message) tied suited who named =
-    send_wakes (WaitsAcross (request.SendQueuingMessage port length time_out message) state.partitions configuration channel) configuration now channel partition message time_out (state.channels channel)
+across configuration state now channel partition (request.QueuingPort port (QueuingOperation.Send length time_out message)) tied suited who named =
+    send_wakes (WaitsAcross (request.QueuingPort port (QueuingOperation.Send length time_out message)) state.partitions configuration channel) configuration now channel partition message time_out (state.channels channel)
     (all_weaker (IsTied (λ home. IsTrue (is_receiver configuration channel home)) (set.ChannelReceivers channel) state.partitions) _ (λ entry tied. tied) (state.channels channel).receivers (tied.receivers channel)) who named
-across configuration state now channel partition (request.ReceiveQueuingMessage port time_out) tied suited who named =
-    receive_wakes (WaitsAcross (request.ReceiveQueuingMessage port time_out) state.partitions configuration channel) configuration now channel partition time_out (state.channels channel)
+across configuration state now channel partition (request.QueuingPort port (QueuingOperation.Receive time_out)) tied suited who named =
+    receive_wakes (WaitsAcross (request.QueuingPort port (QueuingOperation.Receive time_out)) state.partitions configuration channel) configuration now channel partition time_out (state.channels channel)
     (all_weaker (IsTied (λ home. IsTrue (is_sender configuration channel home)) (set.ChannelSenders channel) state.partitions) _ (λ entry tied. tied) (state.channels channel).senders (tied.senders channel)) who named
-across configuration state now channel partition (request.WriteSamplingMessage port length message) tied suited who named =
-    nobody who (channel_answer configuration now partition (request.WriteSamplingMessage port length message) state.channels channel).woken (write_wakes configuration now channel partition message (state.channels channel)) named
-across configuration state now channel partition (request.ReadSamplingMessage port) tied suited who named =
-    nobody who (channel_answer configuration now partition (request.ReadSamplingMessage port) state.channels channel).woken (read_wakes_nobody configuration now channel partition (state.channels channel)) named
+across configuration state now channel partition (request.SamplingPort port (SamplingOperation.Write length message)) tied suited who named =
+    nobody who (channel_answer configuration now partition (request.SamplingPort port (SamplingOperation.Write length message)) state.channels channel).woken (write_wakes configuration now channel partition message (state.channels channel)) named
+across configuration state now channel partition (request.SamplingPort port SamplingOperation.Read) tied suited who named =
+    nobody who (channel_answer configuration now partition (request.SamplingPort port SamplingOperation.Read) state.channels channel).woken (read_wakes_nobody configuration now channel partition (state.channels channel)) named
 across configuration state now channel partition (request.GetStatus kind.QueuingPort port) tied suited who named =
     nobody who (channel_answer configuration now partition (request.GetStatus kind.QueuingPort port) state.channels channel).woken (ask_wakes configuration now channel partition (state.channels channel)) named
 across configuration state now channel partition _ tied suited who named = absurd (true≢false (sym suited))
@@ -83,9 +84,9 @@ across configuration state now channel partition _ tied suited who named = absur
 -- the two ends of a channel are of two partitions
 other_end : (configuration : Configuration) (partitions : ℕ → Partition) (channel number : ℕ) (asked : Request) (who : Who) → EndsAreApart configuration
     → StandsAtEnd asked configuration channel number → WaitsAcross asked partitions configuration channel who → who.part ≡ number → ⊥
-other_end configuration partitions channel number (request.SendQueuingMessage port length time_out message) who ends stands waits same =
+other_end configuration partitions channel number (request.QueuingPort port (QueuingOperation.Send length time_out message)) who ends stands waits same =
     ends channel number stands (subst (λ part. IsTrue (is_receiver configuration channel part)) same waits.0)
-other_end configuration partitions channel number (request.ReceiveQueuingMessage port time_out) who ends stands waits same =
+other_end configuration partitions channel number (request.QueuingPort port (QueuingOperation.Receive time_out)) who ends stands waits same =
     ends channel number (subst (λ part. IsTrue (is_sender configuration channel part)) same waits.0) stands
 other_end configuration partitions channel number _ who ends stands waits same = waits
 
@@ -159,9 +160,9 @@ all_wait partitions number wanted (who ∷ others) wait = (
 wakes_here : (partitions : ℕ → Partition) (configuration : Configuration) (asked : Request) (channel number : ℕ) (others : List Who) → names_one_of number others ≡ true
     → ((who : Who) → is_named who others ≡ true → WaitsAcross asked partitions configuration channel who)
     → WakesHere asked (Some channel) number (partitions number).table others
-wakes_here partitions configuration (request.SendQueuingMessage port length time_out message) channel number others names wait =
+wakes_here partitions configuration (request.QueuingPort port (QueuingOperation.Send length time_out message)) channel number others names wait =
     all_wait partitions number (set.ChannelReceivers channel) others (λ who named. (wait who named).1)
-wakes_here partitions configuration (request.ReceiveQueuingMessage port time_out) channel number others names wait =
+wakes_here partitions configuration (request.QueuingPort port (QueuingOperation.Receive time_out)) channel number others names wait =
     all_wait partitions number (set.ChannelSenders channel) others (λ who named. (wait who named).1)
 wakes_here partitions configuration _ channel number others names wait = let one = some_named number others names in absurd (wait one.0 one.1)
 

@@ -1,5 +1,5 @@
 -- A partition's objects without those who wait: a change of its waiting sets leaves them.
-use Rattle.std.proofs.Common.{◌≡◌, ℕ, List, [], ◌∙◌}
+use Rattle.std.proofs.Common.{◌≡◌, List, [], ◌∙◌}
 use Rattle.apex_types.specs.declared.object_kind.ObjectKind.{ObjectKind}
 use Rattle.apex_types.specs.declared.object_kind.ObjectKind.TheVariants as kind
 use Rattle.apex_machine.specs.declared.state.Entry.{Entry}

@@ -3,6 +3,7 @@ use Rattle.std.proofs.Common.{◌≡◌, ℕ, List, [], ◌∷◌, ◌++◌, Boo
 use Rattle.apex_types.specs.declared.code.Code.{Code}
 use Rattle.apex_types.specs.declared.code.Code.TheVariants as code
 use Rattle.apex_types.specs.declared.record.Who.{Who}
+use Rattle.apex_types.specs.declared.operation.{QueuingOperation.QueuingOperation}
 use Rattle.apex_types.specs.declared.request.Request.{Request}
 use Rattle.apex_types.specs.declared.request.Request.TheVariants as request
 use Rattle.apex_machine.specs.declared.state.Direction.{Direction}
@@ -54,8 +55,8 @@ given_found Fact ports (negsuc n) port all is = cc
 
 -- the end at which a caller stands
 abbrev pub StandsAtEnd : Request → Configuration → ℕ → ℕ → Type 0
-StandsAtEnd (request.SendQueuingMessage port length time_out message) configuration channel partition = IsTrue (is_sender configuration channel partition)
-StandsAtEnd (request.ReceiveQueuingMessage port time_out) configuration channel partition = IsTrue (is_receiver configuration channel partition)
+StandsAtEnd (request.QueuingPort port (QueuingOperation.Send length time_out message)) configuration channel partition = IsTrue (is_sender configuration channel partition)
+StandsAtEnd (request.QueuingPort port (QueuingOperation.Receive time_out)) configuration channel partition = IsTrue (is_receiver configuration channel partition)
 StandsAtEnd _ configuration channel partition = Unit {0}
 
 -- a port is the source of its channel, or the destination
@@ -77,7 +78,7 @@ channel_is found port channel is by =
 pub port_is_at_end : (configuration : Configuration) (who : Who) (partition : Partition) (asked : Request) (channel : ℕ)
     → AllPorts (λ port. IsAtEnd configuration who.part port.direction port.channel) partition.queuing_ports
     → channel_of partition asked ≡ Some channel → condition_codes configuration who partition asked ≡ [] → StandsAtEnd asked configuration channel who.part
-port_is_at_end configuration who partition (request.SendQueuingMessage port length time_out message) channel all by none =
+port_is_at_end configuration who partition (request.QueuingPort port (QueuingOperation.Send length time_out message)) channel all by none =
     let found = given_object partition.queuing_ports port in
     let codes : Port → List Code = λ one. when (is_longer one.size length) code.InvalidConfig ++ when (not (is_source one.direction)) code.InvalidMode in
     let own = first_empty (source_codes found length) (time_out_codes time_out)
@@ -86,7 +87,7 @@ port_is_at_end configuration who partition (request.SendQueuingMessage port leng
     let source = no_condition (not (is_source is.0.direction)) code.InvalidMode (second_empty (when (is_longer is.0.size length) code.InvalidConfig) (when (not (is_source is.0.direction)) code.InvalidMode) is.2) in
     let at = given_found (λ one. IsAtEnd configuration who.part one.direction one.channel) partition.queuing_ports port is.0 all is.1 in
     subst (λ one. IsTrue (is_sender configuration one who.part)) (channel_is found is.0 channel is.1 by) (source_end configuration who.part is.0.direction is.0.channel source at)
-port_is_at_end configuration who partition (request.ReceiveQueuingMessage port time_out) channel all by none =
+port_is_at_end configuration who partition (request.QueuingPort port (QueuingOperation.Receive time_out)) channel all by none =
     let found = given_object partition.queuing_ports port in
     let codes : Port → List Code = λ one. when (is_source one.direction) code.InvalidMode in
     let own = first_empty (destination_codes found) (time_out_codes time_out)

@@ -8,6 +8,7 @@ use Rattle.apex_types.specs.declared.record.Ordered.{Ordered}
 use Rattle.apex_types.specs.declared.record.Out.{Out}
 use Rattle.apex_types.specs.declared.record.Out.TheVariants as out
 use Rattle.apex_types.specs.declared.record.Who.{Who}
+use Rattle.apex_types.specs.declared.operation.{BlackboardOperation.BlackboardOperation, BufferOperation.BufferOperation, EventOperation.EventOperation, MutexOperation.MutexOperation, QueuingOperation.QueuingOperation, SemaphoreOperation.SemaphoreOperation}
 use Rattle.apex_types.specs.declared.request.Request.{Request}
 use Rattle.apex_types.specs.declared.request.Request.TheVariants as request
 use Rattle.apex_machine.specs.declared.state.CoreState.{CoreState}
@@ -20,7 +21,7 @@ use Rattle.apex_machine.specs.After.{after, each_set, is_done, objects_by, own_p
 use Rattle.apex_machine.specs.Arguments.{natural_of}
 use Rattle.apex_machine.specs.Configuration.{Configuration, first_core}
 use Rattle.apex_machine.specs.Demands.{stands_in}
-use Rattle.apex_machine.specs.Objects.{acquired, buffer_received, buffer_sent, semaphore_waited}
+use Rattle.apex_machine.specs.Objects.{blackboard_effect, buffer_effect, event_effect, mutex_effect, semaphore_effect}
 use Rattle.apex_machine.specs.ServiceConditions.{condition_codes}
 use Rattle.apex_machine.specs.State.{Buffer, Partition, State, change_at, cold_state, each_item, given_object, is_named, is_same, item_at}
 use Rattle.apex_machine.specs.Step.{IsLawfulBody, Run, Step}
@@ -143,41 +144,43 @@ changed_there {Object} objects given found change at =
 waits_there : (configuration : Configuration) (who : Who) (claimed : Option ℤ) (asked : Request) (chan : Option ℕ) (partition : Partition) (wanted : WaitingSet)
     → ((other : ℕ) → ¬ (wanted ≡ set.ChannelSenders other)) → ((other : ℕ) → ¬ (wanted ≡ set.ChannelReceivers other))
     → set_of asked chan ≡ Some wanted → condition_codes configuration who partition asked ≡ [] → stands_at (objects_by configuration who claimed asked partition) wanted ≡ true
-waits_there configuration who claimed (request.SendBuffer buffer length time_out message) chan partition wanted not_sending not_receiving is none =
+waits_there configuration who claimed (request.Buffer buffer (BufferOperation.Send length time_out message)) chan partition wanted not_sending not_receiving is none =
     let same : set.BufferSenders (natural_of buffer) ≡ wanted = cc in
     let sized = message_there (λ (found : Buffer). found.size) (given_object partition.buffers buffer) length
     (first_empty _ _ (first_empty _ _ none)) in
-    subst (λ one. stands_at (objects_by configuration who claimed (request.SendBuffer buffer length time_out message) partition) one ≡ true) same
-    (changed_there partition.buffers buffer sized.0 (λ found. record found { messages = (buffer_sent message time_out found).next }) sized.1)
-waits_there configuration who claimed (request.ReceiveBuffer buffer time_out) chan partition wanted not_sending not_receiving is none =
+    subst (λ one. stands_at (objects_by configuration who claimed (request.Buffer buffer (BufferOperation.Send length time_out message)) partition) one ≡ true) same
+    (changed_there partition.buffers buffer sized.0 (λ found. (buffer_effect (BufferOperation.Send length time_out message) found).next) sized.1)
+waits_there configuration who claimed (request.Buffer buffer (BufferOperation.Receive time_out)) chan partition wanted not_sending not_receiving is none =
     let same : set.BufferReceivers (natural_of buffer) ≡ wanted = cc in
     let there = object_there who partition (given_object partition.buffers buffer) time_out none in
-    subst (λ one. stands_at (objects_by configuration who claimed (request.ReceiveBuffer buffer time_out) partition) one ≡ true) same
-    (changed_there partition.buffers buffer there.0 (λ found. record found { messages = (buffer_received time_out found).next }) there.1)
-waits_there configuration who claimed (request.ReadBlackboard blackboard time_out) chan partition wanted not_sending not_receiving is none =
+    subst (λ one. stands_at (objects_by configuration who claimed (request.Buffer buffer (BufferOperation.Receive time_out)) partition) one ≡ true) same
+    (changed_there partition.buffers buffer there.0 (λ found. (buffer_effect (BufferOperation.Receive time_out) found).next) there.1)
+waits_there configuration who claimed (request.Blackboard blackboard (BlackboardOperation.Read time_out)) chan partition wanted not_sending not_receiving is none =
     let same : set.BlackboardReaders (natural_of blackboard) ≡ wanted = cc in
     let there = object_there who partition (given_object partition.blackboards blackboard) time_out none in
-    subst (λ one. stands_at partition one ≡ true) same (given_there partition.blackboards blackboard there.0 there.1)
-waits_there configuration who claimed (request.WaitSemaphore semaphore time_out) chan partition wanted not_sending not_receiving is none =
+    subst (λ one. stands_at (objects_by configuration who claimed (request.Blackboard blackboard (BlackboardOperation.Read time_out)) partition) one ≡ true) same
+    (changed_there partition.blackboards blackboard there.0 (λ found. (blackboard_effect (BlackboardOperation.Read time_out) found).next) there.1)
+waits_there configuration who claimed (request.Semaphore semaphore (SemaphoreOperation.Wait time_out)) chan partition wanted not_sending not_receiving is none =
     let same : set.SemaphoreWaiters (natural_of semaphore) ≡ wanted = cc in
     let there = object_there who partition (given_object partition.semaphores semaphore) time_out none in
-    subst (λ one. stands_at (objects_by configuration who claimed (request.WaitSemaphore semaphore time_out) partition) one ≡ true) same
-    (changed_there partition.semaphores semaphore there.0 (λ found. record found { value = (semaphore_waited time_out found.value).next }) there.1)
-waits_there configuration who claimed (request.WaitEvent event time_out) chan partition wanted not_sending not_receiving is none =
+    subst (λ one. stands_at (objects_by configuration who claimed (request.Semaphore semaphore (SemaphoreOperation.Wait time_out)) partition) one ≡ true) same
+    (changed_there partition.semaphores semaphore there.0 (λ found. (semaphore_effect (SemaphoreOperation.Wait time_out) found).next) there.1)
+waits_there configuration who claimed (request.Event event (EventOperation.Wait time_out)) chan partition wanted not_sending not_receiving is none =
     let same : set.EventWaiters (natural_of event) ≡ wanted = cc in
     let there = object_there who partition (given_object partition.events event) time_out none in
-    subst (λ one. stands_at partition one ≡ true) same (given_there partition.events event there.0 there.1)
-waits_there configuration who claimed (request.AcquireMutex mutex time_out) chan partition wanted not_sending not_receiving is none =
+    subst (λ one. stands_at (objects_by configuration who claimed (request.Event event (EventOperation.Wait time_out)) partition) one ≡ true) same
+    (changed_there partition.events event there.0 (λ found. (event_effect (EventOperation.Wait time_out) found).next) there.1)
+waits_there configuration who claimed (request.Mutex mutex (MutexOperation.Acquire time_out)) chan partition wanted not_sending not_receiving is none =
     let same : set.MutexWaiters (natural_of mutex) ≡ wanted = cc in
     let there = mutex_there who partition mutex time_out none in
-    subst (λ one. stands_at (objects_by configuration who claimed (request.AcquireMutex mutex time_out) partition) one ≡ true) same
-    (changed_there partition.mutexes mutex there.0 (λ found. (acquired who.proc time_out found).next) there.1)
-waits_there configuration who claimed (request.SendQueuingMessage port length time_out message) (Some channel) partition wanted not_sending not_receiving is none =
+    subst (λ one. stands_at (objects_by configuration who claimed (request.Mutex mutex (MutexOperation.Acquire time_out)) partition) one ≡ true) same
+    (changed_there partition.mutexes mutex there.0 (λ found. (mutex_effect who.proc (MutexOperation.Acquire time_out) found).next) there.1)
+waits_there configuration who claimed (request.QueuingPort port (QueuingOperation.Send length time_out message)) (Some channel) partition wanted not_sending not_receiving is none =
     let same : wanted ≡ set.ChannelSenders channel = cc in absurd (not_sending channel same)
-waits_there configuration who claimed (request.SendQueuingMessage port length time_out message) None partition wanted not_sending not_receiving is none = cc
-waits_there configuration who claimed (request.ReceiveQueuingMessage port time_out) (Some channel) partition wanted not_sending not_receiving is none =
+waits_there configuration who claimed (request.QueuingPort port (QueuingOperation.Send length time_out message)) None partition wanted not_sending not_receiving is none = cc
+waits_there configuration who claimed (request.QueuingPort port (QueuingOperation.Receive time_out)) (Some channel) partition wanted not_sending not_receiving is none =
     let same : wanted ≡ set.ChannelReceivers channel = cc in absurd (not_receiving channel same)
-waits_there configuration who claimed (request.ReceiveQueuingMessage port time_out) None partition wanted not_sending not_receiving is none = cc
+waits_there configuration who claimed (request.QueuingPort port (QueuingOperation.Receive time_out)) None partition wanted not_sending not_receiving is none = cc
 waits_there configuration who claimed _ chan partition wanted not_sending not_receiving is none = let no : ◌≡◌ {A = Option WaitingSet} None (Some wanted) = is in cc
 
 waiting_is_done : (given : Out) → is_waiting given ≡ true → is_done given ≡ true

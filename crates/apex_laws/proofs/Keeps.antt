@@ -8,6 +8,7 @@ use Rattle.apex_types.specs.declared.record.Call.{Call as CallRecord}
 use Rattle.apex_types.specs.declared.record.Out.{Out}
 use Rattle.apex_types.specs.declared.record.Out.TheVariants as out
 use Rattle.apex_types.specs.declared.record.Who.{Who}
+use Rattle.apex_types.specs.declared.operation.{CallerOperation.CallerOperation, ProcessOperation.ProcessOperation}
 use Rattle.apex_types.specs.declared.request.Request.{Request}
 use Rattle.apex_types.specs.declared.request.Request.TheVariants as request
 use Rattle.apex_machine.specs.declared.state.CoreState.{CoreState}
@@ -16,18 +17,18 @@ use Rattle.apex_machine.specs.declared.state.Wait.{Wait}
 use Rattle.apex_machine.specs.declared.state.Wait.TheVariants as wait
 use Rattle.apex_machine.specs.declared.state.WaitingSet.{WaitingSet}
 use Rattle.apex_machine.specs.After.{adjusted, called, caller_after, created_by, is_done, partition_by, returned, woken_if_named, ticked}
-use Rattle.apex_machine.specs.Arguments.{is_number, natural_of}
+use Rattle.apex_machine.specs.Arguments.{is_number}
 use Rattle.apex_machine.specs.ProcessConditions.{start_codes}
 use Rattle.apex_machine.specs.Configuration.{Configuration, first_core, period_of}
 use Rattle.apex_machine.specs.Objects.{is_owner}
 use Rattle.apex_machine.specs.Ports.{channel_of, suits_use, use_of}
 use Rattle.apex_machine.specs.DueTimes.{due_of_call, entry_wait, time_out_of, wait_in, wait_of, waits_for_normal}
-use Rattle.apex_machine.specs.Processes.{after_normal, by_mutex, on_ownership, set_by, started}
+use Rattle.apex_machine.specs.Processes.{after_normal, by_mutex, on_ownership, set_by, set_in}
 use Rattle.apex_machine.specs.ServiceConditions.{condition_codes}
 use Rattle.apex_machine.specs.Services.{answer_of}
 use Rattle.apex_machine.specs.State.{Mutex, Partition, State, Table, created, each_item, given_object, is_named, item_at, time_of}
 use Rattle.apex_machine.specs.Step.{IsLawfulBody, IsLawfulCall, channel_answer}
-use Rattle.apex_machine.specs.Waiting.{ends_wait, enters, is_in, is_the_set, is_waiting, set_of, stops, waits_at}
+use Rattle.apex_machine.specs.Waiting.{ends_wait, enters, is_in, is_the_set, is_waiting, set_of, waits_at}
 use Rattle.apex_machine.specs.Demands.{window_now}
 use Rattle.apex_laws.specs.Laws.{AreTied}
 use Rattle.apex_laws.proofs.Booleans.{cannot_hold, is_itself}
@@ -38,6 +39,7 @@ use Rattle.apex_laws.proofs.Restarts.{not_named, not_restarted, not_stopped, wai
 use Rattle.apex_laws.proofs.Tables.{at_each}
 use Rattle.apex_laws.proofs.WaitersOf.{same_who}
 use Rattle.apex_laws.proofs.Woken.{found}
+use Rattle.apex_machine.specs.declared.state.Mode.{Mode}
 
 -- a process that waits
 
@@ -67,7 +69,7 @@ not_for_normal wanted _ waits = absurd (true≢false (sym waits))
 
 -- START isn't asked for this process
 abbrev pub IsNotStarted : Request → ℕ → Type 0
-IsNotStarted (request.Start process) number = is_number process number ≡ false
+IsNotStarted (request.Process process ProcessOperation.Start) number = is_number process number ≡ false
 IsNotStarted _ number = Unit {0}
 
 -- the priority of a mutex, given or taken back
@@ -105,37 +107,26 @@ one_wait : (own : Bool) (changed x : Process) → changed.wait ≡ x.wait → (c
 one_wait true changed x same = same
 one_wait false changed x same = refl
 
+set_in_alive : (place period now : ℕ) (mode : Mode) (operation : ProcessOperation) (x : Process) → x.alive ≡ true → (set_in place period now mode operation x).alive ≡ true
+set_in_alive place period now mode ProcessOperation.Start x alive = refl
+set_in_alive place period now mode _ x alive = alive
+
 set_by_alive : (place period : ℕ) (cores : List CoreState) (partition : Partition) (caller : ℕ) (asked : Request) (number : ℕ) (x : Process) → x.alive ≡ true
     → (set_by place period cores partition caller asked number x).alive ≡ true
-set_by_alive place period cores partition caller (request.InitializeProcessCoreAffinity process core) number x alive =
-    one_alive (is_number process number) (record x { affinity = natural_of core }) x alive alive
-set_by_alive place period cores partition caller (request.Start process) number x alive =
-    one_alive (is_number process number) (started place period (time_of cores x.affinity) partition.mode x) x alive refl
-set_by_alive place period cores partition caller (request.Suspend process) number x alive =
-    one_alive (is_number process number) (record x { suspended = true }) x alive alive
-set_by_alive place period cores partition caller (request.Resume process) number x alive =
-    one_alive (is_number process number) (record x { suspended = false; ready_position = place }) x alive alive
-set_by_alive place period cores partition caller (request.SetPriority process priority) number x alive =
-    one_alive (is_number process number) (record x { current_priority = natural_of priority; ready_position = place }) x alive alive
+set_by_alive place period cores partition caller (request.Process process operation) number x alive =
+    one_alive (is_number process number) (set_in place period (time_of cores x.affinity) partition.mode operation x) x alive (set_in_alive place period (time_of cores x.affinity) partition.mode operation x alive)
 set_by_alive place period cores partition caller (request.SetPartitionMode next) number x alive = normal_alive place period (time_of cores x.affinity) x ∙ alive
-set_by_alive place period cores partition caller (request.AcquireMutex mutex time_out) number x alive = mutex_alive (given_object partition.mutexes mutex) _ number x ∙ alive
-set_by_alive place period cores partition caller (request.ReleaseMutex mutex) number x alive = mutex_alive (given_object partition.mutexes mutex) _ number x ∙ alive
+set_by_alive place period cores partition caller (request.Mutex mutex operation) number x alive = mutex_alive (given_object partition.mutexes mutex) _ number x ∙ alive
 set_by_alive place period cores partition caller _ number x alive = alive
 
 pub set_by_wait : (place period : ℕ) (cores : List CoreState) (partition : Partition) (caller : ℕ) (asked : Request) (number : ℕ) (x : Process) → IsNotStarted asked number
     → waits_for_normal x.wait ≡ false → (set_by place period cores partition caller asked number x).wait ≡ x.wait
-set_by_wait place period cores partition caller (request.InitializeProcessCoreAffinity process core) number x starts normal =
-    one_wait (is_number process number) (record x { affinity = natural_of core }) x refl
-set_by_wait place period cores partition caller (request.Start process) number x starts normal = rw starts refl
-set_by_wait place period cores partition caller (request.Suspend process) number x starts normal =
-    one_wait (is_number process number) (record x { suspended = true }) x refl
-set_by_wait place period cores partition caller (request.Resume process) number x starts normal =
-    one_wait (is_number process number) (record x { suspended = false; ready_position = place }) x refl
-set_by_wait place period cores partition caller (request.SetPriority process priority) number x starts normal =
-    one_wait (is_number process number) (record x { current_priority = natural_of priority; ready_position = place }) x refl
+set_by_wait place period cores partition caller (request.Process process ProcessOperation.Start) number x starts normal = rw starts refl
+set_by_wait place period cores partition caller (request.Process process ProcessOperation.Stop) number x starts normal = one_wait (is_number process number) x x refl
+set_by_wait place period cores partition caller (request.Process process operation) number x starts normal =
+    one_wait (is_number process number) (set_in place period (time_of cores x.affinity) partition.mode operation x) x refl
 set_by_wait place period cores partition caller (request.SetPartitionMode next) number x starts normal = rw normal refl
-set_by_wait place period cores partition caller (request.AcquireMutex mutex time_out) number x starts normal = mutex_wait (given_object partition.mutexes mutex) _ number x
-set_by_wait place period cores partition caller (request.ReleaseMutex mutex) number x starts normal = mutex_wait (given_object partition.mutexes mutex) _ number x
+set_by_wait place period cores partition caller (request.Mutex mutex operation) number x starts normal = mutex_wait (given_object partition.mutexes mutex) _ number x
 set_by_wait place period cores partition caller _ number x starts normal = refl
 
 -- START starts nobody that is alive
@@ -154,7 +145,7 @@ not_number table (pos (suc n)) number x at alive none =
 
 not_started : (configuration : Configuration) (who : Who) (partition : Partition) (asked : Request) (number : ℕ) (x : Process) → item_at partition.table number ≡ Some x → x.alive ≡ true
     → condition_codes configuration who partition asked ≡ [] → IsNotStarted asked number
-not_started configuration who partition (request.Start process) number x at alive none = not_number partition.table process number x at alive none
+not_started configuration who partition (request.Process process ProcessOperation.Start) number x at alive none = not_number partition.table process number x at alive none
 not_started configuration who partition _ number x at alive none = tt
 
 -- after a call
@@ -297,10 +288,10 @@ in_set wanted None due is = absurd (true≢false (sym is))
 in_set wanted (Some set) due is = is
 
 waits_in : (wanted : WaitingSet) (asked : Request) (chan : Option ℕ) (now : ℕ) (x : Process) → is_the_set wanted (set_of asked chan) ≡ true → is_in wanted (wait_of asked chan now x) ≡ true
-waits_in wanted (request.TimedWait (pos delay)) chan now x is = absurd (true≢false (sym is))
-waits_in wanted (request.TimedWait (negsuc n)) chan now x is = absurd (true≢false (sym is))
-waits_in wanted request.PeriodicWait chan now x is = absurd (true≢false (sym is))
-waits_in wanted (request.SuspendSelf time_out) chan now x is = absurd (true≢false (sym is))
+waits_in wanted (request.Caller (CallerOperation.TimedWait (pos delay))) chan now x is = absurd (true≢false (sym is))
+waits_in wanted (request.Caller (CallerOperation.TimedWait (negsuc n))) chan now x is = absurd (true≢false (sym is))
+waits_in wanted (request.Caller CallerOperation.PeriodicWait) chan now x is = absurd (true≢false (sym is))
+waits_in wanted (request.Caller (CallerOperation.SuspendSelf time_out)) chan now x is = absurd (true≢false (sym is))
 waits_in wanted asked chan now x is = in_set wanted (set_of asked chan) (due_of_call (time_out_of asked) now) is
 
 -- the caller after a call that waits

@@ -8,6 +8,7 @@ use Rattle.apex_types.specs.declared.record.Claim.{Claim}
 use Rattle.apex_types.specs.declared.record.Return.{Return}
 use Rattle.apex_types.specs.declared.record.Who.{Who}
 use Rattle.apex_types.specs.declared.object_kind.ObjectKind.TheVariants as kind
+use Rattle.apex_types.specs.declared.operation.{ProcessOperation.ProcessOperation}
 use Rattle.apex_types.specs.declared.request.Request.{Request}
 use Rattle.apex_types.specs.declared.request.Request.TheVariants as request
 use Rattle.apex_machine.specs.declared.state.Entry.{Entry}
@@ -28,11 +29,11 @@ use Rattle.apex_machine.specs.Waiting.{ends_wait, is_in, is_no_error, is_same_se
 use Rattle.apex_laws.specs.Laws.{AllEntries, entries_at}
 use Rattle.apex_laws.specs.PartLaws.{DueLeave, ForeignCallsLeaveSets, HasDistinctObjects, OnlyProcessesChange, is_of_channel, is_set_used}
 use Rattle.apex_laws.specs.PartObjects.{StoppedLeaves, left_by, with_set, without_one}
-use Rattle.apex_laws.proofs.Booleans.{cannot_hold, neither_first, neither_later}
+use Rattle.apex_laws.proofs.Booleans.{cannot_hold, neither_first, neither_later, same_if}
 use Rattle.apex_laws.proofs.Restarts.{restarts_none}
 use Rattle.apex_laws.proofs.OtherSets.{enters_no_other}
 use Rattle.apex_laws.proofs.EachSet.{Leaves, becomes_found, leaves_found, sets_stay}
-use Rattle.apex_laws.proofs.PartObjects.{one_of_kind_changes, same_if}
+use Rattle.apex_laws.proofs.PartObjects.{one_of_kind_changes}
 use Rattle.apex_laws.proofs.SoundParts.{Stands}
 use Rattle.apex_laws.proofs.Waiters.{none_leaves, without_same}
 use Rattle.apex_laws.proofs.WaitSets.{set_itself}
@@ -122,7 +123,7 @@ stop_names [] number asked claim hold who = hold.1.1.1.1.0 who
 stop_names (code ∷ codes) number asked claim hold who = ap (is_named who) hold.1.1.1.1.0
 
 -- it ends the wait of its target alone
-stop_ends : (call : CallRecord) (process : ℤ) (number : ℕ) (who : Who) → process ≡ pos number → call.request ≡ request.Stop process → is_no_error call.claim.out ≡ true
+stop_ends : (call : CallRecord) (process : ℤ) (number : ℕ) (who : Who) → process ≡ pos number → call.request ≡ request.Process process ProcessOperation.Stop → is_no_error call.claim.out ≡ true
     → is_named who call.claim.woken ≡ false → ends_wait call who ≡ is_same who (peer call.who process)
 stop_ends call process number who at asked no_error not_named =
     let stopped : (nat_eq who.part call.who.part && is_target (Some process) who.proc) ≡ is_same who (peer call.who process) =
@@ -156,7 +157,7 @@ stopped_leaves configuration number place core cores partition call is process a
     let own = subst (λ one. AllHold (outcome_demands (condition_codes configuration call.who partition one) (channel_of partition one) number one
     (answer_of (time_of cores core) call.who partition one) call.claim)) asked is.demands.1.1.1.1.1 in
     let ends : (other : Who) → ends_wait call other ≡ is_same other who =
-    λ other. stop_ends call process at.0 other at.1 asked no_error (stop_names (condition_codes configuration call.who partition (request.Stop process)) number (request.Stop process) call.claim own other) in
+    λ other. stop_ends call process at.0 other at.1 asked no_error (stop_names (condition_codes configuration call.who partition (request.Process process ProcessOperation.Stop)) number (request.Process process ProcessOperation.Stop) call.claim own other) in
     let becomes : (wanted : WaitingSet) → change wanted (entries_at partition wanted) ≡ without_one who (entries_at partition wanted) =
     λ wanted. (let off = enters_no_other call wanted (ap (λ one. is_set_used one wanted) asked) in
     rw off (without_same (ends_wait call) (λ other. is_same other who) ends (entries_at partition wanted))) in

@@ -1,19 +1,20 @@
 -- The services of objects use and change exactly the object that they name, by the sentences of its rule.
-use Rattle.std.proofs.Common.{◌≡◌, ℕ, List, [], ◌++◌, Bool, true, false, cond, not, nat_eq, nat_lt, ℤ, pos, negsuc, Option, Some, None, option_map, refl, sym, ap, subst, ◌∙◌}
+use Rattle.std.proofs.Common.{◌≡◌, ℕ, List, [], ◌++◌, Bool, false, cond, not, nat_eq, nat_lt, ℤ, pos, negsuc, Option, Some, None, option_map, refl, sym, ap, subst, ◌∙◌}
 use Rattle.std.proofs.lemmas.Bool.{eqb-true}
 use Rattle.apex_types.specs.declared.code.Code.{Code}
 use Rattle.apex_types.specs.declared.code.Code.TheVariants as code
 use Rattle.apex_types.specs.declared.record.Who.{Who}
+use Rattle.apex_types.specs.declared.operation.{BlackboardOperation.BlackboardOperation, BufferOperation.BufferOperation, EventOperation.EventOperation, MutexOperation.MutexOperation, NewObject.NewObject, SamplingOperation.SamplingOperation, SemaphoreOperation.SemaphoreOperation}
 use Rattle.apex_types.specs.declared.request.Request.TheVariants as request
 use Rattle.apex_machine.specs.declared.state.Entry.{Entry}
 use Rattle.apex_machine.specs.declared.state.WaitingSet.TheVariants as set
 use Rattle.apex_machine.specs.After.{is_valid, new_blackboard, new_buffer, new_event, new_mutex, new_queuing_port, new_sampling_port, new_semaphore, numbered}
-use Rattle.apex_machine.specs.Answer.{Answer, Effect, NewNumber, done, done_with}
+use Rattle.apex_machine.specs.Answer.{Answer, Effect, NewNumber, done_with}
 use Rattle.apex_machine.specs.Arguments.{is_length, is_longer, natural_of}
 use Rattle.apex_machine.specs.Channels.{QueuingPort, SamplingPort, queuing_port, sampling_port}
 use Rattle.apex_machine.specs.ObjectConditions.{acquire_codes, message_codes, object_codes, owns_another}
 use Rattle.apex_machine.specs.PortConditions.{is_queuing_port, is_sampling_port}
-use Rattle.apex_machine.specs.Conditions.{codes_for, creation_codes, is_taken, of_caller, time_out_codes, waiting_codes, when}
+use Rattle.apex_machine.specs.Conditions.{codes_for, of_caller, time_out_codes, waiting_codes, when}
 use Rattle.apex_machine.specs.Objects.{acquired, board_read, buffer_received, buffer_sent, cleared, displayed, event_reset, event_set, event_waited, is_owner, mutex_released, semaphore_waited, signalled}
 use Rattle.apex_machine.specs.Services.{answer_by}
 use Rattle.apex_machine.specs.State.{Blackboard, Buffer, Event, Mutex, Partition, Port, Semaphore, change_at, given_object, is_free, item_at}
@@ -68,22 +69,6 @@ operates {Object} {Value} objects given found at Rule put rule_of rule =
     acts objects given found at Rule put rule_of rule (answer_by (given_object objects given) (λ object. (rule_of object).answer))
     (ap (λ (one : Option Object). answer_by one (λ object. (rule_of object).answer)) at)
 
--- a service that leaves its object
-looks_at : {Object Value : Type 0} (objects : List (ℕ × Object)) (given : ℤ) (found : Object) → given_object objects given ≡ Some found
-    → (Rule : Object → Effect Value → Type 0) (put : Object → Value → Object) (rule_of : Object → Effect Value) → Rule found (rule_of found) → put found (rule_of found).next ≡ found
-    → Operates objects objects given Rule put (answer_by (given_object objects given) (λ object. (rule_of object).answer))
-looks_at objects (negsuc n) found at Rule put rule_of rule same = cc
-looks_at {Object} {Value} objects (pos number) found at Rule put rule_of rule same = record {
-  number = number;
-  is = refl;
-  found = found;
-  stands = at;
-  effect = rule_of found;
-  rule = rule;
-  gives = ap (λ one. answer_by one (λ object. (rule_of object).answer)) at;
-  becomes = record { here = at ∙ ap Some (sym same); others = λ other differs. refl };
-}
-
 -- creations
 
 creates : {Object : Type 0} (objects : List (ℕ × Object)) (claimed : Option ℤ) (new : Object)
@@ -135,28 +120,19 @@ given_entries : {Object : Type 0} (entries_of : Object → List Entry) (objects 
 given_entries entries_of objects (pos number) found at apart = subst (λ one. AreApart (entries_in entries_of one)) at apart
 given_entries entries_of objects (negsuc n) found at apart = cc
 
--- what a blackboard and an event are after a look
-board_stays : (time_out : ℤ) (message : Option (List ℕ)) → (board_read time_out message).next ≡ message
-board_stays time_out None = refl
-board_stays time_out (Some message) = refl
-
-event_stays : (time_out : ℤ) (up : Bool) → (event_waited time_out up).next ≡ up
-event_stays time_out true = refl
-event_stays time_out false = refl
-
 -- a port that is configured
 sampling_there : (found : Option SamplingPort) (size direction refresh : ℤ) → when (not (is_sampling_port found size direction refresh)) code.InvalidConfig ≡ [] → (port : SamplingPort) × (found ≡ Some port)
 sampling_there None size direction refresh none = cc
 sampling_there (Some port) size direction refresh none = (port, refl)
 
-queuing_there : (found : Option QueuingPort) (size capacity both : ℤ) → when (not (is_queuing_port found size capacity both)) code.InvalidConfig ≡ [] → (port : QueuingPort) × (found ≡ Some port)
-queuing_there None size capacity both none = cc
-queuing_there (Some port) size capacity both none = (port, refl)
+queuing_there : (found : Option QueuingPort) (size capacity way order : ℤ) → when (not (is_queuing_port found size capacity way order)) code.InvalidConfig ≡ [] → (port : QueuingPort) × (found ≡ Some port)
+queuing_there None size capacity way order none = cc
+queuing_there (Some port) size capacity way order none = (port, refl)
 
 pub object_call_is_the_sentence : ObjectCallIsTheSentence
-object_call_is_the_sentence configuration now who claimed (request.CreateBuffer name size capacity discipline) partition apart none =
+object_call_is_the_sentence configuration now who claimed (request.Create name (NewObject.Buffer size capacity discipline)) partition apart none =
     (refl, creates partition.buffers claimed (new_buffer name size capacity discipline))
-object_call_is_the_sentence configuration now who claimed (request.SendBuffer buffer length time_out message) partition apart none =
+object_call_is_the_sentence configuration now who claimed (request.Buffer buffer (BufferOperation.Send length time_out message)) partition apart none =
     let first = first_empty (message_codes (option_map (λ (found : Buffer). found.size) (given_object partition.buffers buffer)) length) (time_out_codes time_out)
     (first_empty (message_codes (option_map (λ (found : Buffer). found.size) (given_object partition.buffers buffer)) length ++ time_out_codes time_out) (waiting_codes who partition time_out) none) in
     let there = message_there (λ (found : Buffer). found.size) (given_object partition.buffers buffer) length first in
@@ -166,7 +142,7 @@ object_call_is_the_sentence configuration now who claimed (request.SendBuffer bu
           ((queue_is_the_sentence.0 found.capacity message time_out found.discipline found.receivers found.messages (buffer_sent message time_out found)
           (given_entries (λ (one : Buffer). one.receivers) partition.buffers buffer found there.1 (apart (set.BufferReceivers (natural_of buffer))))).0 refl),
     )
-object_call_is_the_sentence configuration now who claimed (request.ReceiveBuffer buffer time_out) partition apart none =
+object_call_is_the_sentence configuration now who claimed (request.Buffer buffer (BufferOperation.Receive time_out)) partition apart none =
     let there = object_there who partition (given_object partition.buffers buffer) time_out none in
     let found : Buffer = there.0 in (
       refl,
@@ -174,31 +150,31 @@ object_call_is_the_sentence configuration now who claimed (request.ReceiveBuffer
           ((queue_is_the_sentence.1 time_out found.discipline found.senders found.messages (buffer_received time_out found)
           (given_entries (λ (one : Buffer). one.senders) partition.buffers buffer found there.1 (apart (set.BufferSenders (natural_of buffer))))).0 refl),
     )
-object_call_is_the_sentence configuration now who claimed (request.CreateBlackboard name size) partition apart none =
+object_call_is_the_sentence configuration now who claimed (request.Create name (NewObject.Blackboard size)) partition apart none =
     (refl, creates partition.blackboards claimed (new_blackboard name size))
-object_call_is_the_sentence configuration now who claimed (request.DisplayBlackboard blackboard length message) partition apart none =
+object_call_is_the_sentence configuration now who claimed (request.Blackboard blackboard (BlackboardOperation.Display length message)) partition apart none =
     let there = message_there (λ (found : Blackboard). found.size) (given_object partition.blackboards blackboard) length none in
     (refl, operates partition.blackboards blackboard there.0 there.1 _ (λ one message. record one { message = message }) (λ found. displayed message found.readers) refl)
-object_call_is_the_sentence configuration now who claimed (request.ReadBlackboard blackboard time_out) partition apart none =
+object_call_is_the_sentence configuration now who claimed (request.Blackboard blackboard (BlackboardOperation.Read time_out)) partition apart none =
     let there = object_there who partition (given_object partition.blackboards blackboard) time_out none in
     let found : Blackboard = there.0 in (
       refl,
-      looks_at partition.blackboards blackboard found there.1 _ (λ one message. record one { message = message }) (λ found. board_read time_out found.message)
-          ((blackboard_is_the_sentence.1 time_out found.message (board_read time_out found.message)).0 refl) (λ i. record found { message = board_stays time_out found.message i }),
+      operates partition.blackboards blackboard found there.1 _ (λ one message. record one { message = message }) (λ found. board_read time_out found.message)
+          ((blackboard_is_the_sentence.1 time_out found.message (board_read time_out found.message)).0 refl),
     )
-object_call_is_the_sentence configuration now who claimed (request.ClearBlackboard blackboard) partition apart none =
+object_call_is_the_sentence configuration now who claimed (request.Blackboard blackboard BlackboardOperation.Clear) partition apart none =
     let there = lone_there (given_object partition.blackboards blackboard) none in
-    (refl, acts partition.blackboards blackboard there.0 there.1 (λ found effect. IsClearing effect) (λ one message. record one { message = message }) (λ found. cleared) refl done refl)
-object_call_is_the_sentence configuration now who claimed (request.CreateSemaphore name value maximum discipline) partition apart none =
+    (refl, operates partition.blackboards blackboard there.0 there.1 (λ found effect. IsClearing effect) (λ one message. record one { message = message }) (λ found. cleared) refl)
+object_call_is_the_sentence configuration now who claimed (request.Create name (NewObject.Semaphore value maximum discipline)) partition apart none =
     (refl, creates partition.semaphores claimed (new_semaphore name value maximum discipline))
-object_call_is_the_sentence configuration now who claimed (request.WaitSemaphore semaphore time_out) partition apart none =
+object_call_is_the_sentence configuration now who claimed (request.Semaphore semaphore (SemaphoreOperation.Wait time_out)) partition apart none =
     let there = object_there who partition (given_object partition.semaphores semaphore) time_out none in
     let found : Semaphore = there.0 in (
       refl,
       operates partition.semaphores semaphore found there.1 _ (λ one value. record one { value = value }) (λ found. semaphore_waited time_out found.value)
           ((semaphore_is_the_sentence.0 time_out found.value (semaphore_waited time_out found.value)).0 refl),
     )
-object_call_is_the_sentence configuration now who claimed (request.SignalSemaphore semaphore) partition apart none =
+object_call_is_the_sentence configuration now who claimed (request.Semaphore semaphore SemaphoreOperation.Signal) partition apart none =
     let there = lone_there (given_object partition.semaphores semaphore) none in
     let found : Semaphore = there.0 in (
       refl,
@@ -206,30 +182,30 @@ object_call_is_the_sentence configuration now who claimed (request.SignalSemapho
           ((semaphore_is_the_sentence.1 found.maximum found.discipline found.waiters found.value (signalled found.maximum (first_waiter found.discipline found.waiters) found.value)
           (given_entries (λ (one : Semaphore). one.waiters) partition.semaphores semaphore found there.1 (apart (set.SemaphoreWaiters (natural_of semaphore))))).0 refl),
     )
-object_call_is_the_sentence configuration now who claimed (request.CreateEvent name) partition apart none = (refl, creates partition.events claimed (new_event name))
-object_call_is_the_sentence configuration now who claimed (request.SetEvent event) partition apart none =
+object_call_is_the_sentence configuration now who claimed (request.Create name NewObject.Event) partition apart none = (refl, creates partition.events claimed (new_event name))
+object_call_is_the_sentence configuration now who claimed (request.Event event EventOperation.Set) partition apart none =
     let there = lone_there (given_object partition.events event) none in
     (refl, operates partition.events event there.0 there.1 _ (λ one up. record one { up = up }) (λ found. event_set found.waiters) refl)
-object_call_is_the_sentence configuration now who claimed (request.ResetEvent event) partition apart none =
+object_call_is_the_sentence configuration now who claimed (request.Event event EventOperation.Reset) partition apart none =
     let there = lone_there (given_object partition.events event) none in
-    (refl, acts partition.events event there.0 there.1 (λ found effect. IsResetting effect) (λ one up. record one { up = up }) (λ found. event_reset) refl done refl)
-object_call_is_the_sentence configuration now who claimed (request.WaitEvent event time_out) partition apart none =
+    (refl, operates partition.events event there.0 there.1 (λ found effect. IsResetting effect) (λ one up. record one { up = up }) (λ found. event_reset) refl)
+object_call_is_the_sentence configuration now who claimed (request.Event event (EventOperation.Wait time_out)) partition apart none =
     let there = object_there who partition (given_object partition.events event) time_out none in
     let found : Event = there.0 in (
       refl,
-      looks_at partition.events event found there.1 _ (λ one up. record one { up = up }) (λ found. event_waited time_out found.up)
-          ((event_is_the_sentence.2 time_out found.up (event_waited time_out found.up)).0 refl) (λ i. record found { up = event_stays time_out found.up i }),
+      operates partition.events event found there.1 _ (λ one up. record one { up = up }) (λ found. event_waited time_out found.up)
+          ((event_is_the_sentence.2 time_out found.up (event_waited time_out found.up)).0 refl),
     )
-object_call_is_the_sentence configuration now who claimed (request.CreateMutex name priority discipline) partition apart none =
+object_call_is_the_sentence configuration now who claimed (request.Create name (NewObject.Mutex priority discipline)) partition apart none =
     (refl, creates partition.mutexes claimed (new_mutex name priority discipline))
-object_call_is_the_sentence configuration now who claimed (request.AcquireMutex mutex time_out) partition apart none =
+object_call_is_the_sentence configuration now who claimed (request.Mutex mutex (MutexOperation.Acquire time_out)) partition apart none =
     let there = mutex_there who partition mutex time_out none in
     let found : Mutex = there.0 in (
       refl,
       operates partition.mutexes mutex found there.1 _ (λ one changed. changed) (acquired who.proc time_out)
           ((mutex_is_the_sentence.0 who.proc time_out found (acquired who.proc time_out found)).0 refl),
     )
-object_call_is_the_sentence configuration now who claimed (request.ReleaseMutex mutex) partition apart none =
+object_call_is_the_sentence configuration now who claimed (request.Mutex mutex MutexOperation.Release) partition apart none =
     let there = is_created (given_object partition.mutexes mutex) (λ found. when (not (is_owner found.owner who.proc)) code.InvalidMode) none in
     let found : Mutex = there.0 in (
       refl,
@@ -237,9 +213,8 @@ object_call_is_the_sentence configuration now who claimed (request.ReleaseMutex 
           ((mutex_is_the_sentence.1 found (mutex_released (first_waiter found.discipline found.waiters) found)
           (given_entries (λ (one : Mutex). one.waiters) partition.mutexes mutex found there.1 (apart (set.MutexWaiters (natural_of mutex))))).0 refl),
     )
-object_call_is_the_sentence configuration now who claimed (request.CreateSamplingPort name size direction refresh) partition apart none =
-    let there = sampling_there (sampling_port configuration who.part name) size direction refresh
-    (second_empty (creation_codes partition (is_taken (λ (port : Port). port.name) name partition.sampling_ports) false) (when (not (is_sampling_port (sampling_port configuration who.part name) size direction refresh)) code.InvalidConfig) none) in
+object_call_is_the_sentence configuration now who claimed (request.Create name (NewObject.SamplingPort size direction refresh)) partition apart none =
+    let there = sampling_there (sampling_port configuration who.part name) size direction refresh (second_empty _ _ none) in
     let port : SamplingPort = there.0 in
     let new : Port = record { name = name; size = port.size; direction = port.direction; channel = port.channel; valid = false } in (
       refl,
@@ -250,9 +225,8 @@ object_call_is_the_sentence configuration now who claimed (request.CreateSamplin
             (sym there.1) (creates partition.sampling_ports claimed new),
       ),
     )
-object_call_is_the_sentence configuration now who claimed (request.CreateQueuingPort name size capacity both) partition apart none =
-    let there = queuing_there (queuing_port configuration who.part name) size capacity both
-    (second_empty (creation_codes partition (is_taken (λ (port : Port). port.name) name partition.queuing_ports) false) (when (not (is_queuing_port (queuing_port configuration who.part name) size capacity both)) code.InvalidConfig) none) in
+object_call_is_the_sentence configuration now who claimed (request.Create name (NewObject.QueuingPort size capacity way order)) partition apart none =
+    let there = queuing_there (queuing_port configuration who.part name) size capacity way order (second_empty _ _ none) in
     let port : QueuingPort = there.0 in
     let new : Port = record { name = name; size = port.size; direction = port.direction; channel = port.channel; valid = false } in (
       refl,
@@ -263,7 +237,7 @@ object_call_is_the_sentence configuration now who claimed (request.CreateQueuing
             (sym there.1) (creates partition.queuing_ports claimed new),
       ),
     )
-object_call_is_the_sentence configuration now who claimed (request.ReadSamplingMessage port) partition apart none =
+object_call_is_the_sentence configuration now who claimed (request.SamplingPort port SamplingOperation.Read) partition apart none =
     let change : Port → Port = λ found. record found { valid = is_valid claimed } in (
       refl,
       λ number found names at. subst (λ given. OneBecomes partition.sampling_ports (change_at (natural_of given) change partition.sampling_ports) number (change found)) (sym names)

@@ -4,12 +4,12 @@ use Rattle.std.proofs.lemmas.Bool.{cases_Bool, eqb-true, eq-eqb, eqb-false, ltb-
 use Rattle.apex_types.specs.declared.code.Code.TheVariants as code
 use Rattle.apex_types.specs.declared.discipline.Discipline.{Discipline}
 use Rattle.apex_machine.specs.declared.state.Entry.{Entry}
-use Rattle.apex_machine.specs.Answer.{Effect, answering, unmet, waiting}
+use Rattle.apex_machine.specs.Answer.{Effect, answering, unmet, waiting, effect_on}
 use Rattle.apex_machine.specs.Arguments.{is_over}
 use Rattle.apex_machine.specs.Channels.{capacity_of, is_at_destination, is_at_source, receiving_discipline, refresh_of, sending_discipline}
 use Rattle.apex_machine.specs.Configuration.{Configuration}
 use Rattle.apex_machine.specs.Objects.{acquired, acquired_again, acquired_from, at_maximum, board_read, handed_on as hand_on, mutex_released, not_acquired, raised, released_once, semaphore_waited, signalled, event_waited}
-use Rattle.apex_machine.specs.Ports.{Ask, Receive, Read, Send, Use, Write, on_queuing, on_sampling, sampled, suits, used, written}
+use Rattle.apex_machine.specs.Ports.{Ask, Receive, Read, Send, Use, Write, sampled, suits, used, written}
 use Rattle.apex_machine.specs.Queue.{Messages, appended, not_yet, received, sent}
 use Rattle.apex_machine.specs.State.{Channel, Content, Mutex, Queued, Sampled, Stamped}
 use Rattle.apex_machine.specs.Waiting.{IsFirst, first_waiter}
@@ -297,15 +297,15 @@ use_says configuration now number partition channel Ask (Queued messages) effect
 use_by : (configuration : Configuration) (now number partition : ℕ) (channel : Channel) (how : Use) (effect : Effect Content) → AreApart channel.senders → AreApart channel.receivers
     → IsUse configuration now number partition channel how effect → effect ≡ used configuration now number partition how channel channel.content
 use_by configuration now number partition channel how effect senders receivers (writes message last inner uses at written_so is) =
-    is ∙ ap on_sampling written_so ∙ sym (ap (λ one. used configuration now number partition one channel channel.content) uses ∙ ap (used configuration now number partition (Write message) channel) at)
+    is ∙ ap (effect_on Sampled) written_so ∙ sym (ap (λ one. used configuration now number partition one channel channel.content) uses ∙ ap (used configuration now number partition (Write message) channel) at)
 use_by configuration now number partition channel how effect senders receivers (samples last inner uses at sampled_so is) =
-    is ∙ ap on_sampling (sampling_by now (refresh_of configuration number) last inner sampled_so)
+    is ∙ ap (effect_on Sampled) (sampling_by now (refresh_of configuration number) last inner sampled_so)
     ∙ sym (ap (λ one. used configuration now number partition one channel channel.content) uses ∙ ap (used configuration now number partition Read channel) at)
 use_by configuration now number partition channel how effect senders receivers (sends message time_out messages inner uses at sent_so is) =
-    is ∙ ap on_queuing (sending_by (capacity_of configuration number) message time_out (receiving_discipline configuration number) channel.receivers messages inner receivers sent_so)
+    is ∙ ap (effect_on Queued) (sending_by (capacity_of configuration number) message time_out (receiving_discipline configuration number) channel.receivers messages inner receivers sent_so)
     ∙ sym (ap (λ one. used configuration now number partition one channel channel.content) uses ∙ ap (used configuration now number partition (Send message time_out) channel) at)
 use_by configuration now number partition channel how effect senders receivers (receives time_out messages inner uses at received_so is) =
-    is ∙ ap on_queuing (receiving_by time_out (sending_discipline configuration number) channel.senders messages inner senders received_so)
+    is ∙ ap (effect_on Queued) (receiving_by time_out (sending_discipline configuration number) channel.senders messages inner senders received_so)
     ∙ sym (ap (λ one. used configuration now number partition one channel channel.content) uses ∙ ap (used configuration now number partition (Receive time_out) channel) at)
 use_by configuration now number partition channel how effect senders receivers (asks_source messages uses at of is) =
     is ∙ ap (λ test. tells_channel messages (cond test channel.senders channel.receivers)) (sym of)

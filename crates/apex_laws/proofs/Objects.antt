@@ -2,6 +2,7 @@
 use Rattle.std.proofs.Common.{◌≡◌, ℕ, List, [], ◌∷◌, ◌++◌, Bool, true, false, cond, nat_eq, nat_lt, ℤ, pos, negsuc, Option, Some, None, is_some, option_map, refl, sym, subst}
 use Rattle.apex_types.specs.declared.object_kind.ObjectKind.TheVariants as kind
 use Rattle.apex_types.specs.declared.record.Who.{Who}
+use Rattle.apex_types.specs.declared.operation.{MutexOperation.MutexOperation, NewObject.NewObject, SamplingOperation.SamplingOperation}
 use Rattle.apex_types.specs.declared.request.Request.{Request}
 use Rattle.apex_types.specs.declared.request.Request.TheVariants as request
 use Rattle.apex_machine.specs.declared.state.Entry.{Entry}
@@ -10,7 +11,7 @@ use Rattle.apex_machine.specs.declared.state.WaitingSet.TheVariants as set
 use Rattle.apex_machine.specs.After.{each_set, new_blackboard, new_buffer, new_event, new_mutex, new_semaphore, numbered, objects_by, with_sets}
 use Rattle.apex_machine.specs.Arguments.{natural_of}
 use Rattle.apex_machine.specs.Configuration.{Configuration}
-use Rattle.apex_machine.specs.Objects.{acquired, acquired_again, acquired_from, buffer_received, buffer_sent, cleared, displayed, event_reset, event_set, handed_on, mutex_released, not_acquired, released_once, semaphore_waited, signalled}
+use Rattle.apex_machine.specs.Objects.{acquired_again, acquired_from, blackboard_effect, buffer_effect, event_effect, handed_on, mutex_effect, mutex_released, not_acquired, released_once, semaphore_effect}
 use Rattle.apex_machine.specs.State.{Blackboard, Buffer, Event, Mutex, Partition, Semaphore, change_at, each_item, item_at}
 use Rattle.apex_machine.specs.Waiting.{first_waiter}
 use Rattle.apex_laws.specs.Laws.{entries_at, entries_in}
@@ -115,46 +116,37 @@ pub release_keeps : (first : Option Entry) (mutex : Mutex) → (mutex_released f
 release_keeps first mutex =
     elim (nat_lt 1 mutex.count) as (λ more. (cond more (released_once mutex) (handed_on first mutex)).next.waiters ≡ mutex.waiters) [ true ↦ refl | false ↦ hand_on_keeps first mutex ]
 
+pub mutex_keeps : (caller : ℕ) (operation : MutexOperation) (mutex : Mutex) → (mutex_effect caller operation mutex).next.waiters ≡ mutex.waiters
+mutex_keeps caller (MutexOperation.Acquire time_out) mutex = acquire_keeps caller time_out mutex.owner mutex
+mutex_keeps caller MutexOperation.Release mutex = release_keeps (first_waiter mutex.discipline mutex.waiters) mutex
+
 -- the rules of the objects leave the waiting sets, and what is created has none
 pub objects_have : (Holds : List Entry → Type 0) (configuration : Configuration) (who : Who) (claimed : Option ℤ) (asked : Request) (partition : Partition) (wanted : WaitingSet)
     → Holds (entries_at partition wanted) → Holds (entries_at (objects_by configuration who claimed asked partition) wanted)
-objects_have Holds configuration who claimed (request.CreateBuffer name size capacity discipline) partition (set.BufferSenders number) all =
+objects_have Holds configuration who claimed (request.Create name (NewObject.Buffer size capacity discipline)) partition (set.BufferSenders number) all =
     one_created Holds (λ (one : Buffer). one.senders) claimed (new_buffer name size capacity discipline) number refl partition.buffers all
-objects_have Holds configuration who claimed (request.CreateBuffer name size capacity discipline) partition (set.BufferReceivers number) all =
+objects_have Holds configuration who claimed (request.Create name (NewObject.Buffer size capacity discipline)) partition (set.BufferReceivers number) all =
     one_created Holds (λ (one : Buffer). one.receivers) claimed (new_buffer name size capacity discipline) number refl partition.buffers all
-objects_have Holds configuration who claimed (request.SendBuffer buffer length time_out message) partition (set.BufferSenders number) all =
-    one_changed Holds (λ (one : Buffer). one.senders) (natural_of buffer) (λ found. record found { messages = (buffer_sent message time_out found).next }) number (λ one. refl) partition.buffers all
-objects_have Holds configuration who claimed (request.SendBuffer buffer length time_out message) partition (set.BufferReceivers number) all =
-    one_changed Holds (λ (one : Buffer). one.receivers) (natural_of buffer) (λ found. record found { messages = (buffer_sent message time_out found).next }) number (λ one. refl) partition.buffers all
-objects_have Holds configuration who claimed (request.ReceiveBuffer buffer time_out) partition (set.BufferSenders number) all =
-    one_changed Holds (λ (one : Buffer). one.senders) (natural_of buffer) (λ found. record found { messages = (buffer_received time_out found).next }) number (λ one. refl) partition.buffers all
-objects_have Holds configuration who claimed (request.ReceiveBuffer buffer time_out) partition (set.BufferReceivers number) all =
-    one_changed Holds (λ (one : Buffer). one.receivers) (natural_of buffer) (λ found. record found { messages = (buffer_received time_out found).next }) number (λ one. refl) partition.buffers all
-objects_have Holds configuration who claimed (request.CreateBlackboard name size) partition (set.BlackboardReaders number) all =
+objects_have Holds configuration who claimed (request.Create name (NewObject.Blackboard size)) partition (set.BlackboardReaders number) all =
     one_created Holds (λ (one : Blackboard). one.readers) claimed (new_blackboard name size) number refl partition.blackboards all
-objects_have Holds configuration who claimed (request.DisplayBlackboard blackboard length message) partition (set.BlackboardReaders number) all =
-    one_changed Holds (λ (one : Blackboard). one.readers) (natural_of blackboard) (λ found. record found { message = (displayed message found.readers).next }) number (λ one. refl) partition.blackboards all
-objects_have Holds configuration who claimed (request.ClearBlackboard blackboard) partition (set.BlackboardReaders number) all =
-    one_changed Holds (λ (one : Blackboard). one.readers) (natural_of blackboard) (λ found. record found { message = cleared.next }) number (λ one. refl) partition.blackboards all
-objects_have Holds configuration who claimed (request.CreateSemaphore name value maximum discipline) partition (set.SemaphoreWaiters number) all =
+objects_have Holds configuration who claimed (request.Create name (NewObject.Semaphore value maximum discipline)) partition (set.SemaphoreWaiters number) all =
     one_created Holds (λ (one : Semaphore). one.waiters) claimed (new_semaphore name value maximum discipline) number refl partition.semaphores all
-objects_have Holds configuration who claimed (request.WaitSemaphore semaphore time_out) partition (set.SemaphoreWaiters number) all =
-    one_changed Holds (λ (one : Semaphore). one.waiters) (natural_of semaphore) (λ found. record found { value = (semaphore_waited time_out found.value).next }) number (λ one. refl) partition.semaphores all
-objects_have Holds configuration who claimed (request.SignalSemaphore semaphore) partition (set.SemaphoreWaiters number) all =
-    one_changed Holds (λ (one : Semaphore). one.waiters) (natural_of semaphore)
-    (λ found. record found { value = (signalled found.maximum (first_waiter found.discipline found.waiters) found.value).next }) number (λ one. refl) partition.semaphores all
-objects_have Holds configuration who claimed (request.CreateEvent name) partition (set.EventWaiters number) all =
+objects_have Holds configuration who claimed (request.Create name NewObject.Event) partition (set.EventWaiters number) all =
     one_created Holds (λ (one : Event). one.waiters) claimed (new_event name) number refl partition.events all
-objects_have Holds configuration who claimed (request.SetEvent event) partition (set.EventWaiters number) all =
-    one_changed Holds (λ (one : Event). one.waiters) (natural_of event) (λ found. record found { up = (event_set found.waiters).next }) number (λ one. refl) partition.events all
-objects_have Holds configuration who claimed (request.ResetEvent event) partition (set.EventWaiters number) all =
-    one_changed Holds (λ (one : Event). one.waiters) (natural_of event) (λ found. record found { up = event_reset.next }) number (λ one. refl) partition.events all
-objects_have Holds configuration who claimed (request.CreateMutex name priority discipline) partition (set.MutexWaiters number) all =
+objects_have Holds configuration who claimed (request.Create name (NewObject.Mutex priority discipline)) partition (set.MutexWaiters number) all =
     one_created Holds (λ (one : Mutex). one.waiters) claimed (new_mutex name priority discipline) number refl partition.mutexes all
-objects_have Holds configuration who claimed (request.AcquireMutex mutex time_out) partition (set.MutexWaiters number) all =
-    one_changed Holds (λ (one : Mutex). one.waiters) (natural_of mutex) (λ found. (acquired who.proc time_out found).next) number
-    (λ one. acquire_keeps who.proc time_out one.owner one) partition.mutexes all
-objects_have Holds configuration who claimed (request.ReleaseMutex mutex) partition (set.MutexWaiters number) all =
-    one_changed Holds (λ (one : Mutex). one.waiters) (natural_of mutex) (λ found. (mutex_released (first_waiter found.discipline found.waiters) found).next) number
-    (λ one. release_keeps (first_waiter one.discipline one.waiters) one) partition.mutexes all
+objects_have Holds configuration who claimed (request.Create name _) partition _ all = all
+objects_have Holds configuration who claimed (request.Buffer buffer operation) partition (set.BufferSenders number) all =
+    one_changed Holds (λ (one : Buffer). one.senders) (natural_of buffer) (λ found. (buffer_effect operation found).next) number (λ one. refl) partition.buffers all
+objects_have Holds configuration who claimed (request.Buffer buffer operation) partition (set.BufferReceivers number) all =
+    one_changed Holds (λ (one : Buffer). one.receivers) (natural_of buffer) (λ found. (buffer_effect operation found).next) number (λ one. refl) partition.buffers all
+objects_have Holds configuration who claimed (request.Blackboard blackboard operation) partition (set.BlackboardReaders number) all =
+    one_changed Holds (λ (one : Blackboard). one.readers) (natural_of blackboard) (λ found. (blackboard_effect operation found).next) number (λ one. refl) partition.blackboards all
+objects_have Holds configuration who claimed (request.Semaphore semaphore operation) partition (set.SemaphoreWaiters number) all =
+    one_changed Holds (λ (one : Semaphore). one.waiters) (natural_of semaphore) (λ found. (semaphore_effect operation found).next) number (λ one. refl) partition.semaphores all
+objects_have Holds configuration who claimed (request.Event event operation) partition (set.EventWaiters number) all =
+    one_changed Holds (λ (one : Event). one.waiters) (natural_of event) (λ found. (event_effect operation found).next) number (λ one. refl) partition.events all
+objects_have Holds configuration who claimed (request.Mutex mutex operation) partition (set.MutexWaiters number) all =
+    one_changed Holds (λ (one : Mutex). one.waiters) (natural_of mutex) (λ found. (mutex_effect who.proc operation found).next) number (mutex_keeps who.proc operation) partition.mutexes all
+objects_have Holds configuration who claimed (request.SamplingPort port SamplingOperation.Read) partition _ all = all
 objects_have Holds configuration who claimed _ partition _ all = all

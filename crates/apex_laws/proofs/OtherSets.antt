@@ -5,6 +5,7 @@ use Rattle.apex_types.specs.declared.code.Code.{Code}
 use Rattle.apex_types.specs.declared.record.Call.{Call as CallRecord}
 use Rattle.apex_types.specs.declared.record.Claim.{Claim}
 use Rattle.apex_types.specs.declared.record.Who.{Who}
+use Rattle.apex_types.specs.declared.operation.{BlackboardOperation.BlackboardOperation, BufferOperation.BufferOperation, EventOperation.EventOperation, MutexOperation.MutexOperation, QueuingOperation.QueuingOperation, SemaphoreOperation.SemaphoreOperation}
 use Rattle.apex_types.specs.declared.request.Request.{Request}
 use Rattle.apex_types.specs.declared.request.Request.TheVariants as request
 use Rattle.apex_machine.specs.declared.state.Process.{Process}
@@ -35,18 +36,18 @@ use Rattle.apex_laws.proofs.Woken.{created_is, suspended_waits_not}
 
 -- a caller enters only a set that its request uses
 entered_is_used : (asked : Request) (chan : Option ℕ) (wanted : WaitingSet) → is_the_set wanted (set_of asked chan) ≡ true → is_set_used asked wanted ≡ true
-entered_is_used (request.SendBuffer buffer length time_out message) chan wanted is = first_holds _ _ is
-entered_is_used (request.ReceiveBuffer buffer time_out) chan wanted is = later_holds _ _ is
-entered_is_used (request.ReadBlackboard blackboard time_out) chan wanted is = is
-entered_is_used (request.WaitSemaphore semaphore time_out) chan wanted is = is
-entered_is_used (request.WaitEvent event time_out) chan wanted is = is
-entered_is_used (request.AcquireMutex mutex time_out) chan wanted is = is
-entered_is_used (request.SendQueuingMessage port length time_out message) (Some channel) wanted is =
+entered_is_used (request.Buffer buffer (BufferOperation.Send length time_out message)) chan wanted is = first_holds _ _ is
+entered_is_used (request.Buffer buffer (BufferOperation.Receive time_out)) chan wanted is = later_holds _ _ is
+entered_is_used (request.Blackboard blackboard (BlackboardOperation.Read time_out)) chan wanted is = is
+entered_is_used (request.Semaphore semaphore (SemaphoreOperation.Wait time_out)) chan wanted is = is
+entered_is_used (request.Event event (EventOperation.Wait time_out)) chan wanted is = is
+entered_is_used (request.Mutex mutex (MutexOperation.Acquire time_out)) chan wanted is = is
+entered_is_used (request.QueuingPort port (QueuingOperation.Send length time_out message)) (Some channel) wanted is =
     subst (λ one. is_of_channel one ≡ true) (same_set_is (set.ChannelSenders channel) wanted is) refl
-entered_is_used (request.SendQueuingMessage port length time_out message) None wanted is = absurd (true≢false (sym is))
-entered_is_used (request.ReceiveQueuingMessage port time_out) (Some channel) wanted is =
+entered_is_used (request.QueuingPort port (QueuingOperation.Send length time_out message)) None wanted is = absurd (true≢false (sym is))
+entered_is_used (request.QueuingPort port (QueuingOperation.Receive time_out)) (Some channel) wanted is =
     subst (λ one. is_of_channel one ≡ true) (same_set_is (set.ChannelReceivers channel) wanted is) refl
-entered_is_used (request.ReceiveQueuingMessage port time_out) None wanted is = absurd (true≢false (sym is))
+entered_is_used (request.QueuingPort port (QueuingOperation.Receive time_out)) None wanted is = absurd (true≢false (sym is))
 entered_is_used _ chan wanted is = absurd (true≢false (sym is))
 
 pub enters_no_other : (call : CallRecord) (wanted : WaitingSet) → is_set_used call.request wanted ≡ false → enters call wanted ≡ false

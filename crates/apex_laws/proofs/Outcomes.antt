@@ -6,6 +6,7 @@ use Rattle.apex_types.specs.declared.object_kind.ObjectKind.TheVariants as kind
 use Rattle.apex_types.specs.declared.record.Claim.{Claim}
 use Rattle.apex_types.specs.declared.record.Out.{Out}
 use Rattle.apex_types.specs.declared.record.Return.{Return}
+use Rattle.apex_types.specs.declared.operation.{QueuingOperation.QueuingOperation, SamplingOperation.SamplingOperation}
 use Rattle.apex_types.specs.declared.request.Request.{Request}
 use Rattle.apex_types.specs.declared.request.Request.TheVariants as request
 use Rattle.apex_machine.specs.declared.state.Entry.{Entry}
@@ -93,35 +94,35 @@ done_can asked one is = subst (CanHave asked) (sym is) tt
 -- an outcome that a channel of the right kind gives is one that the partition lets pass
 pub channel_can : (configuration : Configuration) (now number partition : ℕ) (asked : Request) (channel : Channel) → IsTrue (suits_use configuration number partition (use_of asked) channel)
     → CanHave asked (channel_effect configuration now number partition (use_of asked) channel).answer.out
-channel_can configuration now number partition (request.WriteSamplingMessage port length message) channel suited = by channel.content
+channel_can configuration now number partition (request.SamplingPort port (SamplingOperation.Write length message)) channel suited = by channel.content
   where
-    by : (content : Content) → CanHave (request.WriteSamplingMessage port length message) (used configuration now number partition (Write message) channel content).answer.out
+    by : (content : Content) → CanHave (request.SamplingPort port (SamplingOperation.Write length message)) (used configuration now number partition (Write message) channel content).answer.out
     by (Sampled last) = tt
     by (Queued messages) = tt
-channel_can configuration now number partition (request.ReadSamplingMessage port) channel suited = by channel.content
+channel_can configuration now number partition (request.SamplingPort port SamplingOperation.Read) channel suited = by channel.content
   where
-    read : (last : Option Stamped) → CanHave (request.ReadSamplingMessage port) (reading_of now (refresh_of configuration number) last).out
+    read : (last : Option Stamped) → CanHave (request.SamplingPort port SamplingOperation.Read) (reading_of now (refresh_of configuration number) last).out
     read None = tt
     read (Some last) = tt
 
-    by : (content : Content) → CanHave (request.ReadSamplingMessage port) (used configuration now number partition Read channel content).answer.out
+    by : (content : Content) → CanHave (request.SamplingPort port SamplingOperation.Read) (used configuration now number partition Read channel content).answer.out
     by (Sampled last) = read last
     by (Queued messages) = tt
-channel_can configuration now number partition (request.SendQueuingMessage port length time_out message) channel suited = by channel.content
+channel_can configuration now number partition (request.QueuingPort port (QueuingOperation.Send length time_out message)) channel suited = by channel.content
   where
-    by : (content : Content) → CanHave (request.SendQueuingMessage port length time_out message) (used configuration now number partition (Send message time_out) channel content).answer.out
+    by : (content : Content) → CanHave (request.QueuingPort port (QueuingOperation.Send length time_out message)) (used configuration now number partition (Send message time_out) channel content).answer.out
     by (Queued messages) =
-        sent_can (CanHave (request.SendQueuingMessage port length time_out message)) (capacity_of configuration number) message time_out
+        sent_can (CanHave (request.QueuingPort port (QueuingOperation.Send length time_out message))) (capacity_of configuration number) message time_out
         (first_waiter (receiving_discipline configuration number) channel.receivers) messages
-        (done_can (request.SendQueuingMessage port length time_out message)) tt (λ later. later)
+        (done_can (request.QueuingPort port (QueuingOperation.Send length time_out message))) tt (λ later. later)
     by (Sampled last) = tt
-channel_can configuration now number partition (request.ReceiveQueuingMessage port time_out) channel suited = by channel.content
+channel_can configuration now number partition (request.QueuingPort port (QueuingOperation.Receive time_out)) channel suited = by channel.content
   where
-    by : (content : Content) → CanHave (request.ReceiveQueuingMessage port time_out) (used configuration now number partition (Receive time_out) channel content).answer.out
+    by : (content : Content) → CanHave (request.QueuingPort port (QueuingOperation.Receive time_out)) (used configuration now number partition (Receive time_out) channel content).answer.out
     by (Queued messages) =
-        received_can (CanHave (request.ReceiveQueuingMessage port time_out)) time_out
+        received_can (CanHave (request.QueuingPort port (QueuingOperation.Receive time_out))) time_out
         (first_waiter (sending_discipline configuration number) channel.senders) messages
-        (done_can (request.ReceiveQueuingMessage port time_out)) tt (λ later. later)
+        (done_can (request.QueuingPort port (QueuingOperation.Receive time_out))) tt (λ later. later)
     by (Sampled last) = tt
 channel_can configuration now number partition (request.GetStatus kind.QueuingPort port) channel suited = by channel.content
   where

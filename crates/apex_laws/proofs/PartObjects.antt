@@ -5,6 +5,7 @@ use Rattle.apex_types.specs.declared.object_kind.ObjectKind.{ObjectKind}
 use Rattle.apex_types.specs.declared.object_kind.ObjectKind.TheVariants as kind
 use Rattle.apex_types.specs.declared.record.Body.TheVariants.{Call}
 use Rattle.apex_types.specs.declared.record.Call.{Call as CallRecord}
+use Rattle.apex_types.specs.declared.operation.{BlackboardOperation.BlackboardOperation, EventOperation.EventOperation, NewObject.NewObject, SamplingOperation.SamplingOperation}
 use Rattle.apex_types.specs.declared.request.Request.{Request}
 use Rattle.apex_types.specs.declared.request.Request.TheVariants as request
 use Rattle.apex_machine.specs.declared.state.Entry.{Entry}
@@ -14,16 +15,14 @@ use Rattle.apex_machine.specs.After.{each_set, is_done, is_valid, new_blackboard
 use Rattle.apex_machine.specs.Arguments.{natural_of}
 use Rattle.apex_machine.specs.Channels.{queuing_port, sampling_port}
 use Rattle.apex_machine.specs.Configuration.{Configuration}
-use Rattle.apex_machine.specs.Objects.{acquired, buffer_received, buffer_sent, cleared, displayed, event_reset, event_set, mutex_released, semaphore_waited, signalled}
-use Rattle.apex_machine.specs.State.{Blackboard, Event, Mutex, ObjectOf, Partition, Port, change_at, each_item, item_at, objects_of}
-use Rattle.apex_machine.specs.Queue.{Messages}
-use Rattle.apex_machine.specs.Waiting.{first_waiter, is_same_set, set_after}
+use Rattle.apex_machine.specs.Objects.{blackboard_effect, buffer_effect, event_effect, mutex_effect, semaphore_effect}
+use Rattle.apex_machine.specs.State.{ObjectOf, Partition, Port, change_at, each_item, item_at, objects_of}
+use Rattle.apex_machine.specs.Waiting.{is_same_set, set_after}
 use Rattle.apex_laws.specs.PartLaws.{HasDistinctObjects, is_of_buffer, is_set_used}
 use Rattle.apex_laws.specs.PartObjects.{OneObjectChanges, objects_changed}
-use Rattle.apex_laws.proofs.Booleans.{cannot_hold, neither}
-use Rattle.apex_laws.proofs.Objects.{acquire_keeps, release_keeps}
+use Rattle.apex_laws.proofs.Booleans.{cannot_hold, neither, same_if}
 use Rattle.apex_laws.proofs.OtherSets.{enters_no_other, other_sets_stay}
-use Rattle.apex_laws.proofs.EachSet.{Leaves, OnSets, all_stay_with, each_itself, leaves_found, object_stays, objects_stay, on_sets, one_changes, put_if, sets_stay, weaker_on}
+use Rattle.apex_laws.proofs.EachSet.{Leaves, OnSets, all_stay_with, each_itself, object_stays, objects_stay, on_sets, one_changes, put_if, sets_stay, weaker_on}
 
 -- a change of each set, and of the objects of one kind
 abbrev LeavesUnused : (WaitingSet → List Entry → List Entry) → Partition → Request → Type 0
@@ -127,16 +126,14 @@ one_of_kind_changes kind change partition done number rule new has becomes leave
     (λ other differs. objects_stay other change partition has
     (λ another. weaker_on other another _ (Leaves change partition) leaves (of_other kind other number another differs)))
 
--- a mutex whose rule leaves its waiters
-mutex_becomes : (change : List Entry → List Entry) (done : Bool) (ruled found : Mutex) → ruled.waiters ≡ found.waiters
-    → record (cond done ruled found) { waiters = change (cond done ruled found).waiters } ≡ record (cond done ruled found) { waiters = change found.waiters }
-mutex_becomes change true ruled found same = ap (λ waiters. record ruled { waiters = change waiters }) same
-mutex_becomes change false ruled found same = refl
+-- a set that is none of the object's is not used
+blackboard_unused : (blackboard : ℤ) (operation : BlackboardOperation) (wanted : WaitingSet) → is_set_of kind.Blackboard (natural_of blackboard) wanted ≡ false → is_set_used (request.Blackboard blackboard operation) wanted ≡ false
+blackboard_unused blackboard BlackboardOperation.Clear wanted off = refl
+blackboard_unused blackboard _ wanted off = off
 
--- either way the same
-pub same_if : {Value : Type 0} (test : Bool) (value : Value) → cond test value value ≡ value
-same_if true value = refl
-same_if false value = refl
+event_unused : (event : ℤ) (operation : EventOperation) (wanted : WaitingSet) → is_set_of kind.Event (natural_of event) wanted ≡ false → is_set_used (request.Event event operation) wanted ≡ false
+event_unused event EventOperation.Reset wanted off = refl
+event_unused event _ wanted off = off
 
 -- a creation
 
@@ -174,116 +171,59 @@ changed_by : (configuration : Configuration) (place : ℕ) (call : CallRecord) (
     → ((wanted : WaitingSet) → is_set_used asked wanted ≡ false → set_after place (Call call) wanted [] ≡ [])
     → each_set (set_after place (Call call)) (cond (is_done call.claim.out) (objects_by configuration call.who call.claim.val asked partition) partition)
     ≡ objects_changed configuration place call asked partition
-changed_by configuration place call partition (request.SendBuffer buffer length time_out message) has leaves empty =
-    let change = set_after place (Call call) in
-    let done = is_done call.claim.out in
-    one_of_kind_changes kind.Buffer change partition done (natural_of buffer) _ _ has
-    (λ found at. ap (with_sets kind.Buffer change (natural_of buffer))
-    (put_if done (λ (messages : Messages). record found { messages = messages }) (buffer_sent message time_out found).next found.messages found refl)) leaves
-changed_by configuration place call partition (request.ReceiveBuffer buffer time_out) has leaves empty =
-    let change = set_after place (Call call) in
-    let done = is_done call.claim.out in
-    one_of_kind_changes kind.Buffer change partition done (natural_of buffer) _ _ has
-    (λ found at. ap (with_sets kind.Buffer change (natural_of buffer))
-    (put_if done (λ (messages : Messages). record found { messages = messages }) (buffer_received time_out found).next found.messages found refl)) leaves
-changed_by configuration place call partition (request.DisplayBlackboard blackboard length message) has leaves empty =
-    let change = set_after place (Call call) in
-    let done = is_done call.claim.out in
-    one_of_kind_changes kind.Blackboard change partition done (natural_of blackboard) _ _ has
-    (λ found at. ap (with_sets kind.Blackboard change (natural_of blackboard))
-    (put_if done (λ (one : Option (List ℕ)). record found { message = one }) (displayed message found.readers).next found.message found refl)) leaves
-changed_by configuration place call partition (request.ReadBlackboard blackboard time_out) has leaves empty =
-    let change = set_after place (Call call) in
-    ap (each_set change) (same_if (is_done call.claim.out) partition)
-    ∙ one_of_kind_changes kind.Blackboard change partition false (natural_of blackboard) (λ found. found) _ has (λ found at. refl) leaves
-changed_by configuration place call partition (request.ClearBlackboard blackboard) has leaves empty =
-    let change = set_after place (Call call) in
-    let done = is_done call.claim.out in
-    one_of_kind_changes kind.Blackboard change partition done (natural_of blackboard) _ _ has
-    (λ found at. ap (with_sets kind.Blackboard change (natural_of blackboard))
-    (put_if done (λ (one : Option (List ℕ)). record found { message = one }) cleared.next found.message found refl)
-    ∙ ap (λ readers. record found { message = cond done cleared.next found.message; readers = readers })
-    (leaves_found (λ (one : Blackboard). one.readers) (change (set.BlackboardReaders (natural_of blackboard))) (item_at partition.blackboards (natural_of blackboard)) found at
-    (leaves (set.BlackboardReaders (natural_of blackboard)) refl))) (λ wanted off. leaves wanted refl)
-changed_by configuration place call partition (request.WaitSemaphore semaphore time_out) has leaves empty =
-    let change = set_after place (Call call) in
-    let done = is_done call.claim.out in
-    one_of_kind_changes kind.Semaphore change partition done (natural_of semaphore) _ _ has
-    (λ found at. ap (with_sets kind.Semaphore change (natural_of semaphore))
-    (put_if done (λ (one : ℕ). record found { value = one }) (semaphore_waited time_out found.value).next found.value found refl)) leaves
-changed_by configuration place call partition (request.SignalSemaphore semaphore) has leaves empty =
-    let change = set_after place (Call call) in
-    let done = is_done call.claim.out in
-    one_of_kind_changes kind.Semaphore change partition done (natural_of semaphore) _ _ has
-    (λ found at. ap (with_sets kind.Semaphore change (natural_of semaphore))
-    (put_if done (λ (one : ℕ). record found { value = one }) (signalled found.maximum (first_waiter found.discipline found.waiters) found.value).next found.value found refl)) leaves
-changed_by configuration place call partition (request.SetEvent event) has leaves empty =
-    let change = set_after place (Call call) in
-    let done = is_done call.claim.out in
-    one_of_kind_changes kind.Event change partition done (natural_of event) _ _ has
-    (λ found at. ap (with_sets kind.Event change (natural_of event)) (put_if done (λ (one : Bool). record found { up = one }) (event_set found.waiters).next found.up found refl)) leaves
-changed_by configuration place call partition (request.ResetEvent event) has leaves empty =
-    let change = set_after place (Call call) in
-    let done = is_done call.claim.out in
-    one_of_kind_changes kind.Event change partition done (natural_of event) _ _ has
-    (λ found at. ap (with_sets kind.Event change (natural_of event)) (put_if done (λ (one : Bool). record found { up = one }) event_reset.next found.up found refl)
-    ∙ ap (λ waiters. record found { up = cond done event_reset.next found.up; waiters = waiters })
-    (leaves_found (λ (one : Event). one.waiters) (change (set.EventWaiters (natural_of event))) (item_at partition.events (natural_of event)) found at
-    (leaves (set.EventWaiters (natural_of event)) refl))) (λ wanted off. leaves wanted refl)
-changed_by configuration place call partition (request.WaitEvent event time_out) has leaves empty =
-    let change = set_after place (Call call) in
-    ap (each_set change) (same_if (is_done call.claim.out) partition)
-    ∙ one_of_kind_changes kind.Event change partition false (natural_of event) (λ found. found) _ has (λ found at. refl) leaves
-changed_by configuration place call partition (request.AcquireMutex mutex time_out) has leaves empty =
-    let change = set_after place (Call call) in
-    let done = is_done call.claim.out in
-    one_of_kind_changes kind.Mutex change partition done (natural_of mutex) _ _ has
-    (λ found at. mutex_becomes (change (set.MutexWaiters (natural_of mutex))) done (acquired call.who.proc time_out found).next found
-    (acquire_keeps call.who.proc time_out found.owner found)) leaves
-changed_by configuration place call partition (request.ReleaseMutex mutex) has leaves empty =
-    let change = set_after place (Call call) in
-    let done = is_done call.claim.out in
-    one_of_kind_changes kind.Mutex change partition done (natural_of mutex) _ _ has
-    (λ found at. mutex_becomes (change (set.MutexWaiters (natural_of mutex))) done (mutex_released (first_waiter found.discipline found.waiters) found).next found
-    (release_keeps (first_waiter found.discipline found.waiters) found)) leaves
-changed_by configuration place call partition (request.CreateBuffer name size capacity discipline) has leaves empty =
+changed_by configuration place call partition (request.Buffer buffer operation) has leaves empty =
+    one_of_kind_changes kind.Buffer (set_after place (Call call)) partition (is_done call.claim.out) (natural_of buffer) (λ found. (buffer_effect operation found).next) _ has
+    (λ found at. refl) leaves
+changed_by configuration place call partition (request.Blackboard blackboard operation) has leaves empty =
+    one_of_kind_changes kind.Blackboard (set_after place (Call call)) partition (is_done call.claim.out) (natural_of blackboard) (λ found. (blackboard_effect operation found).next) _ has
+    (λ found at. refl) (λ wanted off. leaves wanted (blackboard_unused blackboard operation wanted off))
+changed_by configuration place call partition (request.Semaphore semaphore operation) has leaves empty =
+    one_of_kind_changes kind.Semaphore (set_after place (Call call)) partition (is_done call.claim.out) (natural_of semaphore) (λ found. (semaphore_effect operation found).next) _ has
+    (λ found at. refl) leaves
+changed_by configuration place call partition (request.Event event operation) has leaves empty =
+    one_of_kind_changes kind.Event (set_after place (Call call)) partition (is_done call.claim.out) (natural_of event) (λ found. (event_effect operation found).next) _ has
+    (λ found at. refl) (λ wanted off. leaves wanted (event_unused event operation wanted off))
+changed_by configuration place call partition (request.Mutex mutex operation) has leaves empty =
+    one_of_kind_changes kind.Mutex (set_after place (Call call)) partition (is_done call.claim.out) (natural_of mutex) (λ found. (mutex_effect call.who.proc operation found).next) _ has
+    (λ found at. refl) leaves
+changed_by configuration place call partition (request.Create name (NewObject.Buffer size capacity discipline)) has leaves empty =
     let change = set_after place (Call call) in
     let new = new_buffer name size capacity discipline in
     one_of_kind_created kind.Buffer change partition (is_done call.claim.out) call.claim.val new has
     (λ number. (let senders = empty (set.BufferSenders number) refl in let receivers = empty (set.BufferReceivers number) refl in λ i. record new { senders = senders i; receivers = receivers i }))
     (λ wanted. leaves wanted refl)
-changed_by configuration place call partition (request.CreateBlackboard name size) has leaves empty =
+changed_by configuration place call partition (request.Create name (NewObject.Blackboard size)) has leaves empty =
     let change = set_after place (Call call) in
     let new = new_blackboard name size in
     one_of_kind_created kind.Blackboard change partition (is_done call.claim.out) call.claim.val new has
     (λ number. ap (λ readers. record new { readers = readers }) (empty (set.BlackboardReaders number) refl)) (λ wanted. leaves wanted refl)
-changed_by configuration place call partition (request.CreateSemaphore name value maximum discipline) has leaves empty =
+changed_by configuration place call partition (request.Create name (NewObject.Semaphore value maximum discipline)) has leaves empty =
     let change = set_after place (Call call) in
     let new = new_semaphore name value maximum discipline in
     one_of_kind_created kind.Semaphore change partition (is_done call.claim.out) call.claim.val new has
     (λ number. ap (λ waiters. record new { waiters = waiters }) (empty (set.SemaphoreWaiters number) refl)) (λ wanted. leaves wanted refl)
-changed_by configuration place call partition (request.CreateEvent name) has leaves empty =
+changed_by configuration place call partition (request.Create name NewObject.Event) has leaves empty =
     let change = set_after place (Call call) in
     let new = new_event name in
     one_of_kind_created kind.Event change partition (is_done call.claim.out) call.claim.val new has
     (λ number. ap (λ waiters. record new { waiters = waiters }) (empty (set.EventWaiters number) refl)) (λ wanted. leaves wanted refl)
-changed_by configuration place call partition (request.CreateMutex name priority discipline) has leaves empty =
+changed_by configuration place call partition (request.Create name (NewObject.Mutex priority discipline)) has leaves empty =
     let change = set_after place (Call call) in
     let new = new_mutex name priority discipline in
     one_of_kind_created kind.Mutex change partition (is_done call.claim.out) call.claim.val new has
     (λ number. ap (λ waiters. record new { waiters = waiters }) (empty (set.MutexWaiters number) refl)) (λ wanted. leaves wanted refl)
-changed_by configuration place call partition (request.CreateSamplingPort name size direction refresh) has leaves empty =
+changed_by configuration place call partition (request.Create name (NewObject.SamplingPort size direction refresh)) has leaves empty =
     ports_change kind.SamplingPort (set_after place (Call call)) partition (is_done call.claim.out)
     (partition.sampling_ports ++ new_sampling_port name call.claim.val (sampling_port configuration call.who.part name)) has (each_itself _) (λ wanted. leaves wanted refl)
-changed_by configuration place call partition (request.CreateQueuingPort name size capacity both) has leaves empty =
+changed_by configuration place call partition (request.Create name (NewObject.QueuingPort size capacity way discipline)) has leaves empty =
     ports_change kind.QueuingPort (set_after place (Call call)) partition (is_done call.claim.out)
     (partition.queuing_ports ++ new_queuing_port name call.claim.val (queuing_port configuration call.who.part name)) has (each_itself _) (λ wanted. leaves wanted refl)
-changed_by configuration place call partition (request.ReadSamplingMessage port) has leaves empty =
+changed_by configuration place call partition (request.SamplingPort port SamplingOperation.Read) has leaves empty =
     ports_change kind.SamplingPort (set_after place (Call call)) partition (is_done call.claim.out)
     (change_at (natural_of port) (λ (found : Port). record found { valid = is_valid call.claim.val }) partition.sampling_ports) has (each_itself _) (λ wanted. leaves wanted refl)
-changed_by configuration place call partition (request.SendQueuingMessage port length time_out message) has leaves empty =
-    ap (each_set (set_after place (Call call))) (same_if (is_done call.claim.out) partition) ∙ sets_stay (set_after place (Call call)) partition has (λ wanted off. leaves wanted off)
-changed_by configuration place call partition (request.ReceiveQueuingMessage port time_out) has leaves empty =
+changed_by configuration place call partition (request.SamplingPort port (SamplingOperation.Write length message)) has leaves empty =
+    ap (each_set (set_after place (Call call))) (same_if (is_done call.claim.out) partition) ∙ sets_stay (set_after place (Call call)) partition has (λ wanted off. leaves wanted refl)
+changed_by configuration place call partition (request.QueuingPort port operation) has leaves empty =
     ap (each_set (set_after place (Call call))) (same_if (is_done call.claim.out) partition) ∙ sets_stay (set_after place (Call call)) partition has (λ wanted off. leaves wanted off)
 changed_by configuration place call partition _ has leaves empty =
     ap (each_set (set_after place (Call call))) (same_if (is_done call.claim.out) partition) ∙ sets_stay (set_after place (Call call)) partition has (λ wanted off. leaves wanted refl)

@@ -4,6 +4,7 @@ use Rattle.std.specs.List.{list_any}
 use Rattle.std.specs.Str.{bytes_eq}
 use Rattle.std.proofs.lemmas.Bool.{and_from, and_parts}
 use Rattle.apex_types.specs.declared.record.Who.{Who}
+use Rattle.apex_types.specs.declared.operation.{NewObject.NewObject, SamplingOperation.SamplingOperation}
 use Rattle.apex_types.specs.declared.request.Request.{Request}
 use Rattle.apex_types.specs.declared.request.Request.TheVariants as request
 use Rattle.apex_machine.specs.declared.state.Direction.TheVariants as direction
@@ -73,7 +74,8 @@ ports_joined Fact (entry ∷ entries) other first second = (first.0, ports_joine
 pub ports_after : (configuration : Configuration) (who : Who) (claimed : Option ℤ) (asked : Request) (partition : Partition)
     → AllPorts (λ port. IsAtEnd configuration who.part port.direction port.channel) partition.queuing_ports
     → AllPorts (λ port. IsAtEnd configuration who.part port.direction port.channel) (objects_by configuration who claimed asked partition).queuing_ports
-ports_after configuration who claimed (request.CreateQueuingPort name size capacity both) partition all =
+ports_after configuration who claimed (request.Create name (NewObject.QueuingPort size capacity way discipline)) partition all =
     ports_joined (λ port. IsAtEnd configuration who.part port.direction port.channel) partition.queuing_ports (new_queuing_port name claimed (queuing_port configuration who.part name)) all
     (created_at_end configuration who.part name claimed (queuing_port configuration who.part name) refl)
+ports_after configuration who claimed (request.SamplingPort port SamplingOperation.Read) partition all = all
 ports_after configuration who claimed _ partition all = all

@@ -7,6 +7,7 @@ use Rattle.apex_types.specs.declared.code.Code.TheVariants as code
 use Rattle.apex_types.specs.declared.record.Call.{Call as CallRecord}
 use Rattle.apex_types.specs.declared.record.Out.{Out}
 use Rattle.apex_types.specs.declared.record.Out.TheVariants as out
+use Rattle.apex_types.specs.declared.operation.{CallerOperation.CallerOperation, MutexOperation.MutexOperation, ProcessOperation.ProcessOperation}
 use Rattle.apex_types.specs.declared.request.Request.{Request}
 use Rattle.apex_types.specs.declared.request.Request.TheVariants as request
 use Rattle.apex_machine.specs.declared.state.Mode.{Mode}
@@ -24,7 +25,7 @@ use Rattle.apex_machine.specs.State.{Mutex, given_object, time_of}
 use Rattle.apex_machine.specs.Waiting.{first_waiter, is_waiting, set_of}
 use Rattle.apex_laws.specs.ProcessLaws.{CallerIsTheSentence, DueIsTheSentence, ReleaseIsTheSentence, SettingIsTheSentence, StoppingIsTheSentence, WakingIsTheSentence}
 use Rattle.apex_laws.specs.ProcessSentences.{HasDueTime, IsBegun, IsCaller, IsEntry, IsFirstRelease, IsMutexChange, IsNormalEntered, IsOwnerChange, IsReleased, IsStarted, IsWoken, OnTarget, Renews, WaitsForOther, taking}
-use Rattle.apex_laws.proofs.Booleans.{cannot_hold}
+use Rattle.apex_laws.proofs.Booleans.{cannot_hold, same_if}
 
 -- a target
 
@@ -182,23 +183,25 @@ mutex_change (Some mutex) change number old new = (
 
 -- every service
 pub setting_is_the_sentence : SettingIsTheSentence
-setting_is_the_sentence place period cores partition caller (request.InitializeProcessCoreAffinity process core) number old new above =
+setting_is_the_sentence place period cores partition caller (request.Process process (ProcessOperation.InitializeCoreAffinity core)) number old new above =
     on_target process number (new ≡ record old { affinity = natural_of core }) (record old { affinity = natural_of core }) old new (λ is. is) (λ is. is)
-setting_is_the_sentence place period cores partition caller (request.Start process) number old new above =
+setting_is_the_sentence place period cores partition caller (request.Process process ProcessOperation.Start) number old new above =
     on_target process number (IsStarted place period (time_of cores old.affinity) partition.mode old new) (started place period (time_of cores old.affinity) partition.mode old) old new
     (started_says place period (time_of cores old.affinity) partition.mode old new above) (started_by place period (time_of cores old.affinity) partition.mode old new above)
-setting_is_the_sentence place period cores partition caller (request.Suspend process) number old new above =
+setting_is_the_sentence place period cores partition caller (request.Process process ProcessOperation.Suspend) number old new above =
     on_target process number (new ≡ record old { suspended = true }) (record old { suspended = true }) old new (λ is. is) (λ is. is)
-setting_is_the_sentence place period cores partition caller (request.Resume process) number old new above =
+setting_is_the_sentence place period cores partition caller (request.Process process ProcessOperation.Resume) number old new above =
     on_target process number (new ≡ record old { suspended = false; ready_position = place }) (record old { suspended = false; ready_position = place }) old new (λ is. is) (λ is. is)
-setting_is_the_sentence place period cores partition caller (request.SetPriority process priority) number old new above =
+setting_is_the_sentence place period cores partition caller (request.Process process (ProcessOperation.SetPriority priority)) number old new above =
     on_target process number (new ≡ record old { current_priority = natural_of priority; ready_position = place }) (record old { current_priority = natural_of priority; ready_position = place }) old new (λ is. is) (λ is. is)
 setting_is_the_sentence place period cores partition caller (request.SetPartitionMode next) number old new above =
     (normal_says place period (time_of cores old.affinity) old new above, normal_by place period (time_of cores old.affinity) old new above)
-setting_is_the_sentence place period cores partition caller (request.AcquireMutex mutex time_out) number old new above =
+setting_is_the_sentence place period cores partition caller (request.Mutex mutex (MutexOperation.Acquire time_out)) number old new above =
     mutex_change (given_object partition.mutexes mutex) (λ found. (acquired caller time_out found).next) number old new
-setting_is_the_sentence place period cores partition caller (request.ReleaseMutex mutex) number old new above =
+setting_is_the_sentence place period cores partition caller (request.Mutex mutex MutexOperation.Release) number old new above =
     mutex_change (given_object partition.mutexes mutex) (λ found. (mutex_released (first_waiter found.discipline found.waiters) found).next) number old new
+setting_is_the_sentence place period cores partition caller (request.Process process ProcessOperation.Stop) number old new above =
+    (λ is. is ∙ same_if (is_number process number) old, λ is. is ∙ sym (same_if (is_number process number) old))
 setting_is_the_sentence place period cores partition caller _ number old new above = (λ is. is, λ is. is)
 
 -- who falls due
@@ -252,18 +255,18 @@ woken_from place message old one at =
 -- a caller that waits in a set
 waits_in_set : (now : ℕ) (asked : Request) (chan : Option ℕ) (process : Process) (set : WaitingSet) → set_of asked chan ≡ Some set
     → wait_of asked chan now process ≡ wait.At set (due_of_call (time_out_of asked) now)
-waits_in_set now (request.TimedWait (pos delay)) chan process set at = let none : ◌≡◌ {A = Option WaitingSet} None (Some set) = at in cc
-waits_in_set now (request.TimedWait (negsuc n)) chan process set at = let none : ◌≡◌ {A = Option WaitingSet} None (Some set) = at in cc
-waits_in_set now request.PeriodicWait chan process set at = let none : ◌≡◌ {A = Option WaitingSet} None (Some set) = at in cc
-waits_in_set now (request.SuspendSelf time_out) chan process set at = let none : ◌≡◌ {A = Option WaitingSet} None (Some set) = at in cc
+waits_in_set now (request.Caller (CallerOperation.TimedWait (pos delay))) chan process set at = let none : ◌≡◌ {A = Option WaitingSet} None (Some set) = at in cc
+waits_in_set now (request.Caller (CallerOperation.TimedWait (negsuc n))) chan process set at = let none : ◌≡◌ {A = Option WaitingSet} None (Some set) = at in cc
+waits_in_set now (request.Caller CallerOperation.PeriodicWait) chan process set at = let none : ◌≡◌ {A = Option WaitingSet} None (Some set) = at in cc
+waits_in_set now (request.Caller (CallerOperation.SuspendSelf time_out)) chan process set at = let none : ◌≡◌ {A = Option WaitingSet} None (Some set) = at in cc
 waits_in_set now asked chan process set at = ap (λ one. wait_in one (due_of_call (time_out_of asked) now)) at
 
 -- a caller that took a release
 taken : (place now : ℕ) (call : CallRecord) (old : Process) (asked : Request) → Renews asked
     → record old { ready_position = place; last_release = release_taken asked old; due = Some (outcome_of call code.NoError); called_at = now }
     ≡ record (taking asked old) { ready_position = place; due = Some (outcome_of call code.NoError); called_at = now }
-taken place now call old (request.TimedWait ticks) renews = refl
-taken place now call old request.PeriodicWait renews = refl
+taken place now call old (request.Caller (CallerOperation.TimedWait ticks)) renews = refl
+taken place now call old (request.Caller CallerOperation.PeriodicWait) renews = refl
 taken place now call old _ renews = absurd renews
 
 -- a caller that is refused keeps its position and its release
@@ -316,19 +319,19 @@ stopping_is_the_sentence old new = (λ is. is, λ is. is)
 
 -- a call that renews
 renews_is : (asked : Request) → renews asked ≡ true → Renews asked
-renews_is (request.TimedWait (pos n)) is = ap pos (eqb-true n 0 is)
-renews_is (request.TimedWait (negsuc n)) is = absurd (true≢false (sym is))
-renews_is request.PeriodicWait is = tt
+renews_is (request.Caller (CallerOperation.TimedWait (pos n))) is = ap pos (eqb-true n 0 is)
+renews_is (request.Caller (CallerOperation.TimedWait (negsuc n))) is = absurd (true≢false (sym is))
+renews_is (request.Caller CallerOperation.PeriodicWait) is = tt
 renews_is _ is = absurd (true≢false (sym is))
 
 renews_by : (asked : Request) → Renews asked → renews asked ≡ true
-renews_by (request.TimedWait ticks) is = ap is_over is
-renews_by request.PeriodicWait is = refl
+renews_by (request.Caller (CallerOperation.TimedWait ticks)) is = ap is_over is
+renews_by (request.Caller CallerOperation.PeriodicWait) is = refl
 renews_by _ is = absurd is
 
 -- a call that doesn't renew takes no release
 takes_none : (asked : Request) (process : Process) → ¬ Renews asked → release_taken asked process ≡ process.last_release
-takes_none request.PeriodicWait process not_renewing = absurd (not_renewing tt)
+takes_none (request.Caller CallerOperation.PeriodicWait) process not_renewing = absurd (not_renewing tt)
 takes_none _ process not_renewing = refl
 
 -- what is begun is what the rule says

@@ -1,7 +1,7 @@
 -- A call is not in the profile exactly where a sentence puts it outside.
 use Rattle.std.proofs.Common.{◌≡◌, ◌⊎◌, ℕ, Option, Bool, true, false, not, ◌&&◌, nat_eq, refl, sym, ap, inl, inr, true≢false}
-use Rattle.apex_types.specs.declared.object_kind.ObjectKind.TheVariants as kind
 use Rattle.apex_types.specs.declared.record.Who.{Who}
+use Rattle.apex_types.specs.declared.operation.{CallerOperation.CallerOperation, ProcessOperation.ProcessOperation}
 use Rattle.apex_types.specs.declared.request.Request.{Request}
 use Rattle.apex_types.specs.declared.request.Request.TheVariants as request
 use Rattle.apex_machine.specs.declared.state.Wait.{Wait}
@@ -50,18 +50,18 @@ awaits_tells partition number =
 
 module _ (who : Who) (partition : Partition) where
   outside : (asked : Request) → in_profile who partition asked ≡ false → IsOutsideProfile who partition asked
-  outside (request.Stop process) is = IsOutsideProfile.owner_is_stopped ((owns_tells partition (natural_of process)).0 (not_fails (owns_mutex partition.mutexes (natural_of process)) is))
-  outside request.StopSelf is =
+  outside (request.Process process ProcessOperation.Stop) is = IsOutsideProfile.owner_is_stopped ((owns_tells partition (natural_of process)).0 (not_fails (owns_mutex partition.mutexes (natural_of process)) is))
+  outside (request.Caller CallerOperation.StopSelf) is =
       elim (one_fails (nat_eq who.proc 0) (owns_mutex partition.mutexes who.proc) is) [
         | inl none ↦ IsOutsideProfile.initialising_stops ((equal_tells who.proc 0).0 none)
         | inr owns ↦ IsOutsideProfile.owner_stops ((owns_tells partition who.proc).0 owns)
       ]
-  outside (request.Suspend process) is =
+  outside (request.Process process ProcessOperation.Suspend) is =
       elim (one_fails (owns_mutex partition.mutexes (natural_of process)) (waits_for_mutex partition.table (natural_of process)) is) [
         | inl owns ↦ IsOutsideProfile.owner_is_suspended ((owns_tells partition (natural_of process)).0 owns)
         | inr awaits ↦ IsOutsideProfile.waiter_is_suspended ((awaits_tells partition (natural_of process)).0 awaits)
       ]
-  outside (request.SetPriority process priority) is =
+  outside (request.Process process (ProcessOperation.SetPriority priority)) is =
       elim (one_fails (owns_mutex partition.mutexes (natural_of process)) (waits_for_mutex partition.table (natural_of process)) is) [
         | inl owns ↦ IsOutsideProfile.owner_is_changed ((owns_tells partition (natural_of process)).0 owns)
         | inr awaits ↦ IsOutsideProfile.waiter_is_changed ((awaits_tells partition (natural_of process)).0 awaits)

@@ -1,5 +1,5 @@
 -- Calls that restart their caller's partition, and calls that don't.
-use Rattle.std.proofs.Common.{◌≡◌, ℕ, List, [], ◌∷◌, Bool, true, false, cond, nat_eq, Option, Some, None, is_some, refl, sym, ap, ◌∙◌, true≢false, ◌||◌, ◌&&◌}
+use Rattle.std.proofs.Common.{◌≡◌, ℕ, List, [], ◌∷◌, true, false, cond, nat_eq, Option, Some, None, is_some, refl, sym, ap, ◌∙◌, true≢false, ◌||◌}
 use Rattle.std.proofs.lemmas.Bool.{eq-eqb}
 use Rattle.apex_types.specs.declared.record.Call.{Call as CallRecord}
 use Rattle.apex_types.specs.declared.record.Out.{Out}
@@ -13,7 +13,7 @@ use Rattle.apex_machine.specs.declared.state.Mode.TheVariants as mode
 use Rattle.apex_machine.specs.declared.state.WaitingSet.{WaitingSet}
 use Rattle.apex_machine.specs.declared.state.WaitingSet.TheVariants as set
 use Rattle.apex_machine.specs.After.{is_done, own_partition, partition_called}
-use Rattle.apex_machine.specs.Configuration.{Configuration, first_core}
+use Rattle.apex_machine.specs.Configuration.{Configuration}
 use Rattle.apex_machine.specs.State.{Partition, first_processes, initialising_process, is_named, item_at, started_partition}
 use Rattle.apex_machine.specs.Waiting.{ends_wait, is_no_error, is_waiting, restart_by, restart_of, restarts, stops, waits_at}
 use Rattle.apex_laws.specs.Laws.{are_distinct, entries_at}

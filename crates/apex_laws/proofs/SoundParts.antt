@@ -9,6 +9,7 @@ use Rattle.apex_types.specs.declared.record.Body.TheVariants.{Call, Ret, Disp, T
 use Rattle.apex_types.specs.declared.record.Call.{Call as CallRecord}
 use Rattle.apex_types.specs.declared.record.Claim.{Claim}
 use Rattle.apex_types.specs.declared.record.Who.{Who}
+use Rattle.apex_types.specs.declared.operation.{NewObject.NewObject, QueuingOperation.QueuingOperation, SamplingOperation.SamplingOperation}
 use Rattle.apex_types.specs.declared.request.Request.{Request}
 use Rattle.apex_types.specs.declared.request.Request.TheVariants as request
 use Rattle.apex_machine.specs.declared.state.CoreState.{CoreState}
@@ -110,9 +111,9 @@ named_wait wanted number table (other ∷ others) all who here named =
 wakes_at_channel : (asked : Request) (chan : Option ℕ) (number : ℕ) (table : Table) (others : List Who) → WakesHere asked chan number table others → (who : Who) → who.part ≡ number
     → is_named who others ≡ true → (wanted : WaitingSet) → waits_at wanted (item_at table who.proc) ≡ true
     → ((other : ℕ) → ¬ (wanted ≡ set.ChannelSenders other)) → ((other : ℕ) → ¬ (wanted ≡ set.ChannelReceivers other)) → ⊥
-wakes_at_channel (request.SendQueuingMessage port length time_out message) (Some channel) number table others wakes who here named wanted waits not_sending not_receiving =
+wakes_at_channel (request.QueuingPort port (QueuingOperation.Send length time_out message)) (Some channel) number table others wakes who here named wanted waits not_sending not_receiving =
     not_receiving channel (one_set wanted (set.ChannelReceivers channel) (item_at table who.proc) waits (named_wait (set.ChannelReceivers channel) number table others wakes who here named))
-wakes_at_channel (request.ReceiveQueuingMessage port time_out) (Some channel) number table others wakes who here named wanted waits not_sending not_receiving =
+wakes_at_channel (request.QueuingPort port (QueuingOperation.Receive time_out)) (Some channel) number table others wakes who here named wanted waits not_sending not_receiving =
     not_sending channel (one_set wanted (set.ChannelSenders channel) (item_at table who.proc) waits (named_wait (set.ChannelSenders channel) number table others wakes who here named))
 wakes_at_channel _ chan number table others wakes who here named wanted waits not_sending not_receiving = absurd wakes
 
@@ -178,37 +179,26 @@ queuing_port_new ports name claimed (Some port) distinct new = distinct_new port
 -- what is created has a new number, and what is used keeps its own
 used_distinct : (configuration : Configuration) (now : ℕ) (who : Who) (claimed : Option ℤ) (asked : Request) (partition : Partition) → HasDistinctObjects partition
     → (channel_of partition asked ≡ None → HasValue (answer_of now who partition asked).val claimed) → HasDistinctObjects (objects_by configuration who claimed asked partition)
-used_distinct configuration now who claimed (request.CreateBuffer name size capacity discipline) partition has value =
+used_distinct configuration now who claimed (request.Create name (NewObject.Buffer size capacity discipline)) partition has value =
     with_buffers partition _ has (distinct_new partition.buffers claimed (new_buffer name size capacity discipline) (has kind.Buffer) (value refl))
-used_distinct configuration now who claimed (request.SendBuffer buffer length time_out message) partition has value =
-    with_buffers partition _ has (distinct_each _ partition.buffers ∙ (has kind.Buffer))
-used_distinct configuration now who claimed (request.ReceiveBuffer buffer time_out) partition has value =
-    with_buffers partition _ has (distinct_each _ partition.buffers ∙ (has kind.Buffer))
-used_distinct configuration now who claimed (request.CreateBlackboard name size) partition has value =
+used_distinct configuration now who claimed (request.Create name (NewObject.Blackboard size)) partition has value =
     with_blackboards partition _ has (distinct_new partition.blackboards claimed (new_blackboard name size) (has kind.Blackboard) (value refl))
-used_distinct configuration now who claimed (request.DisplayBlackboard blackboard length message) partition has value =
-    with_blackboards partition _ has (distinct_each _ partition.blackboards ∙ (has kind.Blackboard))
-used_distinct configuration now who claimed (request.ClearBlackboard blackboard) partition has value =
-    with_blackboards partition _ has (distinct_each _ partition.blackboards ∙ (has kind.Blackboard))
-used_distinct configuration now who claimed (request.CreateSemaphore name initial maximum discipline) partition has value =
+used_distinct configuration now who claimed (request.Create name (NewObject.Semaphore initial maximum discipline)) partition has value =
     with_semaphores partition _ has (distinct_new partition.semaphores claimed (new_semaphore name initial maximum discipline) (has kind.Semaphore) (value refl))
-used_distinct configuration now who claimed (request.WaitSemaphore semaphore time_out) partition has value =
-    with_semaphores partition _ has (distinct_each _ partition.semaphores ∙ (has kind.Semaphore))
-used_distinct configuration now who claimed (request.SignalSemaphore semaphore) partition has value =
-    with_semaphores partition _ has (distinct_each _ partition.semaphores ∙ (has kind.Semaphore))
-used_distinct configuration now who claimed (request.CreateEvent name) partition has value =
+used_distinct configuration now who claimed (request.Create name NewObject.Event) partition has value =
     with_events partition _ has (distinct_new partition.events claimed (new_event name) (has kind.Event) (value refl))
-used_distinct configuration now who claimed (request.SetEvent event) partition has value = with_events partition _ has (distinct_each _ partition.events ∙ (has kind.Event))
-used_distinct configuration now who claimed (request.ResetEvent event) partition has value = with_events partition _ has (distinct_each _ partition.events ∙ (has kind.Event))
-used_distinct configuration now who claimed (request.CreateMutex name priority discipline) partition has value =
+used_distinct configuration now who claimed (request.Create name (NewObject.Mutex priority discipline)) partition has value =
     with_mutexes partition _ has (distinct_new partition.mutexes claimed (new_mutex name priority discipline) (has kind.Mutex) (value refl))
-used_distinct configuration now who claimed (request.AcquireMutex mutex time_out) partition has value = with_mutexes partition _ has (distinct_each _ partition.mutexes ∙ (has kind.Mutex))
-used_distinct configuration now who claimed (request.ReleaseMutex mutex) partition has value = with_mutexes partition _ has (distinct_each _ partition.mutexes ∙ (has kind.Mutex))
-used_distinct configuration now who claimed (request.CreateSamplingPort name size direction refresh) partition has value =
+used_distinct configuration now who claimed (request.Create name (NewObject.SamplingPort size direction refresh)) partition has value =
     with_sampling_ports partition _ has (sampling_port_new partition.sampling_ports name claimed (sampling_port configuration who.part name) (has kind.SamplingPort) (value refl))
-used_distinct configuration now who claimed (request.CreateQueuingPort name size capacity both) partition has value =
+used_distinct configuration now who claimed (request.Create name (NewObject.QueuingPort size capacity direction discipline)) partition has value =
     with_queuing_ports partition _ has (queuing_port_new partition.queuing_ports name claimed (queuing_port configuration who.part name) (has kind.QueuingPort) (value refl))
-used_distinct configuration now who claimed (request.ReadSamplingMessage port) partition has value =
+used_distinct configuration now who claimed (request.Buffer buffer operation) partition has value = with_buffers partition _ has (distinct_each _ partition.buffers ∙ (has kind.Buffer))
+used_distinct configuration now who claimed (request.Blackboard blackboard operation) partition has value = with_blackboards partition _ has (distinct_each _ partition.blackboards ∙ (has kind.Blackboard))
+used_distinct configuration now who claimed (request.Semaphore semaphore operation) partition has value = with_semaphores partition _ has (distinct_each _ partition.semaphores ∙ (has kind.Semaphore))
+used_distinct configuration now who claimed (request.Event event operation) partition has value = with_events partition _ has (distinct_each _ partition.events ∙ (has kind.Event))
+used_distinct configuration now who claimed (request.Mutex mutex operation) partition has value = with_mutexes partition _ has (distinct_each _ partition.mutexes ∙ (has kind.Mutex))
+used_distinct configuration now who claimed (request.SamplingPort port SamplingOperation.Read) partition has value =
     with_sampling_ports partition _ has (distinct_each _ partition.sampling_ports ∙ (has kind.SamplingPort))
 used_distinct configuration now who claimed _ partition has value = has
 

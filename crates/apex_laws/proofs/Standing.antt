@@ -7,6 +7,7 @@ use Rattle.apex_types.specs.declared.record.Call.{Call as CallRecord}
 use Rattle.apex_types.specs.declared.record.Out.{Out}
 use Rattle.apex_types.specs.declared.record.Out.TheVariants as out
 use Rattle.apex_types.specs.declared.record.Who.{Who}
+use Rattle.apex_types.specs.declared.operation.{CallerOperation.CallerOperation, ProcessOperation.ProcessOperation}
 use Rattle.apex_types.specs.declared.request.Request.{Request}
 use Rattle.apex_types.specs.declared.request.Request.TheVariants as request
 use Rattle.apex_machine.specs.declared.state.CoreState.{CoreState}
@@ -14,11 +15,11 @@ use Rattle.apex_machine.specs.declared.state.Process.{Process}
 use Rattle.apex_machine.specs.declared.state.Wait.TheVariants as wait
 use Rattle.apex_machine.specs.declared.state.WaitingSet.{WaitingSet}
 use Rattle.apex_machine.specs.After.{adjusted, called, caller_after, created_by, is_done, numbered, own_partition, partition_by, returned, woken_if_named, ticked}
-use Rattle.apex_machine.specs.Arguments.{is_number, natural_of}
+use Rattle.apex_machine.specs.Arguments.{is_number}
 use Rattle.apex_machine.specs.Conditions.{is_normal}
 use Rattle.apex_machine.specs.Configuration.{Configuration, first_core, period_of}
 use Rattle.apex_machine.specs.DueTimes.{due_of_call, entry_wait, time_out_of, wait_in, wait_of, waits_for_normal}
-use Rattle.apex_machine.specs.Processes.{by_mutex, caller_with, message_handed_over, new_process, released, set_by, started, stopped, woken_by}
+use Rattle.apex_machine.specs.Processes.{by_mutex, caller_with, message_handed_over, new_process, released, set_by, started, stopped, woken_by, set_in}
 use Rattle.apex_machine.specs.State.{Mutex, Partition, Table, each_item, given_object, is_named, item_at, time_of}
 use Rattle.apex_machine.specs.Waiting.{ends_wait, enters, is_in, is_no_error, is_target, is_the_set, is_waiting, restart_of, set_of, stop_of, stops, waits_at}
 use Rattle.apex_laws.proofs.Booleans.{cannot_hold, not_first, not_second}
@@ -52,22 +53,15 @@ mutex_back wanted found change number x waits =
 
 set_back : (place period : ℕ) (cores : List CoreState) (partition : Partition) (caller : ℕ) (asked : Request) (number : ℕ) (x : Process) (wanted : WaitingSet)
     → waits_at wanted (Some (set_by place period cores partition caller asked number x)) ≡ true → waits_at wanted (Some x) ≡ true
-set_back place period cores partition caller (request.InitializeProcessCoreAffinity process core) number x wanted waits =
-    one_back wanted (is_number process number) (record x { affinity = natural_of core }) x (λ waits. waits) waits
-set_back place period cores partition caller (request.Start process) number x wanted waits =
+set_back place period cores partition caller (request.Process process ProcessOperation.Start) number x wanted waits =
     one_back wanted (is_number process number) (started place period (time_of cores x.affinity) partition.mode x) x
     (λ waits. absurd (start_not wanted (is_normal partition.mode) period (time_of cores x.affinity) x.period waits)) waits
-set_back place period cores partition caller (request.Suspend process) number x wanted waits =
-    one_back wanted (is_number process number) (record x { suspended = true }) x (λ waits. waits) waits
-set_back place period cores partition caller (request.Resume process) number x wanted waits =
-    one_back wanted (is_number process number) (record x { suspended = false; ready_position = place }) x (λ waits. waits) waits
-set_back place period cores partition caller (request.SetPriority process priority) number x wanted waits =
-    one_back wanted (is_number process number) (record x { current_priority = natural_of priority; ready_position = place }) x (λ waits. waits) waits
+set_back place period cores partition caller (request.Process process operation) number x wanted waits =
+    one_back wanted (is_number process number) (set_in place period (time_of cores x.affinity) partition.mode operation x) x (λ waits. waits) waits
 set_back place period cores partition caller (request.SetPartitionMode next) number x wanted waits =
     one_back wanted (waits_for_normal x.wait) (record x { wait = entry_wait period (time_of cores x.affinity) x.period; ready_position = place }) x
     (λ waits. absurd (entry_not wanted period (time_of cores x.affinity) x.period (and_parts x.alive (is_in wanted (entry_wait period (time_of cores x.affinity) x.period)) waits).1)) waits
-set_back place period cores partition caller (request.AcquireMutex mutex time_out) number x wanted waits = mutex_back wanted (given_object partition.mutexes mutex) _ number x waits
-set_back place period cores partition caller (request.ReleaseMutex mutex) number x wanted waits = mutex_back wanted (given_object partition.mutexes mutex) _ number x waits
+set_back place period cores partition caller (request.Mutex mutex operation) number x wanted waits = mutex_back wanted (given_object partition.mutexes mutex) _ number x waits
 set_back place period cores partition caller _ number x wanted waits = waits
 
 adjusted_back : (place period : ℕ) (cores : List CoreState) (partition : Partition) (call : CallRecord) (number : ℕ) (x : Process) (wanted : WaitingSet)
@@ -106,10 +100,10 @@ in_back wanted None due is = absurd (true≢false (sym is))
 in_back wanted (Some set) due is = is
 
 begun_back : (wanted : WaitingSet) (asked : Request) (chan : Option ℕ) (now : ℕ) (x : Process) → is_in wanted (wait_of asked chan now x) ≡ true → is_the_set wanted (set_of asked chan) ≡ true
-begun_back wanted (request.TimedWait (pos delay)) chan now x is = absurd (true≢false (sym is))
-begun_back wanted (request.TimedWait (negsuc n)) chan now x is = absurd (true≢false (sym is))
-begun_back wanted request.PeriodicWait chan now x is = absurd (true≢false (sym is))
-begun_back wanted (request.SuspendSelf time_out) chan now x is = absurd (true≢false (sym is))
+begun_back wanted (request.Caller (CallerOperation.TimedWait (pos delay))) chan now x is = absurd (true≢false (sym is))
+begun_back wanted (request.Caller (CallerOperation.TimedWait (negsuc n))) chan now x is = absurd (true≢false (sym is))
+begun_back wanted (request.Caller CallerOperation.PeriodicWait) chan now x is = absurd (true≢false (sym is))
+begun_back wanted (request.Caller (CallerOperation.SuspendSelf time_out)) chan now x is = absurd (true≢false (sym is))
 begun_back wanted asked chan now x is = in_back wanted (set_of asked chan) (due_of_call (time_out_of asked) now) is
 
 caller_back : (place now : ℕ) (call : CallRecord) (x : Process) (wanted : WaitingSet) (given : Out) → (waits_at wanted (Some x) ≡ true → ⊥)

@@ -7,6 +7,7 @@ use Rattle.apex_types.specs.declared.record.Body.TheVariants.{Call, Ret, Disp, T
 use Rattle.apex_types.specs.declared.record.Call.{Call as CallRecord}
 use Rattle.apex_types.specs.declared.record.Ordered.{Ordered}
 use Rattle.apex_types.specs.declared.record.Who.{Who}
+use Rattle.apex_types.specs.declared.operation.{BlackboardOperation.BlackboardOperation, BufferOperation.BufferOperation, EventOperation.EventOperation, MutexOperation.MutexOperation, QueuingOperation.QueuingOperation, SemaphoreOperation.SemaphoreOperation}
 use Rattle.apex_types.specs.declared.request.Request.{Request}
 use Rattle.apex_types.specs.declared.request.Request.TheVariants as request
 use Rattle.apex_machine.specs.declared.state.Entry.{Entry}
@@ -81,9 +82,9 @@ set_tied configuration state place core body tied law Home wanted home entries a
 not_across : (asked : Request) (partitions : ℕ → Partition) (configuration : Configuration) (channel : ℕ) (wanted : WaitingSet) (who : Who)
     → ((other : ℕ) → ¬ (wanted ≡ set.ChannelSenders other)) → ((other : ℕ) → ¬ (wanted ≡ set.ChannelReceivers other))
     → waits_at wanted (found partitions who) ≡ true → WaitsAcross asked partitions configuration channel who → ⊥
-not_across (request.SendQueuingMessage port length time_out message) partitions configuration channel wanted who not_sending not_receiving waits across =
+not_across (request.QueuingPort port (QueuingOperation.Send length time_out message)) partitions configuration channel wanted who not_sending not_receiving waits across =
     not_receiving channel (one_set wanted (set.ChannelReceivers channel) (found partitions who) waits across.1)
-not_across (request.ReceiveQueuingMessage port time_out) partitions configuration channel wanted who not_sending not_receiving waits across =
+not_across (request.QueuingPort port (QueuingOperation.Receive time_out)) partitions configuration channel wanted who not_sending not_receiving waits across =
     not_sending channel (one_set wanted (set.ChannelSenders channel) (found partitions who) waits across.1)
 not_across _ partitions configuration channel wanted who not_sending not_receiving waits across = across
 
@@ -165,38 +166,38 @@ home_of configuration state core call tied law channel is =
 -- who enters a channel's set does so by its service, through that channel
 sending_call : (asked : Request) (chan : Option ℕ) (number : ℕ) (configuration : Configuration) (partition : ℕ) → set_of asked chan ≡ Some (set.ChannelSenders number)
     → ((channel : ℕ) → chan ≡ Some channel → StandsAtEnd asked configuration channel partition) → IsTrue (is_sender configuration number partition)
-sending_call (request.SendQueuingMessage port length time_out message) (Some channel) number configuration partition is stands =
+sending_call (request.QueuingPort port (QueuingOperation.Send length time_out message)) (Some channel) number configuration partition is stands =
     let both : set.ChannelSenders channel ≡ set.ChannelSenders number = cc in
     let same : channel ≡ number = cc in
     subst (λ one. IsTrue (is_sender configuration one partition)) same (stands channel refl)
-sending_call (request.SendQueuingMessage port length time_out message) None number configuration partition is stands = cc
-sending_call (request.ReceiveQueuingMessage port time_out) (Some channel) number configuration partition is stands =
+sending_call (request.QueuingPort port (QueuingOperation.Send length time_out message)) None number configuration partition is stands = cc
+sending_call (request.QueuingPort port (QueuingOperation.Receive time_out)) (Some channel) number configuration partition is stands =
     let both : set.ChannelReceivers channel ≡ set.ChannelSenders number = cc in cc
-sending_call (request.ReceiveQueuingMessage port time_out) None number configuration partition is stands = cc
-sending_call (request.SendBuffer buffer length time_out message) chan number configuration partition is stands = let both : set.BufferSenders (natural_of buffer) ≡ set.ChannelSenders number = cc in cc
-sending_call (request.ReceiveBuffer buffer time_out) chan number configuration partition is stands = let both : set.BufferReceivers (natural_of buffer) ≡ set.ChannelSenders number = cc in cc
-sending_call (request.ReadBlackboard blackboard time_out) chan number configuration partition is stands = let both : set.BlackboardReaders (natural_of blackboard) ≡ set.ChannelSenders number = cc in cc
-sending_call (request.WaitSemaphore semaphore time_out) chan number configuration partition is stands = let both : set.SemaphoreWaiters (natural_of semaphore) ≡ set.ChannelSenders number = cc in cc
-sending_call (request.WaitEvent event time_out) chan number configuration partition is stands = let both : set.EventWaiters (natural_of event) ≡ set.ChannelSenders number = cc in cc
-sending_call (request.AcquireMutex mutex time_out) chan number configuration partition is stands = let both : set.MutexWaiters (natural_of mutex) ≡ set.ChannelSenders number = cc in cc
+sending_call (request.QueuingPort port (QueuingOperation.Receive time_out)) None number configuration partition is stands = cc
+sending_call (request.Buffer buffer (BufferOperation.Send length time_out message)) chan number configuration partition is stands = let both : set.BufferSenders (natural_of buffer) ≡ set.ChannelSenders number = cc in cc
+sending_call (request.Buffer buffer (BufferOperation.Receive time_out)) chan number configuration partition is stands = let both : set.BufferReceivers (natural_of buffer) ≡ set.ChannelSenders number = cc in cc
+sending_call (request.Blackboard blackboard (BlackboardOperation.Read time_out)) chan number configuration partition is stands = let both : set.BlackboardReaders (natural_of blackboard) ≡ set.ChannelSenders number = cc in cc
+sending_call (request.Semaphore semaphore (SemaphoreOperation.Wait time_out)) chan number configuration partition is stands = let both : set.SemaphoreWaiters (natural_of semaphore) ≡ set.ChannelSenders number = cc in cc
+sending_call (request.Event event (EventOperation.Wait time_out)) chan number configuration partition is stands = let both : set.EventWaiters (natural_of event) ≡ set.ChannelSenders number = cc in cc
+sending_call (request.Mutex mutex (MutexOperation.Acquire time_out)) chan number configuration partition is stands = let both : set.MutexWaiters (natural_of mutex) ≡ set.ChannelSenders number = cc in cc
 sending_call _ chan number configuration partition is stands = let none : ◌≡◌ {A = Option WaitingSet} None (Some (set.ChannelSenders number)) = is in cc
 
 receiving_call : (asked : Request) (chan : Option ℕ) (number : ℕ) (configuration : Configuration) (partition : ℕ) → set_of asked chan ≡ Some (set.ChannelReceivers number)
     → ((channel : ℕ) → chan ≡ Some channel → StandsAtEnd asked configuration channel partition) → IsTrue (is_receiver configuration number partition)
-receiving_call (request.ReceiveQueuingMessage port time_out) (Some channel) number configuration partition is stands =
+receiving_call (request.QueuingPort port (QueuingOperation.Receive time_out)) (Some channel) number configuration partition is stands =
     let both : set.ChannelReceivers channel ≡ set.ChannelReceivers number = cc in
     let same : channel ≡ number = cc in
     subst (λ one. IsTrue (is_receiver configuration one partition)) same (stands channel refl)
-receiving_call (request.ReceiveQueuingMessage port time_out) None number configuration partition is stands = cc
-receiving_call (request.SendQueuingMessage port length time_out message) (Some channel) number configuration partition is stands =
+receiving_call (request.QueuingPort port (QueuingOperation.Receive time_out)) None number configuration partition is stands = cc
+receiving_call (request.QueuingPort port (QueuingOperation.Send length time_out message)) (Some channel) number configuration partition is stands =
     let both : set.ChannelSenders channel ≡ set.ChannelReceivers number = cc in cc
-receiving_call (request.SendQueuingMessage port length time_out message) None number configuration partition is stands = cc
-receiving_call (request.SendBuffer buffer length time_out message) chan number configuration partition is stands = let both : set.BufferSenders (natural_of buffer) ≡ set.ChannelReceivers number = cc in cc
-receiving_call (request.ReceiveBuffer buffer time_out) chan number configuration partition is stands = let both : set.BufferReceivers (natural_of buffer) ≡ set.ChannelReceivers number = cc in cc
-receiving_call (request.ReadBlackboard blackboard time_out) chan number configuration partition is stands = let both : set.BlackboardReaders (natural_of blackboard) ≡ set.ChannelReceivers number = cc in cc
-receiving_call (request.WaitSemaphore semaphore time_out) chan number configuration partition is stands = let both : set.SemaphoreWaiters (natural_of semaphore) ≡ set.ChannelReceivers number = cc in cc
-receiving_call (request.WaitEvent event time_out) chan number configuration partition is stands = let both : set.EventWaiters (natural_of event) ≡ set.ChannelReceivers number = cc in cc
-receiving_call (request.AcquireMutex mutex time_out) chan number configuration partition is stands = let both : set.MutexWaiters (natural_of mutex) ≡ set.ChannelReceivers number = cc in cc
+receiving_call (request.QueuingPort port (QueuingOperation.Send length time_out message)) None number configuration partition is stands = cc
+receiving_call (request.Buffer buffer (BufferOperation.Send length time_out message)) chan number configuration partition is stands = let both : set.BufferSenders (natural_of buffer) ≡ set.ChannelReceivers number = cc in cc
+receiving_call (request.Buffer buffer (BufferOperation.Receive time_out)) chan number configuration partition is stands = let both : set.BufferReceivers (natural_of buffer) ≡ set.ChannelReceivers number = cc in cc
+receiving_call (request.Blackboard blackboard (BlackboardOperation.Read time_out)) chan number configuration partition is stands = let both : set.BlackboardReaders (natural_of blackboard) ≡ set.ChannelReceivers number = cc in cc
+receiving_call (request.Semaphore semaphore (SemaphoreOperation.Wait time_out)) chan number configuration partition is stands = let both : set.SemaphoreWaiters (natural_of semaphore) ≡ set.ChannelReceivers number = cc in cc
+receiving_call (request.Event event (EventOperation.Wait time_out)) chan number configuration partition is stands = let both : set.EventWaiters (natural_of event) ≡ set.ChannelReceivers number = cc in cc
+receiving_call (request.Mutex mutex (MutexOperation.Acquire time_out)) chan number configuration partition is stands = let both : set.MutexWaiters (natural_of mutex) ≡ set.ChannelReceivers number = cc in cc
 receiving_call _ chan number configuration partition is stands = let none : ◌≡◌ {A = Option WaitingSet} None (Some (set.ChannelReceivers number)) = is in cc
 
 enters_at_source : (configuration : Configuration) (state : State) (core : ℕ) (body : Body) → AreTied configuration state → IsLawfulBody configuration state core body

@@ -6,6 +6,7 @@ use Rattle.apex_types.specs.declared.record.Body.TheVariants.{Call, Ret, Disp, T
 use Rattle.apex_types.specs.declared.record.Call.{Call as CallRecord}
 use Rattle.apex_types.specs.declared.record.Ordered.{Ordered}
 use Rattle.apex_types.specs.declared.record.Who.{Who}
+use Rattle.apex_types.specs.declared.operation.{BlackboardOperation.BlackboardOperation, BufferOperation.BufferOperation, EventOperation.EventOperation, MutexOperation.MutexOperation, QueuingOperation.QueuingOperation, SemaphoreOperation.SemaphoreOperation}
 use Rattle.apex_types.specs.declared.request.Request.{Request}
 use Rattle.apex_types.specs.declared.request.Request.TheVariants as request
 use Rattle.apex_machine.specs.declared.state.CoreState.{CoreState}
@@ -58,18 +59,28 @@ partition_untouched configuration cores place core number (Call call) partition 
 
 -- a caller enters the senders of a channel only by a call through it
 not_sending : (number : ℕ) (asked : Request) (chan : Option ℕ) → is_channel number chan ≡ false → is_the_set (set.ChannelSenders number) (set_of asked chan) ≡ false
-not_sending number (request.SendQueuingMessage port length time_out message) (Some channel) off = off
-not_sending number (request.SendQueuingMessage port length time_out message) None off = refl
-not_sending number (request.ReceiveQueuingMessage port time_out) (Some channel) off = refl
-not_sending number (request.ReceiveQueuingMessage port time_out) None off = refl
+not_sending number (request.QueuingPort port (QueuingOperation.Send length time_out message)) (Some channel) off = off
+not_sending number (request.QueuingPort port (QueuingOperation.Send length time_out message)) None off = refl
+not_sending number (request.QueuingPort port (QueuingOperation.Receive time_out)) (Some channel) off = refl
+not_sending number (request.QueuingPort port (QueuingOperation.Receive time_out)) None off = refl
+not_sending number (request.Buffer buffer (BufferOperation.Receive time_out)) chan off = refl
+not_sending number (request.Blackboard blackboard (BlackboardOperation.Read time_out)) chan off = refl
+not_sending number (request.Semaphore semaphore (SemaphoreOperation.Wait time_out)) chan off = refl
+not_sending number (request.Event event (EventOperation.Wait time_out)) chan off = refl
+not_sending number (request.Mutex mutex (MutexOperation.Acquire time_out)) chan off = refl
 not_sending number _ chan off = refl
 
 -- a caller enters the receivers of a channel only by a call through it
 not_receiving : (number : ℕ) (asked : Request) (chan : Option ℕ) → is_channel number chan ≡ false → is_the_set (set.ChannelReceivers number) (set_of asked chan) ≡ false
-not_receiving number (request.SendQueuingMessage port length time_out message) (Some channel) off = refl
-not_receiving number (request.SendQueuingMessage port length time_out message) None off = refl
-not_receiving number (request.ReceiveQueuingMessage port time_out) (Some channel) off = off
-not_receiving number (request.ReceiveQueuingMessage port time_out) None off = refl
+not_receiving number (request.QueuingPort port (QueuingOperation.Send length time_out message)) (Some channel) off = refl
+not_receiving number (request.QueuingPort port (QueuingOperation.Send length time_out message)) None off = refl
+not_receiving number (request.QueuingPort port (QueuingOperation.Receive time_out)) (Some channel) off = off
+not_receiving number (request.QueuingPort port (QueuingOperation.Receive time_out)) None off = refl
+not_receiving number (request.Buffer buffer (BufferOperation.Receive time_out)) chan off = refl
+not_receiving number (request.Blackboard blackboard (BlackboardOperation.Read time_out)) chan off = refl
+not_receiving number (request.Semaphore semaphore (SemaphoreOperation.Wait time_out)) chan off = refl
+not_receiving number (request.Event event (EventOperation.Wait time_out)) chan off = refl
+not_receiving number (request.Mutex mutex (MutexOperation.Acquire time_out)) chan off = refl
 not_receiving number _ chan off = refl
 
 -- a call that doesn't stop anybody at an end of a channel, but comes from there, restarts nobody

@@ -4,6 +4,7 @@ use Rattle.apex_types.specs.declared.code.Code.TheVariants as code
 use Rattle.apex_types.specs.declared.record.Call.{Call as CallRecord}
 use Rattle.apex_types.specs.declared.record.Out.{Out}
 use Rattle.apex_types.specs.declared.record.Out.TheVariants as out
+use Rattle.apex_types.specs.declared.operation.{BlackboardOperation.BlackboardOperation, BufferOperation.BufferOperation, EventOperation.EventOperation, MutexOperation.MutexOperation, QueuingOperation.QueuingOperation, SemaphoreOperation.SemaphoreOperation}
 use Rattle.apex_types.specs.declared.request.Request.{Request}
 use Rattle.apex_types.specs.declared.request.Request.TheVariants as request
 use Rattle.apex_types.specs.Requested.{service_of}
@@ -33,15 +34,15 @@ one_is : (one other : WaitingSet) → ◌≡◌ {A = Option WaitingSet} (Some on
 one_is one other same = cc
 
 set_is : (asked : Request) (chan : Option ℕ) (wanted : WaitingSet) → set_of asked chan ≡ Some wanted → WaitsIn asked chan wanted
-set_is (request.SendBuffer buffer length time_out message) chan wanted is = subst (WaitsIn (request.SendBuffer buffer length time_out message) chan) (one_is _ _ is) WaitsIn.sends_to_buffer
-set_is (request.ReceiveBuffer buffer time_out) chan wanted is = subst (WaitsIn (request.ReceiveBuffer buffer time_out) chan) (one_is _ _ is) WaitsIn.receives_from_buffer
-set_is (request.ReadBlackboard blackboard time_out) chan wanted is = subst (WaitsIn (request.ReadBlackboard blackboard time_out) chan) (one_is _ _ is) WaitsIn.reads_blackboard
-set_is (request.WaitSemaphore semaphore time_out) chan wanted is = subst (WaitsIn (request.WaitSemaphore semaphore time_out) chan) (one_is _ _ is) WaitsIn.waits_for_semaphore
-set_is (request.WaitEvent event time_out) chan wanted is = subst (WaitsIn (request.WaitEvent event time_out) chan) (one_is _ _ is) WaitsIn.waits_for_event
-set_is (request.AcquireMutex mutex time_out) chan wanted is = subst (WaitsIn (request.AcquireMutex mutex time_out) chan) (one_is _ _ is) WaitsIn.acquires_mutex
-set_is (request.SendQueuingMessage port length time_out message) (Some channel) wanted is =
-    subst (WaitsIn (request.SendQueuingMessage port length time_out message) (Some channel)) (one_is _ _ is) WaitsIn.sends_through
-set_is (request.ReceiveQueuingMessage port time_out) (Some channel) wanted is = subst (WaitsIn (request.ReceiveQueuingMessage port time_out) (Some channel)) (one_is _ _ is) WaitsIn.receives_through
+set_is (request.Buffer buffer (BufferOperation.Send length time_out message)) chan wanted is = subst (WaitsIn (request.Buffer buffer (BufferOperation.Send length time_out message)) chan) (one_is _ _ is) WaitsIn.sends_to_buffer
+set_is (request.Buffer buffer (BufferOperation.Receive time_out)) chan wanted is = subst (WaitsIn (request.Buffer buffer (BufferOperation.Receive time_out)) chan) (one_is _ _ is) WaitsIn.receives_from_buffer
+set_is (request.Blackboard blackboard (BlackboardOperation.Read time_out)) chan wanted is = subst (WaitsIn (request.Blackboard blackboard (BlackboardOperation.Read time_out)) chan) (one_is _ _ is) WaitsIn.reads_blackboard
+set_is (request.Semaphore semaphore (SemaphoreOperation.Wait time_out)) chan wanted is = subst (WaitsIn (request.Semaphore semaphore (SemaphoreOperation.Wait time_out)) chan) (one_is _ _ is) WaitsIn.waits_for_semaphore
+set_is (request.Event event (EventOperation.Wait time_out)) chan wanted is = subst (WaitsIn (request.Event event (EventOperation.Wait time_out)) chan) (one_is _ _ is) WaitsIn.waits_for_event
+set_is (request.Mutex mutex (MutexOperation.Acquire time_out)) chan wanted is = subst (WaitsIn (request.Mutex mutex (MutexOperation.Acquire time_out)) chan) (one_is _ _ is) WaitsIn.acquires_mutex
+set_is (request.QueuingPort port (QueuingOperation.Send length time_out message)) (Some channel) wanted is =
+    subst (WaitsIn (request.QueuingPort port (QueuingOperation.Send length time_out message)) (Some channel)) (one_is _ _ is) WaitsIn.sends_through
+set_is (request.QueuingPort port (QueuingOperation.Receive time_out)) (Some channel) wanted is = subst (WaitsIn (request.QueuingPort port (QueuingOperation.Receive time_out)) (Some channel)) (one_is _ _ is) WaitsIn.receives_through
 set_is _ chan wanted is = absurd (absent wanted is)
 
 -- a call that waits

@@ -2,6 +2,7 @@
 use Rattle.std.proofs.Common.{◌≡◌, ℕ, zero, suc, List, [], ◌∷◌, length, Bool, true, false, cond, nat_eq, nat_lt, ℤ, pos, negsuc, Option, Some, None, refl, sym, ap, subst, ◌∙◌, true≢false}
 use Rattle.apex_types.specs.declared.code.Code.TheVariants as code
 use Rattle.apex_types.specs.declared.record.Who.{Who}
+use Rattle.apex_types.specs.declared.operation.{BlackboardOperation.BlackboardOperation, BufferOperation.BufferOperation, CallerOperation.CallerOperation, EventOperation.EventOperation, MutexOperation.MutexOperation, ProcessOperation.ProcessOperation, SemaphoreOperation.SemaphoreOperation}
 use Rattle.apex_types.specs.declared.request.Request.{Request}
 use Rattle.apex_types.specs.declared.request.Request.TheVariants as request
 use Rattle.apex_machine.specs.declared.state.Entry.{Entry}
@@ -125,59 +126,63 @@ pub answer_wakes : (Fact : Who → Type 0) (now : ℕ) (who : Who) (partition : 
     → ((wanted : WaitingSet) → is_set_used asked wanted ≡ true → AllEntries (λ entry. Fact entry.who) (entries_at partition wanted))
     → ((process : ℤ) (target : Process) → created partition.table process ≡ Some target → is_suspension target.wait ≡ true → Fact (peer who process))
     → (one : Who) → is_named one (answer_of now who partition asked).woken ≡ true → Fact one
-answer_wakes Fact now who partition (request.SendBuffer (pos buffer) length time_out message) all suspended one named =
+answer_wakes Fact now who partition (request.Buffer (pos buffer) (BufferOperation.Send length time_out message)) all suspended one named =
     by_object (Fact one) one (item_at partition.buffers buffer) (λ found. (buffer_sent message time_out found).answer)
     (λ found is named. sent_wakes Fact found.capacity message time_out (first_waiter found.discipline found.receivers) found.messages
     (λ entry first. first_has (λ entry. Fact entry.who) found.discipline found.receivers entry
     (entries_found (λ entry. Fact entry.who) (λ (found : Buffer). found.receivers) (item_at partition.buffers buffer) found is (all (set.BufferReceivers buffer) (is_itself buffer))) first) one named) named
-answer_wakes Fact now who partition (request.SendBuffer (negsuc buffer) length time_out message) all suspended one named = nobody one [] refl named
-answer_wakes Fact now who partition (request.ReceiveBuffer (pos buffer) time_out) all suspended one named =
+answer_wakes Fact now who partition (request.Buffer (negsuc buffer) (BufferOperation.Send length time_out message)) all suspended one named = nobody one [] refl named
+answer_wakes Fact now who partition (request.Buffer (pos buffer) (BufferOperation.Receive time_out)) all suspended one named =
     by_object (Fact one) one (item_at partition.buffers buffer) (λ found. (buffer_received time_out found).answer)
     (λ found is named. received_wakes Fact time_out (first_waiter found.discipline found.senders) found.messages
     (λ entry first. first_has (λ entry. Fact entry.who) found.discipline found.senders entry
     (entries_found (λ entry. Fact entry.who) (λ (found : Buffer). found.senders) (item_at partition.buffers buffer) found is (all (set.BufferSenders buffer) (first_holds _ _ (is_itself buffer)))) first) one named) named
-answer_wakes Fact now who partition (request.ReceiveBuffer (negsuc buffer) time_out) all suspended one named = nobody one [] refl named
-answer_wakes Fact now who partition (request.DisplayBlackboard (pos blackboard) length message) all suspended one named =
+answer_wakes Fact now who partition (request.Buffer (negsuc buffer) (BufferOperation.Receive time_out)) all suspended one named = nobody one [] refl named
+answer_wakes Fact now who partition (request.Blackboard (pos blackboard) (BlackboardOperation.Display length message)) all suspended one named =
     by_object (Fact one) one (item_at partition.blackboards blackboard) (λ found. (displayed message found.readers).answer)
     (λ found is named. all_named Fact found.readers
     (entries_found (λ entry. Fact entry.who) (λ (found : Blackboard). found.readers) (item_at partition.blackboards blackboard) found is (all (set.BlackboardReaders blackboard) (is_itself blackboard))) one named) named
-answer_wakes Fact now who partition (request.DisplayBlackboard (negsuc blackboard) length message) all suspended one named = nobody one [] refl named
-answer_wakes Fact now who partition (request.ReadBlackboard blackboard time_out) all suspended one named =
+answer_wakes Fact now who partition (request.Blackboard (negsuc blackboard) (BlackboardOperation.Display length message)) all suspended one named = nobody one [] refl named
+answer_wakes Fact now who partition (request.Blackboard blackboard (BlackboardOperation.Read time_out)) all suspended one named =
     by_object (Fact one) one (given_object partition.blackboards blackboard) (λ found. (board_read time_out found.message).answer)
     (λ found is named. nobody one (board_read time_out found.message).answer.woken (board_wakes time_out found.message) named) named
-answer_wakes Fact now who partition (request.WaitSemaphore semaphore time_out) all suspended one named =
+answer_wakes Fact now who partition (request.Semaphore semaphore (SemaphoreOperation.Wait time_out)) all suspended one named =
     by_object (Fact one) one (given_object partition.semaphores semaphore) (λ found. (semaphore_waited time_out found.value).answer)
     (λ found is named. nobody one (semaphore_waited time_out found.value).answer.woken (wait_wakes time_out found.value) named) named
-answer_wakes Fact now who partition (request.SignalSemaphore (pos semaphore)) all suspended one named =
+answer_wakes Fact now who partition (request.Semaphore (pos semaphore) SemaphoreOperation.Signal) all suspended one named =
     by_object (Fact one) one (item_at partition.semaphores semaphore)
     (λ found. (signalled found.maximum (first_waiter found.discipline found.waiters) found.value).answer)
     (λ found is named. signal_wakes Fact found.maximum (first_waiter found.discipline found.waiters) found.value
     (λ entry first. first_has (λ entry. Fact entry.who) found.discipline found.waiters entry
     (entries_found (λ entry. Fact entry.who) (λ (found : Semaphore). found.waiters) (item_at partition.semaphores semaphore) found is (all (set.SemaphoreWaiters semaphore) (is_itself semaphore))) first) one named) named
-answer_wakes Fact now who partition (request.SignalSemaphore (negsuc semaphore)) all suspended one named = nobody one [] refl named
-answer_wakes Fact now who partition (request.SetEvent (pos event)) all suspended one named =
+answer_wakes Fact now who partition (request.Semaphore (negsuc semaphore) SemaphoreOperation.Signal) all suspended one named = nobody one [] refl named
+answer_wakes Fact now who partition (request.Event (pos event) EventOperation.Set) all suspended one named =
     by_object (Fact one) one (item_at partition.events event) (λ found. (event_set found.waiters).answer)
     (λ found is named. all_named Fact found.waiters
     (entries_found (λ entry. Fact entry.who) (λ (found : Event). found.waiters) (item_at partition.events event) found is (all (set.EventWaiters event) (is_itself event))) one named) named
-answer_wakes Fact now who partition (request.SetEvent (negsuc event)) all suspended one named = nobody one [] refl named
-answer_wakes Fact now who partition (request.WaitEvent event time_out) all suspended one named =
+answer_wakes Fact now who partition (request.Event (negsuc event) EventOperation.Set) all suspended one named = nobody one [] refl named
+answer_wakes Fact now who partition (request.Event event (EventOperation.Wait time_out)) all suspended one named =
     by_object (Fact one) one (given_object partition.events event) (λ found. (event_waited time_out found.up).answer)
     (λ found is named. nobody one (event_waited time_out found.up).answer.woken (event_wakes time_out found.up) named) named
-answer_wakes Fact now who partition (request.AcquireMutex mutex time_out) all suspended one named =
+answer_wakes Fact now who partition (request.Mutex mutex (MutexOperation.Acquire time_out)) all suspended one named =
     by_object (Fact one) one (given_object partition.mutexes mutex) (λ found. (acquired who.proc time_out found).answer)
     (λ found is named. nobody one (acquired who.proc time_out found).answer.woken (acquire_wakes who.proc time_out found found.owner) named) named
-answer_wakes Fact now who partition (request.ReleaseMutex (pos mutex)) all suspended one named =
+answer_wakes Fact now who partition (request.Mutex (pos mutex) MutexOperation.Release) all suspended one named =
     by_object (Fact one) one (item_at partition.mutexes mutex) (λ found. (mutex_released (first_waiter found.discipline found.waiters) found).answer)
     (λ found is named. release_wakes Fact (first_waiter found.discipline found.waiters) found
     (λ entry first. first_has (λ entry. Fact entry.who) found.discipline found.waiters entry
     (entries_found (λ entry. Fact entry.who) (λ (found : Mutex). found.waiters) (item_at partition.mutexes mutex) found is (all (set.MutexWaiters mutex) (is_itself mutex))) first) one named) named
-answer_wakes Fact now who partition (request.ReleaseMutex (negsuc mutex)) all suspended one named = nobody one [] refl named
-answer_wakes Fact now who partition (request.Resume process) all suspended one named =
+answer_wakes Fact now who partition (request.Mutex (negsuc mutex) MutexOperation.Release) all suspended one named = nobody one [] refl named
+answer_wakes Fact now who partition (request.Process process ProcessOperation.Resume) all suspended one named =
     resume_wakes Fact (peer who process) (created partition.table process) (λ target found suspends. suspended process target found suspends) one named
-answer_wakes Fact now who partition (request.SuspendSelf time_out) all suspended one named = nobody one (cond (is_over time_out) done waiting).woken (done_or_waiting (is_over time_out)) named
-answer_wakes Fact now who partition (request.TimedWait delay) all suspended one named = nobody one (cond (is_over delay) done waiting).woken (done_or_waiting (is_over delay)) named
-answer_wakes Fact now who partition request.PeriodicWait all suspended one named =
+answer_wakes Fact now who partition (request.Caller (CallerOperation.SuspendSelf time_out)) all suspended one named = nobody one (cond (is_over time_out) done waiting).woken (done_or_waiting (is_over time_out)) named
+answer_wakes Fact now who partition (request.Caller (CallerOperation.TimedWait delay)) all suspended one named = nobody one (cond (is_over delay) done waiting).woken (done_or_waiting (is_over delay)) named
+answer_wakes Fact now who partition (request.Caller CallerOperation.PeriodicWait) all suspended one named =
     nobody one (cond (is_released now (item_at partition.table who.proc)) done waiting).woken (done_or_waiting (is_released now (item_at partition.table who.proc))) named
+answer_wakes Fact now who partition (request.Blackboard blackboard BlackboardOperation.Clear) all suspended one named =
+    by_object (Fact one) one (given_object partition.blackboards blackboard) (λ found. done) (λ found is named. nobody one [] refl named) named
+answer_wakes Fact now who partition (request.Event event EventOperation.Reset) all suspended one named =
+    by_object (Fact one) one (given_object partition.events event) (λ found. done) (λ found is named. nobody one [] refl named) named
 answer_wakes Fact now who partition _ all suspended one named = nobody one [] refl named
 
 -- channels

@@ -9,6 +9,7 @@ use Rattle.apex_types.specs.declared.record.Claim.{Claim}
 use Rattle.apex_types.specs.declared.record.Out.{Out}
 use Rattle.apex_types.specs.declared.record.Out.TheVariants as out
 use Rattle.apex_types.specs.declared.record.Who.{Who}
+use Rattle.apex_types.specs.declared.operation.{BlackboardOperation.BlackboardOperation, BufferOperation.BufferOperation, CallerOperation.CallerOperation, EventOperation.EventOperation, MutexOperation.MutexOperation, NewObject.NewObject, ProcessOperation.ProcessOperation, QueuingOperation.QueuingOperation, SamplingOperation.SamplingOperation, SemaphoreOperation.SemaphoreOperation}
 use Rattle.apex_types.specs.declared.request.Request.{Request}
 use Rattle.apex_types.specs.declared.request.Request.TheVariants as request
 use Rattle.apex_machine.specs.declared.state.CoreState.{CoreState}
@@ -95,72 +96,76 @@ resume_no_wait target (Some process) waits =
 -- a call that uses no channel and waits
 own_begun : (configuration : Configuration) (now : ℕ) (who : Who) (partition : Partition) (asked : Request) (process : Process) → condition_codes configuration who partition asked ≡ []
     → (answer_of now who partition asked).out ≡ out.Waits → IsBegun now asked None process (wait_of asked None now process)
-own_begun configuration now who partition (request.TimedWait (pos ticks)) process none waits = IsBegun.delay ticks refl refl
-own_begun configuration now who partition (request.TimedWait (negsuc n)) process none waits = cc
-own_begun configuration now who partition request.PeriodicWait process none waits = IsBegun.release refl refl
-own_begun configuration now who partition (request.SuspendSelf time_out) process none waits = IsBegun.suspension time_out refl refl
-own_begun configuration now who partition (request.SendBuffer buffer length time_out message) process none waits = IsBegun.object (set.BufferSenders (natural_of buffer)) refl refl
-own_begun configuration now who partition (request.ReceiveBuffer buffer time_out) process none waits = IsBegun.object (set.BufferReceivers (natural_of buffer)) refl refl
-own_begun configuration now who partition (request.ReadBlackboard blackboard time_out) process none waits = IsBegun.object (set.BlackboardReaders (natural_of blackboard)) refl refl
-own_begun configuration now who partition (request.WaitSemaphore semaphore time_out) process none waits = IsBegun.object (set.SemaphoreWaiters (natural_of semaphore)) refl refl
-own_begun configuration now who partition (request.WaitEvent event time_out) process none waits = IsBegun.object (set.EventWaiters (natural_of event)) refl refl
-own_begun configuration now who partition (request.AcquireMutex mutex time_out) process none waits = IsBegun.object (set.MutexWaiters (natural_of mutex)) refl refl
-own_begun configuration now who partition (request.DisplayBlackboard blackboard length message) process none waits =
+own_begun configuration now who partition (request.Caller (CallerOperation.TimedWait (pos ticks))) process none waits = IsBegun.delay ticks refl refl
+own_begun configuration now who partition (request.Caller (CallerOperation.TimedWait (negsuc n))) process none waits = cc
+own_begun configuration now who partition (request.Caller CallerOperation.PeriodicWait) process none waits = IsBegun.release refl refl
+own_begun configuration now who partition (request.Caller (CallerOperation.SuspendSelf time_out)) process none waits = IsBegun.suspension time_out refl refl
+own_begun configuration now who partition (request.Buffer buffer (BufferOperation.Send length time_out message)) process none waits = IsBegun.object (set.BufferSenders (natural_of buffer)) refl refl
+own_begun configuration now who partition (request.Buffer buffer (BufferOperation.Receive time_out)) process none waits = IsBegun.object (set.BufferReceivers (natural_of buffer)) refl refl
+own_begun configuration now who partition (request.Blackboard blackboard (BlackboardOperation.Read time_out)) process none waits = IsBegun.object (set.BlackboardReaders (natural_of blackboard)) refl refl
+own_begun configuration now who partition (request.Semaphore semaphore (SemaphoreOperation.Wait time_out)) process none waits = IsBegun.object (set.SemaphoreWaiters (natural_of semaphore)) refl refl
+own_begun configuration now who partition (request.Event event (EventOperation.Wait time_out)) process none waits = IsBegun.object (set.EventWaiters (natural_of event)) refl refl
+own_begun configuration now who partition (request.Mutex mutex (MutexOperation.Acquire time_out)) process none waits = IsBegun.object (set.MutexWaiters (natural_of mutex)) refl refl
+own_begun configuration now who partition (request.Blackboard blackboard (BlackboardOperation.Display length message)) process none waits =
     absurd (by_object_no_wait (given_object partition.blackboards blackboard) (λ found. (displayed message found.readers).answer) (λ found waits. let no : out.Answer code.NoError ≡ out.Waits = waits in cc) waits)
-own_begun configuration now who partition (request.SignalSemaphore semaphore) process none waits =
+own_begun configuration now who partition (request.Semaphore semaphore SemaphoreOperation.Signal) process none waits =
     absurd (by_object_no_wait (given_object partition.semaphores semaphore) (λ found. (signalled found.maximum (first_waiter found.discipline found.waiters) found.value).answer)
     (λ found waits. signal_no_wait found.maximum (first_waiter found.discipline found.waiters) found.value waits) waits)
-own_begun configuration now who partition (request.SetEvent event) process none waits =
+own_begun configuration now who partition (request.Event event EventOperation.Set) process none waits =
     absurd (by_object_no_wait (given_object partition.events event) (λ found. (event_set found.waiters).answer) (λ found waits. let no : out.Answer code.NoError ≡ out.Waits = waits in cc) waits)
-own_begun configuration now who partition (request.ReleaseMutex mutex) process none waits =
+own_begun configuration now who partition (request.Mutex mutex MutexOperation.Release) process none waits =
     absurd (by_object_no_wait (given_object partition.mutexes mutex) (λ found. (mutex_released (first_waiter found.discipline found.waiters) found).answer)
     (λ found waits. release_no_wait (first_waiter found.discipline found.waiters) found waits) waits)
-own_begun configuration now who partition (request.Resume process_number) process none waits = absurd (resume_no_wait (peer who process_number) (created partition.table process_number) waits)
-own_begun configuration now who partition request.StopSelf process none waits = let no : out.Never ≡ out.Waits = waits in cc
+own_begun configuration now who partition (request.Process process_number ProcessOperation.Resume) process none waits = absurd (resume_no_wait (peer who process_number) (created partition.table process_number) waits)
+own_begun configuration now who partition (request.Caller CallerOperation.StopSelf) process none waits = let no : out.Never ≡ out.Waits = waits in cc
 own_begun configuration now who partition (request.SetPartitionMode mode) process none waits = let no : out.Never ≡ out.Waits = waits in cc
+own_begun configuration now who partition (request.Blackboard blackboard BlackboardOperation.Clear) process none waits =
+    absurd (by_object_no_wait (given_object partition.blackboards blackboard) (λ found. done) (λ found waits. let no : out.Answer code.NoError ≡ out.Waits = waits in cc) waits)
+own_begun configuration now who partition (request.Event event EventOperation.Reset) process none waits =
+    absurd (by_object_no_wait (given_object partition.events event) (λ found. done) (λ found waits. let no : out.Answer code.NoError ≡ out.Waits = waits in cc) waits)
 own_begun configuration now who partition _ process none waits = let no : out.Answer code.NoError ≡ out.Waits = waits in cc
 
 -- a call through a channel that waits
 through_begun : (now channel : ℕ) (asked : Request) (process : Process) (given : Out) → given ≡ out.Waits → CanHave asked given
     → IsBegun now asked (Some channel) process (wait_of asked (Some channel) now process)
-through_begun now channel (request.SendQueuingMessage port length time_out message) process given waits can = IsBegun.object (set.ChannelSenders channel) refl refl
-through_begun now channel (request.ReceiveQueuingMessage port time_out) process given waits can = IsBegun.object (set.ChannelReceivers channel) refl refl
-through_begun now channel (request.TimedWait (pos ticks)) process given waits can = IsBegun.delay ticks refl refl
-through_begun now channel (request.TimedWait (negsuc n)) process given waits can = absurd (subst (CanHave (request.TimedWait (negsuc n))) waits can)
-through_begun now channel request.PeriodicWait process given waits can = IsBegun.release refl refl
-through_begun now channel (request.SuspendSelf time_out) process given waits can = IsBegun.suspension time_out refl refl
-through_begun now channel (request.SendBuffer buffer length time_out message) process given waits can = IsBegun.object (set.BufferSenders (natural_of buffer)) refl refl
-through_begun now channel (request.ReceiveBuffer buffer time_out) process given waits can = IsBegun.object (set.BufferReceivers (natural_of buffer)) refl refl
-through_begun now channel (request.ReadBlackboard blackboard time_out) process given waits can = IsBegun.object (set.BlackboardReaders (natural_of blackboard)) refl refl
-through_begun now channel (request.WaitSemaphore semaphore time_out) process given waits can = IsBegun.object (set.SemaphoreWaiters (natural_of semaphore)) refl refl
-through_begun now channel (request.WaitEvent event time_out) process given waits can = IsBegun.object (set.EventWaiters (natural_of event)) refl refl
-through_begun now channel (request.AcquireMutex mutex time_out) process given waits can = IsBegun.object (set.MutexWaiters (natural_of mutex)) refl refl
+through_begun now channel (request.QueuingPort port (QueuingOperation.Send length time_out message)) process given waits can = IsBegun.object (set.ChannelSenders channel) refl refl
+through_begun now channel (request.QueuingPort port (QueuingOperation.Receive time_out)) process given waits can = IsBegun.object (set.ChannelReceivers channel) refl refl
+through_begun now channel (request.Caller (CallerOperation.TimedWait (pos ticks))) process given waits can = IsBegun.delay ticks refl refl
+through_begun now channel (request.Caller (CallerOperation.TimedWait (negsuc n))) process given waits can = absurd (subst (CanHave (request.Caller (CallerOperation.TimedWait (negsuc n)))) waits can)
+through_begun now channel (request.Caller CallerOperation.PeriodicWait) process given waits can = IsBegun.release refl refl
+through_begun now channel (request.Caller (CallerOperation.SuspendSelf time_out)) process given waits can = IsBegun.suspension time_out refl refl
+through_begun now channel (request.Buffer buffer (BufferOperation.Send length time_out message)) process given waits can = IsBegun.object (set.BufferSenders (natural_of buffer)) refl refl
+through_begun now channel (request.Buffer buffer (BufferOperation.Receive time_out)) process given waits can = IsBegun.object (set.BufferReceivers (natural_of buffer)) refl refl
+through_begun now channel (request.Blackboard blackboard (BlackboardOperation.Read time_out)) process given waits can = IsBegun.object (set.BlackboardReaders (natural_of blackboard)) refl refl
+through_begun now channel (request.Semaphore semaphore (SemaphoreOperation.Wait time_out)) process given waits can = IsBegun.object (set.SemaphoreWaiters (natural_of semaphore)) refl refl
+through_begun now channel (request.Event event (EventOperation.Wait time_out)) process given waits can = IsBegun.object (set.EventWaiters (natural_of event)) refl refl
+through_begun now channel (request.Mutex mutex (MutexOperation.Acquire time_out)) process given waits can = IsBegun.object (set.MutexWaiters (natural_of mutex)) refl refl
 through_begun now channel (request.CreateProcess name priority period) process given waits can = absurd (subst (CanHave (request.CreateProcess name priority period)) waits can)
-through_begun now channel (request.InitializeProcessCoreAffinity process_number core) process given waits can = absurd (subst (CanHave (request.InitializeProcessCoreAffinity process_number core)) waits can)
-through_begun now channel (request.Start process_number) process given waits can = absurd (subst (CanHave (request.Start process_number)) waits can)
-through_begun now channel (request.Stop process_number) process given waits can = absurd (subst (CanHave (request.Stop process_number)) waits can)
-through_begun now channel (request.Suspend process_number) process given waits can = absurd (subst (CanHave (request.Suspend process_number)) waits can)
-through_begun now channel (request.Resume process_number) process given waits can = absurd (subst (CanHave (request.Resume process_number)) waits can)
-through_begun now channel (request.SetPriority process_number priority) process given waits can = absurd (subst (CanHave (request.SetPriority process_number priority)) waits can)
+through_begun now channel (request.Process process_number (ProcessOperation.InitializeCoreAffinity core)) process given waits can = absurd (subst (CanHave (request.Process process_number (ProcessOperation.InitializeCoreAffinity core))) waits can)
+through_begun now channel (request.Process process_number ProcessOperation.Start) process given waits can = absurd (subst (CanHave (request.Process process_number ProcessOperation.Start)) waits can)
+through_begun now channel (request.Process process_number ProcessOperation.Stop) process given waits can = absurd (subst (CanHave (request.Process process_number ProcessOperation.Stop)) waits can)
+through_begun now channel (request.Process process_number ProcessOperation.Suspend) process given waits can = absurd (subst (CanHave (request.Process process_number ProcessOperation.Suspend)) waits can)
+through_begun now channel (request.Process process_number ProcessOperation.Resume) process given waits can = absurd (subst (CanHave (request.Process process_number ProcessOperation.Resume)) waits can)
+through_begun now channel (request.Process process_number (ProcessOperation.SetPriority priority)) process given waits can = absurd (subst (CanHave (request.Process process_number (ProcessOperation.SetPriority priority))) waits can)
 through_begun now channel (request.SetPartitionMode mode) process given waits can = absurd (subst (CanHave (request.SetPartitionMode mode)) waits can)
-through_begun now channel (request.CreateBuffer name size capacity discipline) process given waits can = absurd (subst (CanHave (request.CreateBuffer name size capacity discipline)) waits can)
-through_begun now channel (request.CreateBlackboard name size) process given waits can = absurd (subst (CanHave (request.CreateBlackboard name size)) waits can)
-through_begun now channel (request.DisplayBlackboard blackboard length message) process given waits can = absurd (subst (CanHave (request.DisplayBlackboard blackboard length message)) waits can)
-through_begun now channel (request.ClearBlackboard blackboard) process given waits can = absurd (subst (CanHave (request.ClearBlackboard blackboard)) waits can)
-through_begun now channel (request.CreateSemaphore name value maximum discipline) process given waits can = absurd (subst (CanHave (request.CreateSemaphore name value maximum discipline)) waits can)
-through_begun now channel (request.SignalSemaphore semaphore) process given waits can = absurd (subst (CanHave (request.SignalSemaphore semaphore)) waits can)
-through_begun now channel (request.CreateEvent name) process given waits can = absurd (subst (CanHave (request.CreateEvent name)) waits can)
-through_begun now channel (request.SetEvent event) process given waits can = absurd (subst (CanHave (request.SetEvent event)) waits can)
-through_begun now channel (request.ResetEvent event) process given waits can = absurd (subst (CanHave (request.ResetEvent event)) waits can)
-through_begun now channel (request.CreateMutex name priority discipline) process given waits can = absurd (subst (CanHave (request.CreateMutex name priority discipline)) waits can)
-through_begun now channel (request.ReleaseMutex mutex) process given waits can = absurd (subst (CanHave (request.ReleaseMutex mutex)) waits can)
-through_begun now channel (request.CreateSamplingPort name size direction refresh) process given waits can = absurd (subst (CanHave (request.CreateSamplingPort name size direction refresh)) waits can)
-through_begun now channel (request.WriteSamplingMessage port length message) process given waits can = absurd (subst (CanHave (request.WriteSamplingMessage port length message)) waits can)
-through_begun now channel (request.ReadSamplingMessage port) process given waits can = absurd (subst (CanHave (request.ReadSamplingMessage port)) waits can)
-through_begun now channel (request.CreateQueuingPort name size capacity both) process given waits can = absurd (subst (CanHave (request.CreateQueuingPort name size capacity both)) waits can)
-through_begun now channel request.StopSelf process given waits can = absurd (subst (CanHave request.StopSelf) waits can)
-through_begun now channel request.GetMyId process given waits can = absurd (subst (CanHave request.GetMyId) waits can)
-through_begun now channel request.GetTime process given waits can = absurd (subst (CanHave request.GetTime) waits can)
+through_begun now channel (request.Create name (NewObject.Buffer size capacity discipline)) process given waits can = absurd (subst (CanHave (request.Create name (NewObject.Buffer size capacity discipline))) waits can)
+through_begun now channel (request.Create name (NewObject.Blackboard size)) process given waits can = absurd (subst (CanHave (request.Create name (NewObject.Blackboard size))) waits can)
+through_begun now channel (request.Blackboard blackboard (BlackboardOperation.Display length message)) process given waits can = absurd (subst (CanHave (request.Blackboard blackboard (BlackboardOperation.Display length message))) waits can)
+through_begun now channel (request.Blackboard blackboard BlackboardOperation.Clear) process given waits can = absurd (subst (CanHave (request.Blackboard blackboard BlackboardOperation.Clear)) waits can)
+through_begun now channel (request.Create name (NewObject.Semaphore value maximum discipline)) process given waits can = absurd (subst (CanHave (request.Create name (NewObject.Semaphore value maximum discipline))) waits can)
+through_begun now channel (request.Semaphore semaphore SemaphoreOperation.Signal) process given waits can = absurd (subst (CanHave (request.Semaphore semaphore SemaphoreOperation.Signal)) waits can)
+through_begun now channel (request.Create name NewObject.Event) process given waits can = absurd (subst (CanHave (request.Create name NewObject.Event)) waits can)
+through_begun now channel (request.Event event EventOperation.Set) process given waits can = absurd (subst (CanHave (request.Event event EventOperation.Set)) waits can)
+through_begun now channel (request.Event event EventOperation.Reset) process given waits can = absurd (subst (CanHave (request.Event event EventOperation.Reset)) waits can)
+through_begun now channel (request.Create name (NewObject.Mutex priority discipline)) process given waits can = absurd (subst (CanHave (request.Create name (NewObject.Mutex priority discipline))) waits can)
+through_begun now channel (request.Mutex mutex MutexOperation.Release) process given waits can = absurd (subst (CanHave (request.Mutex mutex MutexOperation.Release)) waits can)
+through_begun now channel (request.Create name (NewObject.SamplingPort size direction refresh)) process given waits can = absurd (subst (CanHave (request.Create name (NewObject.SamplingPort size direction refresh))) waits can)
+through_begun now channel (request.SamplingPort port (SamplingOperation.Write length message)) process given waits can = absurd (subst (CanHave (request.SamplingPort port (SamplingOperation.Write length message))) waits can)
+through_begun now channel (request.SamplingPort port SamplingOperation.Read) process given waits can = absurd (subst (CanHave (request.SamplingPort port SamplingOperation.Read)) waits can)
+through_begun now channel (request.Create name (NewObject.QueuingPort size capacity way discipline)) process given waits can = absurd (subst (CanHave (request.Create name (NewObject.QueuingPort size capacity way discipline))) waits can)
+through_begun now channel (request.Caller CallerOperation.StopSelf) process given waits can = absurd (subst (CanHave (request.Caller CallerOperation.StopSelf)) waits can)
+through_begun now channel (request.Caller CallerOperation.GetMyId) process given waits can = absurd (subst (CanHave (request.Caller CallerOperation.GetMyId)) waits can)
+through_begun now channel (request.Caller CallerOperation.GetTime) process given waits can = absurd (subst (CanHave (request.Caller CallerOperation.GetTime)) waits can)
 through_begun now channel (request.GetId kind name) process given waits can = absurd (subst (CanHave (request.GetId kind name)) waits can)
 through_begun now channel (request.GetStatus kind object) process given waits can = absurd (subst (CanHave (request.GetStatus kind object)) waits can)
 
@@ -262,8 +267,8 @@ start_names_nobody (code ∷ codes) suited through claim has one named = nobody 
 not_started : (configuration : Configuration) (now : ℕ) (who : Who) (partition : Partition) (asked : Request) (suited : ℕ → Bool) (through : ℕ → Answer) (claim : Claim)
     → HasOutcome (condition_codes configuration who partition asked) (channel_of partition asked) (answer_of now who partition asked) suited through claim
     → (one : Who) → is_named one claim.woken ≡ true → (number : ℕ) → IsNotStarted asked number
-not_started configuration now who partition (request.Start process) suited through claim has one named number =
-    absurd (start_names_nobody (condition_codes configuration who partition (request.Start process)) suited through claim has one named)
+not_started configuration now who partition (request.Process process ProcessOperation.Start) suited through claim has one named number =
+    absurd (start_names_nobody (condition_codes configuration who partition (request.Process process ProcessOperation.Start)) suited through claim has one named)
 not_started configuration now who partition _ suited through claim has one named number = tt
 
 -- what the call sets leaves the wait of a process that it names

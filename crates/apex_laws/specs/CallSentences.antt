@@ -2,6 +2,7 @@
 -- sets, by which rule, and that the others stay.
 use Rattle.std.specs.Prelude.{◌≡◌, ℕ, ℤ, pos, List, [], Option, Some, None, false}
 use Rattle.apex_types.specs.declared.record.Who.{Who}
+use Rattle.apex_types.specs.declared.operation.{BlackboardOperation.BlackboardOperation, BufferOperation.BufferOperation, EventOperation.EventOperation, MutexOperation.MutexOperation, NewObject.NewObject, SamplingOperation.SamplingOperation, SemaphoreOperation.SemaphoreOperation}
 use Rattle.apex_types.specs.declared.request.Request.{Request}
 use Rattle.apex_types.specs.declared.request.Request.TheVariants as request
 use Rattle.apex_machine.specs.After.{is_valid}
@@ -35,7 +36,7 @@ pub record Creates {Object : Type 0} (before after : List (ℕ × Object)) (clai
 
 -- the services of objects, by the objects of the partition before and after, where no error condition holds
 abbrev pub IsObjectCall : Configuration → Who → Option ℤ → Request → Partition → Answer → Partition → Type 0
-IsObjectCall configuration who claimed (request.CreateBuffer name size capacity discipline) partition answer next =
+IsObjectCall configuration who claimed (request.Create name (NewObject.Buffer size capacity discipline)) partition answer next =
     (next ≡ record partition { buffers = next.buffers }) × Creates partition.buffers next.buffers claimed (record {
       name = name;
       size = natural_of size;
@@ -45,21 +46,21 @@ IsObjectCall configuration who claimed (request.CreateBuffer name size capacity 
       senders = [];
       receivers = [];
     }) answer
-IsObjectCall configuration who claimed (request.SendBuffer buffer length time_out message) partition answer next =
+IsObjectCall configuration who claimed (request.Buffer buffer (BufferOperation.Send length time_out message)) partition answer next =
     (next ≡ record partition { buffers = next.buffers }) × Operates partition.buffers next.buffers buffer (λ found. IsSending found.capacity message time_out found.discipline found.receivers found.messages)
     (λ found messages. record found { messages = messages }) answer
-IsObjectCall configuration who claimed (request.ReceiveBuffer buffer time_out) partition answer next =
+IsObjectCall configuration who claimed (request.Buffer buffer (BufferOperation.Receive time_out)) partition answer next =
     (next ≡ record partition { buffers = next.buffers }) × Operates partition.buffers next.buffers buffer (λ found. IsReceiving time_out found.discipline found.senders found.messages)
     (λ found messages. record found { messages = messages }) answer
-IsObjectCall configuration who claimed (request.CreateBlackboard name size) partition answer next =
+IsObjectCall configuration who claimed (request.Create name (NewObject.Blackboard size)) partition answer next =
     (next ≡ record partition { blackboards = next.blackboards }) × Creates partition.blackboards next.blackboards claimed (record { name = name; size = natural_of size; message = None; readers = [] }) answer
-IsObjectCall configuration who claimed (request.DisplayBlackboard blackboard length message) partition answer next =
+IsObjectCall configuration who claimed (request.Blackboard blackboard (BlackboardOperation.Display length message)) partition answer next =
     (next ≡ record partition { blackboards = next.blackboards }) × Operates partition.blackboards next.blackboards blackboard (λ found. IsDisplay message found.readers) (λ found message. record found { message = message }) answer
-IsObjectCall configuration who claimed (request.ReadBlackboard blackboard time_out) partition answer next =
+IsObjectCall configuration who claimed (request.Blackboard blackboard (BlackboardOperation.Read time_out)) partition answer next =
     (next ≡ record partition { blackboards = next.blackboards }) × Operates partition.blackboards next.blackboards blackboard (λ found. IsReading time_out found.message) (λ found message. record found { message = message }) answer
-IsObjectCall configuration who claimed (request.ClearBlackboard blackboard) partition answer next =
+IsObjectCall configuration who claimed (request.Blackboard blackboard BlackboardOperation.Clear) partition answer next =
     (next ≡ record partition { blackboards = next.blackboards }) × Operates partition.blackboards next.blackboards blackboard (λ found effect. IsClearing effect) (λ found message. record found { message = message }) answer
-IsObjectCall configuration who claimed (request.CreateSemaphore name value maximum discipline) partition answer next =
+IsObjectCall configuration who claimed (request.Create name (NewObject.Semaphore value maximum discipline)) partition answer next =
     (next ≡ record partition { semaphores = next.semaphores }) × Creates partition.semaphores next.semaphores claimed (record {
       name = name;
       maximum = natural_of maximum;
@@ -67,20 +68,20 @@ IsObjectCall configuration who claimed (request.CreateSemaphore name value maxim
       value = natural_of value;
       waiters = [];
     }) answer
-IsObjectCall configuration who claimed (request.WaitSemaphore semaphore time_out) partition answer next =
+IsObjectCall configuration who claimed (request.Semaphore semaphore (SemaphoreOperation.Wait time_out)) partition answer next =
     (next ≡ record partition { semaphores = next.semaphores }) × Operates partition.semaphores next.semaphores semaphore (λ found. IsSemaphoreWait time_out found.value) (λ found value. record found { value = value }) answer
-IsObjectCall configuration who claimed (request.SignalSemaphore semaphore) partition answer next =
+IsObjectCall configuration who claimed (request.Semaphore semaphore SemaphoreOperation.Signal) partition answer next =
     (next ≡ record partition { semaphores = next.semaphores }) × Operates partition.semaphores next.semaphores semaphore (λ found. IsSignal found.maximum found.discipline found.waiters found.value)
     (λ found value. record found { value = value }) answer
-IsObjectCall configuration who claimed (request.CreateEvent name) partition answer next =
+IsObjectCall configuration who claimed (request.Create name NewObject.Event) partition answer next =
     (next ≡ record partition { events = next.events }) × Creates partition.events next.events claimed (record { name = name; up = false; waiters = [] }) answer
-IsObjectCall configuration who claimed (request.SetEvent event) partition answer next =
+IsObjectCall configuration who claimed (request.Event event EventOperation.Set) partition answer next =
     (next ≡ record partition { events = next.events }) × Operates partition.events next.events event (λ found. IsSetting found.waiters) (λ found up. record found { up = up }) answer
-IsObjectCall configuration who claimed (request.ResetEvent event) partition answer next =
+IsObjectCall configuration who claimed (request.Event event EventOperation.Reset) partition answer next =
     (next ≡ record partition { events = next.events }) × Operates partition.events next.events event (λ found effect. IsResetting effect) (λ found up. record found { up = up }) answer
-IsObjectCall configuration who claimed (request.WaitEvent event time_out) partition answer next =
+IsObjectCall configuration who claimed (request.Event event (EventOperation.Wait time_out)) partition answer next =
     (next ≡ record partition { events = next.events }) × Operates partition.events next.events event (λ found. IsEventWait time_out found.up) (λ found up. record found { up = up }) answer
-IsObjectCall configuration who claimed (request.CreateMutex name priority discipline) partition answer next =
+IsObjectCall configuration who claimed (request.Create name (NewObject.Mutex priority discipline)) partition answer next =
     (next ≡ record partition { mutexes = next.mutexes }) × Creates partition.mutexes next.mutexes claimed (record {
       name = name;
       priority = natural_of priority;
@@ -89,21 +90,21 @@ IsObjectCall configuration who claimed (request.CreateMutex name priority discip
       count = 0;
       waiters = [];
     }) answer
-IsObjectCall configuration who claimed (request.AcquireMutex mutex time_out) partition answer next =
+IsObjectCall configuration who claimed (request.Mutex mutex (MutexOperation.Acquire time_out)) partition answer next =
     (next ≡ record partition { mutexes = next.mutexes }) × Operates partition.mutexes next.mutexes mutex (λ found. IsAcquiring who.proc time_out found) (λ found changed. changed) answer
-IsObjectCall configuration who claimed (request.ReleaseMutex mutex) partition answer next =
+IsObjectCall configuration who claimed (request.Mutex mutex MutexOperation.Release) partition answer next =
     (next ≡ record partition { mutexes = next.mutexes }) × Operates partition.mutexes next.mutexes mutex (λ found effect. IsReleasing found effect) (λ found changed. changed) answer
 -- a created port is as the configuration has it
-IsObjectCall configuration who claimed (request.CreateSamplingPort name size direction refresh) partition answer next =
+IsObjectCall configuration who claimed (request.Create name (NewObject.SamplingPort size direction refresh)) partition answer next =
     (next ≡ record partition { sampling_ports = next.sampling_ports })
     × ((port : SamplingPort) × (sampling_port configuration who.part name ≡ Some port)
     × Creates partition.sampling_ports next.sampling_ports claimed (record { name = name; size = port.size; direction = port.direction; channel = port.channel; valid = false }) answer)
-IsObjectCall configuration who claimed (request.CreateQueuingPort name size capacity both) partition answer next =
+IsObjectCall configuration who claimed (request.Create name (NewObject.QueuingPort size capacity way discipline)) partition answer next =
     (next ≡ record partition { queuing_ports = next.queuing_ports })
     × ((port : QueuingPort) × (queuing_port configuration who.part name ≡ Some port)
     × Creates partition.queuing_ports next.queuing_ports claimed (record { name = name; size = port.size; direction = port.direction; channel = port.channel; valid = false }) answer)
 -- the port at which a sample is read knows whether that is a valid one
-IsObjectCall configuration who claimed (request.ReadSamplingMessage port) partition answer next =
+IsObjectCall configuration who claimed (request.SamplingPort port SamplingOperation.Read) partition answer next =
     (next ≡ record partition { sampling_ports = next.sampling_ports })
     × ((number : ℕ) (found : Port) → port ≡ pos number → item_at partition.sampling_ports number ≡ Some found
     → OneBecomes partition.sampling_ports next.sampling_ports number (record found { valid = is_valid claimed }))

@@ -9,8 +9,10 @@ use Rattle.apex_types.specs.declared.discipline.Discipline.TheVariants as discip
 use Rattle.apex_types.specs.declared.object_kind.ObjectKind.{ObjectKind}
 use Rattle.apex_types.specs.declared.object_kind.ObjectKind.TheVariants as kind
 use Rattle.apex_types.specs.declared.record.Who.{Who}
+use Rattle.apex_types.specs.declared.operation.{BlackboardOperation.BlackboardOperation, BufferOperation.BufferOperation, CallerOperation.CallerOperation, EventOperation.EventOperation, MutexOperation.MutexOperation, NewObject.NewObject, ProcessOperation.ProcessOperation, QueuingOperation.QueuingOperation, SamplingOperation.SamplingOperation, SemaphoreOperation.SemaphoreOperation}
 use Rattle.apex_types.specs.declared.request.Request.{Request}
 use Rattle.apex_types.specs.declared.request.Request.TheVariants as request
+use Rattle.apex_types.specs.Requested.{kind_of}
 use Rattle.apex_machine.specs.declared.state.Direction.{Direction}
 use Rattle.apex_machine.specs.declared.state.Direction.TheVariants as direction
 use Rattle.apex_machine.specs.declared.state.Mode.TheVariants as mode
@@ -18,7 +20,7 @@ use Rattle.apex_machine.specs.declared.state.Process.{Process}
 use Rattle.apex_machine.specs.declared.state.Wait.TheVariants as wait
 use Rattle.apex_machine.specs.Channels.{QueuingPort, SamplingPort, queuing_port, sampling_port}
 use Rattle.apex_machine.specs.Configuration.{Configuration, PartitionLimits, limits_of, object_limit, period_of, process_limit}
-use Rattle.apex_machine.specs.State.{Blackboard, Buffer, Event, Mutex, Partition, Port, Semaphore, item_at}
+use Rattle.apex_machine.specs.State.{Blackboard, Buffer, Mutex, Partition, Port, item_at, name_in, objects_of}
 
 -- the numbers that a caller gives
 
@@ -97,13 +99,7 @@ OneIsNamed {Object} name name_of objects = (entry : ℕ × Object) × Contains o
 
 -- one of the objects or ports of a kind has this name
 abbrev pub OneOfKindIsNamed : Partition → ObjectKind → List ℕ → Type 0
-OneOfKindIsNamed partition kind.Buffer name = OneIsNamed name (λ (buffer : Buffer). buffer.name) partition.buffers
-OneOfKindIsNamed partition kind.Blackboard name = OneIsNamed name (λ (blackboard : Blackboard). blackboard.name) partition.blackboards
-OneOfKindIsNamed partition kind.Semaphore name = OneIsNamed name (λ (semaphore : Semaphore). semaphore.name) partition.semaphores
-OneOfKindIsNamed partition kind.Event name = OneIsNamed name (λ (event : Event). event.name) partition.events
-OneOfKindIsNamed partition kind.Mutex name = OneIsNamed name (λ (mutex : Mutex). mutex.name) partition.mutexes
-OneOfKindIsNamed partition kind.SamplingPort name = OneIsNamed name (λ (port : Port). port.name) partition.sampling_ports
-OneOfKindIsNamed partition kind.QueuingPort name = OneIsNamed name (λ (port : Port). port.name) partition.queuing_ports
+OneOfKindIsNamed partition kind name = OneIsNamed name (name_in kind) (objects_of partition kind)
 
 -- what the configuration says
 
@@ -112,12 +108,10 @@ abbrev pub IsDirection : Direction → ℤ → Type 0
 IsDirection direction.Source given = given ≡ pos 0
 IsDirection direction.Destination given = given ≡ pos 1
 
--- a number tells the direction and the discipline of a queuing port: 0 and 1 by FIFO, 2 and 3 by priority
-abbrev pub IsDirectionAndDiscipline : Direction → Discipline → ℤ → Type 0
-IsDirectionAndDiscipline direction.Source discipline.Fifo given = given ≡ pos 0
-IsDirectionAndDiscipline direction.Destination discipline.Fifo given = given ≡ pos 1
-IsDirectionAndDiscipline direction.Source discipline.Priority given = given ≡ pos 2
-IsDirectionAndDiscipline direction.Destination discipline.Priority given = given ≡ pos 3
+-- a number tells a discipline: 0 by FIFO, 1 by priority
+abbrev pub TellsDiscipline : Discipline → ℤ → Type 0
+TellsDiscipline discipline.Fifo given = given ≡ pos 0
+TellsDiscipline discipline.Priority given = given ≡ pos 1
 
 -- a core of a partition
 pub record IsCoreOf (configuration : Configuration) (partition : ℕ) (given : ℤ) : Type 0 where
@@ -137,103 +131,72 @@ pub record IsSamplingPort (configuration : Configuration) (partition : ℕ) (nam
   pub has_refresh : port.direction ≡ direction.Destination → refresh ≡ pos port.refresh
 
 -- a queuing port of this name is configured for the partition with this size, number of messages, direction and discipline
-pub record IsQueuingPort (configuration : Configuration) (partition : ℕ) (name : List ℕ) (size capacity both : ℤ) : Type 0 where
+pub record IsQueuingPort (configuration : Configuration) (partition : ℕ) (name : List ℕ) (size capacity way order : ℤ) : Type 0 where
   pub port : QueuingPort
   pub configured : queuing_port configuration partition name ≡ Some port
   pub has_size : size ≡ pos port.size
   pub has_capacity : capacity ≡ pos port.capacity
-  pub has_both : IsDirectionAndDiscipline port.direction port.discipline both
+  pub has_direction : IsDirection port.direction way
+  pub has_discipline : TellsDiscipline port.discipline order
 
 -- the shared conditions, by service
 
 -- the process or the object that a service names is not created
 abbrev pub NamesNothing : Partition → Request → Type 0
-NamesNothing partition (request.InitializeProcessCoreAffinity process core) = NamesNoProcess partition process
-NamesNothing partition (request.Start process) = NamesNoProcess partition process
-NamesNothing partition (request.Stop process) = NamesNoProcess partition process
-NamesNothing partition (request.Suspend process) = NamesNoProcess partition process
-NamesNothing partition (request.Resume process) = NamesNoProcess partition process
-NamesNothing partition (request.SetPriority process priority) = NamesNoProcess partition process
-NamesNothing partition (request.SendBuffer buffer length time_out message) = NamesNone partition.buffers buffer
-NamesNothing partition (request.ReceiveBuffer buffer time_out) = NamesNone partition.buffers buffer
-NamesNothing partition (request.DisplayBlackboard blackboard length message) = NamesNone partition.blackboards blackboard
-NamesNothing partition (request.ReadBlackboard blackboard time_out) = NamesNone partition.blackboards blackboard
-NamesNothing partition (request.ClearBlackboard blackboard) = NamesNone partition.blackboards blackboard
-NamesNothing partition (request.WaitSemaphore semaphore time_out) = NamesNone partition.semaphores semaphore
-NamesNothing partition (request.SignalSemaphore semaphore) = NamesNone partition.semaphores semaphore
-NamesNothing partition (request.SetEvent event) = NamesNone partition.events event
-NamesNothing partition (request.ResetEvent event) = NamesNone partition.events event
-NamesNothing partition (request.WaitEvent event time_out) = NamesNone partition.events event
-NamesNothing partition (request.AcquireMutex mutex time_out) = NamesNone partition.mutexes mutex
-NamesNothing partition (request.ReleaseMutex mutex) = NamesNone partition.mutexes mutex
-NamesNothing partition (request.WriteSamplingMessage port length message) = NamesNone partition.sampling_ports port
-NamesNothing partition (request.ReadSamplingMessage port) = NamesNone partition.sampling_ports port
-NamesNothing partition (request.SendQueuingMessage port length time_out message) = NamesNone partition.queuing_ports port
-NamesNothing partition (request.ReceiveQueuingMessage port time_out) = NamesNone partition.queuing_ports port
-NamesNothing partition (request.GetStatus kind.Buffer object) = NamesNone partition.buffers object
-NamesNothing partition (request.GetStatus kind.Blackboard object) = NamesNone partition.blackboards object
-NamesNothing partition (request.GetStatus kind.Semaphore object) = NamesNone partition.semaphores object
-NamesNothing partition (request.GetStatus kind.Event object) = NamesNone partition.events object
-NamesNothing partition (request.GetStatus kind.Mutex object) = NamesNone partition.mutexes object
-NamesNothing partition (request.GetStatus kind.SamplingPort object) = NamesNone partition.sampling_ports object
-NamesNothing partition (request.GetStatus kind.QueuingPort object) = NamesNone partition.queuing_ports object
+NamesNothing partition (request.Process process operation) = NamesNoProcess partition process
+NamesNothing partition (request.Buffer buffer operation) = NamesNone partition.buffers buffer
+NamesNothing partition (request.Blackboard blackboard operation) = NamesNone partition.blackboards blackboard
+NamesNothing partition (request.Semaphore semaphore operation) = NamesNone partition.semaphores semaphore
+NamesNothing partition (request.Event event operation) = NamesNone partition.events event
+NamesNothing partition (request.Mutex mutex operation) = NamesNone partition.mutexes mutex
+NamesNothing partition (request.SamplingPort port operation) = NamesNone partition.sampling_ports port
+NamesNothing partition (request.QueuingPort port operation) = NamesNone partition.queuing_ports port
+NamesNothing partition (request.GetStatus kind object) = NamesNone (objects_of partition kind) object
 NamesNothing partition _ = ⊥
 
 -- a service that may wait at an object or a port, with this time-out
 abbrev pub WaitsFor : Request → ℤ → Type 0
-WaitsFor (request.SendBuffer buffer length given message) time_out = time_out ≡ given
-WaitsFor (request.ReceiveBuffer buffer given) time_out = time_out ≡ given
-WaitsFor (request.ReadBlackboard blackboard given) time_out = time_out ≡ given
-WaitsFor (request.WaitSemaphore semaphore given) time_out = time_out ≡ given
-WaitsFor (request.WaitEvent event given) time_out = time_out ≡ given
-WaitsFor (request.SendQueuingMessage port length given message) time_out = time_out ≡ given
-WaitsFor (request.ReceiveQueuingMessage port given) time_out = time_out ≡ given
+WaitsFor (request.Buffer buffer (BufferOperation.Send length given message)) time_out = time_out ≡ given
+WaitsFor (request.Buffer buffer (BufferOperation.Receive given)) time_out = time_out ≡ given
+WaitsFor (request.Blackboard blackboard (BlackboardOperation.Read given)) time_out = time_out ≡ given
+WaitsFor (request.Semaphore semaphore (SemaphoreOperation.Wait given)) time_out = time_out ≡ given
+WaitsFor (request.Event event (EventOperation.Wait given)) time_out = time_out ≡ given
+WaitsFor (request.QueuingPort port (QueuingOperation.Send length given message)) time_out = time_out ≡ given
+WaitsFor (request.QueuingPort port (QueuingOperation.Receive given)) time_out = time_out ≡ given
 WaitsFor _ time_out = ⊥
 
 -- a service that is given a time-out: SUSPEND_SELF, ACQUIRE_MUTEX, and those that may wait at an object or a port
 abbrev pub HasTimeOut : Request → ℤ → Type 0
-HasTimeOut (request.SuspendSelf given) time_out = time_out ≡ given
-HasTimeOut (request.AcquireMutex mutex given) time_out = time_out ≡ given
+HasTimeOut (request.Caller (CallerOperation.SuspendSelf given)) time_out = time_out ≡ given
+HasTimeOut (request.Mutex mutex (MutexOperation.Acquire given)) time_out = time_out ≡ given
 HasTimeOut asked time_out = WaitsFor asked time_out
 
 -- a service that sets a partition up: a creation, or INITIALIZE_PROCESS_CORE_AFFINITY
 abbrev pub IsSetUp : Request → Type 0
 IsSetUp (request.CreateProcess name priority period) = Unit {0}
-IsSetUp (request.InitializeProcessCoreAffinity process core) = Unit {0}
-IsSetUp (request.CreateBuffer name size capacity discipline) = Unit {0}
-IsSetUp (request.CreateBlackboard name size) = Unit {0}
-IsSetUp (request.CreateSemaphore name value maximum discipline) = Unit {0}
-IsSetUp (request.CreateEvent name) = Unit {0}
-IsSetUp (request.CreateMutex name priority discipline) = Unit {0}
-IsSetUp (request.CreateSamplingPort name size direction refresh) = Unit {0}
-IsSetUp (request.CreateQueuingPort name size capacity both) = Unit {0}
+IsSetUp (request.Process process (ProcessOperation.InitializeCoreAffinity core)) = Unit {0}
+IsSetUp (request.Create name object) = Unit {0}
 IsSetUp _ = ⊥
 
 -- one of the kind that a service creates has the name already
 abbrev pub NameIsTaken : Partition → Request → Type 0
 NameIsTaken partition (request.CreateProcess name priority period) = OneIsNamed name (λ (process : Process). process.name) partition.table
-NameIsTaken partition (request.CreateBuffer name size capacity discipline) = OneIsNamed name (λ (buffer : Buffer). buffer.name) partition.buffers
-NameIsTaken partition (request.CreateBlackboard name size) = OneIsNamed name (λ (blackboard : Blackboard). blackboard.name) partition.blackboards
-NameIsTaken partition (request.CreateSemaphore name value maximum discipline) = OneIsNamed name (λ (semaphore : Semaphore). semaphore.name) partition.semaphores
-NameIsTaken partition (request.CreateEvent name) = OneIsNamed name (λ (event : Event). event.name) partition.events
-NameIsTaken partition (request.CreateMutex name priority discipline) = OneIsNamed name (λ (mutex : Mutex). mutex.name) partition.mutexes
-NameIsTaken partition (request.CreateSamplingPort name size direction refresh) = OneIsNamed name (λ (port : Port). port.name) partition.sampling_ports
-NameIsTaken partition (request.CreateQueuingPort name size capacity both) = OneIsNamed name (λ (port : Port). port.name) partition.queuing_ports
+NameIsTaken partition (request.Create name object) = OneOfKindIsNamed partition (kind_of object) name
 NameIsTaken partition _ = ⊥
 
--- as many are created of the kind that a service creates as the partition of this number may create, the initialising process not counted; ports are
--- configured one by one
+-- as many objects of a kind are created as the partition of this number may create; ports are configured one by one
+abbrev pub KindIsFull : Configuration → ℕ → Partition → ObjectKind → Type 0
+KindIsFull configuration number partition kind.Buffer = object_limit configuration (λ limits. limits.buffers) number ≤ length partition.buffers
+KindIsFull configuration number partition kind.Blackboard = object_limit configuration (λ limits. limits.blackboards) number ≤ length partition.blackboards
+KindIsFull configuration number partition kind.Semaphore = object_limit configuration (λ limits. limits.semaphores) number ≤ length partition.semaphores
+KindIsFull configuration number partition kind.Event = object_limit configuration (λ limits. limits.events) number ≤ length partition.events
+KindIsFull configuration number partition kind.Mutex = object_limit configuration (λ limits. limits.mutexes) number ≤ length partition.mutexes
+KindIsFull configuration number partition _ = ⊥
+
+-- as many are created of the kind that a service creates as the partition may create, the initialising process not counted
 abbrev pub AllAreCreated : Configuration → ℕ → Partition → Request → Type 0
 AllAreCreated configuration number partition (request.CreateProcess name priority period) = process_limit configuration number ≤ length partition.table - 1
-AllAreCreated configuration number partition (request.CreateBuffer name size capacity discipline) =
-    object_limit configuration (λ limits. limits.buffers) number ≤ length partition.buffers
-AllAreCreated configuration number partition (request.CreateBlackboard name size) =
-    object_limit configuration (λ limits. limits.blackboards) number ≤ length partition.blackboards
-AllAreCreated configuration number partition (request.CreateSemaphore name value maximum discipline) =
-    object_limit configuration (λ limits. limits.semaphores) number ≤ length partition.semaphores
-AllAreCreated configuration number partition (request.CreateEvent name) = object_limit configuration (λ limits. limits.events) number ≤ length partition.events
-AllAreCreated configuration number partition (request.CreateMutex name priority discipline) =
-    object_limit configuration (λ limits. limits.mutexes) number ≤ length partition.mutexes
+AllAreCreated configuration number partition (request.Create name object) = KindIsFull configuration number partition (kind_of object)
 AllAreCreated configuration number partition _ = ⊥
 
 -- an error condition of a service holds for a call of this process in this state of its partition, and has this code. STOP_SELF and
@@ -255,95 +218,95 @@ module _ (configuration : Configuration) (who : Who) (partition : Partition) whe
     create_process_multiple : {name : List ℕ} {priority period : ℤ} → pos 0 <ℤ period → ¬ IsMultipleOf (period_of configuration who.part) period
         → HasCondition (request.CreateProcess name priority period) code.InvalidConfig
     -- INITIALIZE_PROCESS_CORE_AFFINITY: not a core of the partition
-    affinity_core : {process core : ℤ} → ¬ IsCoreOf configuration who.part core → HasCondition (request.InitializeProcessCoreAffinity process core) code.InvalidConfig
+    affinity_core : {process core : ℤ} → ¬ IsCoreOf configuration who.part core → HasCondition (request.Process process (ProcessOperation.InitializeCoreAffinity core)) code.InvalidConfig
     -- START: not dormant
-    start_alive : {process : ℤ} (found : Process) → IsProcess partition process found → IsTrue found.alive → HasCondition (request.Start process) code.NoAction
+    start_alive : {process : ℤ} (found : Process) → IsProcess partition process found → IsTrue found.alive → HasCondition (request.Process process ProcessOperation.Start) code.NoAction
     -- STOP: the caller's own number; a dormant process
-    stop_itself : {process : ℤ} → process ≡ pos who.proc → HasCondition (request.Stop process) code.InvalidParam
-    stop_dormant : {process : ℤ} (found : Process) → IsProcess partition process found → IsFalse found.alive → HasCondition (request.Stop process) code.NoAction
+    stop_itself : {process : ℤ} → process ≡ pos who.proc → HasCondition (request.Process process ProcessOperation.Stop) code.InvalidParam
+    stop_dormant : {process : ℤ} (found : Process) → IsProcess partition process found → IsFalse found.alive → HasCondition (request.Process process ProcessOperation.Stop) code.NoAction
     -- SUSPEND: the caller's own number; a dormant process; a periodic one; one that is suspended
-    suspend_itself : {process : ℤ} → process ≡ pos who.proc → HasCondition (request.Suspend process) code.InvalidParam
-    suspend_dormant : {process : ℤ} (found : Process) → IsProcess partition process found → IsFalse found.alive → HasCondition (request.Suspend process) code.InvalidMode
-    suspend_periodic : {process : ℤ} (found : Process) → IsProcess partition process found → IsPeriodic found → HasCondition (request.Suspend process) code.InvalidMode
-    suspend_suspended : {process : ℤ} (found : Process) → IsProcess partition process found → IsSuspended found → HasCondition (request.Suspend process) code.NoAction
+    suspend_itself : {process : ℤ} → process ≡ pos who.proc → HasCondition (request.Process process ProcessOperation.Suspend) code.InvalidParam
+    suspend_dormant : {process : ℤ} (found : Process) → IsProcess partition process found → IsFalse found.alive → HasCondition (request.Process process ProcessOperation.Suspend) code.InvalidMode
+    suspend_periodic : {process : ℤ} (found : Process) → IsProcess partition process found → IsPeriodic found → HasCondition (request.Process process ProcessOperation.Suspend) code.InvalidMode
+    suspend_suspended : {process : ℤ} (found : Process) → IsProcess partition process found → IsSuspended found → HasCondition (request.Process process ProcessOperation.Suspend) code.NoAction
     -- SUSPEND_SELF: a periodic process; one that may not wait
-    suspend_self_periodic : {time_out : ℤ} → IsCalledByPeriodic who partition → HasCondition (request.SuspendSelf time_out) code.InvalidMode
-    suspend_self_waits : {time_out : ℤ} → MayNotWait who partition → HasCondition (request.SuspendSelf time_out) code.InvalidMode
+    suspend_self_periodic : {time_out : ℤ} → IsCalledByPeriodic who partition → HasCondition (request.Caller (CallerOperation.SuspendSelf time_out)) code.InvalidMode
+    suspend_self_waits : {time_out : ℤ} → MayNotWait who partition → HasCondition (request.Caller (CallerOperation.SuspendSelf time_out)) code.InvalidMode
     -- RESUME: the caller's own number; a dormant process; a periodic one; one that is alive and not suspended
-    resume_itself : {process : ℤ} → process ≡ pos who.proc → HasCondition (request.Resume process) code.InvalidParam
-    resume_dormant : {process : ℤ} (found : Process) → IsProcess partition process found → IsFalse found.alive → HasCondition (request.Resume process) code.InvalidMode
-    resume_periodic : {process : ℤ} (found : Process) → IsProcess partition process found → IsPeriodic found → HasCondition (request.Resume process) code.InvalidMode
+    resume_itself : {process : ℤ} → process ≡ pos who.proc → HasCondition (request.Process process ProcessOperation.Resume) code.InvalidParam
+    resume_dormant : {process : ℤ} (found : Process) → IsProcess partition process found → IsFalse found.alive → HasCondition (request.Process process ProcessOperation.Resume) code.InvalidMode
+    resume_periodic : {process : ℤ} (found : Process) → IsProcess partition process found → IsPeriodic found → HasCondition (request.Process process ProcessOperation.Resume) code.InvalidMode
     resume_running : {process : ℤ} (found : Process) → IsProcess partition process found → IsTrue found.alive → ¬ IsSuspended found
-        → HasCondition (request.Resume process) code.NoAction
+        → HasCondition (request.Process process ProcessOperation.Resume) code.NoAction
     -- SET_PRIORITY: no priority; a dormant process
-    set_priority_priority : {process priority : ℤ} → ¬ IsPriority priority → HasCondition (request.SetPriority process priority) code.InvalidParam
+    set_priority_priority : {process priority : ℤ} → ¬ IsPriority priority → HasCondition (request.Process process (ProcessOperation.SetPriority priority)) code.InvalidParam
     set_priority_dormant : {process priority : ℤ} (found : Process) → IsProcess partition process found → IsFalse found.alive
-        → HasCondition (request.SetPriority process priority) code.InvalidMode
+        → HasCondition (request.Process process (ProcessOperation.SetPriority priority)) code.InvalidMode
     -- GET_MY_ID: the initialising process
-    get_my_id_initialising : who.proc ≡ 0 → HasCondition request.GetMyId code.InvalidMode
+    get_my_id_initialising : who.proc ≡ 0 → HasCondition (request.Caller CallerOperation.GetMyId) code.InvalidMode
     -- TIMED_WAIT: a delay below 0; a process that may not wait
-    timed_wait_delay : {ticks : ℤ} → ticks <ℤ pos 0 → HasCondition (request.TimedWait ticks) code.InvalidParam
-    timed_wait_waits : {ticks : ℤ} → MayNotWait who partition → HasCondition (request.TimedWait ticks) code.InvalidMode
+    timed_wait_delay : {ticks : ℤ} → ticks <ℤ pos 0 → HasCondition (request.Caller (CallerOperation.TimedWait ticks)) code.InvalidParam
+    timed_wait_waits : {ticks : ℤ} → MayNotWait who partition → HasCondition (request.Caller (CallerOperation.TimedWait ticks)) code.InvalidMode
     -- PERIODIC_WAIT: not a periodic process; one that may not wait
-    periodic_wait_aperiodic : ¬ IsCalledByPeriodic who partition → HasCondition request.PeriodicWait code.InvalidMode
-    periodic_wait_waits : MayNotWait who partition → HasCondition request.PeriodicWait code.InvalidMode
+    periodic_wait_aperiodic : ¬ IsCalledByPeriodic who partition → HasCondition (request.Caller CallerOperation.PeriodicWait) code.InvalidMode
+    periodic_wait_waits : MayNotWait who partition → HasCondition (request.Caller CallerOperation.PeriodicWait) code.InvalidMode
     -- SET_PARTITION_MODE: a mode that is not 0 to 3; NORMAL, which is 3, in NORMAL; WARM_START, which is 2, in COLD_START
     set_mode_none : {next : ℤ} → ¬ IsFrom (pos 0) (pos 3) next → HasCondition (request.SetPartitionMode next) code.InvalidParam
     set_mode_normal : {next : ℤ} → next ≡ pos 3 → partition.mode ≡ mode.Normal → HasCondition (request.SetPartitionMode next) code.NoAction
     set_mode_warm : {next : ℤ} → next ≡ pos 2 → partition.mode ≡ mode.ColdStart → HasCondition (request.SetPartitionMode next) code.InvalidMode
     -- CREATE_BUFFER: no message size; a number of messages that is not 1 to 1,024; no discipline
-    create_buffer_size : {name : List ℕ} {size capacity given : ℤ} → ¬ IsSize size → HasCondition (request.CreateBuffer name size capacity given) code.InvalidParam
+    create_buffer_size : {name : List ℕ} {size capacity given : ℤ} → ¬ IsSize size → HasCondition (request.Create name (NewObject.Buffer size capacity given)) code.InvalidParam
     create_buffer_capacity : {name : List ℕ} {size capacity given : ℤ} → ¬ IsFrom (pos 1) (pos MOST_MESSAGES) capacity
-        → HasCondition (request.CreateBuffer name size capacity given) code.InvalidParam
-    create_buffer_discipline : {name : List ℕ} {size capacity given : ℤ} → ¬ IsDiscipline given → HasCondition (request.CreateBuffer name size capacity given) code.InvalidParam
+        → HasCondition (request.Create name (NewObject.Buffer size capacity given)) code.InvalidParam
+    create_buffer_discipline : {name : List ℕ} {size capacity given : ℤ} → ¬ IsDiscipline given → HasCondition (request.Create name (NewObject.Buffer size capacity given)) code.InvalidParam
     -- SEND_BUFFER: a message without a byte; one that is longer than the buffer's size
-    send_buffer_empty : {buffer length time_out : ℤ} {message : List ℕ} → length <ℤ pos 1 → HasCondition (request.SendBuffer buffer length time_out message) code.InvalidParam
+    send_buffer_empty : {buffer length time_out : ℤ} {message : List ℕ} → length <ℤ pos 1 → HasCondition (request.Buffer buffer (BufferOperation.Send length time_out message)) code.InvalidParam
     send_buffer_long : {buffer length time_out : ℤ} {message : List ℕ} (found : Buffer) → IsObject partition.buffers buffer found → pos found.size <ℤ length
-        → HasCondition (request.SendBuffer buffer length time_out message) code.InvalidParam
+        → HasCondition (request.Buffer buffer (BufferOperation.Send length time_out message)) code.InvalidParam
     -- CREATE_BLACKBOARD: no message size
-    create_blackboard_size : {name : List ℕ} {size : ℤ} → ¬ IsSize size → HasCondition (request.CreateBlackboard name size) code.InvalidParam
+    create_blackboard_size : {name : List ℕ} {size : ℤ} → ¬ IsSize size → HasCondition (request.Create name (NewObject.Blackboard size)) code.InvalidParam
     -- DISPLAY_BLACKBOARD: a message without a byte; one that is longer than the blackboard's size
-    display_empty : {blackboard length : ℤ} {message : List ℕ} → length <ℤ pos 1 → HasCondition (request.DisplayBlackboard blackboard length message) code.InvalidParam
+    display_empty : {blackboard length : ℤ} {message : List ℕ} → length <ℤ pos 1 → HasCondition (request.Blackboard blackboard (BlackboardOperation.Display length message)) code.InvalidParam
     display_long : {blackboard length : ℤ} {message : List ℕ} (found : Blackboard) → IsObject partition.blackboards blackboard found → pos found.size <ℤ length
-        → HasCondition (request.DisplayBlackboard blackboard length message) code.InvalidParam
+        → HasCondition (request.Blackboard blackboard (BlackboardOperation.Display length message)) code.InvalidParam
     -- CREATE_SEMAPHORE: a maximum that is not 1 to 32,767; a value that is not 0 to the maximum; no discipline
     create_semaphore_maximum : {name : List ℕ} {value maximum given : ℤ} → ¬ IsFrom (pos 1) (pos GREATEST_MAXIMUM) maximum
-        → HasCondition (request.CreateSemaphore name value maximum given) code.InvalidParam
+        → HasCondition (request.Create name (NewObject.Semaphore value maximum given)) code.InvalidParam
     create_semaphore_value : {name : List ℕ} {value maximum given : ℤ} → ¬ IsFrom (pos 0) maximum value
-        → HasCondition (request.CreateSemaphore name value maximum given) code.InvalidParam
-    create_semaphore_discipline : {name : List ℕ} {value maximum given : ℤ} → ¬ IsDiscipline given → HasCondition (request.CreateSemaphore name value maximum given) code.InvalidParam
+        → HasCondition (request.Create name (NewObject.Semaphore value maximum given)) code.InvalidParam
+    create_semaphore_discipline : {name : List ℕ} {value maximum given : ℤ} → ¬ IsDiscipline given → HasCondition (request.Create name (NewObject.Semaphore value maximum given)) code.InvalidParam
     -- CREATE_MUTEX: no priority; no discipline
-    create_mutex_priority : {name : List ℕ} {priority given : ℤ} → ¬ IsPriority priority → HasCondition (request.CreateMutex name priority given) code.InvalidParam
-    create_mutex_discipline : {name : List ℕ} {priority given : ℤ} → ¬ IsDiscipline given → HasCondition (request.CreateMutex name priority given) code.InvalidParam
+    create_mutex_priority : {name : List ℕ} {priority given : ℤ} → ¬ IsPriority priority → HasCondition (request.Create name (NewObject.Mutex priority given)) code.InvalidParam
+    create_mutex_discipline : {name : List ℕ} {priority given : ℤ} → ¬ IsDiscipline given → HasCondition (request.Create name (NewObject.Mutex priority given)) code.InvalidParam
     -- ACQUIRE_MUTEX: the initialising process; the owner of another mutex; a process whose current priority is above the mutex's
-    acquire_initialising : {mutex time_out : ℤ} → who.proc ≡ 0 → HasCondition (request.AcquireMutex mutex time_out) code.InvalidMode
-    acquire_second : {mutex time_out : ℤ} (held : ℕ) → Owns partition who.proc held → ¬ (mutex ≡ pos held) → HasCondition (request.AcquireMutex mutex time_out) code.InvalidMode
+    acquire_initialising : {mutex time_out : ℤ} → who.proc ≡ 0 → HasCondition (request.Mutex mutex (MutexOperation.Acquire time_out)) code.InvalidMode
+    acquire_second : {mutex time_out : ℤ} (held : ℕ) → Owns partition who.proc held → ¬ (mutex ≡ pos held) → HasCondition (request.Mutex mutex (MutexOperation.Acquire time_out)) code.InvalidMode
     acquire_above : {mutex time_out : ℤ} (found : Mutex) (process : Process) → IsObject partition.mutexes mutex found → IsCalledBy who partition process
-        → found.priority < process.current_priority → HasCondition (request.AcquireMutex mutex time_out) code.InvalidMode
+        → found.priority < process.current_priority → HasCondition (request.Mutex mutex (MutexOperation.Acquire time_out)) code.InvalidMode
     -- RELEASE_MUTEX: not by the owner
-    release_not_owner : {mutex : ℤ} (found : Mutex) → IsObject partition.mutexes mutex found → ¬ (found.owner ≡ Some who.proc) → HasCondition (request.ReleaseMutex mutex) code.InvalidMode
+    release_not_owner : {mutex : ℤ} (found : Mutex) → IsObject partition.mutexes mutex found → ¬ (found.owner ≡ Some who.proc) → HasCondition (request.Mutex mutex MutexOperation.Release) code.InvalidMode
     -- CREATE_SAMPLING_PORT, CREATE_QUEUING_PORT: no such port is configured
     create_sampling_port : {name : List ℕ} {size way refresh : ℤ} → ¬ IsSamplingPort configuration who.part name size way refresh
-        → HasCondition (request.CreateSamplingPort name size way refresh) code.InvalidConfig
-    create_queuing_port : {name : List ℕ} {size capacity both : ℤ} → ¬ IsQueuingPort configuration who.part name size capacity both
-        → HasCondition (request.CreateQueuingPort name size capacity both) code.InvalidConfig
+        → HasCondition (request.Create name (NewObject.SamplingPort size way refresh)) code.InvalidConfig
+    create_queuing_port : {name : List ℕ} {size capacity way order : ℤ} → ¬ IsQueuingPort configuration who.part name size capacity way order
+        → HasCondition (request.Create name (NewObject.QueuingPort size capacity way order)) code.InvalidConfig
     -- WRITE_SAMPLING_MESSAGE: a message without a byte; one that is longer than the port's size; a port that is no source
-    write_empty : {port length : ℤ} {message : List ℕ} → length <ℤ pos 1 → HasCondition (request.WriteSamplingMessage port length message) code.InvalidParam
+    write_empty : {port length : ℤ} {message : List ℕ} → length <ℤ pos 1 → HasCondition (request.SamplingPort port (SamplingOperation.Write length message)) code.InvalidParam
     write_long : {port length : ℤ} {message : List ℕ} (found : Port) → IsObject partition.sampling_ports port found → pos found.size <ℤ length
-        → HasCondition (request.WriteSamplingMessage port length message) code.InvalidConfig
+        → HasCondition (request.SamplingPort port (SamplingOperation.Write length message)) code.InvalidConfig
     write_no_source : {port length : ℤ} {message : List ℕ} (found : Port) → IsObject partition.sampling_ports port found → ¬ (found.direction ≡ direction.Source)
-        → HasCondition (request.WriteSamplingMessage port length message) code.InvalidMode
+        → HasCondition (request.SamplingPort port (SamplingOperation.Write length message)) code.InvalidMode
     -- READ_SAMPLING_MESSAGE: a port that is no destination
     read_no_destination : {port : ℤ} (found : Port) → IsObject partition.sampling_ports port found → ¬ (found.direction ≡ direction.Destination)
-        → HasCondition (request.ReadSamplingMessage port) code.InvalidMode
+        → HasCondition (request.SamplingPort port SamplingOperation.Read) code.InvalidMode
     -- SEND_QUEUING_MESSAGE: a message without a byte; one that is longer than the port's size; a port that is no source
-    send_empty : {port length time_out : ℤ} {message : List ℕ} → length <ℤ pos 1 → HasCondition (request.SendQueuingMessage port length time_out message) code.InvalidParam
+    send_empty : {port length time_out : ℤ} {message : List ℕ} → length <ℤ pos 1 → HasCondition (request.QueuingPort port (QueuingOperation.Send length time_out message)) code.InvalidParam
     send_long : {port length time_out : ℤ} {message : List ℕ} (found : Port) → IsObject partition.queuing_ports port found → pos found.size <ℤ length
-        → HasCondition (request.SendQueuingMessage port length time_out message) code.InvalidConfig
+        → HasCondition (request.QueuingPort port (QueuingOperation.Send length time_out message)) code.InvalidConfig
     send_no_source : {port length time_out : ℤ} {message : List ℕ} (found : Port) → IsObject partition.queuing_ports port found → ¬ (found.direction ≡ direction.Source)
-        → HasCondition (request.SendQueuingMessage port length time_out message) code.InvalidMode
+        → HasCondition (request.QueuingPort port (QueuingOperation.Send length time_out message)) code.InvalidMode
     -- RECEIVE_QUEUING_MESSAGE: a port that is no destination
     receive_no_destination : {port time_out : ℤ} (found : Port) → IsObject partition.queuing_ports port found → ¬ (found.direction ≡ direction.Destination)
-        → HasCondition (request.ReceiveQueuingMessage port time_out) code.InvalidMode
+        → HasCondition (request.QueuingPort port (QueuingOperation.Receive time_out)) code.InvalidMode
     -- GET_BUFFER_ID and its like: nothing of the kind has the name
     get_id_unnamed : {of : ObjectKind} {name : List ℕ} → ¬ OneOfKindIsNamed partition of name → HasCondition (request.GetId of name) code.InvalidConfig

@@ -6,10 +6,10 @@ use Rattle.apex_types.specs.declared.record.Out.{Out}
 use Rattle.apex_types.specs.declared.record.Out.TheVariants as out
 use Rattle.apex_types.specs.declared.record.Who.{Who}
 use Rattle.apex_machine.specs.declared.state.Entry.{Entry}
-use Rattle.apex_machine.specs.Answer.{Effect, Nothing, Number, waiters_of}
+use Rattle.apex_machine.specs.Answer.{Effect, Nothing, Number, waiters_of, effect_on}
 use Rattle.apex_machine.specs.Channels.{capacity_of, is_at_destination, is_at_source, receiving_discipline, refresh_of, sending_discipline}
 use Rattle.apex_machine.specs.Configuration.{Configuration}
-use Rattle.apex_machine.specs.Ports.{Ask, Receive, Read, Send, Use, Write, on_queuing, on_sampling}
+use Rattle.apex_machine.specs.Ports.{Ask, Receive, Read, Send, Use, Write}
 use Rattle.apex_machine.specs.Queue.{Messages}
 use Rattle.apex_machine.specs.State.{Channel, Content, Mutex, Queued, Sampled, Stamped}
 use Rattle.apex_machine.specs.Waiting.{IsFirst}
@@ -128,15 +128,15 @@ tells_channel messages waiting = record {
 -- gets how many wait there
 pub data IsUse (configuration : Configuration) (now number partition : ℕ) (channel : Channel) (how : Use) (effect : Effect Content) : Type 0 where
   writes : (message : List ℕ) (last : Option Stamped) (inner : Effect (Option Stamped)) → how ≡ Write message → channel.content ≡ Sampled last → IsWriting now message inner
-      → effect ≡ on_sampling inner → IsUse configuration now number partition channel how effect
+      → effect ≡ effect_on Sampled inner → IsUse configuration now number partition channel how effect
   samples : (last : Option Stamped) (inner : Effect (Option Stamped)) → how ≡ Read → channel.content ≡ Sampled last → IsSampling now (refresh_of configuration number) last inner
-      → effect ≡ on_sampling inner → IsUse configuration now number partition channel how effect
+      → effect ≡ effect_on Sampled inner → IsUse configuration now number partition channel how effect
   sends : (message : List ℕ) (time_out : ℤ) (messages : Messages) (inner : Effect Messages) → how ≡ Send message time_out → channel.content ≡ Queued messages
       → IsSending (capacity_of configuration number) message time_out (receiving_discipline configuration number) channel.receivers messages inner
-      → effect ≡ on_queuing inner → IsUse configuration now number partition channel how effect
+      → effect ≡ effect_on Queued inner → IsUse configuration now number partition channel how effect
   receives : (time_out : ℤ) (messages : Messages) (inner : Effect Messages) → how ≡ Receive time_out → channel.content ≡ Queued messages
       → IsReceiving time_out (sending_discipline configuration number) channel.senders messages inner
-      → effect ≡ on_queuing inner → IsUse configuration now number partition channel how effect
+      → effect ≡ effect_on Queued inner → IsUse configuration now number partition channel how effect
   asks_source : (messages : Messages) → how ≡ Ask → channel.content ≡ Queued messages → IsTrue (is_at_source configuration number partition)
       → effect ≡ tells_channel messages channel.senders → IsUse configuration now number partition channel how effect
   asks_destination : (messages : Messages) → how ≡ Ask → channel.content ≡ Queued messages → IsFalse (is_at_source configuration number partition)

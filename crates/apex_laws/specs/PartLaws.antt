@@ -1,12 +1,13 @@
 -- The laws on one partition alone, for the piece that holds it: from its own demands, whatever the other pieces do. Each is the
 -- contract of a function in `src/lib.rt`.
-use Rattle.std.specs.Prelude.{◌≡◌, ◌≤◌, ◌<◌, ℕ, ◌+◌, List, [], ◌∷◌, ◌++◌, Option, None, if◌then◌else◌, Bool, true, false, IsTrue, IsFalse, is_some, ◌&&◌, ◌||◌}
+use Rattle.std.specs.Prelude.{◌≡◌, ◌≤◌, ◌<◌, ℕ, ◌+◌, List, [], ◌∷◌, ◌++◌, Option, None, if◌then◌else◌, Bool, true, false, IsTrue, IsFalse, ◌||◌}
 use Rattle.apex_types.specs.declared.object_kind.ObjectKind.{ObjectKind}
 use Rattle.apex_types.specs.declared.record.Body.TheVariants.{Call, Disp, Ret, Tick}
 use Rattle.apex_types.specs.declared.record.Call.{Call as CallRecord}
 use Rattle.apex_types.specs.declared.record.Ordered.{Ordered}
 use Rattle.apex_types.specs.declared.record.Return.{Return}
 use Rattle.apex_types.specs.declared.record.Who.{Who}
+use Rattle.apex_types.specs.declared.operation.{BlackboardOperation.BlackboardOperation, EventOperation.EventOperation}
 use Rattle.apex_types.specs.declared.request.Request.{Request}
 use Rattle.apex_types.specs.declared.request.Request.TheVariants as request
 use Rattle.apex_machine.specs.declared.state.CoreState.{CoreState}
@@ -79,18 +80,14 @@ is_of_buffer number wanted = is_same_set (set.BufferSenders number) wanted || is
 -- whether a request uses a waiting set: one of the object that it names; CLEAR_BLACKBOARD and RESET_EVENT use none, and the sets
 -- that the services of queuing ports use are channels', which no partition holds
 abbrev pub is_set_used : Request → WaitingSet → Bool
-is_set_used (request.SendBuffer buffer length time_out message) wanted = is_of_buffer (natural_of buffer) wanted
-is_set_used (request.ReceiveBuffer buffer time_out) wanted = is_of_buffer (natural_of buffer) wanted
-is_set_used (request.DisplayBlackboard blackboard length message) wanted = is_same_set (set.BlackboardReaders (natural_of blackboard)) wanted
-is_set_used (request.ReadBlackboard blackboard time_out) wanted = is_same_set (set.BlackboardReaders (natural_of blackboard)) wanted
-is_set_used (request.WaitSemaphore semaphore time_out) wanted = is_same_set (set.SemaphoreWaiters (natural_of semaphore)) wanted
-is_set_used (request.SignalSemaphore semaphore) wanted = is_same_set (set.SemaphoreWaiters (natural_of semaphore)) wanted
-is_set_used (request.SetEvent event) wanted = is_same_set (set.EventWaiters (natural_of event)) wanted
-is_set_used (request.WaitEvent event time_out) wanted = is_same_set (set.EventWaiters (natural_of event)) wanted
-is_set_used (request.AcquireMutex mutex time_out) wanted = is_same_set (set.MutexWaiters (natural_of mutex)) wanted
-is_set_used (request.ReleaseMutex mutex) wanted = is_same_set (set.MutexWaiters (natural_of mutex)) wanted
-is_set_used (request.SendQueuingMessage port length time_out message) wanted = is_of_channel wanted
-is_set_used (request.ReceiveQueuingMessage port time_out) wanted = is_of_channel wanted
+is_set_used (request.Buffer buffer operation) wanted = is_of_buffer (natural_of buffer) wanted
+is_set_used (request.Blackboard blackboard BlackboardOperation.Clear) wanted = false
+is_set_used (request.Blackboard blackboard operation) wanted = is_same_set (set.BlackboardReaders (natural_of blackboard)) wanted
+is_set_used (request.Semaphore semaphore operation) wanted = is_same_set (set.SemaphoreWaiters (natural_of semaphore)) wanted
+is_set_used (request.Event event EventOperation.Reset) wanted = false
+is_set_used (request.Event event operation) wanted = is_same_set (set.EventWaiters (natural_of event)) wanted
+is_set_used (request.Mutex mutex operation) wanted = is_same_set (set.MutexWaiters (natural_of mutex)) wanted
+is_set_used (request.QueuingPort port operation) wanted = is_of_channel wanted
 is_set_used _ wanted = false
 
 -- an own call that stops no process leaves every waiting set that its request doesn't use

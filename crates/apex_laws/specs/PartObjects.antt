@@ -1,9 +1,12 @@
 -- What a call makes of the objects of its caller's partition: the one object that it names changes, with its waiting sets, and all
 -- others stay as they are.
 use Rattle.std.specs.Prelude.{◌≡◌, ℕ, ℤ, IsFalse, IsTrue, List, [], ◌∷◌, ◌++◌, Some, if◌then◌else◌}
+use Rattle.apex_types.specs.declared.object_kind.ObjectKind.{ObjectKind}
+use Rattle.apex_types.specs.declared.object_kind.ObjectKind.TheVariants as kind
 use Rattle.apex_types.specs.declared.record.Body.TheVariants.{Call, Tick}
 use Rattle.apex_types.specs.declared.record.Call.{Call as CallRecord}
 use Rattle.apex_types.specs.declared.record.Who.{Who}
+use Rattle.apex_types.specs.declared.operation.{NewObject.NewObject, ProcessOperation.ProcessOperation, SamplingOperation.SamplingOperation}
 use Rattle.apex_types.specs.declared.request.Request.{Request}
 use Rattle.apex_types.specs.declared.request.Request.TheVariants as request
 use Rattle.apex_machine.specs.declared.state.CoreState.{CoreState}
@@ -13,15 +16,15 @@ use Rattle.apex_machine.specs.declared.state.Wait.{Wait}
 use Rattle.apex_machine.specs.declared.state.Wait.TheVariants as wait
 use Rattle.apex_machine.specs.declared.state.WaitingSet.{WaitingSet}
 use Rattle.apex_machine.specs.declared.state.WaitingSet.TheVariants as set
-use Rattle.apex_machine.specs.After.{each_set, is_done, is_valid, new_blackboard, new_buffer, new_event, new_mutex, new_queuing_port, new_sampling_port, new_semaphore, numbered, objects_called}
+use Rattle.apex_machine.specs.After.{each_set, is_done, is_valid, new_blackboard, new_buffer, new_event, new_mutex, new_queuing_port, new_sampling_port, new_semaphore, numbered, objects_called, with_sets}
 use Rattle.apex_machine.specs.Arguments.{natural_of}
 use Rattle.apex_machine.specs.Channels.{queuing_port, sampling_port}
 use Rattle.apex_machine.specs.Configuration.{Configuration}
-use Rattle.apex_machine.specs.Objects.{acquired, buffer_received, buffer_sent, cleared, displayed, event_reset, event_set, mutex_released, semaphore_waited, signalled}
+use Rattle.apex_machine.specs.Objects.{blackboard_effect, buffer_effect, event_effect, mutex_effect, semaphore_effect}
 use Rattle.apex_machine.specs.Pieces.{stops_some}
 use Rattle.apex_machine.specs.Services.{peer}
-use Rattle.apex_machine.specs.State.{Partition, Port, Table, change_at, created, is_named, is_same}
-use Rattle.apex_machine.specs.Waiting.{first_waiter, is_in, is_no_error, set_after, without}
+use Rattle.apex_machine.specs.State.{ObjectOf, Partition, Port, Table, change_at, created, is_named, is_same}
+use Rattle.apex_machine.specs.Waiting.{is_in, is_no_error, set_after, without}
 use Rattle.apex_laws.specs.Laws.{entries_at}
 use Rattle.apex_laws.specs.PartLaws.{IsOwnCall, IsSoundPart}
 
@@ -29,99 +32,52 @@ use Rattle.apex_laws.specs.PartLaws.{IsOwnCall, IsSoundPart}
 abbrev pub created_if_done : {Object : Type 0} → CallRecord → Object → List (ℕ × Object) → List (ℕ × Object)
 created_if_done call new objects = if is_done call.claim.out then objects ++ numbered call.claim.val new else objects
 
--- the partition with the one object that a request names changed: what it holds as its rule leaves it, where the call is done, and
--- its waiting sets by whom the call lets go on and who enters; or with what it creates; any other request leaves all objects
+-- an object of a kind after the call: what it holds as its rule leaves it, where the call is done, and its waiting sets by whom the call
+-- lets go on and who enters
+abbrev pub used_by : (kind : ObjectKind) → ℕ → CallRecord → ℕ → (ObjectOf kind → ObjectOf kind) → ObjectOf kind → ObjectOf kind
+used_by kind place call number rule found = with_sets kind (set_after place (Call call)) number (if is_done call.claim.out then rule found else found)
+
+-- the partition with the one object that a request names changed, or with what it creates; any other request leaves all objects
 abbrev pub objects_changed : Configuration → ℕ → CallRecord → Request → Partition → Partition
-objects_changed configuration place call (request.SendBuffer buffer length time_out message) partition = record partition {
-  buffers = change_at (natural_of buffer) (λ found. record found {
-    messages = if is_done call.claim.out then (buffer_sent message time_out found).next else found.messages;
-    senders = set_after place (Call call) (set.BufferSenders (natural_of buffer)) found.senders;
-    receivers = set_after place (Call call) (set.BufferReceivers (natural_of buffer)) found.receivers;
-  }) partition.buffers;
+objects_changed configuration place call (request.Buffer buffer operation) partition = record partition {
+  buffers = change_at (natural_of buffer) (used_by kind.Buffer place call (natural_of buffer) (λ found. (buffer_effect operation found).next)) partition.buffers;
 }
-objects_changed configuration place call (request.ReceiveBuffer buffer time_out) partition = record partition {
-  buffers = change_at (natural_of buffer) (λ found. record found {
-    messages = if is_done call.claim.out then (buffer_received time_out found).next else found.messages;
-    senders = set_after place (Call call) (set.BufferSenders (natural_of buffer)) found.senders;
-    receivers = set_after place (Call call) (set.BufferReceivers (natural_of buffer)) found.receivers;
-  }) partition.buffers;
-}
-objects_changed configuration place call (request.DisplayBlackboard blackboard length message) partition = record partition {
-  blackboards = change_at (natural_of blackboard) (λ found. record found {
-    message = if is_done call.claim.out then (displayed message found.readers).next else found.message;
-    readers = set_after place (Call call) (set.BlackboardReaders (natural_of blackboard)) found.readers;
-  }) partition.blackboards;
-}
-objects_changed configuration place call (request.ReadBlackboard blackboard time_out) partition = record partition {
+objects_changed configuration place call (request.Blackboard blackboard operation) partition = record partition {
   blackboards = change_at (natural_of blackboard)
-      (λ found. record found { readers = set_after place (Call call) (set.BlackboardReaders (natural_of blackboard)) found.readers }) partition.blackboards;
+      (used_by kind.Blackboard place call (natural_of blackboard) (λ found. (blackboard_effect operation found).next)) partition.blackboards;
 }
-objects_changed configuration place call (request.ClearBlackboard blackboard) partition = record partition {
-  blackboards = change_at (natural_of blackboard)
-      (λ found. record found { message = if is_done call.claim.out then cleared.next else found.message }) partition.blackboards;
+objects_changed configuration place call (request.Semaphore semaphore operation) partition = record partition {
+  semaphores = change_at (natural_of semaphore)
+      (used_by kind.Semaphore place call (natural_of semaphore) (λ found. (semaphore_effect operation found).next)) partition.semaphores;
 }
-objects_changed configuration place call (request.WaitSemaphore semaphore time_out) partition = record partition {
-  semaphores = change_at (natural_of semaphore) (λ found. record found {
-    value = if is_done call.claim.out then (semaphore_waited time_out found.value).next else found.value;
-    waiters = set_after place (Call call) (set.SemaphoreWaiters (natural_of semaphore)) found.waiters;
-  }) partition.semaphores;
+objects_changed configuration place call (request.Event event operation) partition = record partition {
+  events = change_at (natural_of event) (used_by kind.Event place call (natural_of event) (λ found. (event_effect operation found).next)) partition.events;
 }
-objects_changed configuration place call (request.SignalSemaphore semaphore) partition = record partition {
-  semaphores = change_at (natural_of semaphore) (λ found. record found {
-    value = if is_done call.claim.out then (signalled found.maximum (first_waiter found.discipline found.waiters) found.value).next else found.value;
-    waiters = set_after place (Call call) (set.SemaphoreWaiters (natural_of semaphore)) found.waiters;
-  }) partition.semaphores;
-}
-objects_changed configuration place call (request.SetEvent event) partition = record partition {
-  events = change_at (natural_of event) (λ found. record found {
-    up = if is_done call.claim.out then (event_set found.waiters).next else found.up;
-    waiters = set_after place (Call call) (set.EventWaiters (natural_of event)) found.waiters;
-  }) partition.events;
-}
-objects_changed configuration place call (request.ResetEvent event) partition = record partition {
-  events = change_at (natural_of event) (λ found. record found { up = if is_done call.claim.out then event_reset.next else found.up }) partition.events;
-}
-objects_changed configuration place call (request.WaitEvent event time_out) partition = record partition {
-  events = change_at (natural_of event) (λ found. record found { waiters = set_after place (Call call) (set.EventWaiters (natural_of event)) found.waiters })
-      partition.events;
-}
-objects_changed configuration place call (request.AcquireMutex mutex time_out) partition = record partition {
-  mutexes = change_at (natural_of mutex) (λ found. record (if is_done call.claim.out then (acquired call.who.proc time_out found).next else found) {
-    waiters = set_after place (Call call) (set.MutexWaiters (natural_of mutex)) found.waiters;
-  }) partition.mutexes;
-}
-objects_changed configuration place call (request.ReleaseMutex mutex) partition = record partition {
+objects_changed configuration place call (request.Mutex mutex operation) partition = record partition {
   mutexes = change_at (natural_of mutex)
-      (λ found. record (if is_done call.claim.out then (mutex_released (first_waiter found.discipline found.waiters) found).next else found) {
-        waiters = set_after place (Call call) (set.MutexWaiters (natural_of mutex)) found.waiters;
-      }) partition.mutexes;
+      (used_by kind.Mutex place call (natural_of mutex) (λ found. (mutex_effect call.who.proc operation found).next)) partition.mutexes;
 }
-objects_changed configuration place call (request.CreateBuffer name size capacity discipline) partition = record partition {
-  buffers = created_if_done call (new_buffer name size capacity discipline) partition.buffers;
-}
-objects_changed configuration place call (request.CreateBlackboard name size) partition = record partition {
-  blackboards = created_if_done call (new_blackboard name size) partition.blackboards;
-}
-objects_changed configuration place call (request.CreateSemaphore name value maximum discipline) partition = record partition {
-  semaphores = created_if_done call (new_semaphore name value maximum discipline) partition.semaphores;
-}
-objects_changed configuration place call (request.CreateEvent name) partition = record partition {
-  events = created_if_done call (new_event name) partition.events;
-}
-objects_changed configuration place call (request.CreateMutex name priority discipline) partition = record partition {
-  mutexes = created_if_done call (new_mutex name priority discipline) partition.mutexes;
-}
-objects_changed configuration place call (request.CreateSamplingPort name size direction refresh) partition = record partition {
+objects_changed configuration place call (request.Create name (NewObject.Buffer size capacity discipline)) partition =
+    record partition { buffers = created_if_done call (new_buffer name size capacity discipline) partition.buffers }
+objects_changed configuration place call (request.Create name (NewObject.Blackboard size)) partition =
+    record partition { blackboards = created_if_done call (new_blackboard name size) partition.blackboards }
+objects_changed configuration place call (request.Create name (NewObject.Semaphore value maximum discipline)) partition =
+    record partition { semaphores = created_if_done call (new_semaphore name value maximum discipline) partition.semaphores }
+objects_changed configuration place call (request.Create name NewObject.Event) partition =
+    record partition { events = created_if_done call (new_event name) partition.events }
+objects_changed configuration place call (request.Create name (NewObject.Mutex priority discipline)) partition =
+    record partition { mutexes = created_if_done call (new_mutex name priority discipline) partition.mutexes }
+objects_changed configuration place call (request.Create name (NewObject.SamplingPort size direction refresh)) partition = record partition {
   sampling_ports = if is_done call.claim.out
       then partition.sampling_ports ++ new_sampling_port name call.claim.val (sampling_port configuration call.who.part name)
       else partition.sampling_ports;
 }
-objects_changed configuration place call (request.CreateQueuingPort name size capacity both) partition = record partition {
+objects_changed configuration place call (request.Create name (NewObject.QueuingPort size capacity direction discipline)) partition = record partition {
   queuing_ports = if is_done call.claim.out
       then partition.queuing_ports ++ new_queuing_port name call.claim.val (queuing_port configuration call.who.part name)
       else partition.queuing_ports;
 }
-objects_changed configuration place call (request.ReadSamplingMessage port) partition = record partition {
+objects_changed configuration place call (request.SamplingPort port SamplingOperation.Read) partition = record partition {
   sampling_ports = if is_done call.claim.out
       then change_at (natural_of port) (λ (found : Port). record found { valid = is_valid call.claim.val }) partition.sampling_ports
       else partition.sampling_ports;
@@ -175,7 +131,7 @@ left_by who _ partition = partition
 abbrev pub StoppedLeaves : Type 0
 StoppedLeaves =
     (configuration : Configuration) (number place core : ℕ) (cores : List CoreState) (partition : Partition) (call : CallRecord)
-    → IsOwnCall configuration number place core cores partition call → (process : ℤ) → call.request ≡ request.Stop process → IsTrue (is_no_error call.claim.out)
+    → IsOwnCall configuration number place core cores partition call → (process : ℤ) → call.request ≡ request.Process process ProcessOperation.Stop → IsTrue (is_no_error call.claim.out)
     → (target : Process) → created partition.table process ≡ Some target
     → ((wanted : WaitingSet) → set_after place (Call call) wanted (entries_at partition wanted) ≡ without_one (peer call.who process) (entries_at partition wanted))
     × ((wanted : WaitingSet) → IsFalse (is_in wanted target.wait) → set_after place (Call call) wanted (entries_at partition wanted) ≡ entries_at partition wanted)

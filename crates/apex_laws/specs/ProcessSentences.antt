@@ -5,6 +5,7 @@ use Rattle.apex_types.specs.declared.code.Code.TheVariants as code
 use Rattle.apex_types.specs.declared.record.Call.{Call as CallRecord}
 use Rattle.apex_types.specs.declared.record.Out.TheVariants as out
 use Rattle.apex_types.specs.declared.record.Who.{Who}
+use Rattle.apex_types.specs.declared.operation.{CallerOperation.CallerOperation, MutexOperation.MutexOperation, ProcessOperation.ProcessOperation}
 use Rattle.apex_types.specs.declared.request.Request.{Request}
 use Rattle.apex_types.specs.declared.request.Request.TheVariants as request
 use Rattle.apex_types.specs.declared.service.Service.{Service}
@@ -76,22 +77,22 @@ OnTarget process number Changed old new = ((process ≡ pos number) × Changed) 
 -- what a service sets in a process of its caller's partition, beside waits that end and its caller's wait and outcome
 abbrev pub IsSetBy : ℕ → ℕ → List CoreState → Partition → ℕ → Request → ℕ → Process → Process → Type 0
 -- the core on which it runs is the one given
-IsSetBy place period cores partition caller (request.InitializeProcessCoreAffinity process core) number old new =
+IsSetBy place period cores partition caller (request.Process process (ProcessOperation.InitializeCoreAffinity core)) number old new =
     OnTarget process number (new ≡ record old { affinity = natural_of core }) old new
-IsSetBy place period cores partition caller (request.Start process) number old new =
+IsSetBy place period cores partition caller (request.Process process ProcessOperation.Start) number old new =
     OnTarget process number (IsStarted place period (time_of cores old.affinity) partition.mode old new) old new
 -- it is marked
-IsSetBy place period cores partition caller (request.Suspend process) number old new = OnTarget process number (new ≡ record old { suspended = true }) old new
+IsSetBy place period cores partition caller (request.Process process ProcessOperation.Suspend) number old new = OnTarget process number (new ≡ record old { suspended = true }) old new
 -- the mark is cleared, and it is ready from this place on, where it waits for nothing
-IsSetBy place period cores partition caller (request.Resume process) number old new =
+IsSetBy place period cores partition caller (request.Process process ProcessOperation.Resume) number old new =
     OnTarget process number (new ≡ record old { suspended = false; ready_position = place }) old new
 -- the current priority is the one given, and the ready position is renewed
-IsSetBy place period cores partition caller (request.SetPriority process priority) number old new =
+IsSetBy place period cores partition caller (request.Process process (ProcessOperation.SetPriority priority)) number old new =
     OnTarget process number (new ≡ record old { current_priority = natural_of priority; ready_position = place }) old new
 IsSetBy place period cores partition caller (request.SetPartitionMode next) number old new = IsNormalEntered place period (time_of cores old.affinity) old new
-IsSetBy place period cores partition caller (request.AcquireMutex mutex time_out) number old new =
+IsSetBy place period cores partition caller (request.Mutex mutex (MutexOperation.Acquire time_out)) number old new =
     IsMutexChange (given_object partition.mutexes mutex) (λ found. (acquired caller time_out found).next) number old new
-IsSetBy place period cores partition caller (request.ReleaseMutex mutex) number old new =
+IsSetBy place period cores partition caller (request.Mutex mutex MutexOperation.Release) number old new =
     IsMutexChange (given_object partition.mutexes mutex) (λ found. (mutex_released (first_waiter found.discipline found.waiters) found).next) number old new
 -- any other service sets nothing
 IsSetBy place period cores partition caller _ number old new = new ≡ old
@@ -150,20 +151,20 @@ IsStopped old new = new ≡ record old { alive = false; suspended = false; wait 
 -- what a caller waits for: TIMED_WAIT for the delay, PERIODIC_WAIT for the next release, SUSPEND_SELF for a resumption, any other
 -- service in its waiting set; the last two until their time-out, if they have one
 pub data IsBegun (now : ℕ) (asked : Request) (chan : Option ℕ) (process : Process) (begun : Wait) : Type 0 where
-  delay : (ticks : ℕ) → asked ≡ request.TimedWait (pos ticks) → begun ≡ wait.Until (now + ticks) → IsBegun now asked chan process begun
-  release : asked ≡ request.PeriodicWait → begun ≡ wait.PeriodicRelease (next_release process) → IsBegun now asked chan process begun
-  suspension : (time_out : ℤ) → asked ≡ request.SuspendSelf time_out → begun ≡ wait.Suspended (due_time time_out now) → IsBegun now asked chan process begun
+  delay : (ticks : ℕ) → asked ≡ request.Caller (CallerOperation.TimedWait (pos ticks)) → begun ≡ wait.Until (now + ticks) → IsBegun now asked chan process begun
+  release : asked ≡ (request.Caller CallerOperation.PeriodicWait) → begun ≡ wait.PeriodicRelease (next_release process) → IsBegun now asked chan process begun
+  suspension : (time_out : ℤ) → asked ≡ request.Caller (CallerOperation.SuspendSelf time_out) → begun ≡ wait.Suspended (due_time time_out now) → IsBegun now asked chan process begun
   object : (set : WaitingSet) → set_of asked chan ≡ Some set → begun ≡ wait.At set (due_of_call (time_out_of asked) now) → IsBegun now asked chan process begun
 
 -- a call that puts its caller behind the others of its priority when it answers NO_ERROR
 abbrev pub Renews : Request → Type 0
-Renews (request.TimedWait ticks) = ticks ≡ pos 0
-Renews request.PeriodicWait = Unit {0}
+Renews (request.Caller (CallerOperation.TimedWait ticks)) = ticks ≡ pos 0
+Renews (request.Caller CallerOperation.PeriodicWait) = Unit {0}
 Renews _ = ⊥
 
 -- a caller that takes the release that it found reached
 abbrev pub taking : Request → Process → Process
-taking request.PeriodicWait process = record process { last_release = next_release process }
+taking (request.Caller CallerOperation.PeriodicWait) process = record process { last_release = next_release process }
 taking _ process = process
 
 -- the caller after its call: it waits; it is stopped; or its outcome is due, and where NO_ERROR answers a call that renews, its
@@ -219,20 +220,20 @@ pub data IsResuming (target : Who) (found : Option Process) (answer : Answer) : 
 -- what the caller of a service of process management or time gets, where no error condition holds; of the other services
 -- their objects' rules tell it
 abbrev pub IsAnswer : ℕ → Who → Partition → Request → Answer → Type 0
-IsAnswer now who partition request.StopSelf answer = answer ≡ never
-IsAnswer now who partition (request.SuspendSelf time_out) answer = IsOverOrWaits (time_out ≡ pos 0) answer
-IsAnswer now who partition (request.Resume process) answer = IsResuming (peer who process) (created partition.table process) answer
-IsAnswer now who partition request.GetMyId answer = answer ≡ done_with (Number (pos who.proc))
-IsAnswer now who partition (request.TimedWait ticks) answer = IsOverOrWaits (ticks ≡ pos 0) answer
-IsAnswer now who partition request.PeriodicWait answer = IsOverOrWaits (IsAtRelease now (item_at partition.table who.proc)) answer
-IsAnswer now who partition request.GetTime answer = answer ≡ done_with (Number (pos now))
+IsAnswer now who partition (request.Caller CallerOperation.StopSelf) answer = answer ≡ never
+IsAnswer now who partition (request.Caller (CallerOperation.SuspendSelf time_out)) answer = IsOverOrWaits (time_out ≡ pos 0) answer
+IsAnswer now who partition (request.Process process ProcessOperation.Resume) answer = IsResuming (peer who process) (created partition.table process) answer
+IsAnswer now who partition (request.Caller CallerOperation.GetMyId) answer = answer ≡ done_with (Number (pos who.proc))
+IsAnswer now who partition (request.Caller (CallerOperation.TimedWait ticks)) answer = IsOverOrWaits (ticks ≡ pos 0) answer
+IsAnswer now who partition (request.Caller CallerOperation.PeriodicWait) answer = IsOverOrWaits (IsAtRelease now (item_at partition.table who.proc)) answer
+IsAnswer now who partition (request.Caller CallerOperation.GetTime) answer = answer ≡ done_with (Number (pos now))
 IsAnswer now who partition (request.SetPartitionMode next) answer = answer ≡ never
 IsAnswer now who partition (request.CreateProcess name priority period) answer = answer ≡ done_with (NewNumber (is_free partition.table))
-IsAnswer now who partition (request.InitializeProcessCoreAffinity process core) answer = answer ≡ done
-IsAnswer now who partition (request.Start process) answer = answer ≡ done
-IsAnswer now who partition (request.Stop process) answer = answer ≡ done
-IsAnswer now who partition (request.Suspend process) answer = answer ≡ done
-IsAnswer now who partition (request.SetPriority process priority) answer = answer ≡ done
+IsAnswer now who partition (request.Process process (ProcessOperation.InitializeCoreAffinity core)) answer = answer ≡ done
+IsAnswer now who partition (request.Process process ProcessOperation.Start) answer = answer ≡ done
+IsAnswer now who partition (request.Process process ProcessOperation.Stop) answer = answer ≡ done
+IsAnswer now who partition (request.Process process ProcessOperation.Suspend) answer = answer ≡ done
+IsAnswer now who partition (request.Process process (ProcessOperation.SetPriority priority)) answer = answer ≡ done
 IsAnswer now who partition (request.GetId of name) answer = answer ≡ done_with (number_found (number_of partition of name))
 IsAnswer now who partition (request.GetStatus of number) answer = answer ≡ telling (status_of partition of number)
 IsAnswer now who partition asked answer = answer ≡ answer_of now who partition asked

@@ -1,7 +1,7 @@
 -- Which calls stand outside the profile, in sentences.
 use Rattle.std.specs.Prelude.{◌≡◌, ◌↔◌, ℕ, ℤ, Option, Some, false}
-use Rattle.apex_types.specs.declared.object_kind.ObjectKind.TheVariants as kind
 use Rattle.apex_types.specs.declared.record.Who.{Who}
+use Rattle.apex_types.specs.declared.operation.{CallerOperation.CallerOperation, ProcessOperation.ProcessOperation}
 use Rattle.apex_types.specs.declared.request.Request.{Request}
 use Rattle.apex_types.specs.declared.request.Request.TheVariants as request
 use Rattle.apex_machine.specs.declared.state.Process.{Process}
@@ -28,16 +28,16 @@ pub record AwaitsMutex (partition : Partition) (number : ℕ) : Type 0 where
 module _ (who : Who) (partition : Partition) where
   pub data IsOutsideProfile : Request → Type 0 where
     -- the stop of the owner of a mutex
-    owner_is_stopped : {process : ℤ} → IsOwner partition (natural_of process) → IsOutsideProfile (request.Stop process)
+    owner_is_stopped : {process : ℤ} → IsOwner partition (natural_of process) → IsOutsideProfile (request.Process process ProcessOperation.Stop)
     -- the initialising process, or the owner of a mutex, stops itself
-    initialising_stops : who.proc ≡ 0 → IsOutsideProfile request.StopSelf
-    owner_stops : IsOwner partition who.proc → IsOutsideProfile request.StopSelf
+    initialising_stops : who.proc ≡ 0 → IsOutsideProfile (request.Caller CallerOperation.StopSelf)
+    owner_stops : IsOwner partition who.proc → IsOutsideProfile (request.Caller CallerOperation.StopSelf)
     -- the owner of a mutex, or a process that waits for one, is suspended
-    owner_is_suspended : {process : ℤ} → IsOwner partition (natural_of process) → IsOutsideProfile (request.Suspend process)
-    waiter_is_suspended : {process : ℤ} → AwaitsMutex partition (natural_of process) → IsOutsideProfile (request.Suspend process)
+    owner_is_suspended : {process : ℤ} → IsOwner partition (natural_of process) → IsOutsideProfile (request.Process process ProcessOperation.Suspend)
+    waiter_is_suspended : {process : ℤ} → AwaitsMutex partition (natural_of process) → IsOutsideProfile (request.Process process ProcessOperation.Suspend)
     -- the owner of a mutex, or a process that waits for one, gets another priority
-    owner_is_changed : {process priority : ℤ} → IsOwner partition (natural_of process) → IsOutsideProfile (request.SetPriority process priority)
-    waiter_is_changed : {process priority : ℤ} → AwaitsMutex partition (natural_of process) → IsOutsideProfile (request.SetPriority process priority)
+    owner_is_changed : {process priority : ℤ} → IsOwner partition (natural_of process) → IsOutsideProfile (request.Process process (ProcessOperation.SetPriority priority))
+    waiter_is_changed : {process priority : ℤ} → AwaitsMutex partition (natural_of process) → IsOutsideProfile (request.Process process (ProcessOperation.SetPriority priority))
 
 -- a call is not in the profile exactly where a sentence puts it outside
 abbrev pub ProfileIsTheSentence : Type 0

@@ -3,6 +3,7 @@ use Rattle.std.specs.Prelude.{◌≡◌, ◌↔◌, ℕ, ◌+◌, ◌≤◌, ℤ
 use Rattle.apex_types.specs.declared.code.Code.TheVariants as code
 use Rattle.apex_types.specs.declared.record.Call.{Call as CallRecord}
 use Rattle.apex_types.specs.declared.record.Out.TheVariants as out
+use Rattle.apex_types.specs.declared.operation.{BlackboardOperation.BlackboardOperation, BufferOperation.BufferOperation, EventOperation.EventOperation, MutexOperation.MutexOperation, QueuingOperation.QueuingOperation, SemaphoreOperation.SemaphoreOperation}
 use Rattle.apex_types.specs.declared.request.Request.{Request}
 use Rattle.apex_types.specs.declared.request.Request.TheVariants as request
 use Rattle.apex_types.specs.Requested.{service_of}
@@ -17,14 +18,14 @@ use Rattle.apex_laws.specs.ConditionSentences.{HasTimeOut}
 
 -- the waiting set of a service: that of the object which it names, or that of its end of the channel which its call claims
 pub data WaitsIn : Request → Option ℕ → WaitingSet → Type 0 where
-  sends_to_buffer : {buffer length time_out : ℤ} {message : List ℕ} {chan : Option ℕ} → WaitsIn (request.SendBuffer buffer length time_out message) chan (set.BufferSenders (natural_of buffer))
-  receives_from_buffer : {buffer time_out : ℤ} {chan : Option ℕ} → WaitsIn (request.ReceiveBuffer buffer time_out) chan (set.BufferReceivers (natural_of buffer))
-  reads_blackboard : {blackboard time_out : ℤ} {chan : Option ℕ} → WaitsIn (request.ReadBlackboard blackboard time_out) chan (set.BlackboardReaders (natural_of blackboard))
-  waits_for_semaphore : {semaphore time_out : ℤ} {chan : Option ℕ} → WaitsIn (request.WaitSemaphore semaphore time_out) chan (set.SemaphoreWaiters (natural_of semaphore))
-  waits_for_event : {event time_out : ℤ} {chan : Option ℕ} → WaitsIn (request.WaitEvent event time_out) chan (set.EventWaiters (natural_of event))
-  acquires_mutex : {mutex time_out : ℤ} {chan : Option ℕ} → WaitsIn (request.AcquireMutex mutex time_out) chan (set.MutexWaiters (natural_of mutex))
-  sends_through : {port length time_out : ℤ} {message : List ℕ} {channel : ℕ} → WaitsIn (request.SendQueuingMessage port length time_out message) (Some channel) (set.ChannelSenders channel)
-  receives_through : {port time_out : ℤ} {channel : ℕ} → WaitsIn (request.ReceiveQueuingMessage port time_out) (Some channel) (set.ChannelReceivers channel)
+  sends_to_buffer : {buffer length time_out : ℤ} {message : List ℕ} {chan : Option ℕ} → WaitsIn (request.Buffer buffer (BufferOperation.Send length time_out message)) chan (set.BufferSenders (natural_of buffer))
+  receives_from_buffer : {buffer time_out : ℤ} {chan : Option ℕ} → WaitsIn (request.Buffer buffer (BufferOperation.Receive time_out)) chan (set.BufferReceivers (natural_of buffer))
+  reads_blackboard : {blackboard time_out : ℤ} {chan : Option ℕ} → WaitsIn (request.Blackboard blackboard (BlackboardOperation.Read time_out)) chan (set.BlackboardReaders (natural_of blackboard))
+  waits_for_semaphore : {semaphore time_out : ℤ} {chan : Option ℕ} → WaitsIn (request.Semaphore semaphore (SemaphoreOperation.Wait time_out)) chan (set.SemaphoreWaiters (natural_of semaphore))
+  waits_for_event : {event time_out : ℤ} {chan : Option ℕ} → WaitsIn (request.Event event (EventOperation.Wait time_out)) chan (set.EventWaiters (natural_of event))
+  acquires_mutex : {mutex time_out : ℤ} {chan : Option ℕ} → WaitsIn (request.Mutex mutex (MutexOperation.Acquire time_out)) chan (set.MutexWaiters (natural_of mutex))
+  sends_through : {port length time_out : ℤ} {message : List ℕ} {channel : ℕ} → WaitsIn (request.QueuingPort port (QueuingOperation.Send length time_out message)) (Some channel) (set.ChannelSenders channel)
+  receives_through : {port time_out : ℤ} {channel : ℕ} → WaitsIn (request.QueuingPort port (QueuingOperation.Receive time_out)) (Some channel) (set.ChannelReceivers channel)
 
 -- a call enters a waiting set exactly where it waits, and the set is its service's
 abbrev pub EnteringIsTheSentence : Type 0

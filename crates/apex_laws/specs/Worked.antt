@@ -9,6 +9,7 @@ use Rattle.apex_types.specs.declared.record.Ordered.{Ordered}
 use Rattle.apex_types.specs.declared.record.Out.{Out}
 use Rattle.apex_types.specs.declared.record.Out.TheVariants as out
 use Rattle.apex_types.specs.declared.record.Who.{Who}
+use Rattle.apex_types.specs.declared.operation.{ProcessOperation.ProcessOperation}
 use Rattle.apex_types.specs.declared.request.Request.{Request}
 use Rattle.apex_types.specs.declared.request.Request.TheVariants as request
 use Rattle.apex_types.specs.declared.service.Service.{Service}
@@ -144,7 +145,7 @@ played configuration records = play configuration (cold_state configuration) rec
 
 -- START of a process
 abbrev pub start : ℕ → ℤ → Happening
-start partition number = does (process_of partition 0) (request.Start number)
+start partition number = does (process_of partition 0) (request.Process number ProcessOperation.Start)
 
 -- SET_PARTITION_MODE to NORMAL
 abbrev pub normal : ℕ → Happening

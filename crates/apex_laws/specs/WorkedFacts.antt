@@ -3,6 +3,7 @@ use Rattle.std.specs.Prelude.{◌≡◌, ℕ, List, [], ◌∷◌, ◌++◌, Opt
 use Rattle.apex_types.specs.declared.code.Code.TheVariants as code
 use Rattle.apex_types.specs.declared.record.Out.TheVariants as out
 use Rattle.apex_types.specs.declared.record.Who.{Who}
+use Rattle.apex_types.specs.declared.operation.{BlackboardOperation.BlackboardOperation, BufferOperation.BufferOperation, CallerOperation.CallerOperation, EventOperation.EventOperation, MutexOperation.MutexOperation, NewObject.NewObject, ProcessOperation.ProcessOperation, QueuingOperation.QueuingOperation, SamplingOperation.SamplingOperation, SemaphoreOperation.SemaphoreOperation}
 use Rattle.apex_types.specs.declared.request.Request.TheVariants as request
 use Rattle.apex_types.specs.declared.service.Service.TheVariants as service
 use Rattle.apex_machine.specs.Answer.{Answer, Number, answering, done, giving, waiting, waking}
@@ -38,11 +39,11 @@ three_processes creations = played one_partition (aperiodic 0 (codes "A") (pos 1
 
 -- a semaphore of this value, maximum and discipline
 abbrev pub semaphore : ℤ → ℤ → ℤ → List Happening
-semaphore value maximum discipline = creates 0 (request.CreateSemaphore (codes "S") value maximum discipline) (pos 1) ∷ []
+semaphore value maximum discipline = creates 0 (request.Create (codes "S") (NewObject.Semaphore value maximum discipline)) (pos 1) ∷ []
 
 -- a mutex of priority 50, first in first out
 abbrev pub mutex : List Happening
-mutex = creates 0 (request.CreateMutex (codes "M") (pos 50) (pos 0)) (pos 1) ∷ []
+mutex = creates 0 (request.Create (codes "M") (NewObject.Mutex (pos 50) (pos 0))) (pos 1) ∷ []
 
 -- the mutex of the partition
 abbrev pub the_mutex : State → Option Mutex
@@ -60,38 +61,38 @@ value_now state = option_map (λ found. found.value) (item_at (state.partitions 
 -- processes 1 and 2 wait for the semaphore, in this order
 abbrev pub both_wait : ℤ → State
 both_wait discipline = play one_partition (three_processes (semaphore (pos 0) (pos 1) discipline))
-    (waits one 10 (request.WaitSemaphore (pos 1) (negsuc 0)) ∷ waits two 20 (request.WaitSemaphore (pos 1) (negsuc 0)) ∷ [])
+    (waits one 10 (request.Semaphore (pos 1) (SemaphoreOperation.Wait (negsuc 0))) ∷ waits two 20 (request.Semaphore (pos 1) (SemaphoreOperation.Wait (negsuc 0))) ∷ [])
 
 -- process 1 waits for the semaphore with a time-out of 2, and two ticks pass
 abbrev pub timed_out : State
 timed_out = play one_partition (three_processes (semaphore (pos 0) (pos 1) (pos 0)))
-    (waits one 10 (request.WaitSemaphore (pos 1) (pos 2)) ∷ ticks 0 [] ∷ ticks 0 (one ∷ []) ∷ [])
+    (waits one 10 (request.Semaphore (pos 1) (SemaphoreOperation.Wait (pos 2))) ∷ ticks 0 [] ∷ ticks 0 (one ∷ []) ∷ [])
 
 -- process 1 waits for the semaphore, and process 3 suspends it
 abbrev pub suspended_waiter : State
-suspended_waiter = play one_partition (both_wait (pos 0)) (does three (request.Suspend (pos 1)) ∷ [])
+suspended_waiter = play one_partition (both_wait (pos 0)) (does three (request.Process (pos 1) ProcessOperation.Suspend) ∷ [])
 
 -- process 2 waits a tick, process 3 owns the mutex then
 abbrev pub owned : State
-owned = play one_partition (three_processes mutex) (waits two 20 (request.TimedWait (pos 1)) ∷ does three (request.AcquireMutex (pos 1) (pos 0)) ∷ ticks 0 (two ∷ []) ∷ [])
+owned = play one_partition (three_processes mutex) (waits two 20 (request.Caller (CallerOperation.TimedWait (pos 1))) ∷ does three (request.Mutex (pos 1) (MutexOperation.Acquire (pos 0))) ∷ ticks 0 (two ∷ []) ∷ [])
 
 -- process 2 waits for the mutex that process 3 owns
 abbrev pub mutex_wanted : State
-mutex_wanted = play one_partition (three_processes mutex) (does three (request.AcquireMutex (pos 1) (pos 0)) ∷ waits two 20 (request.AcquireMutex (pos 1) (negsuc 0)) ∷ [])
+mutex_wanted = play one_partition (three_processes mutex) (does three (request.Mutex (pos 1) (MutexOperation.Acquire (pos 0))) ∷ waits two 20 (request.Mutex (pos 1) (MutexOperation.Acquire (negsuc 0))) ∷ [])
 
 -- process 1 sent one message to a buffer of capacity 1, and waits to send another
 abbrev pub full_buffer : State
-full_buffer = play one_partition (three_processes (creates 0 (request.CreateBuffer (codes "Q") (pos 4) (pos 1) (pos 0)) (pos 1) ∷ []))
-    (does one (request.SendBuffer (pos 1) (pos 1) (pos 0) (170 ∷ [])) ∷ waits one 10 (request.SendBuffer (pos 1) (pos 1) (negsuc 0) (187 ∷ [])) ∷ [])
+full_buffer = play one_partition (three_processes (creates 0 (request.Create (codes "Q") (NewObject.Buffer (pos 4) (pos 1) (pos 0))) (pos 1) ∷ []))
+    (does one (request.Buffer (pos 1) (BufferOperation.Send (pos 1) (pos 0) (170 ∷ []))) ∷ waits one 10 (request.Buffer (pos 1) (BufferOperation.Send (pos 1) (negsuc 0) (187 ∷ []))) ∷ [])
 
 -- processes 1 and 2 wait for a message on a blackboard
 abbrev pub both_read : State
-both_read = play one_partition (three_processes (creates 0 (request.CreateBlackboard (codes "N") (pos 4)) (pos 1) ∷ []))
-    (waits one 10 (request.ReadBlackboard (pos 1) (negsuc 0)) ∷ waits two 20 (request.ReadBlackboard (pos 1) (negsuc 0)) ∷ [])
+both_read = play one_partition (three_processes (creates 0 (request.Create (codes "N") (NewObject.Blackboard (pos 4))) (pos 1) ∷ []))
+    (waits one 10 (request.Blackboard (pos 1) (BlackboardOperation.Read (negsuc 0))) ∷ waits two 20 (request.Blackboard (pos 1) (BlackboardOperation.Read (negsuc 0))) ∷ [])
 
 -- process 1 waits for an event
 abbrev pub awaits_event : State
-awaits_event = play one_partition (three_processes (creates 0 (request.CreateEvent (codes "E")) (pos 1) ∷ [])) (waits one 10 (request.WaitEvent (pos 1) (negsuc 0)) ∷ [])
+awaits_event = play one_partition (three_processes (creates 0 (request.Create (codes "E") NewObject.Event) (pos 1) ∷ [])) (waits one 10 (request.Event (pos 1) (EventOperation.Wait (negsuc 0))) ∷ [])
 
 -- process 1, of period 20, is started
 abbrev pub periodic : State
@@ -104,99 +105,99 @@ first_released = play one_partition periodic (idle_ticks 0 9 ++ ticks 0 (one ∷
 -- both partitions have a process and a port of each kind
 abbrev pub connected : State
 connected = played two_partitions (aperiodic 0 (codes "P") (pos 1) (pos 10)
-    ∷ creates 0 (request.CreateQueuingPort (codes "Q") (pos 4) (pos 1) (pos 0)) (pos 1)
-    ∷ creates 0 (request.CreateSamplingPort (codes "S") (pos 4) (pos 0) (pos 5)) (pos 1)
+    ∷ creates 0 (request.Create (codes "Q") (NewObject.QueuingPort (pos 4) (pos 1) (pos 0) (pos 0))) (pos 1)
+    ∷ creates 0 (request.Create (codes "S") (NewObject.SamplingPort (pos 4) (pos 0) (pos 5))) (pos 1)
     ∷ start 0 (pos 1) ∷ normal 0
     ∷ aperiodic 1 (codes "P") (pos 1) (pos 10)
-    ∷ creates 1 (request.CreateQueuingPort (codes "Q") (pos 4) (pos 1) (pos 1)) (pos 1)
-    ∷ creates 1 (request.CreateSamplingPort (codes "S") (pos 4) (pos 1) (pos 5)) (pos 1)
+    ∷ creates 1 (request.Create (codes "Q") (NewObject.QueuingPort (pos 4) (pos 1) (pos 1) (pos 0))) (pos 1)
+    ∷ creates 1 (request.Create (codes "S") (NewObject.SamplingPort (pos 4) (pos 1) (pos 5))) (pos 1)
     ∷ start 1 (pos 1) ∷ normal 1 ∷ [])
 
 -- the receiver waits for a message, with a time-out of 3
 abbrev pub receiving : State
-receiving = play two_partitions connected (claims 1 there 10 (request.ReceiveQueuingMessage (pos 1) (pos 3)) out.Waits None [] (Some 0) [] ∷ [])
+receiving = play two_partitions connected (claims 1 there 10 (request.QueuingPort (pos 1) (QueuingOperation.Receive (pos 3))) out.Waits None [] (Some 0) [] ∷ [])
 
 -- the send of a message
 abbrev pub sends : List Who → Happening
-sends woken = claims 0 one 10 (request.SendQueuingMessage (pos 1) (pos 2) (pos 0) (202 ∷ 254 ∷ [])) (out.Answer code.NoError) None [] (Some 0) woken
+sends woken = claims 0 one 10 (request.QueuingPort (pos 1) (QueuingOperation.Send (pos 2) (pos 0) (202 ∷ 254 ∷ []))) (out.Answer code.NoError) None [] (Some 0) woken
 
 -- the channel is full, and another sender waits
 abbrev pub sender_waits : State
-sender_waits = play two_partitions connected (sends [] ∷ claims 0 one 10 (request.SendQueuingMessage (pos 1) (pos 1) (negsuc 0) (17 ∷ [])) out.Waits None [] (Some 0) [] ∷ [])
+sender_waits = play two_partitions connected (sends [] ∷ claims 0 one 10 (request.QueuingPort (pos 1) (QueuingOperation.Send (pos 1) (negsuc 0) (17 ∷ []))) out.Waits None [] (Some 0) [] ∷ [])
 
 -- a sampling message is written
 abbrev pub sampled_once : State
-sampled_once = play two_partitions connected (claims 0 one 10 (request.WriteSamplingMessage (pos 1) (pos 1) (17 ∷ [])) (out.Answer code.NoError) None [] (Some 1) [] ∷ [])
+sampled_once = play two_partitions connected (claims 0 one 10 (request.SamplingPort (pos 1) (SamplingOperation.Write (pos 1) (17 ∷ []))) (out.Answer code.NoError) None [] (Some 1) [] ∷ [])
 
 -- a reading of the sampling channel
 abbrev pub reading : State → Answer
-reading state = gets_through two_partitions state there (request.ReadSamplingMessage (pos 1)) 1
+reading state = gets_through two_partitions state there (request.SamplingPort (pos 1) SamplingOperation.Read) 1
 
 -- the facts
 
 -- each of them is computed
 pub record WorkedFacts : Type 0 where
   -- a signal at the maximum is answered with NO_ACTION
-  pub at_the_maximum : gets (three_processes (semaphore (pos 1) (pos 1) (pos 0))) one (request.SignalSemaphore (pos 1)) ≡ answering code.NoAction
+  pub at_the_maximum : gets (three_processes (semaphore (pos 1) (pos 1) (pos 0))) one (request.Semaphore (pos 1) SemaphoreOperation.Signal) ≡ answering code.NoAction
   -- a semaphore by priority wakes the higher one, a semaphore that is first in first out the one that waits longer
-  pub by_priority : gets (both_wait (pos 1)) three (request.SignalSemaphore (pos 1)) ≡ waking (two ∷ [])
-  pub first_in : gets (both_wait (pos 0)) three (request.SignalSemaphore (pos 1)) ≡ waking (one ∷ [])
+  pub by_priority : gets (both_wait (pos 1)) three (request.Semaphore (pos 1) SemaphoreOperation.Signal) ≡ waking (two ∷ [])
+  pub first_in : gets (both_wait (pos 0)) three (request.Semaphore (pos 1) SemaphoreOperation.Signal) ≡ waking (one ∷ [])
   -- a signal that wakes adds nothing, and NO_ERROR is due to the waiter, which runs
-  pub wakes_without_adding : value_now (play one_partition (both_wait (pos 1)) (wakes three (request.SignalSemaphore (pos 1)) (two ∷ []) ∷ [])) ≡ Some 0
-  pub waiter_runs : choice one_partition (play one_partition (both_wait (pos 1)) (wakes three (request.SignalSemaphore (pos 1)) (two ∷ []) ∷ [])) 0 ≡ Some two
-  pub waiter_returns : owes (play one_partition (both_wait (pos 1)) (wakes three (request.SignalSemaphore (pos 1)) (two ∷ []) ∷ [])) two ≡ outcome service.WaitSemaphore code.NoError []
+  pub wakes_without_adding : value_now (play one_partition (both_wait (pos 1)) (wakes three (request.Semaphore (pos 1) SemaphoreOperation.Signal) (two ∷ []) ∷ [])) ≡ Some 0
+  pub waiter_runs : choice one_partition (play one_partition (both_wait (pos 1)) (wakes three (request.Semaphore (pos 1) SemaphoreOperation.Signal) (two ∷ []) ∷ [])) 0 ≡ Some two
+  pub waiter_returns : owes (play one_partition (both_wait (pos 1)) (wakes three (request.Semaphore (pos 1) SemaphoreOperation.Signal) (two ∷ []) ∷ [])) two ≡ outcome service.WaitSemaphore code.NoError []
   -- a waiter that timed out has left the set: TIMED_OUT is due to it, and a signal adds one
-  pub falls_due_then : falls_due 0 2 (at (play one_partition (three_processes (semaphore (pos 0) (pos 1) (pos 0))) (waits one 10 (request.WaitSemaphore (pos 1) (pos 2)) ∷ [])) one) ≡ true
+  pub falls_due_then : falls_due 0 2 (at (play one_partition (three_processes (semaphore (pos 0) (pos 1) (pos 0))) (waits one 10 (request.Semaphore (pos 1) (SemaphoreOperation.Wait (pos 2))) ∷ [])) one) ≡ true
   pub returns_timed_out : owes timed_out one ≡ outcome service.WaitSemaphore code.TimedOut []
-  pub set_is_left : gets timed_out three (request.SignalSemaphore (pos 1)) ≡ done
+  pub set_is_left : gets timed_out three (request.Semaphore (pos 1) SemaphoreOperation.Signal) ≡ done
   -- a suspended waiter that is woken stays suspended, and runs once it is resumed; the resumption wakes nobody
-  pub stays_suspended : choice one_partition (play one_partition suspended_waiter (wakes three (request.SignalSemaphore (pos 1)) (one ∷ []) ∷ [])) 0 ≡ Some three
-  pub resumption_wakes_nobody : gets suspended_waiter three (request.Resume (pos 1)) ≡ done
-  pub runs_when_resumed : choice one_partition (play one_partition suspended_waiter (wakes three (request.SignalSemaphore (pos 1)) (one ∷ []) ∷ does three (request.Resume (pos 1)) ∷ [])) 0 ≡ Some one
+  pub stays_suspended : choice one_partition (play one_partition suspended_waiter (wakes three (request.Semaphore (pos 1) SemaphoreOperation.Signal) (one ∷ []) ∷ [])) 0 ≡ Some three
+  pub resumption_wakes_nobody : gets suspended_waiter three (request.Process (pos 1) ProcessOperation.Resume) ≡ done
+  pub runs_when_resumed : choice one_partition (play one_partition suspended_waiter (wakes three (request.Semaphore (pos 1) SemaphoreOperation.Signal) (one ∷ []) ∷ does three (request.Process (pos 1) ProcessOperation.Resume) ∷ [])) 0 ≡ Some one
   -- a process that suspended itself is woken by RESUME, or times out
-  pub resumed : gets (play one_partition (three_processes []) (waits one 10 (request.SuspendSelf (pos 5)) ∷ [])) three (request.Resume (pos 1)) ≡ waking (one ∷ [])
-  pub not_resumed : owes (play one_partition (three_processes []) (waits one 10 (request.SuspendSelf (pos 1)) ∷ ticks 0 (one ∷ []) ∷ [])) one ≡ outcome service.SuspendSelf code.TimedOut []
+  pub resumed : gets (play one_partition (three_processes []) (waits one 10 (request.Caller (CallerOperation.SuspendSelf (pos 5))) ∷ [])) three (request.Process (pos 1) ProcessOperation.Resume) ≡ waking (one ∷ [])
+  pub not_resumed : owes (play one_partition (three_processes []) (waits one 10 (request.Caller (CallerOperation.SuspendSelf (pos 1))) ∷ ticks 0 (one ∷ []) ∷ [])) one ≡ outcome service.SuspendSelf code.TimedOut []
   -- a process that is stopped while it waits leaves its set
-  pub stopped_waiter : gets (play one_partition (both_wait (pos 0)) (does three (request.Stop (pos 1)) ∷ [])) three (request.SignalSemaphore (pos 1)) ≡ waking (two ∷ [])
+  pub stopped_waiter : gets (play one_partition (both_wait (pos 0)) (does three (request.Process (pos 1) ProcessOperation.Stop) ∷ [])) three (request.Semaphore (pos 1) SemaphoreOperation.Signal) ≡ waking (two ∷ [])
   -- the owner of a mutex runs with its priority before a higher process; the last release gives that one way, and restores
   pub owner_runs : choice one_partition owned 0 ≡ Some three
-  pub gives_way : choice one_partition (play one_partition owned (does three (request.ReleaseMutex (pos 1)) ∷ [])) 0 ≡ Some two
-  pub is_restored : priority_in (at (play one_partition owned (does three (request.ReleaseMutex (pos 1)) ∷ [])) three) ≡ 5
+  pub gives_way : choice one_partition (play one_partition owned (does three (request.Mutex (pos 1) MutexOperation.Release) ∷ [])) 0 ≡ Some two
+  pub is_restored : priority_in (at (play one_partition owned (does three (request.Mutex (pos 1) MutexOperation.Release) ∷ [])) three) ≡ 5
   -- a mutex is handed on: the waiter owns it, with its priority, and the releaser has its own again
-  pub hands_on : gets mutex_wanted three (request.ReleaseMutex (pos 1)) ≡ waking (two ∷ [])
-  pub new_owner : owner_in (the_mutex (play one_partition mutex_wanted (wakes three (request.ReleaseMutex (pos 1)) (two ∷ []) ∷ []))) ≡ Some 2
-  pub is_granted : priority_in (at (play one_partition mutex_wanted (wakes three (request.ReleaseMutex (pos 1)) (two ∷ []) ∷ [])) two) ≡ 50
-  pub has_its_own : priority_in (at (play one_partition mutex_wanted (wakes three (request.ReleaseMutex (pos 1)) (two ∷ []) ∷ [])) three) ≡ 5
+  pub hands_on : gets mutex_wanted three (request.Mutex (pos 1) MutexOperation.Release) ≡ waking (two ∷ [])
+  pub new_owner : owner_in (the_mutex (play one_partition mutex_wanted (wakes three (request.Mutex (pos 1) MutexOperation.Release) (two ∷ []) ∷ []))) ≡ Some 2
+  pub is_granted : priority_in (at (play one_partition mutex_wanted (wakes three (request.Mutex (pos 1) MutexOperation.Release) (two ∷ []) ∷ [])) two) ≡ 50
+  pub has_its_own : priority_in (at (play one_partition mutex_wanted (wakes three (request.Mutex (pos 1) MutexOperation.Release) (two ∷ []) ∷ [])) three) ≡ 5
   -- two error conditions at once: an owner that acquires another mutex with a time-out below -1
-  pub two_conditions : codes_for one_partition owned three (request.AcquireMutex (pos 2) (negsuc 4)) ≡ code.InvalidParam ∷ code.InvalidParam ∷ code.InvalidMode ∷ []
+  pub two_conditions : codes_for one_partition owned three (request.Mutex (pos 2) (MutexOperation.Acquire (negsuc 4))) ≡ code.InvalidParam ∷ code.InvalidParam ∷ code.InvalidMode ∷ []
   -- the owner of a mutex that stops itself stands outside the profile
-  pub owner_stops : in_profile three (owned.partitions 0) request.StopSelf ≡ false
+  pub owner_stops : in_profile three (owned.partitions 0) (request.Caller CallerOperation.StopSelf) ≡ false
   -- a full buffer: a receiver gets the oldest message, the sender wakes, and its message is the next
-  pub oldest_first : gets full_buffer two (request.ReceiveBuffer (pos 1) (pos 0)) ≡ giving (170 ∷ []) (one ∷ [])
-  pub sender_moves_up : gets (play one_partition full_buffer (wakes two (request.ReceiveBuffer (pos 1) (pos 0)) (one ∷ []) ∷ [])) one (request.ReceiveBuffer (pos 1) (pos 0)) ≡ giving (187 ∷ []) []
+  pub oldest_first : gets full_buffer two (request.Buffer (pos 1) (BufferOperation.Receive (pos 0))) ≡ giving (170 ∷ []) (one ∷ [])
+  pub sender_moves_up : gets (play one_partition full_buffer (wakes two (request.Buffer (pos 1) (BufferOperation.Receive (pos 0))) (one ∷ []) ∷ [])) one (request.Buffer (pos 1) (BufferOperation.Receive (pos 0))) ≡ giving (187 ∷ []) []
   -- a display wakes all readers, and each gets the message
-  pub display_wakes_all : gets both_read three (request.DisplayBlackboard (pos 1) (pos 2) (1 ∷ 2 ∷ [])) ≡ waking (one ∷ two ∷ [])
-  pub reader_gets_it : owes (play one_partition both_read (wakes three (request.DisplayBlackboard (pos 1) (pos 2) (1 ∷ 2 ∷ [])) (one ∷ two ∷ []) ∷ [])) two ≡ outcome service.ReadBlackboard code.NoError (1 ∷ 2 ∷ [])
+  pub display_wakes_all : gets both_read three (request.Blackboard (pos 1) (BlackboardOperation.Display (pos 2) (1 ∷ 2 ∷ []))) ≡ waking (one ∷ two ∷ [])
+  pub reader_gets_it : owes (play one_partition both_read (wakes three (request.Blackboard (pos 1) (BlackboardOperation.Display (pos 2) (1 ∷ 2 ∷ []))) (one ∷ two ∷ []) ∷ [])) two ≡ outcome service.ReadBlackboard code.NoError (1 ∷ 2 ∷ [])
   -- an event that is set lets its waiters go on, and those that come later; once it is reset they wait
-  pub event_lets_go : gets awaits_event three (request.SetEvent (pos 1)) ≡ waking (one ∷ [])
-  pub event_is_up : gets (play one_partition awaits_event (wakes three (request.SetEvent (pos 1)) (one ∷ []) ∷ [])) two (request.WaitEvent (pos 1) (negsuc 0)) ≡ done
-  pub event_is_down : gets (play one_partition awaits_event (wakes three (request.SetEvent (pos 1)) (one ∷ []) ∷ does three (request.ResetEvent (pos 1)) ∷ [])) two (request.WaitEvent (pos 1) (negsuc 0)) ≡ waiting
+  pub event_lets_go : gets awaits_event three (request.Event (pos 1) EventOperation.Set) ≡ waking (one ∷ [])
+  pub event_is_up : gets (play one_partition awaits_event (wakes three (request.Event (pos 1) EventOperation.Set) (one ∷ []) ∷ [])) two (request.Event (pos 1) (EventOperation.Wait (negsuc 0))) ≡ done
+  pub event_is_down : gets (play one_partition awaits_event (wakes three (request.Event (pos 1) EventOperation.Set) (one ∷ []) ∷ does three (request.Event (pos 1) EventOperation.Reset) ∷ [])) two (request.Event (pos 1) (EventOperation.Wait (negsuc 0))) ≡ waiting
   -- a periodic process is released at 10, the least multiple of the partition's period above 0, and next at 30
   pub not_yet_released : falls_due 0 9 (at periodic one) ≡ false
   pub is_released : falls_due 0 10 (at periodic one) ≡ true
-  pub waits_for_the_next : falls_due 0 29 (at (play one_partition first_released (waits one 10 request.PeriodicWait ∷ [])) one) ≡ false
-  pub next_at_thirty : falls_due 0 30 (at (play one_partition first_released (waits one 10 request.PeriodicWait ∷ [])) one) ≡ true
+  pub waits_for_the_next : falls_due 0 29 (at (play one_partition first_released (waits one 10 (request.Caller CallerOperation.PeriodicWait) ∷ [])) one) ≡ false
+  pub next_at_thirty : falls_due 0 30 (at (play one_partition first_released (waits one 10 (request.Caller CallerOperation.PeriodicWait) ∷ [])) one) ≡ true
   -- SET_PRIORITY puts a ready process behind the others of its priority
-  pub renewed : choice one_partition (play one_partition (three_processes []) (does three (request.SetPriority (pos 1) (pos 20)) ∷ does three (request.SetPriority (pos 2) (pos 20)) ∷ [])) 0 ≡ Some one
+  pub renewed : choice one_partition (play one_partition (three_processes []) (does three (request.Process (pos 1) (ProcessOperation.SetPriority (pos 20))) ∷ does three (request.Process (pos 2) (ProcessOperation.SetPriority (pos 20))) ∷ [])) 0 ≡ Some one
   -- a send wakes the receiver in the other partition, which gets the message
-  pub send_wakes : gets_through two_partitions receiving one (request.SendQueuingMessage (pos 1) (pos 2) (pos 0) (202 ∷ 254 ∷ [])) 0 ≡ waking (there ∷ [])
+  pub send_wakes : gets_through two_partitions receiving one (request.QueuingPort (pos 1) (QueuingOperation.Send (pos 2) (pos 0) (202 ∷ 254 ∷ []))) 0 ≡ waking (there ∷ [])
   pub message_arrives : owes (play two_partitions receiving (sends (there ∷ []) ∷ [])) there ≡ outcome service.ReceiveQueuingMessage code.NoError (202 ∷ 254 ∷ [])
   -- a receiver that timed out has left the channel's set: the send wakes nobody, and the message stays
-  pub receiver_left : gets_through two_partitions (play two_partitions receiving (ticks 1 [] ∷ ticks 1 [] ∷ ticks 1 (there ∷ []) ∷ [])) one (request.SendQueuingMessage (pos 1) (pos 2) (pos 0) (202 ∷ 254 ∷ [])) 0 ≡ done
+  pub receiver_left : gets_through two_partitions (play two_partitions receiving (ticks 1 [] ∷ ticks 1 [] ∷ ticks 1 (there ∷ []) ∷ [])) one (request.QueuingPort (pos 1) (QueuingOperation.Send (pos 2) (pos 0) (202 ∷ 254 ∷ []))) 0 ≡ done
   pub message_stays : ((play two_partitions receiving (ticks 1 [] ∷ ticks 1 [] ∷ ticks 1 (there ∷ []) ∷ sends [] ∷ [])).channels 0).content ≡ Queued ((202 ∷ 254 ∷ []) ∷ [])
   -- a receiver that takes from a full channel wakes the sender that waits, whose message moves in
-  pub takes_from_full : gets_through two_partitions sender_waits there (request.ReceiveQueuingMessage (pos 1) (pos 0)) 0 ≡ giving (202 ∷ 254 ∷ []) (one ∷ [])
-  pub senders_message : ((play two_partitions sender_waits (claims 1 there 10 (request.ReceiveQueuingMessage (pos 1) (pos 0)) (out.Answer code.NoError) None (202 ∷ 254 ∷ []) (Some 0) (one ∷ []) ∷ [])).channels 0).content
+  pub takes_from_full : gets_through two_partitions sender_waits there (request.QueuingPort (pos 1) (QueuingOperation.Receive (pos 0))) 0 ≡ giving (202 ∷ 254 ∷ []) (one ∷ [])
+  pub senders_message : ((play two_partitions sender_waits (claims 1 there 10 (request.QueuingPort (pos 1) (QueuingOperation.Receive (pos 0))) (out.Answer code.NoError) None (202 ∷ 254 ∷ []) (Some 0) (one ∷ []) ∷ [])).channels 0).content
       ≡ Queued ((17 ∷ []) ∷ [])
   -- an empty sampling channel gives NO_ACTION and validity 0; a message is valid at the age of 5 and no longer at 6
   pub nothing_written : reading connected ≡ record { out = out.Answer code.NoAction; val = Number (pos 0); val2 = None; val3 = None; bytes = []; woken = [] }
@@ -211,7 +212,7 @@ owner_at_work = play one_partition mutex_wanted (returns three service.AcquireMu
 
 -- the last release, at which the mutex is handed on
 abbrev pub last_release : Happening
-last_release = claims 0 three 50 (request.ReleaseMutex (pos 1)) (out.Answer code.NoError) None [] None (two ∷ [])
+last_release = claims 0 three 50 (request.Mutex (pos 1) MutexOperation.Release) (out.Answer code.NoError) None [] None (two ∷ [])
 
 -- the sender runs, and the receiver waits
 abbrev pub sender_at_work : State
@@ -223,7 +224,7 @@ sender_at_full = play two_partitions connected (sends [] ∷ returns one service
 
 -- a send that waits
 abbrev pub send_that_waits : Happening
-send_that_waits = claims 0 one 10 (request.SendQueuingMessage (pos 1) (pos 1) (negsuc 0) (17 ∷ [])) out.Waits None [] (Some 0) []
+send_that_waits = claims 0 one 10 (request.QueuingPort (pos 1) (QueuingOperation.Send (pos 1) (negsuc 0) (17 ∷ []))) out.Waits None [] (Some 0) []
 
 -- both partitions are dispatched, and a message was sampled
 abbrev pub reader_at_work : State
@@ -231,7 +232,7 @@ reader_at_work = play two_partitions sampled_once (runs there ∷ [])
 
 -- the reading of it
 abbrev pub reading_of_it : Happening
-reading_of_it = claims 1 there 10 (request.ReadSamplingMessage (pos 1)) (out.Answer code.NoError) (Some (pos 1)) (17 ∷ []) (Some 1) []
+reading_of_it = claims 1 there 10 (request.SamplingPort (pos 1) SamplingOperation.Read) (out.Answer code.NoError) (Some (pos 1)) (17 ∷ []) (Some 1) []
 
 -- these calls are lawful
 pub record LawfulFacts : Type 0 where

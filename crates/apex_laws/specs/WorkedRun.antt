@@ -4,6 +4,7 @@ use Rattle.apex_types.specs.declared.code.Code.TheVariants as code
 use Rattle.apex_types.specs.declared.record.Body.TheVariants.{Disp, Ret}
 use Rattle.apex_types.specs.declared.record.Ordered.{Ordered}
 use Rattle.apex_types.specs.declared.record.Out.TheVariants as out
+use Rattle.apex_types.specs.declared.operation.{NewObject.NewObject, QueuingOperation.QueuingOperation}
 use Rattle.apex_types.specs.declared.request.Request.TheVariants as request
 use Rattle.apex_types.specs.declared.service.Service.{Service}
 use Rattle.apex_types.specs.declared.service.Service.TheVariants as service
@@ -22,7 +23,7 @@ set_up partition direction =
     runs (process_of partition 0)
     ∷ aperiodic partition (codes "P1") (pos 1) (pos 10)
     ∷ returns_one partition service.CreateProcess
-    ∷ creates partition (request.CreateQueuingPort (codes "Q") (pos 4) (pos 1) (pos direction)) (pos 1)
+    ∷ creates partition (request.Create (codes "Q") (NewObject.QueuingPort (pos 4) (pos 1) (pos direction) (pos 0))) (pos 1)
     ∷ returns_one partition service.CreateQueuingPort
     ∷ start partition (pos 1)
     ∷ returns (process_of partition 0) service.Start code.NoError []
@@ -32,7 +33,7 @@ set_up partition direction =
 abbrev pub exchange : List Happening
 exchange =
     runs there
-    ∷ claims 1 there 10 (request.ReceiveQueuingMessage (pos 1) (pos 3)) out.Waits None [] (Some 0) []
+    ∷ claims 1 there 10 (request.QueuingPort (pos 1) (QueuingOperation.Receive (pos 3))) out.Waits None [] (Some 0) []
     ∷ record { core = 1; body = Disp None }
     ∷ runs one
     ∷ sends (there ∷ [])

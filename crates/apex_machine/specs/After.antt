@@ -12,6 +12,7 @@ use Rattle.apex_types.specs.declared.record.Ordered.{Ordered}
 use Rattle.apex_types.specs.declared.record.Out.{Out}
 use Rattle.apex_types.specs.declared.record.Out.TheVariants as out
 use Rattle.apex_types.specs.declared.record.Who.{Who}
+use Rattle.apex_types.specs.declared.operation.{NewObject.NewObject, SamplingOperation.SamplingOperation}
 use Rattle.apex_types.specs.declared.request.Request.{Request}
 use Rattle.apex_types.specs.declared.request.Request.TheVariants as request
 use Rattle.apex_machine.specs.declared.state.CoreState.{CoreState}
@@ -24,12 +25,12 @@ use Rattle.apex_machine.specs.declared.state.WaitingSet.TheVariants as set
 use Rattle.apex_machine.specs.Arguments.{discipline_given, natural_of}
 use Rattle.apex_machine.specs.Channels.{QueuingPort, SamplingPort, queuing_port, sampling_port}
 use Rattle.apex_machine.specs.Configuration.{Configuration, first_core, period_of}
-use Rattle.apex_machine.specs.Objects.{acquired, buffer_received, buffer_sent, cleared, displayed, event_reset, event_set, mutex_released, semaphore_waited, signalled}
+use Rattle.apex_machine.specs.Objects.{blackboard_effect, buffer_effect, event_effect, mutex_effect, semaphore_effect}
 use Rattle.apex_machine.specs.Ports.{channel_effect, use_of}
 pub use Rattle.apex_machine.specs.Processes.{caller_after, caller_with, outcome_of, released}
 use Rattle.apex_machine.specs.Processes.{message_handed_over, new_process, set_by, stopped, woken_by}
 use Rattle.apex_machine.specs.State.{Blackboard, Buffer, Channel, Content, Event, Mutex, ObjectOf, Partition, Port, Semaphore, State, Table, at_core, change_at, each_item, is_named, started_partition, time_of}
-use Rattle.apex_machine.specs.Waiting.{first_waiter, restart_of, set_after, stops}
+use Rattle.apex_machine.specs.Waiting.{restart_of, set_after, stops}
 
 -- whether a call was carried out: it waits, it does not return, or it answered NO_ERROR
 abbrev pub is_done : Out → Bool
@@ -126,48 +127,31 @@ is_valid claimed = option_eq int_eq claimed (Some (pos 1))
 -- the objects and ports of the caller's partition after a call that is done, waiting sets aside: what is created stands under
 -- the number that is claimed, and the object that is used is as its rule leaves it; a port knows whether its last read gave a valid sample
 abbrev pub objects_by : Configuration → Who → Option ℤ → Request → Partition → Partition
-objects_by configuration who claimed (request.CreateBuffer name size capacity discipline) partition =
+objects_by configuration who claimed (request.Create name (NewObject.Buffer size capacity discipline)) partition =
     record partition { buffers = partition.buffers ++ numbered claimed (new_buffer name size capacity discipline) }
-objects_by configuration who claimed (request.SendBuffer buffer length time_out message) partition = record partition {
-  buffers = change_at (natural_of buffer) (λ found. record found { messages = (buffer_sent message time_out found).next }) partition.buffers;
-}
-objects_by configuration who claimed (request.ReceiveBuffer buffer time_out) partition = record partition {
-  buffers = change_at (natural_of buffer) (λ found. record found { messages = (buffer_received time_out found).next }) partition.buffers;
-}
-objects_by configuration who claimed (request.CreateBlackboard name size) partition =
+objects_by configuration who claimed (request.Create name (NewObject.Blackboard size)) partition =
     record partition { blackboards = partition.blackboards ++ numbered claimed (new_blackboard name size) }
-objects_by configuration who claimed (request.DisplayBlackboard blackboard length message) partition = record partition {
-  blackboards = change_at (natural_of blackboard) (λ found. record found { message = (displayed message found.readers).next }) partition.blackboards;
-}
-objects_by configuration who claimed (request.ClearBlackboard blackboard) partition =
-    record partition { blackboards = change_at (natural_of blackboard) (λ found. record found { message = cleared.next }) partition.blackboards }
-objects_by configuration who claimed (request.CreateSemaphore name value maximum discipline) partition =
+objects_by configuration who claimed (request.Create name (NewObject.Semaphore value maximum discipline)) partition =
     record partition { semaphores = partition.semaphores ++ numbered claimed (new_semaphore name value maximum discipline) }
-objects_by configuration who claimed (request.WaitSemaphore semaphore time_out) partition = record partition {
-  semaphores = change_at (natural_of semaphore) (λ found. record found { value = (semaphore_waited time_out found.value).next }) partition.semaphores;
-}
-objects_by configuration who claimed (request.SignalSemaphore semaphore) partition = record partition {
-  semaphores = change_at (natural_of semaphore)
-      (λ found. record found { value = (signalled found.maximum (first_waiter found.discipline found.waiters) found.value).next }) partition.semaphores;
-}
-objects_by configuration who claimed (request.CreateEvent name) partition =
+objects_by configuration who claimed (request.Create name NewObject.Event) partition =
     record partition { events = partition.events ++ numbered claimed (new_event name) }
-objects_by configuration who claimed (request.SetEvent event) partition =
-    record partition { events = change_at (natural_of event) (λ found. record found { up = (event_set found.waiters).next }) partition.events }
-objects_by configuration who claimed (request.ResetEvent event) partition =
-    record partition { events = change_at (natural_of event) (λ found. record found { up = event_reset.next }) partition.events }
-objects_by configuration who claimed (request.CreateMutex name priority discipline) partition =
+objects_by configuration who claimed (request.Create name (NewObject.Mutex priority discipline)) partition =
     record partition { mutexes = partition.mutexes ++ numbered claimed (new_mutex name priority discipline) }
-objects_by configuration who claimed (request.AcquireMutex mutex time_out) partition =
-    record partition { mutexes = change_at (natural_of mutex) (λ found. (acquired who.proc time_out found).next) partition.mutexes }
-objects_by configuration who claimed (request.ReleaseMutex mutex) partition = record partition {
-  mutexes = change_at (natural_of mutex) (λ found. (mutex_released (first_waiter found.discipline found.waiters) found).next) partition.mutexes;
-}
-objects_by configuration who claimed (request.CreateSamplingPort name size direction refresh) partition =
+objects_by configuration who claimed (request.Create name (NewObject.SamplingPort size direction refresh)) partition =
     record partition { sampling_ports = partition.sampling_ports ++ new_sampling_port name claimed (sampling_port configuration who.part name) }
-objects_by configuration who claimed (request.CreateQueuingPort name size capacity both) partition =
+objects_by configuration who claimed (request.Create name (NewObject.QueuingPort size capacity direction discipline)) partition =
     record partition { queuing_ports = partition.queuing_ports ++ new_queuing_port name claimed (queuing_port configuration who.part name) }
-objects_by configuration who claimed (request.ReadSamplingMessage port) partition = record partition {
+objects_by configuration who claimed (request.Buffer buffer operation) partition =
+    record partition { buffers = change_at (natural_of buffer) (λ found. (buffer_effect operation found).next) partition.buffers }
+objects_by configuration who claimed (request.Blackboard blackboard operation) partition =
+    record partition { blackboards = change_at (natural_of blackboard) (λ found. (blackboard_effect operation found).next) partition.blackboards }
+objects_by configuration who claimed (request.Semaphore semaphore operation) partition =
+    record partition { semaphores = change_at (natural_of semaphore) (λ found. (semaphore_effect operation found).next) partition.semaphores }
+objects_by configuration who claimed (request.Event event operation) partition =
+    record partition { events = change_at (natural_of event) (λ found. (event_effect operation found).next) partition.events }
+objects_by configuration who claimed (request.Mutex mutex operation) partition =
+    record partition { mutexes = change_at (natural_of mutex) (λ found. (mutex_effect who.proc operation found).next) partition.mutexes }
+objects_by configuration who claimed (request.SamplingPort port SamplingOperation.Read) partition = record partition {
   sampling_ports = change_at (natural_of port) (λ found. record found { valid = is_valid claimed }) partition.sampling_ports;
 }
 objects_by configuration who claimed _ partition = partition

@@ -64,6 +64,10 @@ pub record Effect (Object : Type 0) : Type 0 where
   pub answer : Answer
   pub next : Object
 
+-- an effect on a part of an object, as one on the object
+abbrev pub effect_on : {Part Object : Type 0} → (Part → Object) → Effect Part → Effect Object
+effect_on with_part effect = record { answer = effect.answer; next = with_part effect.next }
+
 -- those who wait in a set
 abbrev pub waiters_of : List Entry → List Who
 waiters_of [] = []

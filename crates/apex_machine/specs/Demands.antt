@@ -13,6 +13,7 @@ use Rattle.apex_types.specs.declared.record.Out.{Out}
 use Rattle.apex_types.specs.declared.record.Out.TheVariants as out
 use Rattle.apex_types.specs.declared.record.Return.{Return}
 use Rattle.apex_types.specs.declared.record.Who.{Who}
+use Rattle.apex_types.specs.declared.operation.{QueuingOperation.QueuingOperation}
 use Rattle.apex_types.specs.declared.request.Request.{Request}
 use Rattle.apex_types.specs.declared.request.Request.TheVariants as request
 use Rattle.apex_machine.specs.declared.state.CoreState.{CoreState}
@@ -160,9 +161,9 @@ AllWaitAt wanted number table (who ∷ others) = (who.part ≡ number → IsTrue
 -- a call of another partition ends only waits at its channel: a send of those that wait to receive, a receive of those that
 -- wait to send
 abbrev pub WakesHere : Request → Option ℕ → ℕ → Table → List Who → Type 0
-WakesHere (request.SendQueuingMessage port length time_out message) (Some channel) number table woken =
+WakesHere (request.QueuingPort port (QueuingOperation.Send length time_out message)) (Some channel) number table woken =
     AllWaitAt (set.ChannelReceivers channel) number table woken
-WakesHere (request.ReceiveQueuingMessage port time_out) (Some channel) number table woken =
+WakesHere (request.QueuingPort port (QueuingOperation.Receive time_out)) (Some channel) number table woken =
     AllWaitAt (set.ChannelSenders channel) number table woken
 WakesHere _ chan number table woken = ⊥
 

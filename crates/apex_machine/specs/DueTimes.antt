@@ -1,6 +1,7 @@
 -- Waits and due times: what a process waits for, from when on, and when its wait is over.
 use Rattle.std.specs.Prelude.{◌≡◌, ℕ, ◌+◌, ◌*◌, ◌/◌, List, Option, Some, None, Bool, true, false, ℤ, pos, negsuc, nat_eq, nat_le, ◌&&◌}
 use Rattle.apex_types.specs.declared.record.Who.{Who}
+use Rattle.apex_types.specs.declared.operation.{BlackboardOperation.BlackboardOperation, BufferOperation.BufferOperation, CallerOperation.CallerOperation, EventOperation.EventOperation, MutexOperation.MutexOperation, QueuingOperation.QueuingOperation, SemaphoreOperation.SemaphoreOperation}
 use Rattle.apex_types.specs.declared.request.Request.{Request}
 use Rattle.apex_types.specs.declared.request.Request.TheVariants as request
 use Rattle.apex_machine.specs.declared.state.Process.{Process}
@@ -62,15 +63,15 @@ due_time (negsuc n) now = None
 
 -- the time-out of a service that may wait for something
 abbrev pub time_out_of : Request → Option ℤ
-time_out_of (request.SuspendSelf time_out) = Some time_out
-time_out_of (request.SendBuffer buffer length time_out message) = Some time_out
-time_out_of (request.ReceiveBuffer buffer time_out) = Some time_out
-time_out_of (request.ReadBlackboard blackboard time_out) = Some time_out
-time_out_of (request.WaitSemaphore semaphore time_out) = Some time_out
-time_out_of (request.WaitEvent event time_out) = Some time_out
-time_out_of (request.AcquireMutex mutex time_out) = Some time_out
-time_out_of (request.SendQueuingMessage port length time_out message) = Some time_out
-time_out_of (request.ReceiveQueuingMessage port time_out) = Some time_out
+time_out_of (request.Caller (CallerOperation.SuspendSelf time_out)) = Some time_out
+time_out_of (request.Buffer buffer (BufferOperation.Send length time_out message)) = Some time_out
+time_out_of (request.Buffer buffer (BufferOperation.Receive time_out)) = Some time_out
+time_out_of (request.Blackboard blackboard (BlackboardOperation.Read time_out)) = Some time_out
+time_out_of (request.Semaphore semaphore (SemaphoreOperation.Wait time_out)) = Some time_out
+time_out_of (request.Event event (EventOperation.Wait time_out)) = Some time_out
+time_out_of (request.Mutex mutex (MutexOperation.Acquire time_out)) = Some time_out
+time_out_of (request.QueuingPort port (QueuingOperation.Send length time_out message)) = Some time_out
+time_out_of (request.QueuingPort port (QueuingOperation.Receive time_out)) = Some time_out
 time_out_of _ = None
 
 -- the time at which a time-out falls due, if there is one
@@ -85,9 +86,9 @@ wait_in (Some set) due = wait.At set due
 
 -- what a caller waits for that began to wait at this time of its core
 abbrev pub wait_of : Request → Option ℕ → ℕ → Process → Wait
-wait_of (request.TimedWait (pos delay)) chan now process = wait.Until (now + delay)
-wait_of request.PeriodicWait chan now process = wait.PeriodicRelease (next_release process)
-wait_of (request.SuspendSelf time_out) chan now process = wait.Suspended (due_time time_out now)
+wait_of (request.Caller (CallerOperation.TimedWait (pos delay))) chan now process = wait.Until (now + delay)
+wait_of (request.Caller CallerOperation.PeriodicWait) chan now process = wait.PeriodicRelease (next_release process)
+wait_of (request.Caller (CallerOperation.SuspendSelf time_out)) chan now process = wait.Suspended (due_time time_out now)
 wait_of asked chan now process = wait_in (set_of asked chan) (due_of_call (time_out_of asked) now)
 
 -- when a wait is over

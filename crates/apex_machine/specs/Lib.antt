@@ -15,6 +15,7 @@ pub mod Statuses
 pub mod ProcessConditions
 pub mod ObjectConditions
 pub mod PortConditions
+pub mod CreationConditions
 pub mod ServiceConditions
 pub mod Services
 pub mod Processes

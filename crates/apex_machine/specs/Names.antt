@@ -4,10 +4,9 @@ use Rattle.std.specs.Str.{bytes_eq}
 use Rattle.apex_types.specs.declared.code.Code.{Code}
 use Rattle.apex_types.specs.declared.code.Code.TheVariants as code
 use Rattle.apex_types.specs.declared.object_kind.ObjectKind.{ObjectKind}
-use Rattle.apex_types.specs.declared.object_kind.ObjectKind.TheVariants as kind
 use Rattle.apex_machine.specs.Answer.{Nothing, Number, Value}
 use Rattle.apex_machine.specs.Conditions.{when}
-use Rattle.apex_machine.specs.State.{Blackboard, Buffer, Event, Mutex, Partition, Port, Semaphore}
+use Rattle.apex_machine.specs.State.{Partition, name_in, objects_of}
 
 -- the number of the object that has this name, if one is created
 abbrev pub number_named : {Item : Type 0} → (Item → List ℕ) → List ℕ → List (ℕ × Item) → Option ℕ
@@ -16,13 +15,7 @@ number_named name_of name (entry ∷ entries) = if bytes_eq name (name_of entry.
 
 -- the number of the object or the port of a kind that has this name, if one is created
 abbrev pub number_of : Partition → ObjectKind → List ℕ → Option ℕ
-number_of partition kind.Buffer name = number_named (λ (buffer : Buffer). buffer.name) name partition.buffers
-number_of partition kind.Blackboard name = number_named (λ (blackboard : Blackboard). blackboard.name) name partition.blackboards
-number_of partition kind.Semaphore name = number_named (λ (semaphore : Semaphore). semaphore.name) name partition.semaphores
-number_of partition kind.Event name = number_named (λ (event : Event). event.name) name partition.events
-number_of partition kind.Mutex name = number_named (λ (mutex : Mutex). mutex.name) name partition.mutexes
-number_of partition kind.SamplingPort name = number_named (λ (port : Port). port.name) name partition.sampling_ports
-number_of partition kind.QueuingPort name = number_named (λ (port : Port). port.name) name partition.queuing_ports
+number_of partition kind name = number_named (name_in kind) name (objects_of partition kind)
 
 -- GET_BUFFER_ID and its like: one of the kind has the name
 abbrev pub get_id_codes : Option ℕ → List Code

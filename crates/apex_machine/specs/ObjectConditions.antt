@@ -1,56 +1,12 @@
--- The error conditions of buffers, blackboards, semaphores, events and mutexes.
-use Rattle.std.specs.Prelude.{ℕ, List, [], ◌∷◌, ◌++◌, length, Option, Bool, false, ℤ, not, nat_eq, nat_lt, nat_le, ◌&&◌, ◌||◌}
+-- The error conditions of uses of buffers, blackboards, semaphores, events and mutexes.
+use Rattle.std.specs.Prelude.{ℕ, List, [], ◌∷◌, ◌++◌, length, Option, Bool, false, ℤ, not, nat_eq, nat_lt, ◌&&◌, ◌||◌}
 use Rattle.apex_types.specs.declared.code.Code.{Code}
 use Rattle.apex_types.specs.declared.code.Code.TheVariants as code
 use Rattle.apex_types.specs.declared.record.Who.{Who}
-use Rattle.apex_machine.specs.Arguments.{is_capacity, is_discipline, is_length, is_longer, is_maximum, is_number, is_priority, is_size, suits_maximum}
-use Rattle.apex_machine.specs.Conditions.{codes_for, creation_codes, is_taken, of_caller, time_out_codes, waiting_codes, when}
-use Rattle.apex_machine.specs.Configuration.{Configuration, object_limit}
+use Rattle.apex_machine.specs.Arguments.{is_length, is_longer, is_number}
+use Rattle.apex_machine.specs.Conditions.{codes_for, of_caller, time_out_codes, waiting_codes, when}
 use Rattle.apex_machine.specs.Objects.{is_owner}
-use Rattle.apex_machine.specs.State.{Blackboard, Buffer, Event, Mutex, Partition, Semaphore, given_object, item_at}
-
--- creations
-
--- CREATE_BUFFER: a size, a capacity and a discipline in range
-abbrev pub create_buffer_codes : Configuration → ℕ → Partition → List ℕ → ℤ → ℤ → ℤ → List Code
-create_buffer_codes configuration number partition name size capacity discipline =
-    creation_codes partition (is_taken (λ (buffer : Buffer). buffer.name) name partition.buffers)
-    (nat_le (object_limit configuration (λ limits. limits.buffers) number) (length partition.buffers))
-    ++ when (not (is_size size)) code.InvalidParam
-    ++ when (not (is_capacity capacity)) code.InvalidParam
-    ++ when (not (is_discipline discipline)) code.InvalidParam
-
--- CREATE_BLACKBOARD: a size in range
-abbrev pub create_blackboard_codes : Configuration → ℕ → Partition → List ℕ → ℤ → List Code
-create_blackboard_codes configuration number partition name size =
-    creation_codes partition (is_taken (λ (blackboard : Blackboard). blackboard.name) name partition.blackboards)
-    (nat_le (object_limit configuration (λ limits. limits.blackboards) number) (length partition.blackboards))
-    ++ when (not (is_size size)) code.InvalidParam
-
--- CREATE_SEMAPHORE: a maximum and a discipline in range, and a value that suits the maximum
-abbrev pub create_semaphore_codes : Configuration → ℕ → Partition → List ℕ → ℤ → ℤ → ℤ → List Code
-create_semaphore_codes configuration number partition name value maximum discipline =
-    creation_codes partition (is_taken (λ (semaphore : Semaphore). semaphore.name) name partition.semaphores)
-    (nat_le (object_limit configuration (λ limits. limits.semaphores) number) (length partition.semaphores))
-    ++ when (not (is_maximum maximum)) code.InvalidParam
-    ++ when (not (suits_maximum maximum value)) code.InvalidParam
-    ++ when (not (is_discipline discipline)) code.InvalidParam
-
--- CREATE_EVENT
-abbrev pub create_event_codes : Configuration → ℕ → Partition → List ℕ → List Code
-create_event_codes configuration number partition name =
-    creation_codes partition (is_taken (λ (event : Event). event.name) name partition.events)
-    (nat_le (object_limit configuration (λ limits. limits.events) number) (length partition.events))
-
--- CREATE_MUTEX: a priority and a discipline in range
-abbrev pub create_mutex_codes : Configuration → ℕ → Partition → List ℕ → ℤ → ℤ → List Code
-create_mutex_codes configuration number partition name priority discipline =
-    creation_codes partition (is_taken (λ (mutex : Mutex). mutex.name) name partition.mutexes)
-    (nat_le (object_limit configuration (λ limits. limits.mutexes) number) (length partition.mutexes))
-    ++ when (not (is_priority priority)) code.InvalidParam
-    ++ when (not (is_discipline discipline)) code.InvalidParam
-
--- uses
+use Rattle.apex_machine.specs.State.{Mutex, Partition, given_object, item_at}
 
 -- a created object of a kind, and a wait for it
 abbrev pub object_codes : {Object : Type 0} → Who → Partition → Option Object → ℤ → List Code

@@ -1,10 +1,12 @@
--- Blackboards, semaphores, events and mutexes: what each operation gives its caller, and the object after it.
+-- Buffers, blackboards, semaphores, events and mutexes: what each operation gives its caller, and the object after it, its waiting
+-- sets aside.
 use Rattle.std.specs.Prelude.{ℕ, zero, suc, ◌+◌, ◌-◌, List, [], ◌∷◌, Option, Some, None, Bool, true, false, ℤ, nat_eq, nat_lt, if◌then◌else◌}
 use Rattle.apex_types.specs.declared.code.Code.TheVariants as code
+use Rattle.apex_types.specs.declared.operation.{BlackboardOperation.BlackboardOperation, BufferOperation.BufferOperation, EventOperation.EventOperation, MutexOperation.MutexOperation, SemaphoreOperation.SemaphoreOperation}
 use Rattle.apex_machine.specs.declared.state.Entry.{Entry}
-use Rattle.apex_machine.specs.Answer.{Effect, answering, done, giving, unmet, waking, waiters_of}
+use Rattle.apex_machine.specs.Answer.{Effect, answering, done, effect_on, giving, unmet, waking, waiters_of}
 use Rattle.apex_machine.specs.Queue.{Messages, received, sent}
-use Rattle.apex_machine.specs.State.{Buffer, Mutex}
+use Rattle.apex_machine.specs.State.{Blackboard, Buffer, Event, Mutex, Semaphore}
 use Rattle.apex_machine.specs.Waiting.{first_waiter}
 
 -- buffers
@@ -16,6 +18,15 @@ buffer_sent message time_out buffer = sent buffer.capacity message time_out (fir
 -- RECEIVE_BUFFER, by the first of those who wait to send
 abbrev pub buffer_received : ℤ → Buffer → Effect Messages
 buffer_received time_out buffer = received time_out (first_waiter buffer.discipline buffer.senders) buffer.messages
+
+-- what an operation on a buffer makes of its messages
+abbrev pub messages_by : BufferOperation → Buffer → Effect Messages
+messages_by (BufferOperation.Send length time_out message) buffer = buffer_sent message time_out buffer
+messages_by (BufferOperation.Receive time_out) buffer = buffer_received time_out buffer
+
+-- an operation on a buffer
+abbrev pub buffer_effect : BufferOperation → Buffer → Effect Buffer
+buffer_effect operation buffer = effect_on (λ messages. record buffer { messages = messages }) (messages_by operation buffer)
 
 -- blackboards
 
@@ -31,6 +42,16 @@ board_read time_out (Some message) = record { answer = giving message []; next =
 -- CLEAR_BLACKBOARD: the blackboard is empty
 abbrev pub cleared : Effect (Option (List ℕ))
 cleared = record { answer = done; next = None }
+
+-- what an operation on a blackboard makes of its message
+abbrev pub message_by : BlackboardOperation → Blackboard → Effect (Option (List ℕ))
+message_by (BlackboardOperation.Display length message) board = displayed message board.readers
+message_by (BlackboardOperation.Read time_out) board = board_read time_out board.message
+message_by BlackboardOperation.Clear board = cleared
+
+-- an operation on a blackboard
+abbrev pub blackboard_effect : BlackboardOperation → Blackboard → Effect Blackboard
+blackboard_effect operation board = effect_on (λ message. record board { message = message }) (message_by operation board)
 
 -- semaphores
 
@@ -52,6 +73,15 @@ abbrev pub signalled : ℕ → Option Entry → ℕ → Effect ℕ
 signalled maximum (Some waiter) value = record { answer = waking (waiter.who ∷ []); next = value }
 signalled maximum None value = if nat_lt value maximum then raised value else at_maximum value
 
+-- what an operation on a semaphore makes of its value
+abbrev pub value_by : SemaphoreOperation → Semaphore → Effect ℕ
+value_by (SemaphoreOperation.Wait time_out) semaphore = semaphore_waited time_out semaphore.value
+value_by SemaphoreOperation.Signal semaphore = signalled semaphore.maximum (first_waiter semaphore.discipline semaphore.waiters) semaphore.value
+
+-- an operation on a semaphore
+abbrev pub semaphore_effect : SemaphoreOperation → Semaphore → Effect Semaphore
+semaphore_effect operation semaphore = effect_on (λ value. record semaphore { value = value }) (value_by operation semaphore)
+
 -- events
 
 -- SET_EVENT: the event is up, and all who wait for it go on
@@ -66,6 +96,16 @@ event_reset = record { answer = done; next = false }
 abbrev pub event_waited : ℤ → Bool → Effect Bool
 event_waited time_out true = record { answer = done; next = true }
 event_waited time_out false = record { answer = unmet time_out; next = false }
+
+-- what an operation on an event makes of it: up or down
+abbrev pub up_by : EventOperation → Event → Effect Bool
+up_by EventOperation.Set event = event_set event.waiters
+up_by EventOperation.Reset event = event_reset
+up_by (EventOperation.Wait time_out) event = event_waited time_out event.up
+
+-- an operation on an event
+abbrev pub event_effect : EventOperation → Event → Effect Event
+event_effect operation event = effect_on (λ up. record event { up = up }) (up_by operation event)
 
 -- mutexes
 
@@ -102,6 +142,11 @@ released_once mutex = record { answer = done; next = record mutex { count = mute
 -- RELEASE_MUTEX, by the first of those who wait
 abbrev pub mutex_released : Option Entry → Mutex → Effect Mutex
 mutex_released first mutex = if nat_lt 1 mutex.count then released_once mutex else handed_on first mutex
+
+-- an operation of this process on a mutex
+abbrev pub mutex_effect : ℕ → MutexOperation → Mutex → Effect Mutex
+mutex_effect caller (MutexOperation.Acquire time_out) mutex = acquired caller time_out mutex
+mutex_effect caller MutexOperation.Release mutex = mutex_released (first_waiter mutex.discipline mutex.waiters) mutex
 
 -- whether a process owns a mutex
 abbrev pub is_owner : Option ℕ → ℕ → Bool

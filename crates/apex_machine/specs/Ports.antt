@@ -4,11 +4,12 @@ use Rattle.apex_types.specs.declared.code.Code.TheVariants as code
 use Rattle.apex_types.specs.declared.object_kind.ObjectKind.{ObjectKind}
 use Rattle.apex_types.specs.declared.object_kind.ObjectKind.TheVariants as kind
 use Rattle.apex_types.specs.declared.record.Out.TheVariants as out
+use Rattle.apex_types.specs.declared.operation.{QueuingOperation.QueuingOperation, SamplingOperation.SamplingOperation}
 use Rattle.apex_types.specs.declared.request.Request.{Request}
 use Rattle.apex_types.specs.declared.request.Request.TheVariants as request
 use Rattle.apex_machine.specs.declared.state.Entry.{Entry}
 use Rattle.apex_machine.specs.declared.state.Status.{Status}
-use Rattle.apex_machine.specs.Answer.{Answer, Effect, Number, done}
+use Rattle.apex_machine.specs.Answer.{Answer, Effect, Number, done, effect_on}
 use Rattle.apex_machine.specs.Channels.{capacity_of, is_at_destination, is_at_source, receiving_discipline, refresh_of, sending_discipline}
 use Rattle.apex_machine.specs.Configuration.{Configuration}
 use Rattle.apex_machine.specs.Queue.{Messages, received, sent}
@@ -31,10 +32,10 @@ asked_of _ = None
 
 -- how a service uses a channel, if it does
 abbrev pub use_of : Request → Option Use
-use_of (request.WriteSamplingMessage port length message) = Some (Write message)
-use_of (request.ReadSamplingMessage port) = Some Read
-use_of (request.SendQueuingMessage port length time_out message) = Some (Send message time_out)
-use_of (request.ReceiveQueuingMessage port time_out) = Some (Receive time_out)
+use_of (request.SamplingPort port (SamplingOperation.Write length message)) = Some (Write message)
+use_of (request.SamplingPort port SamplingOperation.Read) = Some Read
+use_of (request.QueuingPort port (QueuingOperation.Send length time_out message)) = Some (Send message time_out)
+use_of (request.QueuingPort port (QueuingOperation.Receive time_out)) = Some (Receive time_out)
 use_of (request.GetStatus kind object) = asked_of kind
 use_of _ = None
 
@@ -45,10 +46,10 @@ port_asked partition _ object = None
 
 -- the port that a service goes through, if it is created
 abbrev pub port_of : Partition → Request → Option Port
-port_of partition (request.WriteSamplingMessage port length message) = given_object partition.sampling_ports port
-port_of partition (request.ReadSamplingMessage port) = given_object partition.sampling_ports port
-port_of partition (request.SendQueuingMessage port length time_out message) = given_object partition.queuing_ports port
-port_of partition (request.ReceiveQueuingMessage port time_out) = given_object partition.queuing_ports port
+port_of partition (request.SamplingPort port (SamplingOperation.Write length message)) = given_object partition.sampling_ports port
+port_of partition (request.SamplingPort port SamplingOperation.Read) = given_object partition.sampling_ports port
+port_of partition (request.QueuingPort port (QueuingOperation.Send length time_out message)) = given_object partition.queuing_ports port
+port_of partition (request.QueuingPort port (QueuingOperation.Receive time_out)) = given_object partition.queuing_ports port
 port_of partition (request.GetStatus kind object) = port_asked partition kind object
 port_of partition _ = None
 
@@ -83,14 +84,6 @@ sampled now refresh last = record { answer = reading_of now refresh last; next =
 
 -- any channel
 
--- an effect on what a sampling channel holds
-abbrev pub on_sampling : Effect (Option Stamped) → Effect Content
-on_sampling effect = record { answer = effect.answer; next = Sampled effect.next }
-
--- an effect on what a queuing channel holds
-abbrev pub on_queuing : Effect Messages → Effect Content
-on_queuing effect = record { answer = effect.answer; next = Queued effect.next }
-
 -- those that wait at a partition's end of a queuing channel: at its source to send, else to receive
 abbrev pub waiting_at_end : Configuration → ℕ → ℕ → Channel → List Entry
 waiting_at_end configuration number partition channel = if is_at_source configuration number partition then channel.senders else channel.receivers
@@ -110,12 +103,12 @@ suits configuration number partition _ _ = false
 
 -- the use of a channel by this partition, at the caller's time; of the wrong kind it does nothing, and no such call is lawful
 abbrev pub used : Configuration → ℕ → ℕ → ℕ → Use → Channel → Content → Effect Content
-used configuration now number partition (Write message) channel (Sampled last) = on_sampling (written now message)
-used configuration now number partition Read channel (Sampled last) = on_sampling (sampled now (refresh_of configuration number) last)
+used configuration now number partition (Write message) channel (Sampled last) = effect_on Sampled (written now message)
+used configuration now number partition Read channel (Sampled last) = effect_on Sampled (sampled now (refresh_of configuration number) last)
 used configuration now number partition (Send message time_out) channel (Queued messages) =
-    on_queuing (sent (capacity_of configuration number) message time_out (first_waiter (receiving_discipline configuration number) channel.receivers) messages)
+    effect_on Queued (sent (capacity_of configuration number) message time_out (first_waiter (receiving_discipline configuration number) channel.receivers) messages)
 used configuration now number partition (Receive time_out) channel (Queued messages) =
-    on_queuing (received time_out (first_waiter (sending_discipline configuration number) channel.senders) messages)
+    effect_on Queued (received time_out (first_waiter (sending_discipline configuration number) channel.senders) messages)
 used configuration now number partition Ask channel (Queued messages) =
     record { answer = telling (Some (channel_status messages (waiting_at_end configuration number partition channel))); next = Queued messages }
 used configuration now number partition how channel content = record { answer = done; next = content }

@@ -5,6 +5,7 @@ use Rattle.apex_types.specs.declared.code.Code.TheVariants as code
 use Rattle.apex_types.specs.declared.record.Call.{Call as CallRecord}
 use Rattle.apex_types.specs.declared.record.Out.{Out}
 use Rattle.apex_types.specs.declared.record.Out.TheVariants as out
+use Rattle.apex_types.specs.declared.operation.{BlackboardOperation.BlackboardOperation, BufferOperation.BufferOperation, CallerOperation.CallerOperation, ProcessOperation.ProcessOperation, QueuingOperation.QueuingOperation}
 use Rattle.apex_types.specs.declared.request.Request.{Request}
 use Rattle.apex_types.specs.declared.request.Request.TheVariants as request
 use Rattle.apex_types.specs.declared.service.Service.{Service}
@@ -19,9 +20,9 @@ use Rattle.apex_machine.specs.declared.state.Wait.TheVariants as wait
 use Rattle.apex_machine.specs.Arguments.{is_number, is_over, natural_of, period_given}
 use Rattle.apex_machine.specs.Conditions.{is_normal}
 use Rattle.apex_machine.specs.DueTimes.{entry_wait, next_release, wait_of, waits_for_normal}
-use Rattle.apex_machine.specs.Objects.{acquired, is_owner, mutex_released}
+use Rattle.apex_machine.specs.Objects.{is_owner, mutex_effect}
 use Rattle.apex_machine.specs.State.{Mutex, Partition, given_object, time_of}
-use Rattle.apex_machine.specs.Waiting.{first_waiter, is_no_error, service_at}
+use Rattle.apex_machine.specs.Waiting.{is_no_error, service_at}
 
 -- creation, start and stop
 
@@ -86,25 +87,25 @@ by_mutex None change number process = process
 by_mutex (Some mutex) change number process =
     on_ownership (is_owner mutex.owner number) (is_owner (change mutex).owner number) mutex.priority process
 
--- what a call sets in the processes of its partition, beside the waits that it ends and its caller's wait and outcome:
--- INITIALIZE_PROCESS_CORE_AFFINITY, START, SUSPEND, RESUME and SET_PRIORITY something of their target, SET_PARTITION_MODE
--- those that wait for NORMAL, ACQUIRE_MUTEX and RELEASE_MUTEX the priority of the owners. Times are those of their own cores
+-- what a service that names a process sets in it, by the time of its core: INITIALIZE_PROCESS_CORE_AFFINITY, START, SUSPEND,
+-- RESUME and SET_PRIORITY; how STOP leaves it is said where processes are stopped
+abbrev pub set_in : ℕ → ℕ → ℕ → Mode → ProcessOperation → Process → Process
+set_in place period now mode (ProcessOperation.InitializeCoreAffinity core) process = record process { affinity = natural_of core }
+set_in place period now mode ProcessOperation.Start process = started place period now mode process
+set_in place period now mode ProcessOperation.Stop process = process
+set_in place period now mode ProcessOperation.Suspend process = record process { suspended = true }
+set_in place period now mode ProcessOperation.Resume process = record process { suspended = false; ready_position = place }
+set_in place period now mode (ProcessOperation.SetPriority priority) process = record process { current_priority = natural_of priority; ready_position = place }
+
+-- what a call sets in the processes of its partition, beside the waits that it ends and its caller's wait and outcome: a service
+-- that names a process something of its target, SET_PARTITION_MODE those that wait for NORMAL, ACQUIRE_MUTEX and RELEASE_MUTEX the
+-- priority of the owners. Times are those of their own cores
 abbrev pub set_by : ℕ → ℕ → List CoreState → Partition → ℕ → Request → ℕ → Process → Process
-set_by place period cores partition caller (request.InitializeProcessCoreAffinity given core) number process =
-    if is_number given number then record process { affinity = natural_of core } else process
-set_by place period cores partition caller (request.Start given) number process =
-    if is_number given number then started place period (time_of cores process.affinity) partition.mode process else process
-set_by place period cores partition caller (request.Suspend given) number process =
-    if is_number given number then record process { suspended = true } else process
-set_by place period cores partition caller (request.Resume given) number process =
-    if is_number given number then record process { suspended = false; ready_position = place } else process
-set_by place period cores partition caller (request.SetPriority given priority) number process =
-    if is_number given number then record process { current_priority = natural_of priority; ready_position = place } else process
+set_by place period cores partition caller (request.Process given operation) number process =
+    if is_number given number then set_in place period (time_of cores process.affinity) partition.mode operation process else process
 set_by place period cores partition caller (request.SetPartitionMode next) number process = after_normal place period (time_of cores process.affinity) process
-set_by place period cores partition caller (request.AcquireMutex mutex time_out) number process =
-    by_mutex (given_object partition.mutexes mutex) (λ found. (acquired caller time_out found).next) number process
-set_by place period cores partition caller (request.ReleaseMutex mutex) number process =
-    by_mutex (given_object partition.mutexes mutex) (λ found. (mutex_released (first_waiter found.discipline found.waiters) found).next) number process
+set_by place period cores partition caller (request.Mutex mutex operation) number process =
+    by_mutex (given_object partition.mutexes mutex) (λ found. (mutex_effect caller operation found).next) number process
 set_by place period cores partition caller _ number process = process
 
 -- the end of a wait
@@ -154,22 +155,22 @@ woken_by place message process = wait_ended place (owed (service_of_wait process
 
 -- the message that a call hands to those whose waits it ends
 abbrev pub message_handed_over : Request → List ℕ
-message_handed_over (request.SendBuffer buffer length time_out message) = message
-message_handed_over (request.DisplayBlackboard blackboard length message) = message
-message_handed_over (request.SendQueuingMessage port length time_out message) = message
+message_handed_over (request.Buffer buffer (BufferOperation.Send length time_out message)) = message
+message_handed_over (request.Blackboard blackboard (BlackboardOperation.Display length message)) = message
+message_handed_over (request.QueuingPort port (QueuingOperation.Send length time_out message)) = message
 message_handed_over _ = []
 
 -- the caller
 
 -- a call that renews its caller's ready position: TIMED_WAIT with a delay of 0, PERIODIC_WAIT whose release is reached
 abbrev pub renews : Request → Bool
-renews (request.TimedWait delay) = is_over delay
-renews request.PeriodicWait = true
+renews (request.Caller (CallerOperation.TimedWait delay)) = is_over delay
+renews (request.Caller CallerOperation.PeriodicWait) = true
 renews _ = false
 
 -- the last release after a call: PERIODIC_WAIT that found the next one reached takes it
 abbrev pub release_taken : Request → Process → ℕ
-release_taken request.PeriodicWait process = next_release process
+release_taken (request.Caller CallerOperation.PeriodicWait) process = next_release process
 release_taken _ process = process.last_release
 
 -- the outcome that a call claims, as it is due to the caller

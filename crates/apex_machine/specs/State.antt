@@ -161,6 +161,16 @@ ObjectOf kind.Mutex = Mutex
 ObjectOf kind.SamplingPort = Port
 ObjectOf kind.QueuingPort = Port
 
+-- the name of an object or port of a kind
+abbrev pub name_in : (kind : ObjectKind) → ObjectOf kind → List ℕ
+name_in kind.Buffer buffer = buffer.name
+name_in kind.Blackboard blackboard = blackboard.name
+name_in kind.Semaphore semaphore = semaphore.name
+name_in kind.Event event = event.name
+name_in kind.Mutex mutex = mutex.name
+name_in kind.SamplingPort port = port.name
+name_in kind.QueuingPort port = port.name
+
 -- all that is created of a kind, under its numbers
 abbrev pub objects_of : Partition → (kind : ObjectKind) → List (ℕ × ObjectOf kind)
 objects_of partition kind.Buffer = partition.buffers

@@ -9,6 +9,7 @@ use Rattle.apex_types.specs.declared.record.Call.{Call as CallRecord}
 use Rattle.apex_types.specs.declared.record.Out.{Out}
 use Rattle.apex_types.specs.declared.record.Out.TheVariants as out
 use Rattle.apex_types.specs.declared.record.Who.{Who}
+use Rattle.apex_types.specs.declared.operation.{BlackboardOperation.BlackboardOperation, BufferOperation.BufferOperation, EventOperation.EventOperation, MutexOperation.MutexOperation, ProcessOperation.ProcessOperation, QueuingOperation.QueuingOperation, SamplingOperation.SamplingOperation, SemaphoreOperation.SemaphoreOperation}
 use Rattle.apex_types.specs.declared.request.Request.{Request}
 use Rattle.apex_types.specs.declared.request.Request.TheVariants as request
 use Rattle.apex_types.specs.declared.service.Service.{Service}
@@ -57,14 +58,14 @@ pub record IsFirst (discipline : Discipline) (entries : List Entry) (entry : Ent
 
 -- the waiting set at which the caller of a request waits, where it does; a port's is that of its channel
 abbrev pub set_of : Request → Option ℕ → Option WaitingSet
-set_of (request.SendBuffer buffer length time_out message) chan = Some (set.BufferSenders (natural_of buffer))
-set_of (request.ReceiveBuffer buffer time_out) chan = Some (set.BufferReceivers (natural_of buffer))
-set_of (request.ReadBlackboard blackboard time_out) chan = Some (set.BlackboardReaders (natural_of blackboard))
-set_of (request.WaitSemaphore semaphore time_out) chan = Some (set.SemaphoreWaiters (natural_of semaphore))
-set_of (request.WaitEvent event time_out) chan = Some (set.EventWaiters (natural_of event))
-set_of (request.AcquireMutex mutex time_out) chan = Some (set.MutexWaiters (natural_of mutex))
-set_of (request.SendQueuingMessage port length time_out message) (Some channel) = Some (set.ChannelSenders channel)
-set_of (request.ReceiveQueuingMessage port time_out) (Some channel) = Some (set.ChannelReceivers channel)
+set_of (request.Buffer buffer (BufferOperation.Send length time_out message)) chan = Some (set.BufferSenders (natural_of buffer))
+set_of (request.Buffer buffer (BufferOperation.Receive time_out)) chan = Some (set.BufferReceivers (natural_of buffer))
+set_of (request.Blackboard blackboard (BlackboardOperation.Read time_out)) chan = Some (set.BlackboardReaders (natural_of blackboard))
+set_of (request.Semaphore semaphore (SemaphoreOperation.Wait time_out)) chan = Some (set.SemaphoreWaiters (natural_of semaphore))
+set_of (request.Event event (EventOperation.Wait time_out)) chan = Some (set.EventWaiters (natural_of event))
+set_of (request.Mutex mutex (MutexOperation.Acquire time_out)) chan = Some (set.MutexWaiters (natural_of mutex))
+set_of (request.QueuingPort port (QueuingOperation.Send length time_out message)) (Some channel) = Some (set.ChannelSenders channel)
+set_of (request.QueuingPort port (QueuingOperation.Receive time_out)) (Some channel) = Some (set.ChannelReceivers channel)
 set_of _ chan = None
 
 -- the service of those who wait in a set
@@ -120,10 +121,10 @@ is_no_error _ = false
 
 -- the message that a caller gives
 abbrev pub message_of : Request → List ℕ
-message_of (request.SendBuffer buffer length time_out message) = message
-message_of (request.DisplayBlackboard blackboard length message) = message
-message_of (request.WriteSamplingMessage port length message) = message
-message_of (request.SendQueuingMessage port length time_out message) = message
+message_of (request.Buffer buffer (BufferOperation.Send length time_out message)) = message
+message_of (request.Blackboard blackboard (BlackboardOperation.Display length message)) = message
+message_of (request.SamplingPort port (SamplingOperation.Write length message)) = message
+message_of (request.QueuingPort port (QueuingOperation.Send length time_out message)) = message
 message_of _ = []
 
 -- the entry of a caller: with its priority at the call, and at the place of the call
@@ -138,7 +139,7 @@ enters call wanted = is_waiting call.claim.out && is_the_set wanted (set_of call
 
 -- the process that a service stops, beside its caller
 abbrev pub stop_of : Request → Option ℤ
-stop_of (request.Stop process) = Some process
+stop_of (request.Process process ProcessOperation.Stop) = Some process
 stop_of _ = None
 
 -- whether this is the process to be stopped, if any is

@@ -11,6 +11,7 @@ mod format;
 pub mod limits;
 mod number;
 mod object_kind;
+mod operation;
 mod record;
 mod request;
 mod service;
@@ -23,6 +24,10 @@ pub use discipline::Discipline;
 pub use format::Format;
 pub use number::{ChanId, CoreId, PartId, Place, ProcId};
 pub use object_kind::ObjectKind;
+pub use operation::{
+    BlackboardOperation, BufferOperation, CallerOperation, EventOperation, MutexOperation,
+    NewObject, ProcessOperation, QueuingOperation, SamplingOperation, SemaphoreOperation,
+};
 pub use record::{Body, Call, Claim, Ordered, Out, Pair, Record, Return, Who, Woken};
 pub use request::Request;
 pub use service::{Arguments, SERVICES, Service, ServiceRow};

@@ -1,7 +1,7 @@
 // The kinds of objects and ports.
 
 ghost use Rattle.std.specs.Prelude.{◌≡◌};
-ghost use Rattle.apex_types.specs.Requested.{id_service, status_service};
+ghost use Rattle.apex_types.specs.Requested.{creation_service, id_service, status_service};
 
 use crate::service::Service;
 
@@ -18,6 +18,21 @@ pub enum ObjectKind {
 }
 
 impl ObjectKind {
+    /// The service that creates one of this kind.
+    pub fn creation_service(self) -> Service
+        ensures { result ≡ creation_service self }
+    {
+        match self {
+            ObjectKind::Buffer => Service::CreateBuffer,
+            ObjectKind::Blackboard => Service::CreateBlackboard,
+            ObjectKind::Semaphore => Service::CreateSemaphore,
+            ObjectKind::Event => Service::CreateEvent,
+            ObjectKind::Mutex => Service::CreateMutex,
+            ObjectKind::SamplingPort => Service::CreateSamplingPort,
+            ObjectKind::QueuingPort => Service::CreateQueuingPort,
+        }
+    }
+
     /// The service that tells the number of what has a name.
     pub fn id_service(self) -> Service
         ensures { result ≡ id_service self }

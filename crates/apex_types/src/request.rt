@@ -1,14 +1,18 @@
 // A request: a service with the arguments that its caller gave.
 
 ghost use Rattle.std.specs.Prelude.{◌≡◌};
-ghost use Rattle.apex_types.specs.Requested.{service_of};
+ghost use Rattle.apex_types.specs.Requested as requested;
 
 use crate::object_kind::ObjectKind;
+use crate::operation::{
+    BlackboardOperation, BufferOperation, CallerOperation, EventOperation, MutexOperation,
+    NewObject, ProcessOperation, QueuingOperation, SamplingOperation, SemaphoreOperation,
+};
 use crate::service::Service;
-use crate::text::{Message, Name};
+use crate::text::Name;
 
-/// A service with its arguments. Numbers are as the caller gave them, in range or not; times are in ticks, sizes and
-/// lengths in bytes.
+/// A service with its arguments, by what it is about. Numbers are as the caller gave them, in range or not; times are in
+/// ticks, sizes and lengths in bytes.
 #[derive(Debug, Drop)]
 pub enum Request {
     CreateProcess {
@@ -16,138 +20,48 @@ pub enum Request {
         priority: i64,
         period: i64,
     },
-    InitializeProcessCoreAffinity {
+    /// START and all other services that name a process.
+    Process {
         process: i64,
-        core: i64,
+        operation: ProcessOperation,
     },
-    Start {
-        process: i64,
-    },
-    Stop {
-        process: i64,
-    },
-    StopSelf,
-    Suspend {
-        process: i64,
-    },
-    SuspendSelf {
-        time_out: i64,
-    },
-    Resume {
-        process: i64,
-    },
-    SetPriority {
-        process: i64,
-        priority: i64,
-    },
-    GetMyId,
-    TimedWait {
-        delay: i64,
-    },
-    PeriodicWait,
-    GetTime,
+    /// STOP_SELF and all other services that a process asks for itself.
+    Caller(CallerOperation),
     SetPartitionMode {
         mode: i64,
     },
-    CreateBuffer {
+    /// CREATE_BUFFER and its like.
+    Create {
         name: Name,
-        size: i64,
-        capacity: i64,
-        discipline: i64,
+        object: NewObject,
     },
-    SendBuffer {
+    Buffer {
         buffer: i64,
-        length: i64,
-        time_out: i64,
-        message: Message,
+        operation: BufferOperation,
     },
-    ReceiveBuffer {
-        buffer: i64,
-        time_out: i64,
-    },
-    CreateBlackboard {
-        name: Name,
-        size: i64,
-    },
-    DisplayBlackboard {
+    Blackboard {
         blackboard: i64,
-        length: i64,
-        message: Message,
+        operation: BlackboardOperation,
     },
-    ReadBlackboard {
-        blackboard: i64,
-        time_out: i64,
-    },
-    ClearBlackboard {
-        blackboard: i64,
-    },
-    CreateSemaphore {
-        name: Name,
-        value: i64,
-        maximum: i64,
-        discipline: i64,
-    },
-    WaitSemaphore {
+    Semaphore {
         semaphore: i64,
-        time_out: i64,
+        operation: SemaphoreOperation,
     },
-    SignalSemaphore {
-        semaphore: i64,
-    },
-    CreateEvent {
-        name: Name,
-    },
-    SetEvent {
+    Event {
         event: i64,
+        operation: EventOperation,
     },
-    ResetEvent {
-        event: i64,
-    },
-    WaitEvent {
-        event: i64,
-        time_out: i64,
-    },
-    CreateMutex {
-        name: Name,
-        priority: i64,
-        discipline: i64,
-    },
-    AcquireMutex {
+    Mutex {
         mutex: i64,
-        time_out: i64,
+        operation: MutexOperation,
     },
-    ReleaseMutex {
-        mutex: i64,
-    },
-    CreateSamplingPort {
-        name: Name,
-        size: i64,
-        direction: i64,
-        refresh: i64,
-    },
-    WriteSamplingMessage {
+    SamplingPort {
         port: i64,
-        length: i64,
-        message: Message,
+        operation: SamplingOperation,
     },
-    ReadSamplingMessage {
+    QueuingPort {
         port: i64,
-    },
-    CreateQueuingPort {
-        name: Name,
-        size: i64,
-        capacity: i64,
-        direction_and_discipline: i64,
-    },
-    SendQueuingMessage {
-        port: i64,
-        length: i64,
-        time_out: i64,
-        message: Message,
-    },
-    ReceiveQueuingMessage {
-        port: i64,
-        time_out: i64,
+        operation: QueuingOperation,
     },
     /// GET_BUFFER_ID and its like, by the kind of what is asked for.
     GetId {
@@ -164,46 +78,21 @@ pub enum Request {
 impl Request {
     /// The service that is requested.
     pub fn service(&self) -> Service
-        ensures { result ≡ service_of self.now }
+        ensures { result ≡ requested.service_of self.now }
     {
         match self {
             Request::CreateProcess { .. } => Service::CreateProcess,
-            Request::InitializeProcessCoreAffinity { .. } => Service::InitializeProcessCoreAffinity,
-            Request::Start { .. } => Service::Start,
-            Request::Stop { .. } => Service::Stop,
-            Request::StopSelf => Service::StopSelf,
-            Request::Suspend { .. } => Service::Suspend,
-            Request::SuspendSelf { .. } => Service::SuspendSelf,
-            Request::Resume { .. } => Service::Resume,
-            Request::SetPriority { .. } => Service::SetPriority,
-            Request::GetMyId => Service::GetMyId,
-            Request::TimedWait { .. } => Service::TimedWait,
-            Request::PeriodicWait => Service::PeriodicWait,
-            Request::GetTime => Service::GetTime,
+            Request::Process { operation, .. } => operation.service(),
+            Request::Caller(operation) => operation.service(),
             Request::SetPartitionMode { .. } => Service::SetPartitionMode,
-            Request::CreateBuffer { .. } => Service::CreateBuffer,
-            Request::SendBuffer { .. } => Service::SendBuffer,
-            Request::ReceiveBuffer { .. } => Service::ReceiveBuffer,
-            Request::CreateBlackboard { .. } => Service::CreateBlackboard,
-            Request::DisplayBlackboard { .. } => Service::DisplayBlackboard,
-            Request::ReadBlackboard { .. } => Service::ReadBlackboard,
-            Request::ClearBlackboard { .. } => Service::ClearBlackboard,
-            Request::CreateSemaphore { .. } => Service::CreateSemaphore,
-            Request::WaitSemaphore { .. } => Service::WaitSemaphore,
-            Request::SignalSemaphore { .. } => Service::SignalSemaphore,
-            Request::CreateEvent { .. } => Service::CreateEvent,
-            Request::SetEvent { .. } => Service::SetEvent,
-            Request::ResetEvent { .. } => Service::ResetEvent,
-            Request::WaitEvent { .. } => Service::WaitEvent,
-            Request::CreateMutex { .. } => Service::CreateMutex,
-            Request::AcquireMutex { .. } => Service::AcquireMutex,
-            Request::ReleaseMutex { .. } => Service::ReleaseMutex,
-            Request::CreateSamplingPort { .. } => Service::CreateSamplingPort,
-            Request::WriteSamplingMessage { .. } => Service::WriteSamplingMessage,
-            Request::ReadSamplingMessage { .. } => Service::ReadSamplingMessage,
-            Request::CreateQueuingPort { .. } => Service::CreateQueuingPort,
-            Request::SendQueuingMessage { .. } => Service::SendQueuingMessage,
-            Request::ReceiveQueuingMessage { .. } => Service::ReceiveQueuingMessage,
+            Request::Create { object, .. } => object.kind().creation_service(),
+            Request::Buffer { operation, .. } => operation.service(),
+            Request::Blackboard { operation, .. } => operation.service(),
+            Request::Semaphore { operation, .. } => operation.service(),
+            Request::Event { operation, .. } => operation.service(),
+            Request::Mutex { operation, .. } => operation.service(),
+            Request::SamplingPort { operation, .. } => operation.service(),
+            Request::QueuingPort { operation, .. } => operation.service(),
             Request::GetId { kind, .. } => kind.id_service(),
             Request::GetStatus { kind, .. } => kind.status_service(),
         }

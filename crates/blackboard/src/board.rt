@@ -2,17 +2,18 @@
 
 ghost use Rattle.std.specs.Prelude.{◌≡◌, ◌↔◌, [], None, IfErr, IfOk, IsTrue, OnErr, OnOk};
 ghost use Rattle.std.specs.Option.{option_copied};
+ghost use Rattle.apex_types.specs.declared.operation.BlackboardOperation.TheVariants as on_blackboard;
 ghost use Rattle.apex_types.specs.declared.record.Out.TheVariants as out;
 ghost use Rattle.apex_machine.specs.Demands.{AllHold, answer_demands};
-ghost use Rattle.apex_machine.specs.Objects.{board_read, cleared, displayed};
+ghost use Rattle.apex_machine.specs.Objects.{blackboard_effect, displayed};
 ghost use Rattle.apex_machine.specs.Statuses.{blackboard_status};
-ghost use Rattle.wait_set.specs.Actors.{OwesNothing, Refuses, entry_with};
+ghost use Rattle.wait_set.specs.Actors.{OwesNothing, Refuses, entry_with, joined_by, left_by};
 ghost use Rattle.wait_set.specs.Givens.{answer_given};
 ghost use Rattle.wait_set.specs.Sets.{IsNew};
 ghost use Rattle.blackboard.specs.Blackboards as rules;
 
 use apex_machine::Status;
-use apex_types::{Claim, Discipline, Message, Name, Request, Who};
+use apex_types::{BlackboardOperation, Claim, Discipline, Message, Name, Who};
 use std::alloc::Global;
 use std::marker::Model;
 use wait_set::{Actor, ApexObject, Effect, Given, Named, ObjFault, WaitSet, judge_waking_all};
@@ -84,7 +85,7 @@ impl Blackboard {
     // DISPLAY_BLACKBOARD: the message is on the blackboard, and all who wait for one get it.
     fn display(&mut self, message: &Message, claim: &Claim) -> Result<Effect, ObjFault>
         ensures ok { OnOk result (AllHold (answer_demands (displayed message.now self.old.readers).answer claim.now)) }
-        ensures after { OnOk result (self.new ≡ rules.after_display message.now claim.now self.old) }
+        ensures after { OnOk result (self.new ≡ record self.old { message = (displayed message.now self.old.readers).next; readers = left_by claim.now self.old.readers }) }
         ensures waits { IfOk result (λ effect. IsTrue effect.waits ↔ (claim.now.out ≡ out.Waits)) }
         ensures refused { IfErr result (Refuses (answer_demands (displayed message.now self.old.readers).answer claim.now)) }
         ensures unchanged { OnErr result (self.new ≡ self.old) }
@@ -99,10 +100,10 @@ impl Blackboard {
     // READ_BLACKBOARD: the message stays on the blackboard; where there is none the caller waits.
     fn read(&mut self, actor: Actor, time_out: i64, claim: &Claim) -> Result<Effect, ObjFault>
         requires new { IsNew (entry_with actor []) self.old.readers }
-        ensures ok { OnOk result (AllHold (answer_demands (board_read time_out self.old.message).answer claim.now)) }
-        ensures after { OnOk result (self.new ≡ rules.after_read actor time_out claim.now self.old) }
+        ensures ok { OnOk result (AllHold (answer_demands (blackboard_effect (on_blackboard.Read time_out) self.old).answer claim.now)) }
+        ensures after { OnOk result (self.new ≡ record (blackboard_effect (on_blackboard.Read time_out) self.old).next { readers = joined_by actor claim.now [] self.old.readers }) }
         ensures waits { IfOk result (λ effect. IsTrue effect.waits ↔ (claim.now.out ≡ out.Waits)) }
-        ensures refused { IfErr result (Refuses (answer_demands (board_read time_out self.old.message).answer claim.now)) }
+        ensures refused { IfErr result (Refuses (answer_demands (blackboard_effect (on_blackboard.Read time_out) self.old).answer claim.now)) }
         ensures unchanged { OnErr result (self.new ≡ self.old) }
     {
         self.given_to_reader(time_out)
@@ -116,7 +117,7 @@ impl Blackboard {
 
     // What READ_BLACKBOARD gives its caller.
     fn given_to_reader(&self, time_out: i64) -> Given<'_>
-        ensures { answer_given result ≡ (board_read time_out self.now.message).answer }
+        ensures { answer_given result ≡ (blackboard_effect (on_blackboard.Read time_out) self.now).answer }
     {
         match &self.message {
             Some(message) => Given::giving(message.as_bytes(), None),
@@ -126,10 +127,10 @@ impl Blackboard {
 
     // CLEAR_BLACKBOARD: the blackboard is empty.
     fn clear(&mut self, claim: &Claim) -> Result<Effect, ObjFault>
-        ensures ok { OnOk result (AllHold (answer_demands cleared.answer claim.now)) }
-        ensures after { OnOk result (self.new ≡ rules.after_clear claim.now self.old) }
+        ensures ok { OnOk result (AllHold (answer_demands (blackboard_effect on_blackboard.Clear self.old).answer claim.now)) }
+        ensures after { OnOk result (self.new ≡ record (blackboard_effect on_blackboard.Clear self.old).next { readers = left_by claim.now self.old.readers }) }
         ensures waits { IfOk result (λ effect. IsTrue effect.waits ↔ (claim.now.out ≡ out.Waits)) }
-        ensures refused { IfErr result (Refuses (answer_demands cleared.answer claim.now)) }
+        ensures refused { IfErr result (Refuses (answer_demands (blackboard_effect on_blackboard.Clear self.old).answer claim.now)) }
         ensures unchanged { OnErr result (self.new ≡ self.old) }
     {
         Given::done().judge(claim).map_err(ObjFault::Unlawful)?;
@@ -148,7 +149,7 @@ impl Named for Blackboard {
 }
 
 impl ApexObject for Blackboard {
-    ghost serves = { rules.serves };
+    type Operation = BlackboardOperation;
 
     ghost owes = { OwesNothing };
 
@@ -163,14 +164,13 @@ impl ApexObject for Blackboard {
     fn apply(
         &mut self,
         actor: Actor,
-        request: &Request,
+        operation: &BlackboardOperation,
         claim: &Claim,
     ) -> Result<Effect, ObjFault> {
-        match request {
-            Request::DisplayBlackboard { message, .. } => self.display(message, claim),
-            Request::ReadBlackboard { time_out, .. } => self.read(actor, *time_out, claim),
-            Request::ClearBlackboard { .. } => self.clear(claim),
-            _ => unreachable!(),
+        match operation {
+            BlackboardOperation::Display { message, .. } => self.display(message, claim),
+            BlackboardOperation::Read { time_out } => self.read(actor, *time_out, claim),
+            BlackboardOperation::Clear => self.clear(claim),
         }
     }
 

@@ -8,8 +8,8 @@
 //!
 //! ```text
 //! let mut board = Blackboard::new(alloc, name, 100);
-//! let read = Request::ReadBlackboard { blackboard: 1, time_out: -1 };
-//! let display = Request::DisplayBlackboard { blackboard: 1, length: 2, message };
+//! let read = BlackboardOperation::Read { time_out: -1 };
+//! let display = BlackboardOperation::Display { length: 2, message };
 //!
 //! // Process 1 waits, since the blackboard is empty.
 //! board.apply(first, &read, &waits)?;               // Effect { waits: true }

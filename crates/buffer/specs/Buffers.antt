@@ -1,12 +1,11 @@
 -- What each operation on a buffer gives its caller, and the buffer after it.
-use Rattle.std.specs.Prelude.{ℕ, ℤ, Bool, List, [], ◌∷◌, true, false}
+use Rattle.std.specs.Prelude.{ℕ, List, [], ◌∷◌}
+use Rattle.apex_types.specs.declared.operation.{BufferOperation.BufferOperation}
 use Rattle.apex_types.specs.declared.record.Claim.{Claim}
 use Rattle.apex_types.specs.declared.record.Who.{Who}
-use Rattle.apex_types.specs.declared.request.Request.{Request}
-use Rattle.apex_types.specs.declared.request.Request.TheVariants.{SendBuffer, ReceiveBuffer}
 use Rattle.apex_machine.specs.declared.state.Entry.{Entry}
-use Rattle.apex_machine.specs.Answer.{Answer, done}
-use Rattle.apex_machine.specs.Objects.{buffer_received, buffer_sent}
+use Rattle.apex_machine.specs.Answer.{Answer}
+use Rattle.apex_machine.specs.Objects.{buffer_effect}
 use Rattle.apex_machine.specs.State.{Buffer}
 use Rattle.message_queue.specs.Queues.{Queue}
 use Rattle.wait_set.specs.declared.object.Actor.{Actor}
@@ -25,39 +24,26 @@ buffer_of name size queue = record {
   receivers = queue.receivers.entries;
 }
 
--- the operations on a buffer
-abbrev pub serves : Request → Bool
-serves (SendBuffer buffer length time_out message) = true
-serves (ReceiveBuffer buffer time_out) = true
-serves _ = false
-
 -- what an operation gives its caller
-abbrev pub answer : Actor → Request → Buffer → Answer
-answer actor (SendBuffer buffer length time_out message) found = (buffer_sent message time_out found).answer
-answer actor (ReceiveBuffer buffer time_out) found = (buffer_received time_out found).answer
-answer actor _ found = done
+abbrev pub answer : Actor → BufferOperation → Buffer → Answer
+answer actor operation found = (buffer_effect operation found).answer
 
--- the buffer after SEND_BUFFER: a caller that waits stands in its set with the message
-abbrev pub after_send : Actor → List ℕ → ℤ → Claim → Buffer → Buffer
-after_send actor message time_out claim found = record found {
-  messages = (buffer_sent message time_out found).next;
-  senders = joined_by actor claim message found.senders;
-  receivers = left_by claim found.receivers;
-}
+-- those who wait to send after an operation: SEND_BUFFER adds a caller that waits, with its message
+abbrev pub senders_after : Actor → BufferOperation → Claim → List Entry → List Entry
+senders_after actor (BufferOperation.Send length time_out message) claim entries = joined_by actor claim message entries
+senders_after actor (BufferOperation.Receive time_out) claim entries = left_by claim entries
 
--- the buffer after RECEIVE_BUFFER: a caller that waits stands in its set
-abbrev pub after_receive : Actor → ℤ → Claim → Buffer → Buffer
-after_receive actor time_out claim found = record found {
-  messages = (buffer_received time_out found).next;
-  senders = left_by claim found.senders;
-  receivers = joined_by actor claim [] found.receivers;
-}
+-- those who wait to receive after an operation: RECEIVE_BUFFER adds a caller that waits
+abbrev pub receivers_after : Actor → BufferOperation → Claim → List Entry → List Entry
+receivers_after actor (BufferOperation.Send length time_out message) claim entries = left_by claim entries
+receivers_after actor (BufferOperation.Receive time_out) claim entries = joined_by actor claim [] entries
 
 -- the buffer after an operation
-abbrev pub after : Actor → Request → Claim → Buffer → Buffer
-after actor (SendBuffer buffer length time_out message) claim found = after_send actor message time_out claim found
-after actor (ReceiveBuffer buffer time_out) claim found = after_receive actor time_out claim found
-after actor _ claim found = found
+abbrev pub after : Actor → BufferOperation → Claim → Buffer → Buffer
+after actor operation claim found = record (buffer_effect operation found).next {
+  senders = senders_after actor operation claim found.senders;
+  receivers = receivers_after actor operation claim found.receivers;
+}
 
 -- its two waiting sets
 abbrev pub sets : Buffer → List (List Entry)

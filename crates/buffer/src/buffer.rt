@@ -6,7 +6,7 @@ ghost use Rattle.wait_set.specs.Actors.{OwesNothing};
 ghost use Rattle.buffer.specs.Buffers as rules;
 
 use apex_machine::Status;
-use apex_types::{Claim, Discipline, Name, Request, Who};
+use apex_types::{BufferOperation, Claim, Discipline, Name, Who};
 use message_queue::MessageQueue;
 use std::alloc::{AllocError, Global};
 use std::marker::Model;
@@ -95,7 +95,7 @@ impl Named for Buffer {
 }
 
 impl ApexObject for Buffer {
-    ghost serves = { rules.serves };
+    type Operation = BufferOperation;
 
     ghost owes = { OwesNothing };
 
@@ -110,17 +110,16 @@ impl ApexObject for Buffer {
     fn apply(
         &mut self,
         actor: Actor,
-        request: &Request,
+        operation: &BufferOperation,
         claim: &Claim,
     ) -> Result<Effect, ObjFault> {
-        match request {
-            Request::SendBuffer {
+        match operation {
+            BufferOperation::Send {
                 time_out,
                 message,
                 ..
             } => self.queue.send(actor, message, *time_out, claim)?,
-            Request::ReceiveBuffer { time_out, .. } => self.queue.receive(actor, *time_out, claim)?,
-            _ => unreachable!(),
+            BufferOperation::Receive { time_out } => self.queue.receive(actor, *time_out, claim)?,
         }
         Ok(Effect::of(claim))
     }

@@ -9,8 +9,8 @@
 //!
 //! ```text
 //! let mut buffer = Buffer::new(alloc, name, 100, 1, Discipline::Fifo)?;
-//! let send = Request::SendBuffer { buffer: 1, length: 3, time_out: -1, message };
-//! let receive = Request::ReceiveBuffer { buffer: 1, time_out: 0 };
+//! let send = BufferOperation::Send { length: 3, time_out: -1, message };
+//! let receive = BufferOperation::Receive { time_out: 0 };
 //!
 //! // Process 1 fills the one place that there is, and process 2 waits.
 //! buffer.apply(first, &send, &done)?;               // Effect { waits: false }

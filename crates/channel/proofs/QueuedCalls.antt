@@ -1,7 +1,8 @@
 -- A call through a queuing channel, whichever configuration the channel has.
-use Rattle.std.proofs.Common.{◌≡◌, ◌||◌, ℕ, ℤ, List, [], ◌∷◌, Some, Bool, true, false, ◌&&◌, IsFalse, refl, sym, ap, subst, ◌∙◌}
-use Rattle.apex_types.specs.declared.cause.Cause.TheVariants as cause
+use Rattle.std.proofs.Common.{◌≡◌, ◌||◌, ℕ, ℤ, List, [], ◌∷◌, ◌++◌, Some, Bool, true, false, ◌&&◌, OnOk, Result, refl, sym, ap, ◌∙◌}
+use Rattle.std.proofs.lemmas.Result.{on_ok_weaker}
 use Rattle.apex_types.specs.declared.object_kind.ObjectKind.TheVariants as kind
+use Rattle.apex_types.specs.declared.operation.{QueuingOperation.QueuingOperation}
 use Rattle.apex_types.specs.declared.record.Body.TheVariants.{Call}
 use Rattle.apex_types.specs.declared.record.Call.{Call as CallRecord}
 use Rattle.apex_types.specs.declared.request.Request.TheVariants as request
@@ -11,16 +12,17 @@ use Rattle.apex_machine.specs.declared.state.WaitingSet.TheVariants as set
 use Rattle.apex_machine.specs.Demands.{AllHold, answer_demands, stands_in, through_demands}
 use Rattle.apex_machine.specs.Configuration.{Configuration}
 use Rattle.apex_machine.specs.Waiting.{is_waiting, set_after}
-use Rattle.message_queue.specs.Queues.{Queue, after_receive, after_send, received_from, sent_to}
-use Rattle.channel.specs.Asked.{asked_demands}
-use Rattle.channel.specs.Held.{Accepts, IsAfterCall, IsConfigured, RefusesCall}
+use Rattle.message_queue.specs.Queues.{Queue}
+use Rattle.channel.specs.declared.queuing.QueuingChannel.{QueuingChannel}
+use Rattle.channel.specs.Held.{AllBelow, Held, IsAfterCall, IsConfigured}
 use Rattle.channel.specs.Kinds.{queuing_held}
-use Rattle.channel.proofs.Shared.{and_false, later_refused, next_refused, of_three, same_number}
+use Rattle.channel.specs.Operations.{asked_demands, queue_after, queuing_effect}
+use Rattle.channel.proofs.Shared.{and_false, apart, of_three, same_number, suited}
 use Rattle.wait_set.specs.declared.object.Actor.{Actor}
 use Rattle.wait_set.specs.declared.object.ObjFault.{ObjFault}
-use Rattle.wait_set.specs.Actors.{Refuses, entry_with, joined_by, left_by}
+use Rattle.wait_set.specs.Actors.{entry_with, joined_by}
 use Rattle.wait_set.specs.Laws.{StandBefore}
-use Rattle.wait_set.specs.Sets.{IsNew}
+use Rattle.wait_set.specs.Sets.{IsNewInEach}
 use Rattle.wait_set.proofs.Calls.{no_place, set_joined, set_left}
 use Rattle.wait_set.proofs.Leaving.{without-unnamed}
 use Rattle.wait_set.proofs.Tests.{neither_first, neither_later}
@@ -30,124 +32,102 @@ and_true : (b : Bool) → (b && true) ≡ b
 and_true true = refl
 and_true false = refl
 
--- who makes a call
+-- the caller of a call at this place
+abbrev pub caller_of : ℕ → CallRecord → Actor
+caller_of place call = record { who = call.who; priority = call.claim.prio; place = place }
 
--- a caller that waits at neither end is new among the senders
-pub new_sender : (actor : Actor) (queue : Queue) → (stands_in actor.who queue.senders.entries || stands_in actor.who queue.receivers.entries) ≡ false
-    → StandBefore actor.place queue.senders.entries → IsNew (entry_with actor []) queue.senders.entries
-new_sender actor queue apart before = (neither_first _ _ apart, no_place actor.place queue.senders.entries before)
+-- a caller that waits at neither end is new in both sets
+pub new_caller : (number source destination place : ℕ) (queue : Queue) (call : CallRecord) (held : Held) → queuing_held number source destination queue ≡ held
+    → (stands_in call.who held.channel.senders || stands_in call.who held.channel.receivers) ≡ false → AllBelow place held
+    → IsNewInEach (entry_with (caller_of place call) []) (queue.senders.entries ∷ queue.receivers.entries ∷ [])
+new_caller number source destination place queue call held seen = rw (← seen)
+    (λ apart below. ((neither_first _ _ apart, no_place place queue.senders.entries below.0), ((neither_later _ _ apart, no_place place queue.receivers.entries below.1), tt)))
 
--- a caller that waits at neither end is new among the receivers
-pub new_receiver : (actor : Actor) (queue : Queue) → (stands_in actor.who queue.senders.entries || stands_in actor.who queue.receivers.entries) ≡ false
-    → StandBefore actor.place queue.receivers.entries → IsNew (entry_with actor []) queue.receivers.entries
-new_receiver actor queue apart before = (neither_later _ _ apart, no_place actor.place queue.receivers.entries before)
+-- operations
 
--- sending
+-- what is demanded of an operation is what the operation gives
+pub queuing_demanded : (now number source destination : ℕ) (queue : Queue) (call : CallRecord) (held : Held) (port : ℤ) (operation : QueuingOperation)
+    → queuing_held number source destination queue ≡ held → call.request ≡ request.QueuingPort port operation
+    → (configuration : Configuration) → IsConfigured configuration held
+    → through_demands configuration now held.number held.channel call
+    ≡ (apart call held ∷ suited ∷ []) ++ answer_demands (queuing_effect operation queue).answer call.claim
+queuing_demanded now number source destination queue call held port (QueuingOperation.Send length time_out message) seen asked = rw (← seen)
+    (λ configuration is. rw (asked, is.0, is.2) refl)
+queuing_demanded now number source destination queue call held port (QueuingOperation.Receive time_out) seen asked = rw (← seen)
+    (λ configuration is. rw (asked, is.1) refl)
 
--- a send that claims what it gives is accepted
-pub send_accepted : (now number source destination : ℕ) (queue : Queue) (call : CallRecord) (port length time_out : ℤ) (message : List ℕ)
-    → call.request ≡ request.SendQueuingMessage port length time_out message
-    → IsFalse (stands_in call.who queue.senders.entries || stands_in call.who queue.receivers.entries)
-    → AllHold (answer_demands (sent_to message time_out queue).answer call.claim) → Accepts now call (queuing_held number source destination queue)
-send_accepted now number source destination queue call port length time_out message asked apart holds = λ configuration is.
-    rw (asked, is.0, is.2) (apart, (refl, holds))
+-- who waits to send after an operation
+senders_after : (number place : ℕ) (queue : Queue) (call : CallRecord) (port : ℤ) (operation : QueuingOperation)
+    → call.request ≡ request.QueuingPort port operation → call.claim.chan ≡ Some number → StandBefore place queue.senders.entries
+    → set_after place (Call call) (set.ChannelSenders number) queue.senders.entries
+    ≡ (queue_after (caller_of place call) operation call.claim queue).senders.entries
+senders_after number place queue call port (QueuingOperation.Send length time_out message) asked through before =
+    set_joined place call (set.ChannelSenders number) queue.senders.entries (rw asked refl) (rw asked refl) before
+    (rw (asked, through, same_number number) (and_true (is_waiting call.claim.out)))
+    ∙ ap (λ bytes. joined_by (caller_of place call) call.claim bytes queue.senders.entries) (rw asked refl)
+senders_after number place queue call port (QueuingOperation.Receive time_out) asked through before =
+    set_left place call (set.ChannelSenders number) queue.senders.entries (rw asked refl) (rw asked refl)
+    (rw (asked, through) (and_false (is_waiting call.claim.out)))
 
--- the channel after a send
-pub send_after : (now number source destination place : ℕ) (queue : Queue) (call : CallRecord) (port length time_out : ℤ) (message : List ℕ)
-    → call.request ≡ request.SendQueuingMessage port length time_out message → call.claim.chan ≡ Some number → StandBefore place queue.senders.entries
-    → IsAfterCall place now call (queuing_held number source destination queue)
-    (queuing_held number source destination (after_send (record { who = call.who; priority = call.claim.prio; place = place }) message time_out call.claim queue))
-send_after now number source destination place queue call port length time_out message asked through before = λ configuration is.
-    of_three (queuing_held number source destination queue) _ _ _ _ _ _ (rw (asked, through, same_number number, is.0, is.2) refl) (sym joined) (sym left)
-  where
-    joined : set_after place (Call call) (set.ChannelSenders number) queue.senders.entries
-        ≡ joined_by (record { who = call.who; priority = call.claim.prio; place = place }) call.claim message queue.senders.entries
-    joined = set_joined place call (set.ChannelSenders number) queue.senders.entries (rw asked refl) (rw asked refl) before
-        (rw (asked, through, same_number number) (and_true (is_waiting call.claim.out)))
-        ∙ ap (λ bytes. joined_by (record { who = call.who; priority = call.claim.prio; place = place }) call.claim bytes queue.senders.entries) (rw asked refl)
+-- who waits to receive after an operation
+receivers_after : (number place : ℕ) (queue : Queue) (call : CallRecord) (port : ℤ) (operation : QueuingOperation)
+    → call.request ≡ request.QueuingPort port operation → call.claim.chan ≡ Some number → StandBefore place queue.receivers.entries
+    → set_after place (Call call) (set.ChannelReceivers number) queue.receivers.entries
+    ≡ (queue_after (caller_of place call) operation call.claim queue).receivers.entries
+receivers_after number place queue call port (QueuingOperation.Send length time_out message) asked through before =
+    set_left place call (set.ChannelReceivers number) queue.receivers.entries (rw asked refl) (rw asked refl)
+    (rw (asked, through) (and_false (is_waiting call.claim.out)))
+receivers_after number place queue call port (QueuingOperation.Receive time_out) asked through before =
+    set_joined place call (set.ChannelReceivers number) queue.receivers.entries (rw asked refl) (rw asked refl) before
+    (rw (asked, through, same_number number) (and_true (is_waiting call.claim.out)))
+    ∙ ap (λ bytes. joined_by (caller_of place call) call.claim bytes queue.receivers.entries) (rw asked refl)
 
-    left : set_after place (Call call) (set.ChannelReceivers number) queue.receivers.entries ≡ left_by call.claim queue.receivers.entries
-    left = set_left place call (set.ChannelReceivers number) queue.receivers.entries (rw asked refl) (rw asked refl)
-        (rw (asked, through) (and_false (is_waiting call.claim.out)))
+-- what an operation leaves is the channel after the call
+left_so : (now number place : ℕ) (channel : QueuingChannel) (call : CallRecord) (port : ℤ) (operation : QueuingOperation)
+    → call.request ≡ request.QueuingPort port operation → call.claim.chan ≡ Some number
+    → AllBelow place (queuing_held number channel.source channel.destination channel.queue)
+    → IsAfterCall place now call (queuing_held number channel.source channel.destination channel.queue)
+    (queuing_held number channel.source channel.destination (queue_after (caller_of place call) operation call.claim channel.queue))
+left_so now number place channel call port (QueuingOperation.Send length time_out message) asked through below = λ configuration is.
+    of_three (queuing_held number channel.source channel.destination channel.queue) _ _ _ _ _ _ (rw (asked, through, same_number number, is.0, is.2) refl)
+    (sym (senders_after number place channel.queue call port _ asked through below.0))
+    (sym (receivers_after number place channel.queue call port _ asked through below.1))
+left_so now number place channel call port (QueuingOperation.Receive time_out) asked through below = λ configuration is.
+    of_three (queuing_held number channel.source channel.destination channel.queue) _ _ _ _ _ _ (rw (asked, through, same_number number, is.1) refl)
+    (sym (senders_after number place channel.queue call port _ asked through below.0))
+    (sym (receivers_after number place channel.queue call port _ asked through below.1))
 
--- a send that claims something else is refused, with the same cause
-pub send_refused : (now number source destination : ℕ) (queue : Queue) (call : CallRecord) (port length time_out : ℤ) (message : List ℕ) (fault : ObjFault)
-    → call.request ≡ request.SendQueuingMessage port length time_out message
-    → IsFalse (stands_in call.who queue.senders.entries || stands_in call.who queue.receivers.entries)
-    → Refuses (answer_demands (sent_to message time_out queue).answer call.claim) fault → RefusesCall now call (queuing_held number source destination queue) fault
-send_refused now number source destination queue call port length time_out message fault asked apart refused = λ configuration is.
-    rw (asked, is.0, is.2) (later_refused _ _ (answer_demands (sent_to message time_out queue).answer call.claim) fault apart refl refused)
-
--- receiving
-
--- a receive that claims what it gives is accepted
-pub receive_accepted : (now number source destination : ℕ) (queue : Queue) (call : CallRecord) (port time_out : ℤ)
-    → call.request ≡ request.ReceiveQueuingMessage port time_out
-    → IsFalse (stands_in call.who queue.senders.entries || stands_in call.who queue.receivers.entries)
-    → AllHold (answer_demands (received_from time_out queue).answer call.claim) → Accepts now call (queuing_held number source destination queue)
-receive_accepted now number source destination queue call port time_out asked apart holds = λ configuration is. rw (asked, is.1) (apart, (refl, holds))
-
--- the channel after a receive
-pub receive_after : (now number source destination place : ℕ) (queue : Queue) (call : CallRecord) (port time_out : ℤ)
-    → call.request ≡ request.ReceiveQueuingMessage port time_out → call.claim.chan ≡ Some number → StandBefore place queue.receivers.entries
-    → IsAfterCall place now call (queuing_held number source destination queue)
-    (queuing_held number source destination (after_receive (record { who = call.who; priority = call.claim.prio; place = place }) time_out call.claim queue))
-receive_after now number source destination place queue call port time_out asked through before = λ configuration is.
-    of_three (queuing_held number source destination queue) _ _ _ _ _ _ (rw (asked, through, same_number number, is.1) refl) (sym left) (sym joined)
-  where
-    joined : set_after place (Call call) (set.ChannelReceivers number) queue.receivers.entries
-        ≡ joined_by (record { who = call.who; priority = call.claim.prio; place = place }) call.claim [] queue.receivers.entries
-    joined = set_joined place call (set.ChannelReceivers number) queue.receivers.entries (rw asked refl) (rw asked refl) before
-        (rw (asked, through, same_number number) (and_true (is_waiting call.claim.out)))
-        ∙ ap (λ bytes. joined_by (record { who = call.who; priority = call.claim.prio; place = place }) call.claim bytes queue.receivers.entries) (rw asked refl)
-
-    left : set_after place (Call call) (set.ChannelSenders number) queue.senders.entries ≡ left_by call.claim queue.senders.entries
-    left = set_left place call (set.ChannelSenders number) queue.senders.entries (rw asked refl) (rw asked refl)
-        (rw (asked, through) (and_false (is_waiting call.claim.out)))
-
--- a receive that claims something else is refused, with the same cause
-pub receive_refused : (now number source destination : ℕ) (queue : Queue) (call : CallRecord) (port time_out : ℤ) (fault : ObjFault)
-    → call.request ≡ request.ReceiveQueuingMessage port time_out
-    → IsFalse (stands_in call.who queue.senders.entries || stands_in call.who queue.receivers.entries)
-    → Refuses (answer_demands (received_from time_out queue).answer call.claim) fault → RefusesCall now call (queuing_held number source destination queue) fault
-receive_refused now number source destination queue call port time_out fault asked apart refused = λ configuration is.
-    rw (asked, is.1) (later_refused _ _ (answer_demands (received_from time_out queue).answer call.claim) fault apart refl refused)
+-- the channel after an operation
+pub queuing_after : (result : Result (Unit {0}) ObjFault) (now number place : ℕ) (channel next : QueuingChannel) (call : CallRecord) (held : Held) (port : ℤ)
+    (operation : QueuingOperation) → queuing_held number channel.source channel.destination channel.queue ≡ held
+    → call.request ≡ request.QueuingPort port operation → call.claim.chan ≡ Some held.number → AllBelow place held
+    → OnOk result (next ≡ record channel { queue = queue_after (caller_of place call) operation call.claim channel.queue })
+    → OnOk result (IsAfterCall place now call held (queuing_held number next.source next.destination next.queue))
+queuing_after result now number place channel next call held port operation seen asked = rw (← seen)
+    (λ through below. on_ok_weaker result (λ next_is. rw next_is (left_so now number place channel call port operation asked through below)))
 
 -- asking
 
--- whichever configuration the channel has, what is demanded of one that asks is what the queue demands
-asked_so : (now number source destination : ℕ) (queue : Queue) (call : CallRecord) (port : ℤ) → call.request ≡ request.GetStatus kind.QueuingPort port
-    → (configuration : Configuration) → IsConfigured configuration (queuing_held number source destination queue)
-    → through_demands configuration now number (queuing_held number source destination queue).channel call
-    ≡ record { cause = cause.Choice; holds = IsFalse (stands_in call.who queue.senders.entries || stands_in call.who queue.receivers.entries) }
-    ∷ asked_demands source destination call.who.part queue call.claim
-asked_so now number source destination queue call port asked configuration is = rw (asked, is.3 call.who.part, is.4 call.who.part) refl
-
--- one that asks and claims what it is given is accepted
-pub asked_accepted : (now number source destination : ℕ) (queue : Queue) (call : CallRecord) (port : ℤ) → call.request ≡ request.GetStatus kind.QueuingPort port
-    → IsFalse (stands_in call.who queue.senders.entries || stands_in call.who queue.receivers.entries)
-    → AllHold (asked_demands source destination call.who.part queue call.claim) → Accepts now call (queuing_held number source destination queue)
-asked_accepted now number source destination queue call port asked apart holds = λ configuration is.
-    subst AllHold (sym (asked_so now number source destination queue call port asked configuration is)) (apart, holds)
-
--- one that asks and claims something else, or is at neither end, is refused, with the same cause
-pub asked_refused : (now number source destination : ℕ) (queue : Queue) (call : CallRecord) (port : ℤ) (fault : ObjFault)
-    → call.request ≡ request.GetStatus kind.QueuingPort port
-    → IsFalse (stands_in call.who queue.senders.entries || stands_in call.who queue.receivers.entries)
-    → Refuses (asked_demands source destination call.who.part queue call.claim) fault → RefusesCall now call (queuing_held number source destination queue) fault
-asked_refused now number source destination queue call port fault asked apart refused = λ configuration is.
-    subst (λ demands. Refuses demands fault) (sym (asked_so now number source destination queue call port asked configuration is))
-    (next_refused _ (asked_demands source destination call.who.part queue call.claim) fault apart refused)
+-- what is demanded of one that asks is what the queue demands
+pub asked_demanded : (now number source destination : ℕ) (queue : Queue) (call : CallRecord) (held : Held) (port : ℤ)
+    → queuing_held number source destination queue ≡ held → call.request ≡ request.GetStatus kind.QueuingPort port
+    → (configuration : Configuration) → IsConfigured configuration held
+    → through_demands configuration now held.number held.channel call ≡ (apart call held ∷ []) ++ asked_demands source destination call.who.part queue call.claim
+asked_demanded now number source destination queue call held port seen asked = rw (← seen)
+    (λ configuration is. rw (asked, is.3 call.who.part, is.4 call.who.part) refl)
 
 -- the channel after one has asked: it stays, since nobody is named
-pub asked_after : (now number source destination place : ℕ) (queue : Queue) (call : CallRecord) (port : ℤ) → call.request ≡ request.GetStatus kind.QueuingPort port
-    → call.claim.chan ≡ Some number → AllHold (asked_demands source destination call.who.part queue call.claim)
-    → IsAfterCall place now call (queuing_held number source destination queue) (queuing_held number source destination queue)
-asked_after now number source destination place queue call port asked through holds = λ configuration is.
+pub asked_after : (result : Result (Unit {0}) ObjFault) (now number place source destination : ℕ) (queue : Queue) (call : CallRecord) (held : Held) (port : ℤ)
+    → queuing_held number source destination queue ≡ held → call.request ≡ request.GetStatus kind.QueuingPort port → call.claim.chan ≡ Some held.number
+    → OnOk result (AllHold (asked_demands source destination call.who.part queue call.claim))
+    → OnOk result (IsAfterCall place now call held held)
+asked_after result now number place source destination queue call held port seen asked = rw (← seen)
+    (λ through. on_ok_weaker result (λ holds configuration is.
     of_three (queuing_held number source destination queue) _ _ _ _ _ _ (rw (asked, through, same_number number) refl)
-    (sym (stays (set.ChannelSenders number) queue.senders.entries)) (sym (stays (set.ChannelReceivers number) queue.receivers.entries))
+    (stays (set.ChannelSenders number) queue.senders.entries holds) (stays (set.ChannelReceivers number) queue.receivers.entries holds)))
   where
-    stays : (wanted : WaitingSet) (entries : List Entry) → set_after place (Call call) wanted entries ≡ entries
-    stays wanted entries =
-        set_left place call wanted entries (rw asked refl) (rw asked refl) (rw asked (and_false (is_waiting call.claim.out)))
-        ∙ without-unnamed call.claim.woken entries holds.1.1.1.1.0
+    stays : (wanted : WaitingSet) (entries : List Entry) → AllHold (asked_demands source destination call.who.part queue call.claim)
+        → entries ≡ set_after place (Call call) wanted entries
+    stays wanted entries holds = sym
+        (set_left place call wanted entries (rw asked refl) (rw asked refl) (rw asked (and_false (is_waiting call.claim.out)))
+        ∙ without-unnamed call.claim.woken entries holds.1.1.1.1.0)

@@ -1,10 +1,14 @@
 -- What calls through channels of both kinds have in common.
-use Rattle.std.proofs.Common.{◌≡◌, ℕ, List, ◌∷◌, Bool, true, false, ◌&&◌, nat_eq, refl, ap, ◌∙◌, arith, inr}
+use Rattle.std.proofs.Common.{◌≡◌, ◌||◌, ℕ, List, [], ◌∷◌, ◌++◌, Bool, true, false, ◌&&◌, nat_eq, IfErr, OnOk, Result, refl, sym, ap, subst, ◌∙◌, arith, inr}
 use Rattle.std.proofs.lemmas.Bool.Decides.{nat_tests}
+use Rattle.std.proofs.lemmas.Result.{IfErr-weaker, on_ok_weaker}
+use Rattle.apex_types.specs.declared.cause.Cause.TheVariants as cause
+use Rattle.apex_types.specs.declared.record.Call.{Call as CallRecord}
 use Rattle.apex_machine.specs.declared.state.Entry.{Entry}
-use Rattle.apex_machine.specs.Demands.{Demand}
+use Rattle.apex_machine.specs.Configuration.{Configuration}
+use Rattle.apex_machine.specs.Demands.{AllHold, Demand, stands_in, through_demands}
 use Rattle.apex_machine.specs.State.{Content}
-use Rattle.channel.specs.Held.{Held}
+use Rattle.channel.specs.Held.{Accepts, Held, IsConfigured, RefusesCall}
 use Rattle.wait_set.specs.declared.object.ObjFault.{ObjFault}
 use Rattle.wait_set.specs.declared.object.ObjFault.TheVariants.{Memory, Unlawful}
 use Rattle.wait_set.specs.Actors.{Refuses}
@@ -28,13 +32,36 @@ and_false false = refl
 pub same_number : (n : ℕ) → nat_eq n n ≡ true
 same_number n = grind (arith, nat_tests)
 
--- a refusal by the demands after one that holds
-pub next_refused : (first : Demand) (demands : List {1} Demand) (fault : ObjFault) → first.holds → Refuses demands fault → Refuses (first ∷ demands) fault
-next_refused first demands (Unlawful cause) one refused = inr (one, refused)
-next_refused first demands Memory one holds = (one, holds)
+-- the demand that the caller waits at neither end
+abbrev pub apart : CallRecord → Held → Demand
+apart call held = record { cause = cause.Choice; holds = (stands_in call.who held.channel.senders || stands_in call.who held.channel.receivers) ≡ false }
 
--- a refusal by the demands after two that hold
-pub later_refused : (first second : Demand) (demands : List {1} Demand) (fault : ObjFault) → first.holds → second.holds → Refuses demands fault
-    → Refuses (first ∷ second ∷ demands) fault
-later_refused first second demands (Unlawful cause) one other refused = inr (one, inr (other, refused))
-later_refused first second demands Memory one other holds = (one, (other, holds))
+-- the demand that the channel suits the service, where it does
+abbrev pub suited : Demand
+suited = record { cause = cause.Chan; holds = true ≡ true }
+
+-- demands hold after others that hold
+all_hold : (first demands : List {1} Demand) → AllHold first → AllHold demands → AllHold (first ++ demands)
+all_hold [] demands before holds = holds
+all_hold (demand ∷ others) demands before holds = (before.0, all_hold others demands before.1 holds)
+
+-- demands refuse after others that hold
+still_refused : (first demands : List {1} Demand) (fault : ObjFault) → AllHold first → Refuses demands fault → Refuses (first ++ demands) fault
+still_refused first demands Memory before holds = all_hold first demands before holds
+still_refused [] demands (Unlawful cause) before refused = refused
+still_refused (demand ∷ others) demands (Unlawful cause) before refused = inr (before.0, still_refused others demands (Unlawful cause) before.1 refused)
+
+-- a call is accepted where the demands after those that hold do, whichever configuration the channel has
+pub accepted : (result : Result (Unit {0}) ObjFault) (now : ℕ) (call : CallRecord) (held : Held) (first demands : List {1} Demand)
+    → ((configuration : Configuration) → IsConfigured configuration held → through_demands configuration now held.number held.channel call ≡ first ++ demands)
+    → AllHold first → OnOk result (AllHold demands) → OnOk result (Accepts now call held)
+accepted result now call held first demands demanded before =
+    on_ok_weaker result (λ holds configuration is. subst AllHold (sym (demanded configuration is)) (all_hold first demands before holds))
+
+-- a call is refused as by the demands after those that hold, whichever configuration the channel has
+pub refused : (result : Result (Unit {0}) ObjFault) (now : ℕ) (call : CallRecord) (held : Held) (first demands : List {1} Demand)
+    → ((configuration : Configuration) → IsConfigured configuration held → through_demands configuration now held.number held.channel call ≡ first ++ demands)
+    → AllHold first → IfErr result (Refuses demands) → IfErr result (RefusesCall now call held)
+refused result now call held first demands demanded before =
+    IfErr-weaker result _ _ (λ fault fails configuration is.
+    subst (λ demands. Refuses demands fault) (sym (demanded configuration is)) (still_refused first demands fault before fails))

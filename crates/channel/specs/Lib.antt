@@ -1,3 +1,3 @@
-pub mod Asked
 pub mod Held
 pub mod Kinds
+pub mod Operations

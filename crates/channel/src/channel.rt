@@ -11,11 +11,11 @@ ghost use Rattle.message_queue.specs.Queues.{empty_queue};
 
 use crate::queuing::QueuingChannel;
 use crate::sampling::{SamplingChannel, Stamped};
-use apex_types::{Call, Cause, ChanId, Discipline, PartId, Place, Who};
+use apex_types::{Call, Cause, ChanId, Discipline, ObjectKind, PartId, Place, Request, Who};
 use message_queue::MessageQueue;
 use std::alloc::{AllocError, Global};
 use std::marker::Model;
-use wait_set::ObjFault;
+use wait_set::{Actor, ObjFault};
 
 /// A channel, which knows its number.
 #[derive(Drop)]
@@ -128,9 +128,26 @@ impl Channel {
         if self.has(call.who) {
             return Err(ObjFault::Unlawful(Cause::Choice));
         }
-        match &mut self.kind {
-            Kind::Sampling(channel) => channel.apply(now, call),
-            Kind::Queuing(channel) => channel.apply(place, call),
+        let actor = Actor {
+            who: call.who,
+            priority: call.claim.prio,
+            place,
+        };
+        match (&mut self.kind, &call.request) {
+            (Kind::Sampling(channel), Request::SamplingPort { operation, .. }) => {
+                channel.apply(now, operation, &call.claim)
+            }
+            (Kind::Queuing(channel), Request::QueuingPort { operation, .. }) => {
+                channel.apply(actor, operation, &call.claim)
+            }
+            (
+                Kind::Queuing(channel),
+                Request::GetStatus {
+                    kind: ObjectKind::QueuingPort,
+                    ..
+                },
+            ) => { channel.ask(call.who.part, &call.claim) }
+            _ => Err(ObjFault::Unlawful(Cause::Chan)),
         }
     }
 

@@ -1,15 +1,13 @@
 // Queuing channels.
 
-ghost use Rattle.std.specs.Prelude.{◌≡◌, ◌||◌, ℕ, Some, IfErr, IsFalse, OnErr, OnOk, option_map};
-ghost use Rattle.apex_machine.specs.Demands.{AllHold, Judges, stands_in};
-ghost use Rattle.wait_set.specs.Actors.{Refuses};
-ghost use Rattle.wait_set.specs.Laws.{StandBefore};
-ghost use Rattle.channel.specs.Held.{Accepts, IsAfterCall, RefusesCall};
-ghost use Rattle.channel.specs.Kinds.{queuing_held};
-ghost use Rattle.channel.specs.Asked.{asked_demands, waiting_between};
+ghost use Rattle.std.specs.Prelude.{◌≡◌, [], ◌∷◌, IfErr, OnErr, OnOk, option_map};
+ghost use Rattle.apex_machine.specs.Demands.{AllHold, Judges, answer_demands};
+ghost use Rattle.wait_set.specs.Actors.{Refuses, entry_with};
+ghost use Rattle.wait_set.specs.Sets.{IsNewInEach};
+ghost use Rattle.channel.specs.Operations.{asked_demands, queue_after, queuing_effect, waiting_between};
 
 use apex_machine::Status;
-use apex_types::{Call, Cause, Claim, ObjectKind, PartId, Place, Request};
+use apex_types::{Cause, Claim, PartId, QueuingOperation};
 use message_queue::MessageQueue;
 use wait_set::{Actor, ObjFault, WaitSet, judge_status};
 
@@ -22,43 +20,33 @@ pub(crate) struct QueuingChannel {
 }
 
 impl QueuingChannel {
-    /// Carries out a call through the channel at this place, under whatever number the channel has. Its caller waits at neither end.
+    /// Carries out an operation, where the claim is what it gives its caller, who waits at neither end.
     ///
-    /// Refused, with nothing changed, where the service is of the other kind, where the claim is not what the service gives, where
-    /// the status is asked for by a partition at neither end, or where memory is refused.
-    pub(crate) fn apply(&mut self, place: Place, call: &Call) -> Result<(), ObjFault>
-        requires apart { IsFalse (stands_in call.now.who self.old.queue.senders.entries || stands_in call.now.who self.old.queue.receivers.entries) }
-        requires senders_below { StandBefore place self.old.queue.senders.entries }
-        requires receivers_below { StandBefore place self.old.queue.receivers.entries }
-        ensures ok { OnOk result ((now number : ℕ) → Accepts now call.now (queuing_held number self.old.source self.old.destination self.old.queue)) }
-        ensures after { OnOk result ((now number : ℕ) → call.now.claim.chan ≡ Some number → IsAfterCall place now call.now (queuing_held number self.old.source self.old.destination self.old.queue) (queuing_held number self.new.source self.new.destination self.new.queue)) }
-        ensures refused { IfErr result (λ fault. (now number : ℕ) → RefusesCall now call.now (queuing_held number self.old.source self.old.destination self.old.queue) fault) }
+    /// Refused, with nothing changed, where the claim is another, or where memory is refused.
+    pub(crate) fn apply(
+        &mut self,
+        actor: Actor,
+        operation: &QueuingOperation,
+        claim: &Claim,
+    ) -> Result<(), ObjFault>
+        requires new { IsNewInEach (entry_with actor []) (self.old.queue.senders.entries ∷ self.old.queue.receivers.entries ∷ []) }
+        ensures ok { OnOk result (AllHold (answer_demands (queuing_effect operation.now self.old.queue).answer claim.now)) }
+        ensures after { OnOk result (self.new ≡ record self.old { queue = queue_after actor operation.now claim.now self.old.queue }) }
+        ensures refused { IfErr result (Refuses (answer_demands (queuing_effect operation.now self.old.queue).answer claim.now)) }
         ensures unchanged { OnErr result (self.new ≡ self.old) }
     {
-        let actor = Actor {
-            who: call.who,
-            priority: call.claim.prio,
-            place,
-        };
-        match &call.request {
-            Request::SendQueuingMessage {
+        match operation {
+            QueuingOperation::Send {
                 time_out,
                 message,
                 ..
-            } => self.queue.send(actor, message, *time_out, &call.claim),
-            Request::ReceiveQueuingMessage { time_out, .. } => {
-                self.queue.receive(actor, *time_out, &call.claim)
-            }
-            Request::GetStatus {
-                kind: ObjectKind::QueuingPort,
-                ..
-            } => self.ask(call.who.part, &call.claim),
-            _ => Err(ObjFault::Unlawful(Cause::Chan)),
+            } => { self.queue.send(actor, message, *time_out, claim) }
+            QueuingOperation::Receive { time_out } => self.queue.receive(actor, *time_out, claim),
         }
     }
 
-    // GET_QUEUING_PORT_STATUS, asked for by a partition: the queue stays.
-    fn ask(&self, part: PartId, claim: &Claim) -> Result<(), ObjFault>
+    /// GET_QUEUING_PORT_STATUS, asked for by a partition: the queue stays.
+    pub(crate) fn ask(&self, part: PartId, claim: &Claim) -> Result<(), ObjFault>
         ensures ok { OnOk result (AllHold (asked_demands self.now.source self.now.destination part self.now.queue claim.now)) }
         ensures refused { IfErr result (Refuses (asked_demands self.now.source self.now.destination part self.now.queue claim.now)) }
     {

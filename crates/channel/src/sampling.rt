@@ -1,13 +1,12 @@
 // Sampling channels.
 
-ghost use Rattle.std.specs.Prelude.{◌≡◌, ℕ, Some, pos, IfErr, OnErr, OnOk};
+ghost use Rattle.std.specs.Prelude.{◌≡◌, pos, IfErr, OnErr, OnOk};
 ghost use Rattle.apex_machine.specs.Demands.{AllHold, Judges, answer_demands};
 ghost use Rattle.apex_machine.specs.Ports as ports;
 ghost use Rattle.wait_set.specs.Actors.{Refuses};
-ghost use Rattle.channel.specs.Held.{Accepts, IsAfterCall, RefusesCall};
-ghost use Rattle.channel.specs.Kinds.{sampling_held};
+ghost use Rattle.channel.specs.Operations.{sampling_effect};
 
-use apex_types::{Call, Cause, Claim, Code, Message, Request};
+use apex_types::{Cause, Claim, Code, Message, SamplingOperation};
 use std::alloc::Global;
 use std::marker::Model;
 use wait_set::{Given, ObjFault};
@@ -63,20 +62,23 @@ pub(crate) struct SamplingChannel {
 }
 
 impl SamplingChannel {
-    /// Carries out a call through the channel at this time of its core, under whatever number the channel has.
+    /// Carries out an operation at this time of the caller's core, where the claim is what it gives its caller.
     ///
-    /// Refused, with nothing changed, where the service is of the other kind, where the claim is not what the service gives, or
-    /// where memory is refused for a message that is written.
-    pub(crate) fn apply(&mut self, now: u64, call: &Call) -> Result<(), ObjFault>
-        ensures ok { OnOk result ((number : ℕ) → Accepts now call.now (sampling_held number self.old.refresh self.old.last)) }
-        ensures after { OnOk result ((number place : ℕ) → call.now.claim.chan ≡ Some number → IsAfterCall place now call.now (sampling_held number self.old.refresh self.old.last) (sampling_held number self.new.refresh self.new.last)) }
-        ensures refused { IfErr result (λ fault. (number : ℕ) → RefusesCall now call.now (sampling_held number self.old.refresh self.old.last) fault) }
+    /// Refused, with nothing changed, where the claim is another, or where memory is refused for a message that is written.
+    pub(crate) fn apply(
+        &mut self,
+        now: u64,
+        operation: &SamplingOperation,
+        claim: &Claim,
+    ) -> Result<(), ObjFault>
+        ensures ok { OnOk result (AllHold (answer_demands (sampling_effect operation.now now self.old.refresh self.old.last).answer claim.now)) }
+        ensures after { OnOk result (self.new ≡ record self.old { last = (sampling_effect operation.now now self.old.refresh self.old.last).next }) }
+        ensures refused { IfErr result (Refuses (answer_demands (sampling_effect operation.now now self.old.refresh self.old.last).answer claim.now)) }
         ensures unchanged { OnErr result (self.new ≡ self.old) }
     {
-        match &call.request {
-            Request::WriteSamplingMessage { message, .. } => self.write(now, message, &call.claim),
-            Request::ReadSamplingMessage { .. } => self.read(now, &call.claim),
-            _ => Err(ObjFault::Unlawful(Cause::Chan)),
+        match operation {
+            SamplingOperation::Write { message, .. } => self.write(now, message, claim),
+            SamplingOperation::Read => self.read(now, claim),
         }
     }
 

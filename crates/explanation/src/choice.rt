@@ -4,14 +4,12 @@ use crate::module::tell_time;
 use crate::partition::Refusing;
 use crate::processes::{tell_choice, tell_numbered};
 use apex_types::{Body, Call, CoreId, Ordered, Who};
-use module_config::Config;
 use wording::{Numbered, Occupant, Words};
 
 /// Tells whose window a core is in, where a call or a return is of another partition.
-pub fn tell_window(words: &mut Words, config: &Config, refusing: &Refusing<'_>, ordered: &Ordered) {
-    let core = ordered.core;
+pub fn tell_window(words: &mut Words, refusing: &Refusing<'_>, core: CoreId) {
     words.next_line();
-    match refusing.clock.window_now(config, core) {
+    match refusing.clock.window_now(refusing.config, core) {
         Some(owner) => words.say(format_args!(
             "core {} is in a window of partition {}: ",
             core.number(),
@@ -19,17 +17,12 @@ pub fn tell_window(words: &mut Words, config: &Config, refusing: &Refusing<'_>, 
         )),
         None => words.say(format_args!("core {} is in no window: ", core.number())),
     }
-    tell_time(words, config, refusing.clock.now(core));
+    tell_time(words, refusing.config, refusing.clock.now(core));
     words.rule("part 11, cause Window; the windows: part 1 (window_at)");
 }
 
 /// Tells the choice of a core, where a record is not of it.
-pub fn tell_refused_choice(
-    words: &mut Words,
-    config: &Config,
-    refusing: &Refusing<'_>,
-    ordered: &Ordered,
-) {
+pub fn tell_refused_choice(words: &mut Words, refusing: &Refusing<'_>, ordered: &Ordered) {
     let core = ordered.core;
     words.next_line();
     words.say(format_args!(
@@ -37,7 +30,7 @@ pub fn tell_refused_choice(
         core.number(),
         refusing.number.number()
     ));
-    tell_time(words, config, refusing.clock.now(core));
+    tell_time(words, refusing.config, refusing.clock.now(core));
     tell_choice(words, refusing.state, refusing.number, core);
     match &ordered.rec.body {
         Body::Disp(Some(who)) => tell_dispatched(words, refusing, *who),
@@ -52,7 +45,7 @@ pub fn tell_refused_choice(
     words.rule("part 2, the choice (IsChosen, GoesBefore)");
 }
 
-// Tells how the process stands to which a core is dispatched.
+// Tells the state of the process to which a core is dispatched.
 fn tell_dispatched(words: &mut Words, refusing: &Refusing<'_>, who: Who) {
     if who.part == refusing.number {
         tell_numbered(words, refusing.state, who);
@@ -65,7 +58,7 @@ fn tell_dispatched(words: &mut Words, refusing: &Refusing<'_>, who: Who) {
     ));
 }
 
-// Tells the occupant of a core, and how it stands where it is the partition's.
+// Tells the occupant of a core, and its state where it is the partition's.
 fn tell_occupant(words: &mut Words, refusing: &Refusing<'_>, core: CoreId) {
     let occupant = refusing.clock.on(core);
     words.next_line();
@@ -74,20 +67,19 @@ fn tell_occupant(words: &mut Words, refusing: &Refusing<'_>, core: CoreId) {
         core.number(),
         Occupant(occupant)
     ));
-    match refusing.clock.on(core) {
-        Some(who) => tell_own(words, refusing, who),
-        None => {}
+    if let Some(who) = refusing.clock.on(core) {
+        tell_own(words, refusing, who);
     }
 }
 
-// Tells how a process stands, where it is the partition's.
+// Tells the state of a process, where it is the partition's.
 fn tell_own(words: &mut Words, refusing: &Refusing<'_>, who: Who) {
     if who.part == refusing.number {
         tell_numbered(words, refusing.state, who);
     }
 }
 
-// Tells the occupant and how the caller stands.
+// Tells the occupant and the state of the caller.
 fn tell_caller(words: &mut Words, refusing: &Refusing<'_>, core: CoreId, call: &Call) {
     tell_occupant(words, refusing, core);
     if refusing.clock.on(core) != Some(call.who) {

@@ -1,10 +1,13 @@
 // What a call claims, beside what the rules give it.
 
 use crate::conditions::{tell_codes, tell_conditions};
-use crate::held::tell_held;
-use crate::processes::tell_numbered;
+use crate::held::tell_object;
+use crate::processes::{peer_of, tell_numbered};
 use crate::wanted::{Value, Waking, Wanted, wanted_of};
-use apex_types::{Call, Cause, ChanId, Claim, Out, Request, Who};
+use apex_types::{
+    Call, CallerOperation, Cause, ChanId, Claim, ObjectKind, Out, ProcId, ProcessOperation,
+    Request, Who,
+};
 use module_config::Config;
 use partition_state::PartitionState;
 use wait_set::{Conditions, WaitSet};
@@ -78,28 +81,82 @@ pub fn tell_answer(words: &mut Words, state: &PartitionState, now: u64, call: &C
         words.rule("part 10, Call, outcome (IsAnswered)");
         return;
     }
-    tell_held(words, state, &call.request);
-    tell_about(words, state, now, call);
+    tell_basis(words, state, now, call);
     let wanted = wanted_of(state, now, call);
-    let all = all_of(state, &call.request);
-    tell_difference(words, &wanted, all, &call.claim, cause);
+    tell_difference(
+        words,
+        &wanted,
+        all_of(state, &call.request),
+        &call.claim,
+        cause,
+    );
     words.rule(answer_rule(&call.request));
 }
 
-// Tells what a call of processes and time is judged by.
-fn tell_about(words: &mut Words, state: &PartitionState, now: u64, call: &Call) {
+// Tells what a call is judged by: the process or the object that it names, or the time.
+fn tell_basis(words: &mut Words, state: &PartitionState, now: u64, call: &Call) {
     match &call.request {
-        Request::Resume { process } => {
-            if let Some(number) = state.processes().created_number(*process) {
-                let target = Who {
-                    part: call.who.part,
-                    proc: number,
-                };
-                tell_numbered(words, state, target);
+        Request::CreateProcess { .. }
+        | Request::SetPartitionMode { .. }
+        | Request::Create { .. }
+        // These go through a channel.
+        | Request::SamplingPort { .. }
+        | Request::QueuingPort { .. } => {}
+        Request::Process { process, operation } => {
+            tell_target(words, state, call.who, *process, operation);
+        }
+        Request::Caller(operation) => tell_time(words, state, now, call.who.proc, operation),
+        Request::Buffer { buffer, .. } => tell_object(words, state, ObjectKind::Buffer, *buffer),
+        Request::Blackboard { blackboard, .. } => {
+            tell_object(words, state, ObjectKind::Blackboard, *blackboard);
+        }
+        Request::Semaphore { semaphore, .. } => {
+            tell_object(words, state, ObjectKind::Semaphore, *semaphore);
+        }
+        Request::Event { event, .. } => tell_object(words, state, ObjectKind::Event, *event),
+        Request::Mutex { mutex, .. } => tell_object(words, state, ObjectKind::Mutex, *mutex),
+        Request::GetId { kind, name } => {
+            if let Some(number) = state.number_of(*kind, name) {
+                tell_object(words, state, *kind, i64::from(number));
             }
         }
-        Request::PeriodicWait => {
-            if let Some(process) = state.processes().proc(call.who.proc) {
+        Request::GetStatus { kind, object } => tell_object(words, state, *kind, *object),
+    }
+}
+
+// Tells the process that a call names, where the answer depends on it.
+fn tell_target(
+    words: &mut Words,
+    state: &PartitionState,
+    caller: Who,
+    process: i64,
+    operation: &ProcessOperation,
+) {
+    match operation {
+        ProcessOperation::Resume => {
+            if let Some(peer) = peer_of(state, caller, process) {
+                tell_numbered(words, state, peer);
+            }
+        }
+        ProcessOperation::InitializeCoreAffinity { .. }
+        | ProcessOperation::Start
+        | ProcessOperation::Stop
+        | ProcessOperation::Suspend
+        | ProcessOperation::SetPriority { .. } => {}
+    }
+}
+
+// Tells the time, where the answer to its caller depends on it.
+fn tell_time(
+    words: &mut Words,
+    state: &PartitionState,
+    now: u64,
+    caller: ProcId,
+    operation: &CallerOperation,
+) {
+    match operation {
+        CallerOperation::PeriodicWait => {
+            if let Some(process) = state.processes().proc(caller) {
                 words.next_line();
                 words.say(format_args!("its last release was at {}", process.last_release));
                 if let Some(period) = process.period {
@@ -108,27 +165,24 @@ fn tell_about(words: &mut Words, state: &PartitionState, now: u64, call: &Call) 
                 words.say(format_args!(", and the time is {now}"));
             }
         }
-        Request::GetTime => {
+        CallerOperation::GetTime => {
             words.next_line();
             words.say(format_args!("the time of its core is {now}"));
         }
-        _ => {}
+        CallerOperation::StopSelf
+        | CallerOperation::SuspendSelf { .. }
+        | CallerOperation::GetMyId
+        | CallerOperation::TimedWait { .. } => {}
     }
 }
 
-// Those who wait at the object that a call uses, where it ends the waits of all.
+// Those who wait at the object that a call uses, where the object has a service that ends the waits of all.
 fn all_of<'a>(state: &'a PartitionState, request: &Request) -> Option<&'a WaitSet> {
     match request {
-        Request::DisplayBlackboard { blackboard, .. } => {
-            match state.blackboards().given(*blackboard) {
-                Some(board) => Some(board.readers()),
-                None => None,
-            }
+        Request::Blackboard { blackboard, .. } => {
+            Some(state.blackboards().given(*blackboard)?.readers())
         }
-        Request::SetEvent { event } => match state.events().given(*event) {
-            Some(event) => Some(event.waiters()),
-            None => None,
-        },
+        Request::Event { event, .. } => Some(state.events().given(*event)?.waiters()),
         _ => None,
     }
 }
@@ -153,10 +207,7 @@ pub fn tell_difference(
             tell_value(words, wanted.val);
             tell_further(words, wanted.val2, wanted.val3);
             words.say(", and the record gives ");
-            match claim.val {
-                Some(val) => words.say(format_args!("the value {val}")),
-                None => words.say("no value"),
-            }
+            tell_value(words, claim.val.map_or(Value::Nothing, Value::Number));
             tell_further(words, claim.val2, claim.val3);
         }
         Cause::Data => words.say(format_args!(
@@ -164,12 +215,12 @@ pub fn tell_difference(
             Bytes(wanted.bytes),
             Bytes(claim.bytes.as_bytes())
         )),
-        Cause::Woken => tell_woken(words, wanted, all, claim),
+        Cause::Woken => tell_woken(words, wanted.woken, all, claim.woken.as_slice()),
         _ => {}
     }
 }
 
-// Tells a value that is wanted.
+// Tells a value that is wanted or claimed.
 fn tell_value(words: &mut Words, value: Value) {
     match value {
         Value::Nothing => words.say("no value"),
@@ -181,9 +232,9 @@ fn tell_value(words: &mut Words, value: Value) {
 }
 
 // Tells whose waits the call ends, and whom the record names.
-fn tell_woken(words: &mut Words, wanted: &Wanted<'_>, all: Option<&WaitSet>, claim: &Claim) {
+fn tell_woken(words: &mut Words, waking: Waking, all: Option<&WaitSet>, named: &[Who]) {
     words.say("the call ends ");
-    match (wanted.woken, all) {
+    match (waking, all) {
         (Waking::One(who), _) => words.say(format_args!("the wait of {}", Numbered(who))),
         (Waking::All, Some(set)) => words.say(format_args!(
             "the waits of all who wait there, which are {}",
@@ -192,13 +243,13 @@ fn tell_woken(words: &mut Words, wanted: &Wanted<'_>, all: Option<&WaitSet>, cla
         _ => words.say("no wait"),
     }
     words.say(", and the record names ");
-    if claim.woken.as_slice().is_empty() {
+    if named.is_empty() {
         words.say("nobody");
     } else {
-        tell_processes(words, claim.woken.as_slice());
+        tell_processes(words, named);
     }
-    if let Some(set) = all {
-        for who in claim.woken.as_slice() {
+    if let (Waking::All, Some(set)) = (waking, all) {
+        for who in named {
             if !set.has(*who) {
                 words.say(format_args!("; {} does not wait there", Numbered(*who)));
             }

@@ -3,7 +3,7 @@
 use crate::partition::Refusing;
 use crate::processes::{tell_numbered, tell_standing, time_due};
 use apex_machine::{Process, Wait, WaitingSet};
-use apex_types::{Call, CoreId, Request, Who};
+use apex_types::{Call, CoreId, QueuingOperation, Request, Who};
 use wording::{Numbered, Words};
 
 /// Tells whose waits fall due at a tick and are not named, and who is named and does not fall due.
@@ -80,11 +80,13 @@ pub fn tell_foreign_waits(words: &mut Words, refusing: &Refusing<'_>, call: &Cal
 // The waiting set of another partition in which a call can end a wait, if there is one.
 fn waiting_set(call: &Call) -> Option<WaitingSet> {
     let channel = call.claim.chan?;
-    match &call.request {
-        Request::SendQueuingMessage { .. } => Some(WaitingSet::ChannelReceivers(channel)),
-        Request::ReceiveQueuingMessage { .. } => Some(WaitingSet::ChannelSenders(channel)),
-        _ => None,
-    }
+    let Request::QueuingPort { operation, .. } = &call.request else {
+        return None;
+    };
+    Some(match operation {
+        QueuingOperation::Send { .. } => WaitingSet::ChannelReceivers(channel),
+        QueuingOperation::Receive { .. } => WaitingSet::ChannelSenders(channel),
+    })
 }
 
 // Whether a process waits where a call can end its wait.

@@ -140,12 +140,13 @@ fn tell_reason(words: &mut Words, config: &Config, piece: &Piece, ordered: &Orde
     match piece.partition() {
         Some(state) => {
             let refusing = Refusing {
+                config,
                 number: number_of(piece),
                 clock,
                 state,
                 piece,
             };
-            tell_partition(words, config, &refusing, ordered, cause);
+            tell_partition(words, &refusing, ordered, cause);
         }
         None => tell_module(words, config, clock, ordered, cause),
     }

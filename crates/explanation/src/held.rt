@@ -1,6 +1,6 @@
 // What objects and channels hold, in words.
 
-use apex_types::{Name, ObjectKind, Request};
+use apex_types::{Name, ObjectKind};
 use channel::Channel;
 use message_queue::MessageQueue;
 use module_config::ChannelKind;
@@ -9,36 +9,8 @@ use ports::Port;
 use wait_set::{Named, WaitSet};
 use wording::{Ascii, Bytes, Count, Numbered, Words, kind_name};
 
-/// Tells what the object holds that a call uses, if it uses one.
-pub fn tell_held(words: &mut Words, state: &PartitionState, request: &Request) {
-    match request {
-        Request::SendBuffer { buffer, .. } | Request::ReceiveBuffer { buffer, .. } => {
-            tell_buffer(words, state, *buffer);
-        }
-        Request::DisplayBlackboard { blackboard, .. }
-        | Request::ReadBlackboard { blackboard, .. }
-        | Request::ClearBlackboard { blackboard } => tell_blackboard(words, state, *blackboard),
-        Request::WaitSemaphore { semaphore, .. } | Request::SignalSemaphore { semaphore } => {
-            tell_semaphore(words, state, *semaphore);
-        }
-        Request::SetEvent { event }
-        | Request::ResetEvent { event }
-        | Request::WaitEvent { event, .. } => tell_event(words, state, *event),
-        Request::AcquireMutex { mutex, .. } | Request::ReleaseMutex { mutex } => {
-            tell_mutex(words, state, *mutex);
-        }
-        Request::GetId { kind, name } => {
-            if let Some(number) = state.number_of(*kind, name) {
-                tell_one_of(words, state, *kind, i64::from(number));
-            }
-        }
-        Request::GetStatus { kind, object } => tell_one_of(words, state, *kind, *object),
-        _ => {}
-    }
-}
-
-// Tells what one of a kind holds.
-fn tell_one_of(words: &mut Words, state: &PartitionState, kind: ObjectKind, number: i64) {
+/// Tells what one of a kind holds, if it is created.
+pub fn tell_object(words: &mut Words, state: &PartitionState, kind: ObjectKind, number: i64) {
     match kind {
         ObjectKind::Buffer => tell_buffer(words, state, number),
         ObjectKind::Blackboard => tell_blackboard(words, state, number),
@@ -46,9 +18,7 @@ fn tell_one_of(words: &mut Words, state: &PartitionState, kind: ObjectKind, numb
         ObjectKind::Event => tell_event(words, state, number),
         ObjectKind::Mutex => tell_mutex(words, state, number),
         ObjectKind::SamplingPort => {
-            let port = state.sampling_ports().given(number);
-            tell_port(words, kind, number, port);
-            tell_last_read(words, port);
+            tell_port(words, kind, number, state.sampling_ports().given(number));
         }
         ObjectKind::QueuingPort => {
             tell_port(words, kind, number, state.queuing_ports().given(number));
@@ -56,17 +26,14 @@ fn tell_one_of(words: &mut Words, state: &PartitionState, kind: ObjectKind, numb
     }
 }
 
-// Tells a port, if it is created.
+// Tells a port, if it is created; of a sampling port also whether the last read at it gave a valid message.
 fn tell_port(words: &mut Words, kind: ObjectKind, number: i64, port: Option<&Port>) {
-    if let Some(port) = port {
-        begin(words, kind_name(kind), number, port.name());
-        words.say(format_args!("is of channel {}", port.channel().number()));
-    }
-}
-
-// Tells of a sampling port whether the last read at it gave a valid message.
-fn tell_last_read(words: &mut Words, port: Option<&Port>) {
-    if let Some(port) = port {
+    let Some(port) = port else {
+        return;
+    };
+    begin(words, kind_name(kind), number, port.name());
+    words.say(format_args!("is of channel {}", port.channel().number()));
+    if kind == ObjectKind::SamplingPort {
         words.say(if port.status().val == 1 {
             "; the last read at it gave a valid message"
         } else {

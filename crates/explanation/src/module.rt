@@ -103,7 +103,7 @@ fn tell_idle(words: &mut Words, config: &Config, clock: &Clock, ordered: &Ordere
     words.rule("part 11, cause Idle; the windows: part 1 (window_at)");
 }
 
-/// Tells a time, and where it stands in the major frame.
+/// Tells a time, and where it is in the major frame.
 pub fn tell_time(words: &mut Words, config: &Config, time: u64) {
     let frame = config.frame();
     words.say(format_args!("its time is {time}"));

@@ -6,16 +6,17 @@ use crate::due::{tell_due_at_tick, tell_foreign_waits};
 use crate::outside::tell_outside;
 use crate::processes::tell_numbered;
 use apex_machine::Outcome;
-use apex_types::{Body, Call, Cause, Ordered, PartId, Return, Who};
+use apex_types::{Body, Call, Cause, CoreId, Ordered, PartId, Return, Who};
 use dispatch_rule::Clock;
 use module_config::Config;
 use partition_state::PartitionState;
 use piece_check::Piece;
 use wording::{Ascii, Words, code_name, tell_further, tell_message, tell_value};
 
-/// A partition that refuses a record: its number, the clock, its state, and its piece.
+/// A partition that refuses a record: the configuration, its number, the clock, its state, and its piece.
 #[derive(Drop)]
 pub struct Refusing<'a> {
+    pub config: &'a Config,
     pub number: PartId,
     pub clock: &'a Clock,
     pub state: &'a PartitionState,
@@ -23,20 +24,14 @@ pub struct Refusing<'a> {
 }
 
 /// Tells why a partition refuses a record.
-pub fn tell_partition(
-    words: &mut Words,
-    config: &Config,
-    refusing: &Refusing<'_>,
-    ordered: &Ordered,
-    cause: Cause,
-) {
+pub fn tell_partition(words: &mut Words, refusing: &Refusing<'_>, ordered: &Ordered, cause: Cause) {
     match cause {
-        Cause::Window => tell_window(words, config, refusing, ordered),
-        Cause::Choice => tell_refused_choice(words, config, refusing, ordered),
+        Cause::Window => tell_window(words, refusing, ordered.core),
+        Cause::Choice => tell_refused_choice(words, refusing, ordered),
         _ => match &ordered.rec.body {
             Body::Call(call) => {
                 if call.who.part == refusing.number {
-                    tell_call(words, config, refusing, ordered, call, cause);
+                    tell_call(words, refusing, ordered.core, call, cause);
                 } else {
                     tell_foreign_waits(words, refusing, call);
                 }
@@ -49,27 +44,20 @@ pub fn tell_partition(
 }
 
 // Tells why a call of one of the partition's own processes is refused.
-fn tell_call(
-    words: &mut Words,
-    config: &Config,
-    refusing: &Refusing<'_>,
-    ordered: &Ordered,
-    call: &Call,
-    cause: Cause,
-) {
+fn tell_call(words: &mut Words, refusing: &Refusing<'_>, core: CoreId, call: &Call, cause: Cause) {
     match cause {
         Cause::Return => tell_return_before(words, refusing, call.who),
         Cause::OutsideProfile => tell_outside(words, refusing.state, call),
         Cause::Prio => tell_priority(words, refusing, call),
         _ => {
+            let (config, state) = (refusing.config, refusing.state);
             let conditions = refusing.piece.conditions(config, call);
             if !conditions.is_empty() {
-                tell_refused_outcome(words, config, refusing.state, call, &conditions, cause);
-            } else if let Some(channel) = refusing.state.channel_of(&call.request) {
+                tell_refused_outcome(words, config, state, call, &conditions, cause);
+            } else if let Some(channel) = state.channel_of(&call.request) {
                 tell_through(words, channel, call, cause);
             } else {
-                let now = refusing.clock.now(ordered.core);
-                tell_answer(words, refusing.state, now, call, cause);
+                tell_answer(words, state, refusing.clock.now(core), call, cause);
             }
         }
     }

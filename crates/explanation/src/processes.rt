@@ -5,7 +5,7 @@ use apex_types::{CoreId, PartId, ProcId, Who};
 use partition_state::PartitionState;
 use wording::{Ascii, Numbered, Set, Words};
 
-/// Tells a process with its name and how it stands: ready, or why it is not.
+/// Tells a process with its name and its state: ready, or why it is not.
 pub fn tell_process(words: &mut Words, who: Who, process: &Process) {
     words.say(Numbered(who));
     let name = process.name.as_bytes();
@@ -17,7 +17,7 @@ pub fn tell_process(words: &mut Words, who: Who, process: &Process) {
     words.say(format_args!(" and its current priority {}", process.current_priority));
 }
 
-/// Tells how a process stands: dormant, suspended, waiting, or ready.
+/// Tells the state of a process: dormant, suspended, waiting, or ready.
 pub fn tell_standing(words: &mut Words, process: &Process) {
     if !process.alive {
         words.say(" is dormant");
@@ -79,6 +79,20 @@ pub fn time_due(wait: Wait) -> Option<u64> {
 /// Whether a process is ready.
 pub fn is_ready(process: &Process) -> bool {
     process.alive && !process.suspended && process.wait == Wait::Nothing
+}
+
+/// Whether a process suspended itself.
+pub fn suspended_itself(process: &Process) -> bool {
+    matches!(process.wait, Wait::Suspended(_))
+}
+
+/// The process that a caller names by its number, or None where none of its partition has that number.
+pub fn peer_of(state: &PartitionState, caller: Who, given: i64) -> Option<Who> {
+    let proc = state.processes().created_number(given)?;
+    Some(Who {
+        part: caller.part,
+        proc,
+    })
 }
 
 /// Tells a process of a partition by its number, on a line of its own.

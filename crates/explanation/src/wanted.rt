@@ -1,17 +1,23 @@
-// What a call gives its caller by the rules, worked out anew from what stands before it.
+// What a call gives its caller by the rules, worked out anew from the state before it.
 
-use apex_machine::{Process, Status, Wait};
-use apex_types::{Call, Code, Out, Request, Who};
+use crate::processes::{peer_of, suspended_itself};
+use apex_machine::Status;
+use apex_types::{
+    BlackboardOperation, BufferOperation, Call, CallerOperation, Code, EventOperation,
+    MutexOperation, Out, ProcId, ProcessOperation, QueuingOperation, Request, SamplingOperation,
+    SemaphoreOperation, Who,
+};
+use blackboard::Blackboard;
 use channel::Channel;
 use message_queue::MessageQueue;
 use module_config::ChannelKind;
 use mutex_ceiling::Mutex653;
 use partition_state::PartitionState;
-use semaphore_event::Semaphore;
+use semaphore_event::{Event, Semaphore};
 use wait_set::WaitSet;
 
 /// What value goes with an outcome.
-#[derive(Clone, Copy, PartialEq, Eq)]
+#[derive(Clone, Copy)]
 pub enum Value {
     Nothing,
     Number(i64),
@@ -20,7 +26,7 @@ pub enum Value {
 }
 
 /// Whose waits end.
-#[derive(Clone, Copy, PartialEq, Eq)]
+#[derive(Clone, Copy)]
 pub enum Waking {
     Nobody,
     One(Who),
@@ -40,15 +46,19 @@ pub struct Wanted<'a> {
 }
 
 impl<'a> Wanted<'a> {
-    fn answering(code: Code) -> Wanted<'a> {
+    fn leaving(out: Out) -> Wanted<'a> {
         Wanted {
-            out: Out::Answer(code),
+            out,
             val: Value::Nothing,
             val2: None,
             val3: None,
             bytes: &[],
             woken: Waking::Nobody,
         }
+    }
+
+    fn answering(code: Code) -> Wanted<'a> {
+        Wanted::leaving(Out::Answer(code))
     }
 
     fn done() -> Wanted<'a> {
@@ -62,18 +72,25 @@ impl<'a> Wanted<'a> {
         }
     }
 
-    fn leaving(out: Out) -> Wanted<'a> {
+    fn reporting(status: Status) -> Wanted<'a> {
         Wanted {
-            out,
+            val: Value::Number(signed(status.val)),
+            val2: status.val2.map(signed),
+            val3: status.val3.map(signed),
+            ..Wanted::done()
+        }
+    }
+
+    fn giving(bytes: &'a [u8], woken: Waking) -> Wanted<'a> {
+        Wanted {
+            bytes,
+            woken,
             ..Wanted::done()
         }
     }
 
     fn waking(woken: Waking) -> Wanted<'a> {
-        Wanted {
-            woken,
-            ..Wanted::done()
-        }
+        Wanted::giving(&[], woken)
     }
 
     // What can't be had at once.
@@ -94,34 +111,7 @@ impl<'a> Wanted<'a> {
 
     // Done at once where the time is over, else the caller waits.
     fn over(is_over: bool) -> Wanted<'a> {
-        if is_over {
-            return Wanted::done();
-        }
-        Wanted::leaving(Out::Waits)
-    }
-}
-
-/// What a call gives that meets no error condition and goes through no channel, at this time of its caller's core.
-pub fn wanted_of<'a>(state: &'a PartitionState, now: u64, call: &Call) -> Wanted<'a> {
-    match &call.request {
-        Request::CreateProcess { .. }
-        | Request::CreateBuffer { .. }
-        | Request::CreateBlackboard { .. }
-        | Request::CreateSemaphore { .. }
-        | Request::CreateEvent { .. }
-        | Request::CreateMutex { .. }
-        | Request::CreateSamplingPort { .. }
-        | Request::CreateQueuingPort { .. } => Wanted::valued(Value::New),
-        Request::StopSelf | Request::SetPartitionMode { .. } => Wanted::leaving(Out::Never),
-        Request::SuspendSelf { time_out } => Wanted::over(*time_out == 0),
-        Request::TimedWait { delay } => Wanted::over(*delay == 0),
-        Request::PeriodicWait => Wanted::over(state.processes().is_released(now, call.who.proc)),
-        Request::GetMyId => Wanted::valued(Value::Number(i64::from(call.who.proc.number()))),
-        Request::GetTime => Wanted::valued(Value::Number(signed(now))),
-        Request::GetId { kind, name } => numbered(state.number_of(*kind, name)),
-        Request::GetStatus { kind, object } => reported(state.status_of(*kind, *object)),
-        Request::Resume { process } => resumed(state, call.who, *process),
-        _ => of_object(state, call),
+        Wanted::met(is_over, -1)
     }
 }
 
@@ -130,110 +120,139 @@ fn signed(number: u64) -> i64 {
     i64::try_from(number).unwrap_or(i64::MAX)
 }
 
-// What GET_BUFFER_ID and its like give.
-fn numbered<'a>(found: Option<u32>) -> Wanted<'a> {
-    match found {
-        Some(number) => Wanted::valued(Value::Number(i64::from(number))),
+/// What a call gives that meets no error condition and goes through no channel, at this time of its caller's core.
+pub fn wanted_of<'a>(state: &'a PartitionState, now: u64, call: &Call) -> Wanted<'a> {
+    match of_request(state, now, call.who, &call.request) {
+        Some(wanted) => wanted,
         None => Wanted::done(),
     }
 }
 
-// What GET_BUFFER_STATUS and its like give.
-fn reported<'a>(status: Option<Status>) -> Wanted<'a> {
-    let Some(status) = status else {
-        return Wanted::done();
+// What a request gives, or None where nothing is created of the number or the name that it gives: an error condition.
+fn of_request<'a>(
+    state: &'a PartitionState,
+    now: u64,
+    who: Who,
+    request: &Request,
+) -> Option<Wanted<'a>> {
+    let wanted = match request {
+        Request::CreateProcess { .. } | Request::Create { .. } => Wanted::valued(Value::New),
+        Request::Process { process, operation } => of_process(state, who, *process, operation),
+        Request::Caller(operation) => of_caller(state, now, who.proc, operation),
+        Request::SetPartitionMode { .. } => Wanted::leaving(Out::Never),
+        Request::Buffer { buffer, operation } => {
+            of_buffer(state.buffers().given(*buffer)?.queue(), operation)
+        }
+        Request::Blackboard {
+            blackboard,
+            operation,
+        } => of_blackboard(state.blackboards().given(*blackboard)?, operation),
+        Request::Semaphore {
+            semaphore,
+            operation,
+        } => of_semaphore(state.semaphores().given(*semaphore)?, operation),
+        Request::Event { event, operation } => of_event(state.events().given(*event)?, operation),
+        Request::Mutex { mutex, operation } => {
+            of_mutex(state.mutexes().given(*mutex)?, who.proc, operation)
+        }
+        // These go through a channel.
+        Request::SamplingPort { .. } | Request::QueuingPort { .. } => Wanted::done(),
+        Request::GetId { kind, name } => {
+            Wanted::valued(Value::Number(i64::from(state.number_of(*kind, name)?)))
+        }
+        Request::GetStatus { kind, object } => Wanted::reporting(state.status_of(*kind, *object)?),
     };
-    Wanted {
-        val: Value::Number(signed(status.val)),
-        val2: status.val2.map(signed),
-        val3: status.val3.map(signed),
-        ..Wanted::done()
-    }
+    Some(wanted)
 }
 
-// What RESUME gives.
-fn resumed<'a>(state: &'a PartitionState, caller: Who, given: i64) -> Wanted<'a> {
-    let table = state.processes();
-    let (Some(number), Some(process)) = (table.created_number(given), table.created(given)) else {
-        return Wanted::done();
-    };
-    if !suspended_itself(process) {
-        return Wanted::done();
-    }
-    Wanted::waking(Waking::One(Who {
-        part: caller.part,
-        proc: number,
-    }))
-}
-
-/// Whether a process suspended itself.
-pub fn suspended_itself(process: &Process) -> bool {
-    match process.wait {
-        Wait::Suspended(_) => true,
-        _ => false,
-    }
-}
-
-// What the service of an object gives.
-fn of_object<'a>(state: &'a PartitionState, call: &Call) -> Wanted<'a> {
-    match &call.request {
-        Request::SendBuffer {
-            buffer,
-            time_out,
-            ..
-        } => match state.buffers().given(*buffer) {
-            Some(found) => sent(found.queue(), *time_out),
-            None => Wanted::done(),
-        },
-        Request::ReceiveBuffer { buffer, time_out } => match state.buffers().given(*buffer) {
-            Some(found) => received(found.queue(), *time_out),
-            None => Wanted::done(),
-        },
-        Request::DisplayBlackboard { blackboard, .. } => {
-            match state.blackboards().given(*blackboard) {
-                Some(_) => Wanted::waking(Waking::All),
-                None => Wanted::done(),
+fn of_process<'a>(
+    state: &PartitionState,
+    caller: Who,
+    process: i64,
+    operation: &ProcessOperation,
+) -> Wanted<'a> {
+    match operation {
+        ProcessOperation::Resume => {
+            let found = state.processes().created(process);
+            match peer_of(state, caller, process) {
+                Some(peer) if found.is_some_and(|found| suspended_itself(found)) => {
+                    Wanted::waking(Waking::One(peer))
+                }
+                _ => Wanted::done(),
             }
         }
-        Request::ReadBlackboard {
-            blackboard,
-            time_out,
-        } => board_read(state, *blackboard, *time_out),
-        _ => of_other_object(state, call),
+        ProcessOperation::InitializeCoreAffinity { .. }
+        | ProcessOperation::Start
+        | ProcessOperation::Stop
+        | ProcessOperation::Suspend
+        | ProcessOperation::SetPriority { .. } => Wanted::done(),
     }
 }
 
-// What the service of a semaphore, an event or a mutex gives.
-fn of_other_object<'a>(state: &'a PartitionState, call: &Call) -> Wanted<'a> {
-    match &call.request {
-        Request::WaitSemaphore {
-            semaphore,
-            time_out,
-        } => match state.semaphores().given(*semaphore) {
-            Some(found) => Wanted::met(found.value() > 0, *time_out),
-            None => Wanted::done(),
+fn of_caller<'a>(
+    state: &PartitionState,
+    now: u64,
+    caller: ProcId,
+    operation: &CallerOperation,
+) -> Wanted<'a> {
+    match operation {
+        CallerOperation::StopSelf => Wanted::leaving(Out::Never),
+        CallerOperation::SuspendSelf { time_out } => Wanted::over(*time_out == 0),
+        CallerOperation::GetMyId => Wanted::valued(Value::Number(i64::from(caller.number()))),
+        CallerOperation::TimedWait { delay } => Wanted::over(*delay == 0),
+        CallerOperation::PeriodicWait => Wanted::over(state.processes().is_released(now, caller)),
+        CallerOperation::GetTime => Wanted::valued(Value::Number(signed(now))),
+    }
+}
+
+fn of_buffer<'a>(queue: &'a MessageQueue, operation: &BufferOperation) -> Wanted<'a> {
+    match operation {
+        BufferOperation::Send { time_out, .. } => sent(queue, *time_out),
+        BufferOperation::Receive { time_out } => received(queue, *time_out),
+    }
+}
+
+fn of_blackboard<'a>(board: &'a Blackboard, operation: &BlackboardOperation) -> Wanted<'a> {
+    match operation {
+        BlackboardOperation::Display { .. } => Wanted::waking(Waking::All),
+        BlackboardOperation::Read { time_out } => match board.message() {
+            Some(message) => Wanted::giving(message.as_bytes(), Waking::Nobody),
+            None => Wanted::unmet(*time_out),
         },
-        Request::SignalSemaphore { semaphore } => match state.semaphores().given(*semaphore) {
-            Some(found) => signalled(found),
-            None => Wanted::done(),
-        },
-        Request::SetEvent { event } => match state.events().given(*event) {
-            Some(_) => Wanted::waking(Waking::All),
-            None => Wanted::done(),
-        },
-        Request::WaitEvent { event, time_out } => match state.events().given(*event) {
-            Some(found) => Wanted::met(found.is_up(), *time_out),
-            None => Wanted::done(),
-        },
-        Request::AcquireMutex { mutex, time_out } => match state.mutexes().given(*mutex) {
-            Some(found) => acquired(found, call.who, *time_out),
-            None => Wanted::done(),
-        },
-        Request::ReleaseMutex { mutex } => match state.mutexes().given(*mutex) {
-            Some(found) => released(found),
-            None => Wanted::done(),
-        },
-        _ => Wanted::done(),
+        BlackboardOperation::Clear => Wanted::done(),
+    }
+}
+
+fn of_semaphore<'a>(semaphore: &'a Semaphore, operation: &SemaphoreOperation) -> Wanted<'a> {
+    match operation {
+        SemaphoreOperation::Wait { time_out } => Wanted::met(semaphore.value() > 0, *time_out),
+        SemaphoreOperation::Signal => {
+            let is_full = semaphore.value() >= semaphore.maximum();
+            if is_full && semaphore.waiters().is_empty() {
+                return Wanted::answering(Code::NoAction);
+            }
+            Wanted::waking(first_of(semaphore.waiters()))
+        }
+    }
+}
+
+fn of_event<'a>(event: &'a Event, operation: &EventOperation) -> Wanted<'a> {
+    match operation {
+        EventOperation::Set => Wanted::waking(Waking::All),
+        EventOperation::Reset => Wanted::done(),
+        EventOperation::Wait { time_out } => Wanted::met(event.is_up(), *time_out),
+    }
+}
+
+fn of_mutex<'a>(mutex: &'a Mutex653, caller: ProcId, operation: &MutexOperation) -> Wanted<'a> {
+    match operation {
+        MutexOperation::Acquire { time_out } => Wanted::met(
+            mutex.owner().is_none() || mutex.is_owned_by(caller),
+            *time_out,
+        ),
+        MutexOperation::Release if mutex.count() > 1 => Wanted::done(),
+        // The last release hands the mutex on.
+        MutexOperation::Release => Wanted::waking(first_of(mutex.waiters())),
     }
 }
 
@@ -245,65 +264,20 @@ fn first_of(set: &WaitSet) -> Waking {
     }
 }
 
-/// What a send to a queue gives.
-pub fn sent<'a>(queue: &'a MessageQueue, time_out: i64) -> Wanted<'a> {
+// What a send to a queue gives.
+fn sent<'a>(queue: &'a MessageQueue, time_out: i64) -> Wanted<'a> {
     if !queue.receivers().is_empty() {
         return Wanted::waking(first_of(queue.receivers()));
     }
     Wanted::met(queue.len() < queue.capacity(), time_out)
 }
 
-/// What a receive from a queue gives.
-pub fn received<'a>(queue: &'a MessageQueue, time_out: i64) -> Wanted<'a> {
+// What a receive from a queue gives.
+fn received<'a>(queue: &'a MessageQueue, time_out: i64) -> Wanted<'a> {
     match queue.oldest() {
-        Some(message) => Wanted {
-            bytes: message.as_bytes(),
-            woken: first_of(queue.senders()),
-            ..Wanted::done()
-        },
+        Some(message) => Wanted::giving(message.as_bytes(), first_of(queue.senders())),
         None => Wanted::unmet(time_out),
     }
-}
-
-// What READ_BLACKBOARD gives.
-fn board_read<'a>(state: &'a PartitionState, blackboard: i64, time_out: i64) -> Wanted<'a> {
-    let Some(found) = state.blackboards().given(blackboard) else {
-        return Wanted::done();
-    };
-    match found.message() {
-        Some(message) => Wanted {
-            bytes: message.as_bytes(),
-            ..Wanted::done()
-        },
-        None => Wanted::unmet(time_out),
-    }
-}
-
-// What SIGNAL_SEMAPHORE gives.
-fn signalled<'a>(semaphore: &'a Semaphore) -> Wanted<'a> {
-    if !semaphore.waiters().is_empty() {
-        return Wanted::waking(first_of(semaphore.waiters()));
-    }
-    if semaphore.value() < semaphore.maximum() {
-        return Wanted::done();
-    }
-    Wanted::answering(Code::NoAction)
-}
-
-// What ACQUIRE_MUTEX gives.
-fn acquired<'a>(mutex: &'a Mutex653, caller: Who, time_out: i64) -> Wanted<'a> {
-    Wanted::met(
-        mutex.owner().is_none() || mutex.is_owned_by(caller.proc),
-        time_out,
-    )
-}
-
-// What RELEASE_MUTEX gives: the last release hands the mutex on.
-fn released<'a>(mutex: &'a Mutex653) -> Wanted<'a> {
-    if mutex.count() > 1 {
-        return Wanted::done();
-    }
-    Wanted::waking(first_of(mutex.waiters()))
 }
 
 /// What a call through a channel that is configured like this gives, at this time of its core.
@@ -313,29 +287,28 @@ pub fn wanted_through<'a>(
     now: u64,
     call: &Call,
 ) -> Wanted<'a> {
-    match kind {
-        ChannelKind::Sampling { refresh } => match &call.request {
-            Request::ReadSamplingMessage { .. } => sampled(channel, now, *refresh),
-            _ => Wanted::done(),
-        },
-        ChannelKind::Queuing { source, .. } => match channel.queue() {
-            Some(queue) => queued(queue, call.who.part == *source, &call.request),
-            None => Wanted::done(),
-        },
-    }
-}
-
-// What a call of a partition at the source or at the destination of a queue gives.
-fn queued<'a>(queue: &'a MessageQueue, at_source: bool, request: &Request) -> Wanted<'a> {
-    match request {
-        Request::SendQueuingMessage { time_out, .. } => sent(queue, *time_out),
-        Request::ReceiveQueuingMessage { time_out, .. } => received(queue, *time_out),
-        Request::GetStatus { .. } => reported(Some(status_at_end(queue, at_source))),
+    match (kind, channel.queue(), &call.request) {
+        (ChannelKind::Sampling { refresh }, _, Request::SamplingPort { operation, .. }) => {
+            match operation {
+                SamplingOperation::Write { .. } => Wanted::done(),
+                SamplingOperation::Read => sampled(channel, now, *refresh),
+            }
+        }
+        (ChannelKind::Queuing { .. }, Some(queue), Request::QueuingPort { operation, .. }) => {
+            match operation {
+                QueuingOperation::Send { time_out, .. } => sent(queue, *time_out),
+                QueuingOperation::Receive { time_out } => received(queue, *time_out),
+            }
+        }
+        (ChannelKind::Queuing { source, .. }, Some(queue), Request::GetStatus { .. }) => {
+            Wanted::reporting(status_at_end(queue, call.who.part == *source))
+        }
+        // The service is not of the channel's kind.
         _ => Wanted::done(),
     }
 }
 
-// What GET_QUEUING_PORT_STATUS tells at the source or at the destination of a queue.
+// What GET_QUEUING_PORT_STATUS reports at the source or at the destination of a queue.
 fn status_at_end(queue: &MessageQueue, at_source: bool) -> Status {
     let waiting = if at_source {
         queue.senders()

@@ -1,18 +1,20 @@
 // Mutexes.
 
 ghost use Rattle.std.specs.Prelude.{ℤ, ◌≡◌, ◌↔◌, ◌≤◌, ◌<◌, ◌+◌, [], None, IfErr, IfOk, IsTrue, OnErr, OnOk};
+ghost use Rattle.apex_types.specs.declared.operation.MutexOperation.TheVariants as on_mutex;
 ghost use Rattle.apex_types.specs.declared.record.Out.TheVariants as out;
 ghost use Rattle.apex_types.specs.declared.limits.TheConstants.{PLACE_COUNT};
 ghost use Rattle.apex_machine.specs.Demands.{AllHold, answer_demands};
-ghost use Rattle.apex_machine.specs.Objects.{is_owner, owned_by};
+ghost use Rattle.apex_machine.specs.Objects.{is_owner, mutex_effect, mutex_released, owned_by};
 ghost use Rattle.apex_machine.specs.Statuses.{mutex_status};
-ghost use Rattle.wait_set.specs.Actors.{Refuses, entry_with};
+ghost use Rattle.apex_machine.specs.Waiting.{first_waiter};
+ghost use Rattle.wait_set.specs.Actors.{Refuses, entry_with, left_by};
 ghost use Rattle.wait_set.specs.Givens.{answer_given};
 ghost use Rattle.wait_set.specs.Sets.{IsNew};
 ghost use Rattle.mutex_ceiling.specs.Mutexes as rules;
 
 use apex_machine::Status;
-use apex_types::{Claim, Discipline, Name, ProcId, Request, Who};
+use apex_types::{Claim, Discipline, MutexOperation, Name, ProcId, Who};
 use std::alloc::Global;
 use std::marker::Model;
 use wait_set::{Actor, ApexObject, Effect, Given, Named, ObjFault, WaitSet};
@@ -115,11 +117,11 @@ impl Mutex653 {
     ) -> Result<Effect, ObjFault>
         requires new { IsNew (entry_with actor []) self.old.waiters }
         requires counted { self.old.count ≤ actor.place }
-        ensures ok { OnOk result (AllHold (answer_demands (rules.acquire actor time_out self.old).answer claim.now)) }
-        ensures after { OnOk result (self.new ≡ rules.after_acquire actor time_out claim.now self.old) }
+        ensures ok { OnOk result (AllHold (answer_demands (mutex_effect actor.who.proc (on_mutex.Acquire time_out) self.old).answer claim.now)) }
+        ensures after { OnOk result (self.new ≡ rules.after actor (on_mutex.Acquire time_out) claim.now self.old) }
         ensures counted { self.new.count ≤ self.old.count + 1 }
         ensures waits { IfOk result (λ effect. IsTrue effect.waits ↔ (claim.now.out ≡ out.Waits)) }
-        ensures refused { IfErr result (Refuses (answer_demands (rules.acquire actor time_out self.old).answer claim.now)) }
+        ensures refused { IfErr result (Refuses (answer_demands (mutex_effect actor.who.proc (on_mutex.Acquire time_out) self.old).answer claim.now)) }
         ensures memory { IfErr result (rules.WantsMemoryToWait claim.now) }
         ensures unchanged { OnErr result (self.new ≡ self.old) }
     {
@@ -135,7 +137,7 @@ impl Mutex653 {
 
     // What ACQUIRE_MUTEX gives its caller: a free mutex and its own are had at once.
     fn answer_to_acquire(&self, actor: &Actor, time_out: i64) -> Given<'static>
-        ensures { answer_given result ≡ (rules.acquire actor.now time_out self.now).answer }
+        ensures { answer_given result ≡ (mutex_effect actor.now.who.proc (on_mutex.Acquire time_out) self.now).answer }
     {
         if self.owner.is_none() || self.is_owned_by(actor.who.proc) {
             Given::done()
@@ -147,7 +149,7 @@ impl Mutex653 {
     // The mutex after ACQUIRE_MUTEX, but for those who wait: it is as it was where another process owns it.
     fn take(&mut self, actor: &Actor)
         requires { self.old.count < PLACE_COUNT }
-        ensures { (time_out : ℤ) → self.new ≡ (rules.acquire actor.now time_out self.old).next }
+        ensures { (time_out : ℤ) → self.new ≡ (mutex_effect actor.now.who.proc (on_mutex.Acquire time_out) self.old).next }
     {
         if self.owner.is_none() {
             self.give_to(actor.who.proc);
@@ -160,11 +162,11 @@ impl Mutex653 {
     ///
     /// Refused, with nothing changed, where the claim is another. Takes no memory.
     pub fn release(&mut self, claim: &Claim) -> Result<Effect, ObjFault>
-        ensures ok { OnOk result (AllHold (answer_demands (rules.release self.old).answer claim.now)) }
-        ensures after { OnOk result (self.new ≡ rules.after_release claim.now self.old) }
+        ensures ok { OnOk result (AllHold (answer_demands (mutex_released (first_waiter self.old.discipline self.old.waiters) self.old).answer claim.now)) }
+        ensures after { OnOk result (self.new ≡ record (mutex_released (first_waiter self.old.discipline self.old.waiters) self.old).next { waiters = left_by claim.now self.old.waiters }) }
         ensures counted { self.new.count ≤ self.old.count + 1 }
         ensures waits { IfOk result (λ effect. IsTrue effect.waits ↔ (claim.now.out ≡ out.Waits)) }
-        ensures refused { IfErr result (Refuses (answer_demands (rules.release self.old).answer claim.now)) }
+        ensures refused { IfErr result (Refuses (answer_demands (mutex_released (first_waiter self.old.discipline self.old.waiters) self.old).answer claim.now)) }
         ensures memory { IfErr result (rules.WantsMemoryToWait claim.now) }
         ensures unchanged { OnErr result (self.new ≡ self.old) }
     {
@@ -178,7 +180,7 @@ impl Mutex653 {
 
     // What RELEASE_MUTEX gives: the wait of the first ends by the last release.
     fn answer_to_release(&self) -> Given<'static>
-        ensures { answer_given result ≡ (rules.release self.now).answer }
+        ensures { answer_given result ≡ (mutex_released (first_waiter self.now.discipline self.now.waiters) self.now).answer }
     {
         if self.count > 1 {
             return Given::done();
@@ -188,7 +190,7 @@ impl Mutex653 {
 
     // The mutex after RELEASE_MUTEX, but for those who wait.
     fn give_up(&mut self)
-        ensures { self.new ≡ (rules.release self.old).next }
+        ensures { self.new ≡ (mutex_released (first_waiter self.old.discipline self.old.waiters) self.old).next }
     {
         if self.count > 1 {
             self.count -= 1;
@@ -227,7 +229,7 @@ impl Named for Mutex653 {
 }
 
 impl ApexObject for Mutex653 {
-    ghost serves = { rules.serves };
+    type Operation = MutexOperation;
 
     ghost owes = { rules.Owes };
 
@@ -243,13 +245,12 @@ impl ApexObject for Mutex653 {
     fn apply(
         &mut self,
         actor: Actor,
-        request: &Request,
+        operation: &MutexOperation,
         claim: &Claim,
     ) -> Result<Effect, ObjFault> {
-        match request {
-            Request::AcquireMutex { time_out, .. } => self.acquire(actor, *time_out, claim),
-            Request::ReleaseMutex { .. } => self.release(claim),
-            _ => unreachable!(),
+        match operation {
+            MutexOperation::Acquire { time_out } => self.acquire(actor, *time_out, claim),
+            MutexOperation::Release => self.release(claim),
         }
     }
 

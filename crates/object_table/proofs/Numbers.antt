@@ -1,5 +1,5 @@
 -- The numbers of objects: new ones, and those that callers give.
-use Rattle.std.proofs.Common.{◌≡◌, ℕ, suc, ◌<◌, ◌≤◌, ◌^◌, List, true, is_none, nat_eq, nat_le, nat_lt, ◌∙◌, sym, Option, Some, None, ℤ, pos, negsuc, refl, arith}
+use Rattle.std.proofs.Common.{◌≡◌, ℕ, ◌<◌, ◌≤◌, ◌^◌, List, true, is_none, nat_eq, nat_le, nat_lt, ◌∙◌, sym, Option, Some, None, ℤ, pos, negsuc, refl, arith}
 use Rattle.std.proofs.lemmas.Bool.Decides.{nat_tests}
 use Rattle.std.specs.Map.{lookup}
 use Rattle.apex_types.specs.declared.limits.TheConstants.{GREATEST_NUMBER}

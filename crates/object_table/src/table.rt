@@ -19,7 +19,7 @@ ghost use Rattle.object_table.specs.Numbers.{NumbersFit, number_of};
 
 use crate::marked::Marked;
 use apex_types::limits::GREATEST_NUMBER;
-use apex_types::{Claim, Name, Request, Who};
+use apex_types::{Claim, Name, Who};
 use indexmap::IndexMap;
 use indexmap::map::Iter;
 use std::alloc::{AllocError, Global};
@@ -160,17 +160,16 @@ impl<Object: ApexObject> ObjectTable<Object> {
         &mut self,
         number: i64,
         actor: Actor,
-        request: &Request,
+        operation: &Object::Operation,
         claim: &Claim,
     ) -> Result<Effect, ObjFault>
-        requires served { IsTrue (Object.serves request.now) }
         requires found { given_object self.old number ≢ None }
         requires new { IfSome (given_object self.old number) (λ object. IsNewInEach (entry_with actor []) (Object.sets object)) }
-        requires owed { IfSome (given_object self.old number) (λ object. Object.owes actor request.now object) }
-        ensures ok { OnOk result (IfSome (given_object self.old number) (λ object. AllHold (answer_demands (Object.answer actor request.now object) claim.now))) }
-        ensures after { OnOk result (self.new ≡ change_at (natural_of number) (Object.after actor request.now claim.now) self.old) }
+        requires owed { IfSome (given_object self.old number) (λ object. Object.owes actor operation.now object) }
+        ensures ok { OnOk result (IfSome (given_object self.old number) (λ object. AllHold (answer_demands (Object.answer actor operation.now object) claim.now))) }
+        ensures after { OnOk result (self.new ≡ change_at (natural_of number) (Object.after actor operation.now claim.now) self.old) }
         ensures waits { IfOk result (λ effect. IsTrue effect.waits ↔ (claim.now.out ≡ out.Waits)) }
-        ensures refused { IfErr result (λ fault. IfSome (given_object self.old number) (λ object. Refuses (answer_demands (Object.answer actor request.now object) claim.now) fault)) }
+        ensures refused { IfErr result (λ fault. IfSome (given_object self.old number) (λ object. Refuses (answer_demands (Object.answer actor operation.now object) claim.now) fault)) }
         ensures unchanged { OnErr result (self.new ≡ self.old) }
     {
         // What is known of each table, that its numbers fit 32 bits, is known where one of its fields is used.
@@ -179,7 +178,7 @@ impl<Object: ApexObject> ObjectTable<Object> {
             unreachable!()
         };
         match self.objects.get_mut(&key) {
-            Some(object) => object.apply(actor, request, claim),
+            Some(object) => object.apply(actor, operation, claim),
             None => unreachable!(),
         }
     }

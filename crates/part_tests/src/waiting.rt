@@ -4,7 +4,8 @@ ghost use Rattle.std.specs.Prelude.{◌≡◌, ◌<◌, [], ◌∷◌, IfOk};
 ghost use Rattle.apex_types.specs.declared.record.Out.TheVariants as out;
 
 use apex_types::{
-    Cause, Claim, Code, Discipline, Message, Name, Out, PartId, Place, ProcId, Request, Who, Woken,
+    Cause, Claim, Code, Discipline, Message, Name, Out, PartId, Place, ProcId, SemaphoreOperation,
+    Who, Woken,
 };
 use semaphore_event::Semaphore;
 use std::alloc::{AllocError, Global};
@@ -65,11 +66,8 @@ fn a_semaphore_by_itself(rt: HostRuntime) -> Result<(), Fail> {
     let second = only(alloc, 2)?;
     let name = Name::new(Vec::from_slice(alloc, b"LOCK")?);
     let mut semaphore = Semaphore::new(alloc, name, 1, 1, Discipline::Fifo);
-    let wait = Request::WaitSemaphore {
-        semaphore: 1,
-        time_out: -1,
-    };
-    let signal = Request::SignalSemaphore { semaphore: 1 };
+    let wait = SemaphoreOperation::Wait { time_out: -1 };
+    let signal = SemaphoreOperation::Signal;
 
     // Process 1 takes the one that there is, and process 2 waits.
     let done = claim(alloc, Out::Answer(Code::NoError), Woken::none(alloc));

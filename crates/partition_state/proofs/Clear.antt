@@ -2,6 +2,7 @@
 use Rattle.std.proofs.Common.{◌≡◌, ◌≢◌, ◌≤◌, ℕ, ℤ, pos, negsuc, List, [], ◌∷◌, ◌++◌, Option, Some, None, Bool, true, false, not, IsTrue, refl}
 use Rattle.std.specs.Option.{IfSome, option_map}
 use Rattle.apex_types.specs.declared.code.Code.{Code}
+use Rattle.apex_types.specs.declared.operation.{BlackboardOperation.BlackboardOperation, BufferOperation.BufferOperation, EventOperation.EventOperation, MutexOperation.MutexOperation, ProcessOperation.ProcessOperation, QueuingOperation.QueuingOperation, SamplingOperation.SamplingOperation, SemaphoreOperation.SemaphoreOperation}
 use Rattle.apex_types.specs.declared.record.Call.{Call as CallRecord}
 use Rattle.apex_types.specs.declared.record.Claim.{Claim}
 use Rattle.apex_types.specs.declared.record.Who.{Who}
@@ -12,14 +13,14 @@ use Rattle.apex_machine.specs.Conditions.{codes_for, time_out_codes, waiting_cod
 use Rattle.apex_machine.specs.Configuration.{Configuration}
 use Rattle.apex_machine.specs.Demands.{AllHold, answer_demands, outcome_demands, own_call_demands}
 use Rattle.apex_machine.specs.ObjectConditions.{message_codes}
-use Rattle.apex_machine.specs.Ports.{channel_of}
+use Rattle.apex_machine.specs.Ports.{channel_by, channel_of}
 use Rattle.apex_machine.specs.ServiceConditions.{condition_codes}
 use Rattle.apex_machine.specs.Services.{Answer, answer_of}
-use Rattle.apex_machine.specs.State.{Mutex, Partition, created, given_object, item_at, time_of}
+use Rattle.apex_machine.specs.State.{Mutex, Partition, Port, created, given_object, item_at, time_of}
 use Rattle.apex_laws.specs.PartLaws.{IsOwnCall}
 use Rattle.apex_laws.proofs.Codes.{are_errors}
 use Rattle.apex_laws.proofs.SoundParts.{demands_none, running_stands_nowhere}
-use Rattle.partition_state.specs.Calls.{IsAtWork, IsClear, ReadsAtPort, blackboard_used, buffer_used, event_used, mutex_used, semaphore_used, served_demands}
+use Rattle.partition_state.specs.Calls.{IsAtWork, IsClear, ReadsAtPort, served_demands}
 
 -- lists of codes
 
@@ -49,64 +50,61 @@ has_size : {Object : Type 0} (size : Object → ℕ) (object : Option Object) (l
 has_size size None length e = λ same. cc
 has_size size (Some found) length e = λ same. cc
 
-pub buffer_found : (configuration : Configuration) (who : Who) (partition : Partition) (asked : Request) (given : ℤ) → buffer_used asked ≡ Some given
-    → condition_codes configuration who partition asked ≡ [] → given_object partition.buffers given ≢ None
-buffer_found configuration who partition (request.SendBuffer buffer length time_out message) given is none =
-    let same : buffer ≡ given = cc in
-    rw same at (has_size _ (given_object partition.buffers buffer) length (nil_left _ (time_out_codes time_out) (nil_left _ (waiting_codes who partition time_out) none)))
-buffer_found configuration who partition (request.ReceiveBuffer buffer time_out) given is none =
-    let same : buffer ≡ given = cc in
-    rw same at (is_first (given_object partition.buffers buffer) _ (time_out_codes time_out) (nil_left _ (waiting_codes who partition time_out) none))
-buffer_found configuration who partition _ given is none = cc
+pub buffer_found : (configuration : Configuration) (who : Who) (partition : Partition) (buffer : ℤ) (operation : BufferOperation)
+    → condition_codes configuration who partition (request.Buffer buffer operation) ≡ [] → given_object partition.buffers buffer ≢ None
+buffer_found configuration who partition buffer (BufferOperation.Send length time_out message) none =
+    has_size _ (given_object partition.buffers buffer) length (nil_left _ (time_out_codes time_out) (nil_left _ (waiting_codes who partition time_out) none))
+buffer_found configuration who partition buffer (BufferOperation.Receive time_out) none =
+    is_first (given_object partition.buffers buffer) _ (time_out_codes time_out) (nil_left _ (waiting_codes who partition time_out) none)
 
-pub blackboard_found : (configuration : Configuration) (who : Who) (partition : Partition) (asked : Request) (given : ℤ) → blackboard_used asked ≡ Some given
-    → condition_codes configuration who partition asked ≡ [] → given_object partition.blackboards given ≢ None
-blackboard_found configuration who partition (request.DisplayBlackboard blackboard length message) given is none =
-    let same : blackboard ≡ given = cc in
-    rw same at (has_size _ (given_object partition.blackboards blackboard) length none)
-blackboard_found configuration who partition (request.ReadBlackboard blackboard time_out) given is none =
-    let same : blackboard ≡ given = cc in
-    rw same at (is_first (given_object partition.blackboards blackboard) _ (time_out_codes time_out) (nil_left _ (waiting_codes who partition time_out) none))
-blackboard_found configuration who partition (request.ClearBlackboard blackboard) given is none =
-    let same : blackboard ≡ given = cc in
-    rw same at (is_there (given_object partition.blackboards blackboard) _ none)
-blackboard_found configuration who partition _ given is none = cc
+pub blackboard_found : (configuration : Configuration) (who : Who) (partition : Partition) (blackboard : ℤ) (operation : BlackboardOperation)
+    → condition_codes configuration who partition (request.Blackboard blackboard operation) ≡ [] → given_object partition.blackboards blackboard ≢ None
+blackboard_found configuration who partition blackboard (BlackboardOperation.Display length message) none = has_size _ (given_object partition.blackboards blackboard) length none
+blackboard_found configuration who partition blackboard (BlackboardOperation.Read time_out) none =
+    is_first (given_object partition.blackboards blackboard) _ (time_out_codes time_out) (nil_left _ (waiting_codes who partition time_out) none)
+blackboard_found configuration who partition blackboard BlackboardOperation.Clear none = is_there (given_object partition.blackboards blackboard) _ none
 
-pub semaphore_found : (configuration : Configuration) (who : Who) (partition : Partition) (asked : Request) (given : ℤ) → semaphore_used asked ≡ Some given
-    → condition_codes configuration who partition asked ≡ [] → given_object partition.semaphores given ≢ None
-semaphore_found configuration who partition (request.WaitSemaphore semaphore time_out) given is none =
-    let same : semaphore ≡ given = cc in
-    rw same at (is_first (given_object partition.semaphores semaphore) _ (time_out_codes time_out) (nil_left _ (waiting_codes who partition time_out) none))
-semaphore_found configuration who partition (request.SignalSemaphore semaphore) given is none =
-    let same : semaphore ≡ given = cc in
-    rw same at (is_there (given_object partition.semaphores semaphore) _ none)
-semaphore_found configuration who partition _ given is none = cc
+pub semaphore_found : (configuration : Configuration) (who : Who) (partition : Partition) (semaphore : ℤ) (operation : SemaphoreOperation)
+    → condition_codes configuration who partition (request.Semaphore semaphore operation) ≡ [] → given_object partition.semaphores semaphore ≢ None
+semaphore_found configuration who partition semaphore (SemaphoreOperation.Wait time_out) none =
+    is_first (given_object partition.semaphores semaphore) _ (time_out_codes time_out) (nil_left _ (waiting_codes who partition time_out) none)
+semaphore_found configuration who partition semaphore SemaphoreOperation.Signal none = is_there (given_object partition.semaphores semaphore) _ none
 
-pub event_found : (configuration : Configuration) (who : Who) (partition : Partition) (asked : Request) (given : ℤ) → event_used asked ≡ Some given
-    → condition_codes configuration who partition asked ≡ [] → given_object partition.events given ≢ None
-event_found configuration who partition (request.SetEvent event) given is none =
-    let same : event ≡ given = cc in
-    rw same at (is_there (given_object partition.events event) _ none)
-event_found configuration who partition (request.ResetEvent event) given is none =
-    let same : event ≡ given = cc in
-    rw same at (is_there (given_object partition.events event) _ none)
-event_found configuration who partition (request.WaitEvent event time_out) given is none =
-    let same : event ≡ given = cc in
-    rw same at (is_first (given_object partition.events event) _ (time_out_codes time_out) (nil_left _ (waiting_codes who partition time_out) none))
-event_found configuration who partition _ given is none = cc
+pub event_found : (configuration : Configuration) (who : Who) (partition : Partition) (event : ℤ) (operation : EventOperation)
+    → condition_codes configuration who partition (request.Event event operation) ≡ [] → given_object partition.events event ≢ None
+event_found configuration who partition event (EventOperation.Wait time_out) none =
+    is_first (given_object partition.events event) _ (time_out_codes time_out) (nil_left _ (waiting_codes who partition time_out) none)
+event_found configuration who partition event EventOperation.Set none = is_there (given_object partition.events event) _ none
+event_found configuration who partition event EventOperation.Reset none = is_there (given_object partition.events event) _ none
 
-pub mutex_found : (configuration : Configuration) (who : Who) (partition : Partition) (asked : Request) (given : ℤ) → mutex_used asked ≡ Some given
-    → condition_codes configuration who partition asked ≡ [] → given_object partition.mutexes given ≢ None
-mutex_found configuration who partition (request.AcquireMutex mutex time_out) given is none =
-    let same : mutex ≡ given = cc in
-    rw same at (is_first (given_object partition.mutexes mutex) _ (time_out_codes time_out) (nil_left _ _ (nil_left _ _ none)))
-mutex_found configuration who partition (request.ReleaseMutex mutex) given is none =
-    let same : mutex ≡ given = cc in
-    rw same at (is_there (given_object partition.mutexes mutex) _ none)
-mutex_found configuration who partition _ given is none = cc
+pub mutex_found : (configuration : Configuration) (who : Who) (partition : Partition) (mutex : ℤ) (operation : MutexOperation)
+    → condition_codes configuration who partition (request.Mutex mutex operation) ≡ [] → given_object partition.mutexes mutex ≢ None
+mutex_found configuration who partition mutex (MutexOperation.Acquire time_out) none =
+    is_first (given_object partition.mutexes mutex) _ (time_out_codes time_out) (nil_left _ _ (nil_left _ _ none))
+mutex_found configuration who partition mutex MutexOperation.Release none = is_there (given_object partition.mutexes mutex) _ none
+
+-- a call through a port goes to a channel
+
+goes_through : (port : Option Port) → port ≢ None → channel_by port ≢ None
+goes_through None there = absurd (there refl)
+goes_through (Some port) there = λ same. cc
+
+pub sampling_goes_through : (configuration : Configuration) (who : Who) (partition : Partition) (port : ℤ) (operation : SamplingOperation)
+    → condition_codes configuration who partition (request.SamplingPort port operation) ≡ [] → channel_of partition (request.SamplingPort port operation) ≢ None
+sampling_goes_through configuration who partition port (SamplingOperation.Write length message) none =
+    goes_through (given_object partition.sampling_ports port) (is_there (given_object partition.sampling_ports port) _ (nil_left _ _ none))
+sampling_goes_through configuration who partition port SamplingOperation.Read none =
+    goes_through (given_object partition.sampling_ports port) (is_there (given_object partition.sampling_ports port) _ none)
+
+pub queuing_goes_through : (configuration : Configuration) (who : Who) (partition : Partition) (port : ℤ) (operation : QueuingOperation)
+    → condition_codes configuration who partition (request.QueuingPort port operation) ≡ [] → channel_of partition (request.QueuingPort port operation) ≢ None
+queuing_goes_through configuration who partition port (QueuingOperation.Send length time_out message) none =
+    goes_through (given_object partition.queuing_ports port) (is_there (given_object partition.queuing_ports port) _ (nil_left _ _ (nil_left _ (time_out_codes time_out) (nil_left _ (waiting_codes who partition time_out) none))))
+queuing_goes_through configuration who partition port (QueuingOperation.Receive time_out) none =
+    goes_through (given_object partition.queuing_ports port) (is_first (given_object partition.queuing_ports port) _ (time_out_codes time_out) (nil_left _ (waiting_codes who partition time_out) none))
 
 pub target_found : (configuration : Configuration) (who : Who) (partition : Partition) (process : ℤ)
-    → condition_codes configuration who partition (request.Stop process) ≡ [] → created partition.table process ≢ None
+    → condition_codes configuration who partition (request.Process process ProcessOperation.Stop) ≡ [] → created partition.table process ≢ None
 target_found configuration who partition process none = is_first (created partition.table process) _ _ none
 
 -- a read that is done is at a port that is created
@@ -115,7 +113,7 @@ pub port_found : (configuration : Configuration) (number place core : ℕ) (core
 port_found configuration number place core cores partition call own = by call.request refl
   where
     by : (asked : Request) → call.request ≡ asked → ReadsAtPort call asked partition
-    by (request.ReadSamplingMessage port) is = λ done.
+    by (request.SamplingPort port SamplingOperation.Read) is = λ done.
         let none = demands_none (condition_codes configuration call.who partition call.request) (channel_of partition call.request) number call.request
         (answer_of (time_of cores core) call.who partition call.request) call.claim (are_errors configuration call.who partition call.request)
         own.demands.1.1.1.1.1 done in

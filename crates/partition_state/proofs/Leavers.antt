@@ -1,18 +1,15 @@
 -- Who leaves a waiting set of a partition, and who stands then.
-use Rattle.std.proofs.Common.{◌≡◌, ℕ, ℤ, List, [], ◌∷◌, ◌++◌, if◌then◌else◌, nat_eq, IsTrue, Option, Some, None, Bool, true, false, refl, sym, ap, ◌∙◌, true≢false, ◌⊎◌, inl, inr}
+use Rattle.std.proofs.Common.{◌≡◌, ℕ, List, [], ◌∷◌, ◌++◌, if◌then◌else◌, nat_eq, IsTrue, Option, Some, None, Bool, true, false, refl, sym, ap, ◌∙◌, true≢false, ◌⊎◌, inl, inr}
 use Rattle.std.proofs.lemmas.Bool.{and_parts}
 use Rattle.apex_types.specs.declared.object_kind.ObjectKind.TheVariants as kind
-use Rattle.apex_types.specs.declared.record.Call.{Call as CallRecord}
 use Rattle.apex_types.specs.declared.record.Who.{Who}
-use Rattle.apex_types.specs.declared.request.Request.TheVariants as request
 use Rattle.apex_machine.specs.declared.state.Entry.{Entry}
 use Rattle.apex_machine.specs.declared.state.Wait.{Wait}
 use Rattle.apex_machine.specs.declared.state.Wait.TheVariants as wait
 use Rattle.apex_machine.specs.declared.state.WaitingSet.{WaitingSet}
 use Rattle.apex_machine.specs.declared.state.WaitingSet.TheVariants as set
 use Rattle.apex_machine.specs.After.{each_set}
-use Rattle.apex_machine.specs.Answer.{done}
-use Rattle.apex_machine.specs.Demands.{answer_demands, stands_in}
+use Rattle.apex_machine.specs.Demands.{stands_in}
 use Rattle.apex_machine.specs.State.{Buffer, Partition, Table, change_at, is_named, is_same, item_at}
 use Rattle.apex_machine.specs.Waiting.{is_in, waits_at, without}
 use Rattle.apex_laws.specs.Laws.{AllEntries, are_distinct, entries_at}
@@ -27,9 +24,6 @@ use Rattle.apex_laws.proofs.Waiters.{all_without}
 use Rattle.apex_laws.proofs.WaitersOf.{same_is, same_itself}
 use Rattle.buffer.specs.Buffers as buffers
 use Rattle.object_table.proofs.Tables.{change-absent}
-use Rattle.wait_set.specs.declared.object.ObjFault.{ObjFault}
-use Rattle.wait_set.specs.Actors.{Refuses}
-use Rattle.partition_state.specs.Calls.{served_demands}
 use Rattle.partition_state.specs.Leaving.{StandsOnlyAt, StandsWhereItWaits}
 use Rattle.partition_state.proofs.Sets.{change_found}
 
@@ -120,13 +114,6 @@ pub where_it_waits : (number : ℕ) (partition : Partition) (who : Who) → AllS
 where_it_waits number partition who stand process at wanted stands =
     let waits : waits_at wanted (Some process) ≡ true = rw at at (stands_waiting number partition.table wanted who (entries_at partition wanted) (stand wanted) stands) in
     (and_parts process.alive (is_in wanted process.wait) waits).1
-
--- a STOP
-
--- it is refused by what is demanded of what is done at once
-pub stop_refused : (now : ℕ) (partition : Partition) (call : CallRecord) (process : ℤ) (fault : ObjFault) → call.request ≡ request.Stop process
-    → Refuses (answer_demands done call.claim) fault → Refuses (served_demands now partition call) fault
-stop_refused now partition call process fault asked refuses = rw asked refuses
 
 -- those named, one after another
 

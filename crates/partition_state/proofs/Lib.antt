@@ -1,13 +1,10 @@
-pub mod BlackboardCalls
-pub mod BufferCalls
-pub mod EventCalls
 pub mod Found
 pub mod Leavers
-pub mod MutexCalls
 pub mod MutexOwners
-pub mod SemaphoreCalls
 pub mod Sets
+pub mod ObjectCalls
 pub mod Clear
+pub mod MutexTransfers
 pub mod Served
 pub mod Sounds
 pub mod Uses

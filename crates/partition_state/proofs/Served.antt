@@ -1,5 +1,6 @@
 -- What a call that was served makes of the objects is what it makes of the partition's.
 use Rattle.std.proofs.Common.{◌≡◌, ℕ, List, Option, Some, None, Bool, true, false, refl}
+use Rattle.apex_types.specs.declared.operation.{NewObject.NewObject, ProcessOperation.ProcessOperation, SamplingOperation.SamplingOperation}
 use Rattle.apex_types.specs.declared.record.Call.{Call as CallRecord}
 use Rattle.apex_types.specs.declared.record.Who.{Who}
 use Rattle.apex_types.specs.declared.request.Request.{Request}
@@ -29,7 +30,7 @@ use Rattle.partition_state.proofs.Clear.{own_call, target_found}
 
 -- whether a request is STOP
 abbrev pub is_stop : Request → Bool
-is_stop (request.Stop process) = true
+is_stop (request.Process process ProcessOperation.Stop) = true
 is_stop _ = false
 
 -- the objects after a call
@@ -38,7 +39,7 @@ pub served_is_called : (configuration : Configuration) (cores : List CoreState) 
     → IsClear configuration cores place core partition call → AllHold (served_demands (time_of cores core) partition call) → restart_of call ≡ None
     → (asked : Request) → call.request ≡ asked
     → objects_called configuration place call partition ≡ objects_served configuration place call asked partition
-served_is_called configuration cores place core partition call clear served goes_on (request.Stop process) is =
+served_is_called configuration cores place core partition call clear served goes_on (request.Process process ProcessOperation.Stop) is =
     by (created partition.table process) refl
   where
     own : IsOwnCall configuration call.who.part place core cores partition call
@@ -62,7 +63,7 @@ changed_is_served configuration place call partition new = by call.request
   where
     by : (asked : Request) → is_stop asked ≡ false → new ≡ objects_changed configuration place call asked partition
         → new ≡ objects_served configuration place call asked partition
-    by (request.Stop process) other e = let never : ◌≡◌ {A = Bool} true false = other in cc
+    by (request.Process process ProcessOperation.Stop) other e = let never : ◌≡◌ {A = Bool} true false = other in cc
     by _ other e = e
 
 -- a refusal is one where memory may be wanted too
@@ -85,11 +86,22 @@ left_keeps who _ partition = refl
 
 pub served_keeps : (configuration : Configuration) (place : ℕ) (call : CallRecord) (partition : Partition) (asked : Request)
     → processes_of (objects_served configuration place call asked partition) ≡ processes_of partition
-served_keeps configuration place call partition (request.Stop process) = by (created partition.table process)
+served_keeps configuration place call partition (request.Process process ProcessOperation.Stop) = by (created partition.table process)
   where
     by : (target : Option Process) → processes_of (left_if_there (peer call.who process) target partition) ≡ processes_of partition
     by None = refl
     by (Some target) = left_keeps (peer call.who process) target.wait partition
+served_keeps configuration place call partition (request.Create name object) = created object
+  where
+    created : (object : NewObject) → processes_of (objects_served configuration place call (request.Create name object) partition) ≡ processes_of partition
+    created (NewObject.Buffer size capacity discipline) = refl
+    created (NewObject.Blackboard size) = refl
+    created (NewObject.Semaphore value maximum discipline) = refl
+    created NewObject.Event = refl
+    created (NewObject.Mutex priority discipline) = refl
+    created (NewObject.SamplingPort size way refresh) = refl
+    created (NewObject.QueuingPort size capacity way order) = refl
+served_keeps configuration place call partition (request.SamplingPort port SamplingOperation.Read) = refl
 served_keeps configuration place call partition _ = refl
 
 -- the partition with these processes
@@ -99,12 +111,12 @@ with_processes processes partition = record partition { mode = processes.mode; t
 -- what a call leaves with its port does not look at the processes
 pub noted_with : (processes : Processes) (call : CallRecord) (asked : Request) (partition : Partition)
     → objects_noted call asked (with_processes processes partition) ≡ with_processes processes (objects_noted call asked partition)
-noted_with processes call (request.ReadSamplingMessage port) partition = refl
+noted_with processes call (request.SamplingPort port SamplingOperation.Read) partition = refl
 noted_with processes call _ partition = refl
 
 pub reads_with : (processes : Processes) (call : CallRecord) (asked : Request) (partition : Partition) → ReadsAtPort call asked partition
     → ReadsAtPort call asked (with_processes processes partition)
-reads_with processes call (request.ReadSamplingMessage port) partition reads = reads
+reads_with processes call (request.SamplingPort port SamplingOperation.Read) partition reads = reads
 reads_with processes call _ partition reads = tt
 
 -- with the objects and the processes after a call it is the partition after it

@@ -3,6 +3,7 @@ use Rattle.std.proofs.Common.{◌≡◌, ◌≢◌, ◌<◌, ◌≤◌, ℕ, ℤ
 use Rattle.std.proofs.lemmas.Bool.Decides.{nat_tests}
 use Rattle.apex_types.specs.declared.limits.TheConstants.{MOST_CORES, PLACE_COUNT}
 use Rattle.apex_types.specs.declared.code.Code.TheVariants as error
+use Rattle.apex_types.specs.declared.operation.{BlackboardOperation.BlackboardOperation, CallerOperation.CallerOperation, EventOperation.EventOperation, MutexOperation.MutexOperation, ProcessOperation.ProcessOperation, SemaphoreOperation.SemaphoreOperation}
 use Rattle.apex_types.specs.declared.record.Call.{Call as CallRecord}
 use Rattle.apex_types.specs.declared.record.Out.{Out}
 use Rattle.apex_types.specs.declared.record.Out.TheVariants as out
@@ -21,7 +22,7 @@ use Rattle.apex_laws.specs.PartBounds.{IsBoundedPart}
 use Rattle.apex_laws.proofs.BoundedParts.{releases_fit}
 use Rattle.module_config.specs.Limits.{CoresAreOfModule}
 use Rattle.object_table.specs.Numbers.{NumbersFit}
-use Rattle.process_state.specs.Sound.{IsSound, AsksSoundly, IsObjectNumber, ReleasesSoundly, WaitsSoundly, is_core_number}
+use Rattle.process_state.specs.Sound.{IsSound, AsksSoundly, GivesSoundly, IsObjectNumber, ReleasesSoundly, WaitsSoundly, is_core_number}
 use Rattle.partition_state.specs.Calls.{IsClear, NumbersAreKept, served_demands}
 use Rattle.partition_state.proofs.Clear.{blackboard_found, buffer_found, event_found, mutex_found, nil_left, nil_right, semaphore_found, when_not}
 
@@ -45,16 +46,21 @@ core_is configuration number (pos core) few of_module has =
     grind (arith, nat_tests)
 core_is configuration number (negsuc core) few of_module has = cc
 
+gives_soundly : (configuration : Configuration) (who : Who) (partition : Partition) (process : ℤ) (operation : ProcessOperation) → configuration.cores ≤ MOST_CORES → CoresAreOfModule configuration
+    → condition_codes configuration who partition (request.Process process operation) ≡ [] → GivesSoundly operation
+gives_soundly configuration who partition process (ProcessOperation.SetPriority priority) few of_module none = when_not _ error.InvalidParam (nil_right _ _ none)
+gives_soundly configuration who partition process (ProcessOperation.InitializeCoreAffinity core) few of_module none =
+    core_is configuration who.part core few of_module (when_not _ error.InvalidConfig (nil_right _ _ none))
+gives_soundly configuration who partition process _ few of_module none = tt
+
 asks_soundly : (configuration : Configuration) (now : ℕ) (partition : Partition) (call : CallRecord) (asked : Request)
     → configuration.cores ≤ MOST_CORES → CoresAreOfModule configuration → condition_codes configuration call.who partition asked ≡ [] → call.request ≡ asked
     → AllHold (served_demands now partition call) → AsksSoundly partition.table call asked
 asks_soundly configuration now partition call (request.CreateProcess name priority period) few of_module none is served =
     λ done. let given = rw is at served in
     (given.1.0.val, when_not _ error.InvalidParam (nil_right _ _ (nil_left _ _ (nil_left _ _ none))), nobody call.claim.woken given.1.1.1.0)
-asks_soundly configuration now partition call (request.SetPriority process priority) few of_module none is served =
-    λ done. when_not _ error.InvalidParam (nil_right _ _ none)
-asks_soundly configuration now partition call (request.InitializeProcessCoreAffinity process core) few of_module none is served =
-    λ done. core_is configuration call.who.part core few of_module (when_not _ error.InvalidConfig (nil_right _ _ none))
+asks_soundly configuration now partition call (request.Process process operation) few of_module none is served =
+    λ done. gives_soundly configuration call.who partition process operation few of_module none
 asks_soundly configuration now partition call _ few of_module none is served = tt
 
 -- waits
@@ -73,25 +79,23 @@ given_fits objects (negsuc n) fit found = absurd (found refl)
 
 waits_soundly : (configuration : Configuration) (who : Who) (partition : Partition) (asked : Request) → NumbersAreKept partition
     → condition_codes configuration who partition asked ≡ [] → WaitsSoundly asked
-waits_soundly configuration who partition (request.SendBuffer buffer length time_out message) kept none =
-    given_fits partition.buffers buffer kept.buffers (buffer_found configuration who partition (request.SendBuffer buffer length time_out message) buffer refl none)
-waits_soundly configuration who partition (request.ReceiveBuffer buffer time_out) kept none =
-    given_fits partition.buffers buffer kept.buffers (buffer_found configuration who partition (request.ReceiveBuffer buffer time_out) buffer refl none)
-waits_soundly configuration who partition (request.ReadBlackboard blackboard time_out) kept none =
-    given_fits partition.blackboards blackboard kept.blackboards (blackboard_found configuration who partition (request.ReadBlackboard blackboard time_out) blackboard refl none)
-waits_soundly configuration who partition (request.WaitSemaphore semaphore time_out) kept none =
-    given_fits partition.semaphores semaphore kept.semaphores (semaphore_found configuration who partition (request.WaitSemaphore semaphore time_out) semaphore refl none)
-waits_soundly configuration who partition (request.WaitEvent event time_out) kept none =
-    given_fits partition.events event kept.events (event_found configuration who partition (request.WaitEvent event time_out) event refl none)
-waits_soundly configuration who partition (request.AcquireMutex mutex time_out) kept none =
-    given_fits partition.mutexes mutex kept.mutexes (mutex_found configuration who partition (request.AcquireMutex mutex time_out) mutex refl none)
+waits_soundly configuration who partition (request.Buffer buffer operation) kept none =
+    given_fits partition.buffers buffer kept.buffers (buffer_found configuration who partition buffer operation none)
+waits_soundly configuration who partition (request.Blackboard blackboard (BlackboardOperation.Read time_out)) kept none =
+    given_fits partition.blackboards blackboard kept.blackboards (blackboard_found configuration who partition blackboard (BlackboardOperation.Read time_out) none)
+waits_soundly configuration who partition (request.Semaphore semaphore (SemaphoreOperation.Wait time_out)) kept none =
+    given_fits partition.semaphores semaphore kept.semaphores (semaphore_found configuration who partition semaphore (SemaphoreOperation.Wait time_out) none)
+waits_soundly configuration who partition (request.Event event (EventOperation.Wait time_out)) kept none =
+    given_fits partition.events event kept.events (event_found configuration who partition event (EventOperation.Wait time_out) none)
+waits_soundly configuration who partition (request.Mutex mutex (MutexOperation.Acquire time_out)) kept none =
+    given_fits partition.mutexes mutex kept.mutexes (mutex_found configuration who partition mutex (MutexOperation.Acquire time_out) none)
 waits_soundly configuration who partition _ kept none = tt
 
 -- releases
 
 pub releases_soundly : (place : ℕ) (partition : Partition) (caller : ℕ) (asked : Request) → IsBoundedPart place partition → place < PLACE_COUNT
     → ReleasesSoundly partition.table caller asked
-releases_soundly place partition caller request.PeriodicWait bounded below =
+releases_soundly place partition caller (request.Caller CallerOperation.PeriodicWait) bounded below =
     λ process at. releases_fit place partition caller process bounded (omega (arith, below)) at
 releases_soundly place partition caller _ bounded below = tt
 
@@ -119,9 +123,7 @@ not_done_and_done false not_done is = let never : ◌≡◌ {A = Bool} false tru
 
 asks_nothing : (partition : Partition) (call : CallRecord) (asked : Request) → is_done call.claim.out ≡ false → AsksSoundly partition.table call asked
 asks_nothing partition call (request.CreateProcess name priority period) not_done = λ done. absurd (not_done_and_done (is_done call.claim.out) not_done done)
-asks_nothing partition call (request.SetPriority process priority) not_done = λ done. absurd (not_done_and_done (is_done call.claim.out) not_done done)
-asks_nothing partition call (request.InitializeProcessCoreAffinity process core) not_done =
-    λ done. absurd (not_done_and_done (is_done call.claim.out) not_done done)
+asks_nothing partition call (request.Process process operation) not_done = λ done. absurd (not_done_and_done (is_done call.claim.out) not_done done)
 asks_nothing partition call _ not_done = tt
 
 pub sound_refused : (place : ℕ) (partition : Partition) (call : CallRecord) → IsBoundedPart place partition → is_done call.claim.out ≡ false

@@ -2,6 +2,7 @@
 use Rattle.std.proofs.Common.{◌≡◌, ◌<◌, ℕ, ℤ, List, Bool, true, false, cond, IsFalse, IsTrue, None, is_some, refl, sym, ap, ◌∙◌, inl, inr}
 use Rattle.apex_types.specs.declared.limits.TheConstants.{PLACE_COUNT}
 use Rattle.apex_types.specs.declared.object_kind.ObjectKind.TheVariants as kind
+use Rattle.apex_types.specs.declared.operation.{QueuingOperation.QueuingOperation, SamplingOperation.SamplingOperation}
 use Rattle.apex_types.specs.declared.record.Call.{Call as CallRecord}
 use Rattle.apex_types.specs.declared.request.Request.{Request}
 use Rattle.apex_types.specs.declared.request.Request.TheVariants as request
@@ -14,6 +15,7 @@ use Rattle.apex_machine.specs.State.{Partition, change_at}
 use Rattle.apex_machine.specs.Waiting.{restart_by, restart_of}
 use Rattle.apex_laws.specs.PartBounds.{IsBoundedPart}
 use Rattle.apex_laws.specs.PartLaws.{IsOwnCall}
+use Rattle.apex_laws.specs.PartObjects.{objects_changed}
 use Rattle.apex_laws.proofs.EnteringSets.{refused_leaves_objects}
 use Rattle.apex_laws.proofs.PartObjects.{one_object_changes}
 use Rattle.apex_laws.proofs.Restarts.{not_done_goes_on}
@@ -25,23 +27,19 @@ use Rattle.ports.specs.Ports.{read_at}
 use Rattle.partition_state.proofs.Sounds.{not_done_and_done, releases_soundly, sound_refused}
 
 -- what holds of each use of a channel
-by_use : (Fact : Request → Type 0) → ((port length : ℤ) (message : List ℕ) → Fact (request.WriteSamplingMessage port length message))
-    → ((port : ℤ) → Fact (request.ReadSamplingMessage port))
-    → ((port length time_out : ℤ) (message : List ℕ) → Fact (request.SendQueuingMessage port length time_out message))
-    → ((port time_out : ℤ) → Fact (request.ReceiveQueuingMessage port time_out)) → ((port : ℤ) → Fact (request.GetStatus kind.QueuingPort port))
+by_use : (Fact : Request → Type 0) → ((port : ℤ) (operation : SamplingOperation) → Fact (request.SamplingPort port operation))
+    → ((port : ℤ) (operation : QueuingOperation) → Fact (request.QueuingPort port operation)) → ((port : ℤ) → Fact (request.GetStatus kind.QueuingPort port))
     → (asked : Request) → IsTrue (is_some (use_of asked)) → Fact asked
-by_use Fact writes reads sends receives asks (request.WriteSamplingMessage port length message) uses = writes port length message
-by_use Fact writes reads sends receives asks (request.ReadSamplingMessage port) uses = reads port
-by_use Fact writes reads sends receives asks (request.SendQueuingMessage port length time_out message) uses = sends port length time_out message
-by_use Fact writes reads sends receives asks (request.ReceiveQueuingMessage port time_out) uses = receives port time_out
-by_use Fact writes reads sends receives asks (request.GetStatus kind.QueuingPort port) uses = asks port
-by_use Fact writes reads sends receives asks _ uses = let never : ◌≡◌ {A = Bool} false true = uses in cc
+by_use Fact samples queues asks (request.SamplingPort port operation) uses = samples port operation
+by_use Fact samples queues asks (request.QueuingPort port operation) uses = queues port operation
+by_use Fact samples queues asks (request.GetStatus kind.QueuingPort port) uses = asks port
+by_use Fact samples queues asks _ uses = let never : ◌≡◌ {A = Bool} false true = uses in cc
 
 -- the objects stay
 
 -- a call that is not done notes nothing
 nothing_noted : (call : CallRecord) (asked : Request) (partition : Partition) → IsFalse (is_done call.claim.out) → objects_noted call asked partition ≡ partition
-nothing_noted call (request.ReadSamplingMessage port) partition not_done =
+nothing_noted call (request.SamplingPort port SamplingOperation.Read) partition not_done =
     ap (λ done. record partition { sampling_ports = cond done (change_at (natural_of port) (read_at call.claim.val) partition.sampling_ports) partition.sampling_ports }) not_done
 nothing_noted call _ partition not_done = refl
 
@@ -53,17 +51,20 @@ leaves_objects configuration number place core cores partition call own (inl not
 leaves_objects configuration number place core cores partition call own (inr uses) =
     let changes = one_object_changes configuration number place core cores partition call own in
     by_use (λ asked. call.request ≡ asked → objects_called configuration place call partition ≡ objects_noted call asked partition)
-    (λ port length message is. changes (rw is refl) (request.WriteSamplingMessage port length message) is)
-    (λ port is. changes (rw is refl) (request.ReadSamplingMessage port) is)
-    (λ port length time_out message is. changes (rw is refl) (request.SendQueuingMessage port length time_out message) is)
-    (λ port time_out is. changes (rw is refl) (request.ReceiveQueuingMessage port time_out) is)
+    (λ port operation is. changes (rw is refl) (request.SamplingPort port operation) is ∙ sampled port operation)
+    (λ port operation is. changes (rw is refl) (request.QueuingPort port operation) is)
     (λ port is. changes (rw is refl) (request.GetStatus kind.QueuingPort port) is) call.request uses refl
+  where
+    sampled : (port : ℤ) (operation : SamplingOperation)
+        → objects_changed configuration place call (request.SamplingPort port operation) partition ≡ objects_noted call (request.SamplingPort port operation) partition
+    sampled port (SamplingOperation.Write length message) = refl
+    sampled port SamplingOperation.Read = refl
 
 -- it restarts no partition
 pub noted_goes_on : (call : CallRecord) → LeavesObjects call → restart_of call ≡ None
 noted_goes_on call (inl not_done) = not_done_goes_on call not_done
 noted_goes_on call (inr uses) =
-    by_use (λ asked. restart_by asked call.claim.out ≡ None) (λ port length message. refl) (λ port. refl) (λ port length time_out message. refl) (λ port time_out. refl) (λ port. refl)
+    by_use (λ asked. restart_by asked call.claim.out ≡ None) (λ port operation. refl) (λ port operation. refl) (λ port. refl)
     call.request uses
 
 -- it asks nothing that a table could not hold
@@ -71,9 +72,8 @@ pub sound_noted : (place : ℕ) (partition : Partition) (call : CallRecord) → 
     → place < PLACE_COUNT → IsSound partition.table call
 sound_noted place partition call bounded (inl not_done) below = sound_refused place partition call bounded not_done below
 sound_noted place partition call bounded (inr uses) below = record {
-  asks = by_use (λ asked. AsksSoundly partition.table call asked) (λ port length message. tt) (λ port. tt) (λ port length time_out message. tt)
-      (λ port time_out. tt) (λ port. tt) call.request uses;
-  waits = λ waiting. by_use WaitsSoundly (λ port length message. tt) (λ port. tt) (λ port length time_out message. tt) (λ port time_out. tt) (λ port. tt) call.request uses;
+  asks = by_use (λ asked. AsksSoundly partition.table call asked) (λ port operation. tt) (λ port operation. tt) (λ port. tt) call.request uses;
+  waits = λ waiting. by_use WaitsSoundly (λ port operation. tt) (λ port operation. tt) (λ port. tt) call.request uses;
   releases = releases_soundly place partition call.who.proc call.request bounded below;
 }
 
@@ -82,5 +82,4 @@ pub noted_transfer : (partition : Partition) (call : CallRecord) (transfer : Tra
     → IsTransferOf partition call.who.proc call.request transfer
 noted_transfer partition call transfer (inl not_done) done = absurd (not_done_and_done (is_done call.claim.out) not_done done)
 noted_transfer partition call transfer (inr uses) done =
-    by_use (λ asked. IsTransferOf partition call.who.proc asked transfer) (λ port length message. tt) (λ port. tt) (λ port length time_out message. tt)
-    (λ port time_out. tt) (λ port. tt) call.request uses
+    by_use (λ asked. IsTransferOf partition call.who.proc asked transfer) (λ port operation. tt) (λ port operation. tt) (λ port. tt) call.request uses

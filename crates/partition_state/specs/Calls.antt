@@ -1,19 +1,22 @@
 -- Whom a partition may serve, what it answers, and which object a request is for.
-use Rattle.std.specs.Prelude.{◌≡◌, ◌≢◌, ◌⊎◌, ℕ, ℤ, Bool, true, false, List, [], Option, Some, None, IsFalse, IsTrue, is_some, if◌then◌else◌}
+use Rattle.std.specs.Prelude.{◌≡◌, ◌≢◌, ◌⊎◌, ℕ, ℤ, List, [], None, IsFalse, IsTrue, is_some, if◌then◌else◌}
+use Rattle.apex_types.specs.declared.operation.{ProcessOperation.ProcessOperation, SamplingOperation.SamplingOperation}
 use Rattle.apex_types.specs.declared.record.Call.{Call as CallRecord}
+use Rattle.apex_types.specs.declared.record.Claim.{Claim}
 use Rattle.apex_types.specs.declared.record.Who.{Who}
 use Rattle.apex_types.specs.declared.request.Request.{Request}
 use Rattle.apex_types.specs.declared.request.Request.TheVariants as request
 use Rattle.apex_machine.specs.declared.state.CoreState.{CoreState}
 use Rattle.apex_machine.specs.declared.state.WaitingSet.{WaitingSet}
 use Rattle.apex_machine.specs.After.{is_done}
+use Rattle.apex_machine.specs.Answer.{Effect}
 use Rattle.apex_machine.specs.Arguments.{natural_of}
 use Rattle.apex_machine.specs.Configuration.{Configuration}
 use Rattle.apex_machine.specs.Demands.{AllHold, Demand, FirstFails, answer_demands, caller_demands, stands_in}
 use Rattle.apex_machine.specs.Ports.{channel_of, use_of}
 use Rattle.apex_machine.specs.ServiceConditions.{condition_codes}
-use Rattle.apex_machine.specs.Services.{answer_of, peer}
-use Rattle.apex_machine.specs.State.{Partition, change_at, created, given_object}
+use Rattle.apex_machine.specs.Services.{NewNumber, answer_by, answer_of, done_with, peer}
+use Rattle.apex_machine.specs.State.{Partition, change_at, created, given_object, is_free}
 use Rattle.apex_laws.specs.Laws.{entries_at}
 use Rattle.apex_laws.specs.PartLaws.{IsSoundPart}
 use Rattle.apex_laws.specs.PartBounds.{IsBoundedPart}
@@ -52,6 +55,14 @@ pub record IsClear (configuration : Configuration) (cores : List CoreState) (pla
 abbrev pub served_demands : ℕ → Partition → CallRecord → List {1} Demand
 served_demands now partition call = answer_demands (answer_of now call.who partition call.request) call.claim
 
+-- what is demanded of the claim of an operation on an object: it is what the object's rule gives
+abbrev pub used_demands : {Object : Type 0} → List (ℕ × Object) → ℤ → (Object → Effect Object) → Claim → List {1} Demand
+used_demands objects given rule claim = answer_demands (answer_by (given_object objects given) (λ found. (rule found).answer)) claim
+
+-- what is demanded of the claim of a creation: it is a new number
+abbrev pub created_demands : {Object : Type 0} → List (ℕ × Object) → Claim → List {1} Demand
+created_demands objects claim = answer_demands (done_with (NewNumber (is_free objects))) claim
+
 -- a refusal over demands: the cause of the first that fails; where memory is wanted nothing is said of them
 abbrev pub RefusesOrWants : List {1} Demand → ObjFault → Type 0
 RefusesOrWants demands (Unlawful cause) = FirstFails demands cause
@@ -63,12 +74,12 @@ LeavesObjects call = IsFalse (is_done call.claim.out) ⊎ IsTrue (is_some (use_o
 
 -- a read that is done is at a port that is created
 abbrev pub ReadsAtPort : CallRecord → Request → Partition → Type 0
-ReadsAtPort call (request.ReadSamplingMessage port) partition = IsTrue (is_done call.claim.out) → given_object partition.sampling_ports port ≢ None
+ReadsAtPort call (request.SamplingPort port SamplingOperation.Read) partition = IsTrue (is_done call.claim.out) → given_object partition.sampling_ports port ≢ None
 ReadsAtPort call _ partition = Unit {0}
 
 -- the ports of a partition after a call that leaves its objects: a port knows whether its last read gave a valid sample
 abbrev pub objects_noted : CallRecord → Request → Partition → Partition
-objects_noted call (request.ReadSamplingMessage port) partition = record partition {
+objects_noted call (request.SamplingPort port SamplingOperation.Read) partition = record partition {
   sampling_ports = if is_done call.claim.out then change_at (natural_of port) (read_at call.claim.val) partition.sampling_ports else partition.sampling_ports;
 }
 objects_noted call _ partition = partition
@@ -76,76 +87,6 @@ objects_noted call _ partition = partition
 -- the objects of a partition after a call that was served: STOP takes its target out of its waiting set, any other service changes
 -- the one object that it names
 abbrev pub objects_served : Configuration → ℕ → CallRecord → Request → Partition → Partition
-objects_served configuration place call (request.Stop process) partition =
+objects_served configuration place call (request.Process process ProcessOperation.Stop) partition =
     left_if_there (peer call.who process) (created partition.table process) partition
 objects_served configuration place call asked partition = objects_changed configuration place call asked partition
-
--- the buffer that a request is for
-abbrev pub buffer_used : Request → Option ℤ
-buffer_used (request.SendBuffer buffer length time_out message) = Some buffer
-buffer_used (request.ReceiveBuffer buffer time_out) = Some buffer
-buffer_used _ = None
-
--- the blackboard that a request is for
-abbrev pub blackboard_used : Request → Option ℤ
-blackboard_used (request.DisplayBlackboard blackboard length message) = Some blackboard
-blackboard_used (request.ReadBlackboard blackboard time_out) = Some blackboard
-blackboard_used (request.ClearBlackboard blackboard) = Some blackboard
-blackboard_used _ = None
-
--- the semaphore that a request is for
-abbrev pub semaphore_used : Request → Option ℤ
-semaphore_used (request.WaitSemaphore semaphore time_out) = Some semaphore
-semaphore_used (request.SignalSemaphore semaphore) = Some semaphore
-semaphore_used _ = None
-
--- the event that a request is for
-abbrev pub event_used : Request → Option ℤ
-event_used (request.SetEvent event) = Some event
-event_used (request.ResetEvent event) = Some event
-event_used (request.WaitEvent event time_out) = Some event
-event_used _ = None
-
--- the mutex that a request is for
-abbrev pub mutex_used : Request → Option ℤ
-mutex_used (request.AcquireMutex mutex time_out) = Some mutex
-mutex_used (request.ReleaseMutex mutex) = Some mutex
-mutex_used _ = None
-
--- the services of processes and of time, and GET_TIME: no object is theirs, and STOP alone changes the waiting sets of others
-abbrev pub is_process_service : Request → Bool
-is_process_service (request.CreateProcess name priority period) = true
-is_process_service (request.InitializeProcessCoreAffinity process core) = true
-is_process_service (request.Start process) = true
-is_process_service request.StopSelf = true
-is_process_service (request.Suspend process) = true
-is_process_service (request.SuspendSelf time_out) = true
-is_process_service (request.Resume process) = true
-is_process_service (request.SetPriority process priority) = true
-is_process_service request.GetMyId = true
-is_process_service (request.TimedWait delay) = true
-is_process_service request.PeriodicWait = true
-is_process_service request.GetTime = true
-is_process_service (request.SetPartitionMode mode) = true
-is_process_service _ = false
-
--- the services that tell of an object or a port: they change none
-abbrev pub tells_only : Request → Bool
-tells_only (request.GetId kind name) = true
-tells_only (request.GetStatus kind object) = true
-tells_only _ = false
-
--- the creations of objects
-abbrev pub creates_object : Request → Bool
-creates_object (request.CreateBuffer name size capacity discipline) = true
-creates_object (request.CreateBlackboard name size) = true
-creates_object (request.CreateSemaphore name value maximum discipline) = true
-creates_object (request.CreateEvent name) = true
-creates_object (request.CreateMutex name priority discipline) = true
-creates_object _ = false
-
--- the creations of ports
-abbrev pub creates_port : Request → Bool
-creates_port (request.CreateSamplingPort name size direction refresh) = true
-creates_port (request.CreateQueuingPort name size capacity both) = true
-creates_port _ = false

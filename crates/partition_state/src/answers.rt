@@ -1,44 +1,65 @@
 // What the services of processes give their callers, and whether a claim is that.
 
-ghost use Rattle.std.specs.Prelude.{◌≡◌, ◌↔◌, pos, true, IsTrue, if◌then◌else◌};
+ghost use Rattle.std.specs.Prelude.{◌≡◌, ◌↔◌, ℕ, pos, IsTrue, if◌then◌else◌};
+ghost use Rattle.apex_types.specs.declared.request.Request.TheVariants as request;
 ghost use Rattle.apex_machine.specs.Answer as answer;
 ghost use Rattle.apex_machine.specs.Answer.{HasValue, Number};
-ghost use Rattle.apex_machine.specs.Demands.{Judges};
+ghost use Rattle.apex_machine.specs.Demands.{Judges, answer_demands};
 ghost use Rattle.apex_machine.specs.DueTimes as due_times;
 ghost use Rattle.apex_machine.specs.Services as services;
 ghost use Rattle.apex_machine.specs.Services.{peer};
 ghost use Rattle.apex_machine.specs.State.{created};
 ghost use Rattle.wait_set.specs.Givens.{answer_given};
-ghost use Rattle.partition_state.specs.Calls.{is_process_service, served_demands};
+ghost use Rattle.partition_state.specs.Calls.{served_demands};
 
 use crate::state::PartitionState;
 use apex_machine::Wait;
-use apex_types::{Call, Cause, Out, Request, Who};
+use apex_types::{Call, CallerOperation, Cause, Claim, Out, ProcessOperation, Who};
 use wait_set::{Given, judge_value};
 
 impl PartitionState {
-    /// Judges the claim of a call of a service of processes at this time of its core, in ticks: it has to be what the service
-    /// gives its caller. The cause is that of the first demand that fails.
-    pub(crate) fn judge_process_service(&self, now: u64, call: &Call) -> Result<(), Cause>
-        requires { is_process_service call.now.request ≡ true }
-        ensures { Judges (served_demands now self.now call.now) result }
+    /// Judges the claim of a call by which this process asks something for itself, at this time of its core, in ticks: it must be
+    /// what the service gives. The cause is that of the first demand that fails.
+    pub(crate) fn judge_own(
+        &self,
+        now: u64,
+        who: Who,
+        operation: &CallerOperation,
+        claim: &Claim,
+    ) -> Result<(), Cause>
+        ensures { Judges (answer_demands (services.answer_of now who self.now (request.Caller operation.now)) claim.now) result }
     {
-        let (who, claim) = (call.who, &call.claim);
-        match &call.request {
-            Request::CreateProcess { .. } => {
-                judge_value(self.processes.is_new_number(claim.val), claim)
-            }
-            Request::GetMyId => judge_value(is_number(who.proc.number().into(), claim.val), claim),
-            Request::GetTime => judge_value(is_number(now, claim.val), claim),
-            Request::StopSelf | Request::SetPartitionMode { .. } => never().judge(claim),
-            Request::TimedWait { delay: time } | Request::SuspendSelf { time_out: time } => {
-                done_if(*time == 0).judge(claim)
-            }
-            Request::PeriodicWait => {
+        match operation {
+            CallerOperation::StopSelf => never().judge(claim),
+            CallerOperation::TimedWait { delay: time }
+            | CallerOperation::SuspendSelf { time_out: time } => done_if(*time == 0).judge(claim),
+            CallerOperation::PeriodicWait => {
                 done_if(self.processes.is_released(now, who.proc)).judge(claim)
             }
-            Request::Resume { process } => self.resuming(who, *process).judge(claim),
-            _ => Given::done().judge(claim),
+            CallerOperation::GetMyId => {
+                judge_value(is_number(who.proc.number().into(), claim.val), claim)
+            }
+            CallerOperation::GetTime => judge_value(is_number(now, claim.val), claim),
+        }
+    }
+
+    /// Judges the claim of a call of a service that names the process of this number: it must be what the service gives.
+    pub(crate) fn judge_named(
+        &self,
+        call: &Call,
+        process: i64,
+        operation: &ProcessOperation,
+    ) -> Result<(), Cause>
+        requires { call.now.request ≡ request.Process process operation.now }
+        ensures { (now : ℕ) → Judges (served_demands now self.now call.now) result }
+    {
+        match operation {
+            ProcessOperation::Resume => self.resuming(call.who, process).judge(&call.claim),
+            ProcessOperation::InitializeCoreAffinity { .. }
+            | ProcessOperation::Start
+            | ProcessOperation::Stop
+            | ProcessOperation::Suspend
+            | ProcessOperation::SetPriority { .. } => Given::done().judge(&call.claim),
         }
     }
 
@@ -59,8 +80,8 @@ impl PartitionState {
     }
 }
 
-// The call does not return.
-fn never<'a>() -> Given<'a>
+/// The call does not return.
+pub(crate) fn never<'a>() -> Given<'a>
     ensures { answer_given result ≡ answer.never }
 {
     Given {

@@ -2,7 +2,6 @@
 
 ghost use Rattle.std.specs.Prelude.{◌≡◌, ◌≢◌, ℕ, List, None, IfErr, OnErr, OnOk};
 ghost use Rattle.apex_types.specs.declared.record.Body.TheVariants.{Tick};
-ghost use Rattle.apex_types.specs.declared.request.Request.TheVariants as request;
 ghost use Rattle.apex_machine.specs.declared.state.CoreState.{CoreState};
 ghost use Rattle.apex_machine.specs.After.{each_set, partition_by, returned, woken_if_named};
 ghost use Rattle.apex_machine.specs.Answer as answer;
@@ -62,14 +61,12 @@ impl PartitionState {
     /// which it waits.
     ///
     /// Refused, with nothing changed, where the claim is another.
-    #[tactic(auto, using(crate::proofs::Leavers::stop_refused))]
     pub(crate) fn stop(&mut self, place: Place, call: &Call, process: i64) -> Result<(), ObjFault>
-        requires asked { call.now.request ≡ request.Stop process }
         requires at_work { IsAtWork place self.old call.now.who }
         requires found { created self.old.table process ≢ None }
-        ensures ok { OnOk result ((now : ℕ) → AllHold (served_demands now self.old call.now)) }
+        ensures ok { OnOk result (AllHold (answer_demands answer.done call.now.claim)) }
         ensures after { OnOk result (self.new ≡ left_if_there (peer call.now.who process) (created self.old.table process) self.old) }
-        ensures refused { IfErr result (λ fault. (now : ℕ) → Refuses (served_demands now self.old call.now) fault) }
+        ensures refused { IfErr result (Refuses (answer_demands answer.done call.now.claim)) }
         ensures unchanged { OnErr result (self.new ≡ self.old) }
     {
         judge_done(&call.claim)?;

@@ -1,21 +1,22 @@
 // Mutexes: their creation, and what is done with one.
 
-ghost use Rattle.std.specs.Prelude.{◌≡◌, ◌≢◌, ◌≤◌, ℕ, Some, None, IfErr, IfOk, IfSome, IsTrue, OnErr, OnOk};
+ghost use Rattle.std.specs.Prelude.{◌≡◌, ◌++◌, ◌≢◌, ◌≤◌, ℕ, None, IfErr, IfSome, IsTrue, OnErr, OnOk};
 ghost use Rattle.apex_types.specs.declared.request.Request.TheVariants as request;
 ghost use Rattle.apex_machine.specs.Arguments.{is_discipline, is_priority};
+ghost use Rattle.apex_machine.specs.After.{new_mutex, numbered};
 ghost use Rattle.apex_machine.specs.Configuration.{Configuration};
 ghost use Rattle.apex_machine.specs.Demands.{AllHold};
+ghost use Rattle.apex_machine.specs.Objects.{mutex_effect};
 ghost use Rattle.apex_machine.specs.State.{given_object};
 ghost use Rattle.apex_laws.specs.PartObjects.{objects_changed};
-ghost use Rattle.process_state.specs.Transfers.{IsTransferOf};
 ghost use Rattle.wait_set.specs.Actors.{Refuses};
-ghost use Rattle.partition_state.specs.Calls.{IsAtWork, mutex_used, served_demands};
-ghost use Rattle.partition_state.specs.Owners.{TransfersFrom};
+ghost use Rattle.partition_state.specs.Calls.{IsAtWork, created_demands, used_demands};
+ghost use Rattle.partition_state.specs.Owners.{TransfersFrom, TransfersSince, owner_in};
 
 use crate::caller::caller_of;
 use crate::creations::discipline_of;
 use crate::state::PartitionState;
-use apex_types::{Call, Name, Place, ProcId};
+use apex_types::{Call, Claim, MutexOperation, Name, Place, ProcId, Request};
 use mutex_ceiling::Mutex653;
 use object_table::copy_of;
 use process_state::Transfer;
@@ -23,7 +24,7 @@ use std::alloc::Global;
 use wait_set::ObjFault;
 
 impl PartitionState {
-    /// ACQUIRE_MUTEX and RELEASE_MUTEX of the mutex of this number, by a call at this place: what becomes of its owner.
+    /// An operation on the mutex of this number, by a call at this place.
     ///
     /// Refused, with nothing changed, where the claim is not what the mutex gives, or where memory is refused.
     pub(crate) fn use_mutex(
@@ -31,41 +32,42 @@ impl PartitionState {
         place: Place,
         call: &Call,
         mutex: i64,
-    ) -> Result<Transfer, ObjFault>
-        requires asked { mutex_used call.now.request ≡ Some mutex }
+        operation: &MutexOperation,
+    ) -> Result<(), ObjFault>
+        requires asked { call.now.request ≡ request.Mutex mutex operation.now }
         requires at_work { IsAtWork place self.old call.now.who }
         requires found { given_object self.old.mutexes mutex ≢ None }
         requires counted { IfSome (given_object self.old.mutexes mutex) (λ found. found.count ≤ place) }
-        ensures ok { OnOk result ((now : ℕ) → AllHold (served_demands now self.old call.now)) }
+        ensures ok { OnOk result (AllHold (used_demands self.old.mutexes mutex (mutex_effect call.now.who.proc operation.now) call.now.claim)) }
         ensures after { OnOk result ((configuration : Configuration) → self.new ≡ objects_changed configuration place call.now call.now.request self.old) }
-        ensures transfer { IfOk result (λ transfer. IsTransferOf self.old call.now.who.proc call.now.request transfer) }
-        ensures refused { IfErr result (λ fault. (now : ℕ) → Refuses (served_demands now self.old call.now) fault) }
+        ensures refused { IfErr result (Refuses (used_demands self.old.mutexes mutex (mutex_effect call.now.who.proc operation.now) call.now.claim)) }
         ensures unchanged { OnErr result (self.new ≡ self.old) }
     {
-        let owner = self.mutex_owner(mutex);
-        let actor = caller_of(place, call);
         self.mutexes
-            .apply(mutex, actor, &call.request, &call.claim)?;
-        Ok(self.transfer_from(owner, mutex))
+            .apply(mutex, caller_of(place, call), operation, &call.claim)?;
+        Ok(())
     }
 
-    // The owner of the mutex of this number: None where it is free.
-    fn mutex_owner(&self, mutex: i64) -> Option<ProcId>
-        ensures { IfSome (given_object self.now.mutexes mutex) (λ found. result ≡ found.owner) }
+    /// The owner of the mutex that a request names: None where it is free, or where the request names none.
+    pub(crate) fn owner_in(&self, request: &Request) -> Option<ProcId>
+        ensures { result ≡ owner_in self.now request.now }
     {
-        match self.mutexes.given(mutex) {
-            Some(found) => found.owner(),
-            None => None,
+        match request {
+            Request::Mutex { mutex, .. } => self.mutexes.given(*mutex)?.owner(),
+            _ => None,
         }
     }
 
-    // What has become of the owner of the mutex of this number, since this one owned it.
-    fn transfer_from(&self, owner: Option<ProcId>, mutex: i64) -> Transfer
-        ensures { IfSome (given_object self.now.mutexes mutex) (λ found. TransfersFrom owner found result) }
+    /// What has become of the owner of the mutex that a request names, since this one owned it.
+    pub(crate) fn transfer_since(&self, owner: Option<ProcId>, request: &Request) -> Transfer
+        ensures { TransfersSince owner self.now request.now result }
     {
-        match self.mutexes.given(mutex) {
-            Some(found) => transfer_between(owner, found),
-            None => Transfer::none(),
+        match request {
+            Request::Mutex { mutex, .. } => match self.mutexes.given(*mutex) {
+                Some(found) => transfer_between(owner, found),
+                None => Transfer::none(),
+            },
+            _ => Transfer::none(),
         }
     }
 
@@ -75,27 +77,26 @@ impl PartitionState {
     pub(crate) fn create_mutex(
         &mut self,
         alloc: Global,
-        call: &Call,
+        claim: &Claim,
         name: &Name,
         priority: i64,
         discipline: i64,
     ) -> Result<(), ObjFault>
-        requires asked { call.now.request ≡ request.CreateMutex name.now priority discipline }
         requires priority { IsTrue (is_priority priority) }
         requires discipline { IsTrue (is_discipline discipline) }
-        ensures ok { OnOk result ((now : ℕ) → AllHold (served_demands now self.old call.now)) }
-        ensures after { OnOk result ((configuration : Configuration) (place : ℕ) → self.new ≡ objects_changed configuration place call.now call.now.request self.old) }
-        ensures refused { IfErr result (λ fault. (now : ℕ) → Refuses (served_demands now self.old call.now) fault) }
+        ensures ok { OnOk result (AllHold (created_demands self.old.mutexes claim.now)) }
+        ensures after { OnOk result (self.new ≡ record self.old { mutexes = self.old.mutexes ++ numbered claim.now.val (new_mutex name.now priority discipline) }) }
+        ensures refused { IfErr result (Refuses (created_demands self.old.mutexes claim.now)) }
         ensures unchanged { OnErr result (self.new ≡ self.old) }
     {
-        self.mutexes.judge_creation(&call.claim)?;
+        self.mutexes.judge_creation(claim)?;
         let mutex = Mutex653::new(
             alloc,
             copy_of(alloc, name)?,
             priority as u8,
             discipline_of(discipline),
         );
-        self.mutexes.add(call.claim.val, mutex)
+        self.mutexes.add(claim.val, mutex)
     }
 }
 

@@ -1,16 +1,16 @@
 // Ports: their creation, to which channel a call through one goes, and what a read leaves with its port.
 
-ghost use Rattle.std.specs.Prelude.{◌≡◌, ℕ, [], true, IfErr, OnErr, OnOk};
+ghost use Rattle.std.specs.Prelude.{◌≡◌, ◌≢◌, ◌++◌, None, IfErr, OnErr, OnOk};
+ghost use Rattle.apex_machine.specs.After.{new_queuing_port, new_sampling_port};
+ghost use Rattle.apex_machine.specs.Channels.{queuing_port, sampling_port};
 ghost use Rattle.apex_machine.specs.Demands.{AllHold};
 ghost use Rattle.apex_machine.specs.Ports.{channel_of};
-ghost use Rattle.apex_machine.specs.ServiceConditions.{condition_codes};
-ghost use Rattle.apex_laws.specs.PartObjects.{objects_changed};
 ghost use Rattle.wait_set.specs.Actors.{Refuses};
-ghost use Rattle.partition_state.specs.Calls.{ReadsAtPort, creates_port, objects_noted, served_demands};
+ghost use Rattle.partition_state.specs.Calls.{ReadsAtPort, created_demands, objects_noted};
 
 use crate::state::PartitionState;
 use apex_machine::Direction;
-use apex_types::{Call, ChanId, ObjectKind, Request};
+use apex_types::{Call, ChanId, Claim, Name, ObjectKind, PartId, Request, SamplingOperation};
 use module_config::Config;
 use ports::PortSettings;
 use process_state::is_done;
@@ -22,11 +22,8 @@ impl PartitionState {
         ensures { result ≡ channel_of self.now request.now }
     {
         match request {
-            Request::WriteSamplingMessage { port, .. } | Request::ReadSamplingMessage { port } => {
-                self.sampling_ports.channel_of(*port)
-            }
-            Request::SendQueuingMessage { port, .. }
-            | Request::ReceiveQueuingMessage { port, .. } => self.queuing_ports.channel_of(*port),
+            Request::SamplingPort { port, .. } => self.sampling_ports.channel_of(*port),
+            Request::QueuingPort { port, .. } => self.queuing_ports.channel_of(*port),
             Request::GetStatus {
                 kind: ObjectKind::QueuingPort,
                 object,
@@ -40,43 +37,63 @@ impl PartitionState {
         requires port { ReadsAtPort call.now call.now.request self.old }
         ensures { self.new ≡ objects_noted call.now call.now.request self.old }
     {
-        if let Request::ReadSamplingMessage { port } = &call.request {
+        if let Request::SamplingPort {
+            port,
+            operation: SamplingOperation::Read,
+        } = &call.request
+        {
             if is_done(call.claim.out) {
                 self.sampling_ports.note_read(*port, call.claim.val);
             }
         }
     }
 
-    /// The creation of a port on which no error condition holds: the port stands under the number that is claimed, as it is
-    /// configured.
+    /// CREATE_SAMPLING_PORT of a port that is configured: it is so, under the number that is claimed.
     ///
     /// Refused, with nothing changed, where the claim is not what a creation gives, or where memory is refused.
-    pub(crate) fn create_port(&mut self, config: &Config, call: &Call) -> Result<(), ObjFault>
-        requires creates { creates_port call.now.request ≡ true }
-        requires clear { condition_codes config.now call.now.who self.old call.now.request ≡ [] }
-        ensures ok { OnOk result ((now : ℕ) → AllHold (served_demands now self.old call.now)) }
-        ensures after { OnOk result ((place : ℕ) → self.new ≡ objects_changed config.now place call.now call.now.request self.old) }
-        ensures refused { IfErr result (λ fault. (now : ℕ) → Refuses (served_demands now self.old call.now) fault) }
+    pub(crate) fn create_sampling_port(
+        &mut self,
+        config: &Config,
+        part: PartId,
+        claim: &Claim,
+        name: &Name,
+    ) -> Result<(), ObjFault>
+        requires configured { sampling_port config.now part name.now ≢ None }
+        ensures ok { OnOk result (AllHold (created_demands self.old.sampling_ports claim.now)) }
+        ensures after { OnOk result (self.new ≡ record self.old { sampling_ports = self.old.sampling_ports ++ new_sampling_port name.now claim.now.val (sampling_port config.now part name.now) }) }
+        ensures refused { IfErr result (Refuses (created_demands self.old.sampling_ports claim.now)) }
         ensures unchanged { OnErr result (self.new ≡ self.old) }
     {
-        let (alloc, part, claim) = (self.alloc, call.who.part, &call.claim);
-        match &call.request {
-            Request::CreateSamplingPort { name, .. } => match config.sampling_port(part, name) {
-                Some(port) => {
-                    let settings = settings_of(port.size, port.direction, port.channel);
-                    self.sampling_ports.create(alloc, name, settings, claim)
-                }
-                None => unreachable!(),
-            },
-            Request::CreateQueuingPort { name, .. } => match config.queuing_port(part, name) {
-                Some(port) => {
-                    let settings = settings_of(port.size, port.direction, port.channel);
-                    self.queuing_ports.create(alloc, name, settings, claim)
-                }
-                None => unreachable!(),
-            },
-            _ => unreachable!(),
-        }
+        let Some(port) = config.sampling_port(part, name) else {
+            unreachable!()
+        };
+        let settings = settings_of(port.size, port.direction, port.channel);
+        let alloc = self.alloc;
+        self.sampling_ports.create(alloc, name, settings, claim)
+    }
+
+    /// CREATE_QUEUING_PORT of a port that is configured: it is so, under the number that is claimed.
+    ///
+    /// Refused, with nothing changed, where the claim is not what a creation gives, or where memory is refused.
+    pub(crate) fn create_queuing_port(
+        &mut self,
+        config: &Config,
+        part: PartId,
+        claim: &Claim,
+        name: &Name,
+    ) -> Result<(), ObjFault>
+        requires configured { queuing_port config.now part name.now ≢ None }
+        ensures ok { OnOk result (AllHold (created_demands self.old.queuing_ports claim.now)) }
+        ensures after { OnOk result (self.new ≡ record self.old { queuing_ports = self.old.queuing_ports ++ new_queuing_port name.now claim.now.val (queuing_port config.now part name.now) }) }
+        ensures refused { IfErr result (Refuses (created_demands self.old.queuing_ports claim.now)) }
+        ensures unchanged { OnErr result (self.new ≡ self.old) }
+    {
+        let Some(port) = config.queuing_port(part, name) else {
+            unreachable!()
+        };
+        let settings = settings_of(port.size, port.direction, port.channel);
+        let alloc = self.alloc;
+        self.queuing_ports.create(alloc, name, settings, claim)
     }
 }
 

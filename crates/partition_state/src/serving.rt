@@ -1,6 +1,6 @@
 // What a call makes of its partition.
 
-ghost use Rattle.std.specs.Prelude.{◌≡◌, ℕ, [], None, true, false, IfErr, IfOk, IsTrue, OnErr, OnOk};
+ghost use Rattle.std.specs.Prelude.{◌≡◌, None, IfErr, IfOk, OnErr, OnOk};
 ghost use Rattle.apex_machine.specs.After.{own_partition, partition_called};
 ghost use Rattle.apex_machine.specs.Configuration.{Configuration, period_of};
 ghost use Rattle.apex_machine.specs.Demands.{AllHold, caller_demands, own_call_demands};
@@ -12,15 +12,16 @@ ghost use Rattle.apex_laws.specs.PartLaws.{IsSoundPart};
 ghost use Rattle.process_state.specs.Timely.{TimesFit};
 ghost use Rattle.process_state.specs.Transfers.{IsTransferOf};
 ghost use Rattle.wait_set.specs.Actors.{Refuses};
-ghost use Rattle.partition_state.specs.Calls.{IsClear, LeavesObjects, RefusesOrWants, is_process_service, mutex_used, objects_served, served_demands, tells_only};
+ghost use Rattle.partition_state.specs.Calls.{IsClear, LeavesObjects, RefusesOrWants, objects_served, served_demands};
 
+use crate::answers::never;
 use crate::restarting::restart_of;
 use crate::state::PartitionState;
-use apex_types::{Call, Place, Request};
+use apex_types::{Call, ProcessOperation, Request};
 use module_config::Config;
 use process_state::{Moment, Transfer};
 use std::alloc::AllocError;
-use wait_set::ObjFault;
+use wait_set::{ObjFault, judge_status, judge_value};
 
 impl PartitionState {
     /// A call of one of the partition's processes on which no error condition holds and which goes through no channel: what
@@ -44,7 +45,7 @@ impl PartitionState {
     {
         match restart_of(call) {
             Some(mode) => {
-                self.judge_processes(now, call)?;
+                never().judge(&call.claim).map_err(ObjFault::Unlawful)?;
                 self.restart(mode, config.first_core(call.who.part), moment.place);
                 Ok(())
             }
@@ -116,9 +117,9 @@ impl PartitionState {
         Ok(())
     }
 
-    // What a call claims is judged by what its service gives, and what it makes of the objects is made. It says whose a mutex
-    // is no longer, and whose from now on.
-    #[tactic(auto, using(crate::proofs::Clear::at_work, crate::proofs::Clear::counts_fit, crate::proofs::Served::refuses_or_wants))]
+    // What a call claims is judged by what its service gives, and what it makes of the objects is made. It says what becomes of
+    // the owner of a mutex.
+    #[tactic(auto, using(crate::proofs::Served::refuses_or_wants))]
     fn operate(
         &mut self,
         config: &Config,
@@ -133,91 +134,65 @@ impl PartitionState {
         ensures refused { IfErr result (RefusesOrWants (served_demands now self.old call.now)) }
         ensures unchanged { OnErr result (self.new ≡ self.old) }
     {
-        match &call.request {
-            Request::AcquireMutex { mutex, .. } | Request::ReleaseMutex { mutex } => {
-                self.use_mutex(moment.place, call, *mutex)
-            }
-            _ => match self.operate_on_others(config, now, moment, call) {
-                Ok(()) => Ok(Transfer::none()),
-                Err(fault) => Err(fault),
-            },
-        }
+        let owner = self.owner_in(&call.request);
+        self.operate_by_object(config, now, moment, call)?;
+        Ok(self.transfer_since(owner, &call.request))
     }
 
-    // The same for all services but those that change the owner of a mutex.
-    #[tactic(auto, using(crate::proofs::Clear::at_work, crate::proofs::Served::changed_is_served))]
-    fn operate_on_others(
+    // The same, without what becomes of owners. A call through a port goes through a channel.
+    #[tactic(auto, using(crate::proofs::Clear::at_work, crate::proofs::Clear::counts_fit, crate::proofs::Served::changed_is_served))]
+    fn operate_by_object(
         &mut self,
         config: &Config,
         now: u64,
         moment: &Moment<'_>,
         call: &Call,
     ) -> Result<(), ObjFault>
-        requires others { mutex_used call.now.request ≡ None }
         requires clear { IsClear config.now moment.now.cores.now moment.now.place moment.now.core self.old call.now }
         ensures ok { OnOk result (AllHold (served_demands now self.old call.now)) }
         ensures after { OnOk result (self.new ≡ objects_served config.now moment.now.place call.now call.now.request self.old) }
         ensures refused { IfErr result (Refuses (served_demands now self.old call.now)) }
         ensures unchanged { OnErr result (self.new ≡ self.old) }
     {
+        let (place, claim) = (moment.place, &call.claim);
         match &call.request {
-            Request::GetId { .. } | Request::GetStatus { .. } => self.tell(call),
-            _ => self.operate_by_service(config, now, moment, call),
+            Request::Process {
+                process,
+                operation: ProcessOperation::Stop,
+            } => self.stop(place, call, *process),
+            Request::Create { name, object } => self.create(config, call.who, name, object, claim),
+            Request::Buffer { buffer, operation } => {
+                self.use_buffer(place, call, *buffer, operation)
+            }
+            Request::Blackboard {
+                blackboard,
+                operation,
+            } => self.use_blackboard(place, call, *blackboard, operation),
+            Request::Semaphore {
+                semaphore,
+                operation,
+            } => self.use_semaphore(place, call, *semaphore, operation),
+            Request::Event { event, operation } => self.use_event(place, call, *event, operation),
+            Request::Mutex { mutex, operation } => self.use_mutex(place, call, *mutex, operation),
+            Request::SamplingPort { .. } | Request::QueuingPort { .. } => unreachable!(),
+            Request::CreateProcess { .. } => {
+                judge_value(self.processes.is_new_number(claim.val), claim).map_err(
+                    ObjFault::Unlawful,
+                )
+            }
+            Request::Process { process, operation } => self
+                .judge_named(call, *process, operation)
+                .map_err(ObjFault::Unlawful),
+            Request::Caller(operation) => self
+                .judge_own(now, call.who, operation, claim)
+                .map_err(ObjFault::Unlawful),
+            Request::SetPartitionMode { .. } => never().judge(claim).map_err(ObjFault::Unlawful),
+            Request::GetId { kind, name } => self
+                .judge_id(*kind, name, claim)
+                .map_err(ObjFault::Unlawful),
+            Request::GetStatus { kind, object } => {
+                judge_status(self.status_of(*kind, *object), claim).map_err(ObjFault::Unlawful)
+            }
         }
-    }
-
-    // The same for all services but those that change the owner of a mutex and those that tell of an object.
-    #[tactic(auto, using(crate::proofs::Clear::at_work, crate::proofs::Served::changed_is_served))]
-    fn operate_by_service(
-        &mut self,
-        config: &Config,
-        now: u64,
-        moment: &Moment<'_>,
-        call: &Call,
-    ) -> Result<(), ObjFault>
-        requires others { mutex_used call.now.request ≡ None }
-        requires changing { tells_only call.now.request ≡ false }
-        requires clear { IsClear config.now moment.now.cores.now moment.now.place moment.now.core self.old call.now }
-        ensures ok { OnOk result (AllHold (served_demands now self.old call.now)) }
-        ensures after { OnOk result (self.new ≡ objects_served config.now moment.now.place call.now call.now.request self.old) }
-        ensures refused { IfErr result (Refuses (served_demands now self.old call.now)) }
-        ensures unchanged { OnErr result (self.new ≡ self.old) }
-    {
-        let place = moment.place;
-        match &call.request {
-            Request::Stop { process } => self.stop(place, call, *process),
-            Request::SendBuffer { buffer, .. } | Request::ReceiveBuffer { buffer, .. } => {
-                self.use_buffer(place, call, *buffer)
-            }
-            Request::DisplayBlackboard { blackboard, .. }
-            | Request::ReadBlackboard { blackboard, .. }
-            | Request::ClearBlackboard { blackboard } => {
-                self.use_blackboard(place, call, *blackboard)
-            }
-            Request::WaitSemaphore { semaphore, .. } | Request::SignalSemaphore { semaphore } =>
-                self.use_semaphore(place, call, *semaphore),
-            Request::SetEvent { event }
-            | Request::ResetEvent { event }
-            | Request::WaitEvent { event, .. } => self.use_event(place, call, *event),
-            Request::CreateBuffer { .. }
-            | Request::CreateBlackboard { .. }
-            | Request::CreateSemaphore { .. }
-            | Request::CreateEvent { .. }
-            | Request::CreateMutex { .. } => self.create(config, call),
-            Request::CreateSamplingPort { .. } | Request::CreateQueuingPort { .. } => {
-                self.create_port(config, call)
-            }
-            _ => self.judge_processes(now, call),
-        }
-    }
-
-    // The services of processes change no object.
-    fn judge_processes(&self, now: u64, call: &Call) -> Result<(), ObjFault>
-        requires { is_process_service call.now.request ≡ true }
-        ensures ok { OnOk result (AllHold (served_demands now self.now call.now)) }
-        ensures refused { IfErr result (Refuses (served_demands now self.now call.now)) }
-    {
-        self.judge_process_service(now, call)
-            .map_err(ObjFault::Unlawful)
     }
 }

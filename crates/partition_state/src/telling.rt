@@ -1,18 +1,16 @@
 // What services report of objects and ports: the number of what has a name, and the status of what has a number.
 
-ghost use Rattle.std.specs.Prelude.{◌≡◌, ◌↔◌, ℕ, true, IfErr, IsTrue, OnOk};
-ghost use Rattle.apex_machine.specs.Answer.{HasValue};
-ghost use Rattle.apex_machine.specs.Demands.{AllHold, Judges};
+ghost use Rattle.std.specs.Prelude.{◌≡◌, ◌↔◌, IsTrue};
+ghost use Rattle.apex_machine.specs.Answer.{HasValue, done_with};
+ghost use Rattle.apex_machine.specs.Demands.{Judges, answer_demands};
 ghost use Rattle.apex_machine.specs.Names as names;
 ghost use Rattle.apex_machine.specs.Names.{number_found};
 ghost use Rattle.apex_machine.specs.Statuses as statuses;
-ghost use Rattle.wait_set.specs.Actors.{Refuses};
-ghost use Rattle.partition_state.specs.Calls.{served_demands, tells_only};
 
 use crate::state::PartitionState;
 use apex_machine::Status;
-use apex_types::{Call, Cause, Name, ObjectKind, Request};
-use wait_set::{ObjFault, judge_status, judge_value};
+use apex_types::{Cause, Claim, Name, ObjectKind};
+use wait_set::judge_value;
 
 impl PartitionState {
     /// The number of the object or the port of a kind that has this name, or None where none has.
@@ -46,34 +44,14 @@ impl PartitionState {
         }
     }
 
-    /// A call of a service that tells of an object or a port, and changes none: its claim is judged by what is reported.
-    pub(crate) fn tell(&self, call: &Call) -> Result<(), ObjFault>
-        requires tells { tells_only call.now.request ≡ true }
-        ensures ok { OnOk result ((now : ℕ) → AllHold (served_demands now self.now call.now)) }
-        ensures refused { IfErr result (λ fault. (now : ℕ) → Refuses (served_demands now self.now call.now) fault) }
+    /// Judges the claim of GET_BUFFER_ID or its like: it must give the number of what has this name.
+    pub(crate) fn judge_id(&self, kind: ObjectKind, name: &Name, claim: &Claim) -> Result<(), Cause>
+        ensures { Judges (answer_demands (done_with (number_found (names.number_of self.now kind name.now))) claim.now) result }
     {
-        match self.judge_report(call) {
-            Ok(()) => Ok(()),
-            Err(cause) => Err(ObjFault::Unlawful(cause)),
-        }
-    }
-
-    // Judges the claim: it must give what is reported. The cause is that of the first demand that fails.
-    fn judge_report(&self, call: &Call) -> Result<(), Cause>
-        requires { tells_only call.now.request ≡ true }
-        ensures { (now : ℕ) → Judges (served_demands now self.now call.now) result }
-    {
-        let claim = &call.claim;
-        match &call.request {
-            Request::GetId { kind, name } => {
-                let number = self.number_of(*kind, name);
-                judge_value(is_number_found(number, claim.val), claim)
-            }
-            Request::GetStatus { kind, object } => {
-                judge_status(self.status_of(*kind, *object), claim)
-            }
-            _ => unreachable!(),
-        }
+        judge_value(
+            is_number_found(self.number_of(kind, name), claim.val),
+            claim,
+        )
     }
 }
 

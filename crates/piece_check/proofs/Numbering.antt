@@ -37,11 +37,6 @@ in_second (piece ∷ first) second zero past = absurd (omega arith)
 in_second (piece ∷ first) second (suc index) past =
     in_second first second index (omega arith) ∙ ap (λ n. get_or second n Module) (omega arith)
 
--- piece 0 is the module
-pub piece_at_zero : (configuration : Configuration) (piece : ℕ) → piece ≡ 0 → piece_at configuration piece ≡ Module
-piece_at_zero configuration zero e = refl
-piece_at_zero configuration (suc piece) e = absurd (omega arith)
-
 -- the partitions and the channels as pieces
 abbrev partitions_of : Configuration → List Piece
 partitions_of configuration = map (λ limits. OfPartition limits.number) configuration.partitions

@@ -124,10 +124,10 @@ time_at_is (time ∷ times) zero = refl
 time_at_is (time ∷ times) (suc core) = time_at_is times core
 
 -- times that are not above a place are those of a recording
-pub TimesFit_behind : (place : ℕ) (cores : List CoreState) → place < PLACE_COUNT → ((core : ℕ) → time_of cores core ≤ place) → TimesFit cores
-TimesFit_behind place [] below holds_before = tt
-TimesFit_behind place (state ∷ cores) below holds_before =
-    (omega (arith, below, holds_before 0), TimesFit_behind place cores below (λ core. holds_before (suc core)))
+pub TimesFit_before : (place : ℕ) (cores : List CoreState) → place < PLACE_COUNT → ((core : ℕ) → time_of cores core ≤ place) → TimesFit cores
+TimesFit_before place [] below holds_before = tt
+TimesFit_before place (state ∷ cores) below holds_before =
+    (omega (arith, below, holds_before 0), TimesFit_before place cores below (λ core. holds_before (suc core)))
 
 -- what a part keeps
 
@@ -149,10 +149,10 @@ cold_has_cores configuration (OfPartition number) = cold_cores_count configurati
 cold_has_cores configuration (OfChannel number) = cold_channel_cores configuration.cores
 
 -- and after place 0
-pub cold_behind : (configuration : Configuration) (piece : Piece) → HoldsBefore 0 (part piece (cold_state configuration))
-cold_behind configuration Module = record { times = λ core. cold_time configuration.cores core; kept = tt }
-cold_behind configuration (OfPartition number) = record { times = λ core. cold_time configuration.cores core; kept = cold_kept configuration number }
-cold_behind configuration (OfChannel number) =
+pub cold_holds_before : (configuration : Configuration) (piece : Piece) → HoldsBefore 0 (part piece (cold_state configuration))
+cold_holds_before configuration Module = record { times = λ core. cold_time configuration.cores core; kept = tt }
+cold_holds_before configuration (OfPartition number) = record { times = λ core. cold_time configuration.cores core; kept = cold_kept configuration number }
+cold_holds_before configuration (OfChannel number) =
     record { times = λ core. cold_channel_time configuration.cores core; kept = record { senders = tt; receivers = tt } }
 
 -- a set before one place is one before the next, whatever a record makes of it

@@ -1,7 +1,7 @@
 -- What a channel's piece makes of calls: those through the channel, and those that only end waits at it.
-use Rattle.std.proofs.Common.{◌≡◌, ◌≢◌, ◌<◌, ℕ, List, [], ◌∷◌, Option, Some, None, is_some, Bool, true, false, ◌&&◌, ◌||◌, if◌then◌else◌, Result, Ok, Err, nat_eq, refl, sym, ap, subst, ◌∙◌, eqb-true, arith}
+use Rattle.std.proofs.Common.{◌≡◌, ◌≢◌, ◌<◌, ℕ, List, [], ◌∷◌, Option, Some, None, Bool, true, false, ◌||◌, Result, Ok, Err, nat_eq, refl, sym, ap, subst, ◌∙◌, eqb-true}
 use Rattle.std.specs.Prelude.{OnErr, OnOk}
-use Rattle.std.proofs.lemmas.Bool.Decides.{nat_tests}
+use Rattle.apex_types.specs.declared.operation.{BlackboardOperation.BlackboardOperation, BufferOperation.BufferOperation, EventOperation.EventOperation, MutexOperation.MutexOperation, QueuingOperation.QueuingOperation, SemaphoreOperation.SemaphoreOperation}
 use Rattle.apex_types.specs.declared.record.Body.TheVariants.{Call}
 use Rattle.apex_types.specs.declared.record.Call.{Call as CallRecord}
 use Rattle.apex_types.specs.declared.record.Ordered.{Ordered}
@@ -14,9 +14,10 @@ use Rattle.apex_machine.specs.declared.state.WaitingSet.TheVariants as set
 use Rattle.apex_machine.specs.After.{channel_after, is_channel}
 use Rattle.apex_machine.specs.Configuration.{Configuration}
 use Rattle.apex_machine.specs.Demands.{channel_demands, through_demands}
-use Rattle.apex_machine.specs.State.{Channel, is_named, is_same}
+use Rattle.apex_machine.specs.State.{Channel, is_named}
 use Rattle.apex_machine.specs.Waiting.{ends_wait, enters, is_the_set, is_waiting, restart_of, set_of, stops, without}
 use Rattle.apex_laws.specs.Laws.{AllEntries}
+use Rattle.apex_laws.proofs.Booleans.{cannot_hold, is_itself, neither_first, neither_later, not_second}
 use Rattle.apex_laws.proofs.Restarts.{restart_stops_none}
 use Rattle.apex_laws.proofs.TickLeaves.{without_without}
 use Rattle.apex_laws.proofs.Waiters.{without_same}
@@ -25,17 +26,14 @@ use Rattle.partition_state.specs.Calls.{RefusesOrWants}
 use Rattle.wait_set.specs.Actors.{Refuses}
 use Rattle.wait_set.specs.declared.object.ObjFault.{ObjFault}
 use Rattle.wait_set.specs.declared.object.ObjFault.TheVariants.{Unlawful, Memory}
-use Rattle.piece_check.specs.Parts.{EnteredBefore}
+use Rattle.piece_check.specs.Parts.{EnteredBefore, WaitBefore}
 use Rattle.piece_check.specs.Subjects.{is_the}
 
 -- calls through the channel
 
-itself : (number : ℕ) → nat_eq number number ≡ true
-itself number = grind (arith, nat_tests)
-
 -- a call that claims the channel goes through it
 is_here : (number : ℕ) (chan : Option ℕ) → chan ≡ Some number → is_channel number chan ≡ true
-is_here number chan here = rw here (itself number)
+is_here number chan here = rw here (is_itself number)
 
 -- what the channel refuses, its piece refuses
 pub piece_refuses : (configuration : Configuration) (now number : ℕ) (channel : Channel) (call : CallRecord) (fault : ObjFault) → call.claim.chan ≡ Some number
@@ -51,107 +49,37 @@ stays_configured (Err fault) configuration place now call old new configured aft
 
 -- calls that go through another channel, or through none
 
-pub elsewhere : (number : ℕ) (chan : Option ℕ) → chan ≢ Some number → is_channel number chan ≡ false
+elsewhere : (number : ℕ) (chan : Option ℕ) → chan ≢ Some number → is_channel number chan ≡ false
 elsewhere number None apart = refl
-elsewhere number (Some other) apart = by (nat_eq other number) refl
-  where
-    by : (test : Bool) → nat_eq other number ≡ test → test ≡ false
-    by true same = absurd (apart (ap Some (eqb-true other number same)))
-    by false differs = refl
+elsewhere number (Some other) apart = cannot_hold (nat_eq other number) (λ same. apart (ap Some (eqb-true other number same)))
 
--- their callers wait at neither end
-not_to_send : (number : ℕ) (asked : Request) (chan : Option ℕ) → is_channel number chan ≡ false → is_the_set (set.ChannelSenders number) (set_of asked chan) ≡ false
-not_to_send number (request.SendQueuingMessage port length time_out message) None apart = refl
-not_to_send number (request.SendQueuingMessage port length time_out message) (Some channel) apart = apart
-not_to_send number (request.ReceiveQueuingMessage port time_out) None apart = refl
-not_to_send number (request.ReceiveQueuingMessage port time_out) (Some channel) apart = refl
-not_to_send number _ chan apart = refl
+-- their callers enter neither of its sets
+enters_neither : (number : ℕ) (asked : Request) (chan : Option ℕ) → is_channel number chan ≡ false
+    → (is_the_set (set.ChannelSenders number) (set_of asked chan) || is_the_set (set.ChannelReceivers number) (set_of asked chan)) ≡ false
+enters_neither number (request.QueuingPort port (QueuingOperation.Send length time_out message)) (Some channel) apart = rw apart refl
+enters_neither number (request.QueuingPort port (QueuingOperation.Send length time_out message)) None apart = refl
+enters_neither number (request.QueuingPort port (QueuingOperation.Receive time_out)) (Some channel) apart = apart
+enters_neither number (request.QueuingPort port (QueuingOperation.Receive time_out)) None apart = refl
+enters_neither number (request.Buffer buffer (BufferOperation.Receive time_out)) chan apart = refl
+enters_neither number (request.Blackboard blackboard (BlackboardOperation.Read time_out)) chan apart = refl
+enters_neither number (request.Semaphore semaphore (SemaphoreOperation.Wait time_out)) chan apart = refl
+enters_neither number (request.Event event (EventOperation.Wait time_out)) chan apart = refl
+enters_neither number (request.Mutex mutex (MutexOperation.Acquire time_out)) chan apart = refl
+enters_neither number _ chan apart = refl
 
-not_to_receive : (number : ℕ) (asked : Request) (chan : Option ℕ) → is_channel number chan ≡ false → is_the_set (set.ChannelReceivers number) (set_of asked chan) ≡ false
-not_to_receive number (request.SendQueuingMessage port length time_out message) None apart = refl
-not_to_receive number (request.SendQueuingMessage port length time_out message) (Some channel) apart = refl
-not_to_receive number (request.ReceiveQueuingMessage port time_out) None apart = refl
-not_to_receive number (request.ReceiveQueuingMessage port time_out) (Some channel) apart = apart
-not_to_receive number _ chan apart = refl
-
-never_both : (waits : Bool) (there : Bool) → there ≡ false → waits && there ≡ false
-never_both true there none = none
-never_both false there none = refl
-
--- so that only those leave whose waits they end
-pub after_letting_go : (configuration : Configuration) (now place number : ℕ) (call : CallRecord) (channel : Channel) (ordered : Ordered) → is_channel number call.claim.chan ≡ false
-    → ordered.pos ≡ place → ordered.rec.body ≡ Call call
-    → channel_after configuration now number ordered channel
-    ≡ record channel { senders = without (ends_wait call) channel.senders; receivers = without (ends_wait call) channel.receivers }
-after_letting_go configuration now place number call channel ordered apart at body =
-    let senders : enters call (set.ChannelSenders number) ≡ false = never_both (is_waiting call.claim.out) _ (not_to_send number call.request call.claim.chan apart) in
-    let receivers : enters call (set.ChannelReceivers number) ≡ false = never_both (is_waiting call.claim.out) _ (not_to_receive number call.request call.claim.chan apart) in
-    rw (body, apart, senders, receivers) refl
+-- so that only those leave whose waits they end, and the others are left
+pub after_letting_go : (configuration : Configuration) (now place number : ℕ) (call : CallRecord) (channel : Channel) (ordered : Ordered) (left : List Entry → List Entry)
+    → call.claim.chan ≢ Some number → ordered.rec.body ≡ Call call → WaitBefore place channel
+    → ((entries : List Entry) → AllEntries (EnteredBefore place) entries → without (ends_wait call) entries ≡ left entries)
+    → channel_after configuration now number ordered channel ≡ record channel { senders = left channel.senders; receivers = left channel.receivers }
+after_letting_go configuration now place number call channel ordered left other body before are =
+    let apart = elsewhere number call.claim.chan other in
+    let neither = enters_neither number call.request call.claim.chan apart in
+    let senders : enters call (set.ChannelSenders number) ≡ false = not_second (is_waiting call.claim.out) _ (neither_first _ _ neither) in
+    let receivers : enters call (set.ChannelReceivers number) ≡ false = not_second (is_waiting call.claim.out) _ (neither_later _ _ neither) in
+    rw (body, apart, senders, receivers, are channel.senders before.senders, are channel.receivers before.receivers) refl
 
 -- those who leave
-
--- a call that restarts no partition ends the waits of those whom it names, and of those whom it stops
-abbrev named_or_stopped : CallRecord → Who → Bool
-named_or_stopped call who = is_named who call.claim.woken || stops call who
-
-ends_waits : (call : CallRecord) → restart_of call ≡ None → (entries : List Entry) → without (ends_wait call) entries ≡ without (named_or_stopped call) entries
-ends_waits call none entries = without_same (ends_wait call) (named_or_stopped call) (λ who. rw none refl) entries
-
--- whom such a call names, and whom it stops
-leave_with_target : (call : CallRecord) (target : Who) (place : ℕ) (entries : List Entry)
-    → ((who : Who) → who.proc < 4294967296 → stops call who ≡ is_the who (Some target)) → AllEntries (EnteredBefore place) entries
-    → without (named_or_stopped call) entries ≡ without (λ other. is_same other target) (without (λ who. is_named who call.claim.woken) entries)
-leave_with_target call target place [] is all = refl
-leave_with_target call target place (entry ∷ entries) is all =
-    let goes : Who → Bool = λ other. is_same other target in
-    let named : List Entry = without (λ who. is_named who call.claim.woken) entries in
-    let left : List Entry = without (named_or_stopped call) entries in
-    let rest : left ≡ without goes named = leave_with_target call target place entries is all.1 in
-    let stopped : stops call entry.who ≡ is_same entry.who target = is entry.who all.0.number in
-    elim (is_named entry.who call.claim.woken)
-    as (λ woken. (if woken || stops call entry.who then left else entry ∷ left) ≡ without goes (if woken then named else entry ∷ named)) [
-      | true ↦ rest
-      | false ↦ rw stopped (elim (is_same entry.who target)
-          as (λ same. (if same then left else entry ∷ left) ≡ (if same then without goes named else entry ∷ without goes named)) [
-            | true ↦ rest
-            | false ↦ ap (λ others. entry ∷ others) rest
-          ])
-    ]
-
-pub left_with_target : (call : CallRecord) (target : Who) (place : ℕ) (entries : List Entry) → restart_of call ≡ None
-    → ((who : Who) → who.proc < 4294967296 → stops call who ≡ is_the who (Some target)) → AllEntries (EnteredBefore place) entries
-    → without (ends_wait call) entries ≡ without (λ other. is_same other target) (without (λ who. is_named who call.claim.woken) entries)
-left_with_target call target place entries none is all = ends_waits call none entries ∙ leave_with_target call target place entries is all
-
--- whom such a call names, where it stops nobody
-leave_alone : (call : CallRecord) (place : ℕ) (entries : List Entry)
-    → ((who : Who) → who.proc < 4294967296 → stops call who ≡ is_the who None) → AllEntries (EnteredBefore place) entries
-    → without (named_or_stopped call) entries ≡ without (λ who. is_named who call.claim.woken) entries
-leave_alone call place [] is all = refl
-leave_alone call place (entry ∷ entries) is all =
-    let named : List Entry = without (λ who. is_named who call.claim.woken) entries in
-    let left : List Entry = without (named_or_stopped call) entries in
-    let rest : left ≡ named = leave_alone call place entries is all.1 in
-    let stopped : stops call entry.who ≡ false = is entry.who all.0.number in
-    elim (is_named entry.who call.claim.woken)
-    as (λ woken. (if woken || stops call entry.who then left else entry ∷ left) ≡ (if woken then named else entry ∷ named)) [
-      | true ↦ rest
-      | false ↦ rw stopped (ap (λ others. entry ∷ others) rest)
-    ]
-
-pub left_alone : (call : CallRecord) (place : ℕ) (entries : List Entry) → restart_of call ≡ None
-    → ((who : Who) → who.proc < 4294967296 → stops call who ≡ is_the who None) → AllEntries (EnteredBefore place) entries
-    → without (ends_wait call) entries ≡ without (λ who. is_named who call.claim.woken) entries
-left_alone call place entries none is all = ends_waits call none entries ∙ leave_alone call place entries is all
-
--- what is there, or is not
-pub is_there : {Value : Type 0} (found : Option Value) → is_some found ≡ true → (value : Value) × (found ≡ Some value)
-is_there None there = cc
-is_there (Some value) there = (value, refl)
-
-pub is_none : {Value : Type 0} (found : Option Value) → is_some found ≡ false → found ≡ None
-is_none None none = refl
-is_none (Some value) none = cc
 
 -- whom a call names that restarts its partition, and all of that partition
 either_order : (one other : Bool) → (one || (other || false)) ≡ (other || one)
@@ -160,9 +88,30 @@ either_order true false = refl
 either_order false true = refl
 either_order false false = refl
 
-pub left_with_part : (call : CallRecord) (entered : Mode) (entries : List Entry) → restart_of call ≡ Some entered
+pub left_with_part : (call : CallRecord) (entered : Mode) → restart_of call ≡ Some entered → (entries : List Entry)
     → without (ends_wait call) entries ≡ without (λ who. nat_eq who.part call.who.part) (without (λ who. is_named who call.claim.woken) entries)
-left_with_part call entered entries is =
+left_with_part call entered is entries =
     without_same (ends_wait call) (λ who. is_named who call.claim.woken || nat_eq who.part call.who.part)
     (λ who. rw (is, restart_stops_none call entered is who) (either_order (nat_eq who.part call.who.part) (is_named who call.claim.woken))) entries
     ∙ sym (without_without (λ who. is_named who call.claim.woken) (λ who. nat_eq who.part call.who.part) entries)
+
+-- whom another call names, and whom it stops
+same_there : (leaves other : Who → Bool) (place : ℕ) (entries : List Entry) → ((who : Who) → who.proc < 4294967296 → leaves who ≡ other who)
+    → AllEntries (EnteredBefore place) entries → without leaves entries ≡ without other entries
+same_there leaves other place [] same all = refl
+same_there leaves other place (entry ∷ entries) same all = rw (same entry.who all.0.number, same_there leaves other place entries same all.1) refl
+
+pub left_with_target : (call : CallRecord) (target : Option Who) (place : ℕ) → restart_of call ≡ None
+    → ((who : Who) → who.proc < 4294967296 → stops call who ≡ is_the who target) → (entries : List Entry) → AllEntries (EnteredBefore place) entries
+    → without (ends_wait call) entries ≡ without (λ who. is_the who target) (without (λ who. is_named who call.claim.woken) entries)
+left_with_target call target place none stopped entries all =
+    same_there (ends_wait call) (λ who. is_named who call.claim.woken || is_the who target) place entries (λ who fits. rw (none, stopped who fits) refl) all
+    ∙ sym (without_without (λ who. is_named who call.claim.woken) (λ who. is_the who target) entries)
+
+nobody_leaves : (entries : List Entry) → without (λ who. false) entries ≡ entries
+nobody_leaves [] = refl
+nobody_leaves (entry ∷ entries) = ap (λ others. entry ∷ others) (nobody_leaves entries)
+
+pub left_alone : (call : CallRecord) (place : ℕ) → restart_of call ≡ None → ((who : Who) → who.proc < 4294967296 → stops call who ≡ is_the who None)
+    → (entries : List Entry) → AllEntries (EnteredBefore place) entries → without (ends_wait call) entries ≡ without (λ who. is_named who call.claim.woken) entries
+left_alone call place none stopped entries all = left_with_target call None place none stopped entries all ∙ nobody_leaves _

@@ -10,6 +10,7 @@ use Rattle.apex_machine.specs.Demands.{LocalStep}
 use Rattle.apex_machine.specs.Pieces.{ChannelPart, Module, ModulePart, OfChannel, OfPartition, Part, PartitionPart, Piece, part, part_after, touched_by, touches}
 use Rattle.apex_machine.specs.State.{State}
 use Rattle.apex_machine.specs.Views.{judge, judge_by, module_view, partition_view, view_in}
+use Rattle.apex_laws.proofs.Booleans.{is_itself}
 use Rattle.piece_check.specs.Parts.{IsPartOf, holder}
 
 -- whose part a part is
@@ -31,25 +32,10 @@ pub IsPartOf_step : (configuration : Configuration) (piece : Piece) (old new : P
     → LocalStep configuration old ordered new → IsPartOf piece new
 IsPartOf_step configuration piece old new ordered of step = ap holder step.1 ∙ holder_after configuration old ordered ∙ of
 
--- who judges a record
-
-itself : (number : ℕ) → nat_eq number number ≡ true
-itself number = grind (arith, nat_tests)
-
--- a record touches its judge
-pub touches_judge : (configuration : Configuration) (ordered : Ordered) → touches configuration (judge ordered) ordered ≡ true
-touches_judge configuration ordered = touched (ordered.rec.body)
-  where
-    touched : (body : Body) → touched_by configuration body (judge_by body) ≡ true
-    touched (Call call) = rw (itself call.who.part) refl
-    touched (Ret ret) = itself ret.who.part
-    touched (Disp who) = refl
-    touched (Tick woken) = refl
-
 -- who gives the view of a record
 
 own : (number other : ℕ) (view : View) → other ≡ number → (if nat_eq number other then Some view else None) ≡ Some view
-own number other view same = rw (same, itself number) refl
+own number other view same = rw (same, is_itself number) refl
 
 -- a view that a partition gives of a number is its own
 whose : (number other : ℕ) (view given : View) → (if nat_eq number other then Some view else None) ≡ Some given → OfPartition number ≡ OfPartition other

@@ -18,7 +18,9 @@ ghost use Rattle.piece_check.specs.Held.{channel_part};
 ghost use Rattle.piece_check.specs.Parts.{HoldsBefore, WaitBefore, WantsAtCalls};
 ghost use Rattle.piece_check.specs.Subjects.{is_the};
 
-use apex_types::{Body, Call, ChanId, Code, Ordered, Out, Place, ProcId, Request, Who};
+use apex_types::{
+    Body, Call, ChanId, Code, Ordered, Out, Place, ProcId, ProcessOperation, Request, Who,
+};
 use channel::Channel;
 use dispatch_rule::Times;
 use module_config::{ChannelKind, Config};
@@ -91,10 +93,12 @@ impl ChannelPiece {
         ensures after { (configuration : Configuration) (now : ℕ) (ordered : OrderedRecord) → ordered.pos ≡ place → ordered.rec.body ≡ body.Call call.now → self.new ≡ record self.old { channel = record self.old.channel { channel = channel_after configuration now self.old.channel.number ordered self.old.channel.channel } } }
     {
         self.channel.release(call.claim.woken.as_slice());
-        if restart_of(call).is_some() {
-            self.channel.leave_all(call.who.part);
-        } else if let Some(target) = stopped_by(call) {
-            self.channel.leave(target);
+        match (restart_of(call), stopped_by(call)) {
+            (Some(_), _) => self.channel.leave_all(call.who.part),
+            (None, Some(target)) => {
+                self.channel.leave(target);
+            }
+            (None, None) => {}
         }
     }
 }
@@ -134,7 +138,11 @@ fn empty_channel(alloc: Global, config: &Config, number: ChanId) -> Result<Chann
 fn stopped_by(call: &Call) -> Option<Who>
     ensures { (who : WhoValue) → who.proc < 4294967296 → stops call.now who ≡ is_the who result }
 {
-    let Request::Stop { process } = &call.request else {
+    let Request::Process {
+        process,
+        operation: ProcessOperation::Stop,
+    } = &call.request
+    else {
         return None;
     };
     if call.claim.out != Out::Answer(Code::NoError)

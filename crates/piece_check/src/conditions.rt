@@ -14,12 +14,15 @@ mod reported;
 use crate::arguments::{is_over, is_time_out};
 use apex_machine::Mode;
 use apex_types::{Call, Code, Request, Who};
-use creations::creation_conditions;
+use creations::create_conditions;
 use module_config::Config;
-use objects::use_conditions;
+use objects::{
+    blackboard_conditions, buffer_conditions, event_conditions, mutex_conditions,
+    semaphore_conditions,
+};
 use partition_state::PartitionState;
-use port_services::{port_creation_conditions, port_use_conditions};
-use processes::process_conditions;
+use port_services::{queuing_conditions, sampling_conditions};
+use processes::{caller_conditions, create_process, process_conditions, set_mode};
 use reported::{id_conditions, status_conditions};
 use wait_set::Conditions;
 
@@ -28,35 +31,37 @@ pub(crate) fn conditions_of(config: &Config, state: &PartitionState, call: &Call
     ensures { result ≡ condition_codes config.now call.now.who state.now call.now.request }
 {
     let who = call.who;
-    let request = &call.request;
-    match request {
-        Request::CreateBuffer { .. }
-        | Request::CreateBlackboard { .. }
-        | Request::CreateSemaphore { .. }
-        | Request::CreateEvent { .. }
-        | Request::CreateMutex { .. } => creation_conditions(config, state, who, request),
-        Request::SendBuffer { .. }
-        | Request::ReceiveBuffer { .. }
-        | Request::DisplayBlackboard { .. }
-        | Request::ReadBlackboard { .. }
-        | Request::ClearBlackboard { .. }
-        | Request::WaitSemaphore { .. }
-        | Request::SignalSemaphore { .. }
-        | Request::SetEvent { .. }
-        | Request::ResetEvent { .. }
-        | Request::WaitEvent { .. }
-        | Request::AcquireMutex { .. }
-        | Request::ReleaseMutex { .. } => use_conditions(state, who, request),
-        Request::CreateSamplingPort { .. } | Request::CreateQueuingPort { .. } => {
-            port_creation_conditions(config, state, who, request)
+    match &call.request {
+        Request::CreateProcess {
+            name,
+            priority,
+            period,
+        } => create_process(config, who.part, state, name, *priority, *period),
+        Request::Process { process, operation } => {
+            process_conditions(config, state, who, *process, operation)
         }
-        Request::WriteSamplingMessage { .. }
-        | Request::ReadSamplingMessage { .. }
-        | Request::SendQueuingMessage { .. }
-        | Request::ReceiveQueuingMessage { .. } => port_use_conditions(state, who, request),
+        Request::Caller(operation) => caller_conditions(state, who, operation),
+        Request::SetPartitionMode { mode } => set_mode(state.processes().mode(), *mode),
+        Request::Create { name, object } => create_conditions(
+            config, who.part, state, name, object,
+        ),
+        Request::Buffer { buffer, operation } => buffer_conditions(state, who, *buffer, operation),
+        Request::Blackboard {
+            blackboard,
+            operation,
+        } => blackboard_conditions(state, who, *blackboard, operation),
+        Request::Semaphore {
+            semaphore,
+            operation,
+        } => semaphore_conditions(state, who, *semaphore, operation),
+        Request::Event { event, operation } => event_conditions(state, who, *event, operation),
+        Request::Mutex { mutex, operation } => mutex_conditions(state, who, *mutex, operation),
+        Request::SamplingPort { port, operation } => sampling_conditions(state, *port, operation),
+        Request::QueuingPort { port, operation } => {
+            queuing_conditions(state, who, *port, operation)
+        }
         Request::GetId { kind, name } => id_conditions(state, *kind, name),
         Request::GetStatus { kind, object } => status_conditions(state, *kind, *object),
-        _ => process_conditions(config, state, who, request),
     }
 }
 

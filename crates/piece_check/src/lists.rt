@@ -155,7 +155,7 @@ impl Lists {
         }
     }
 
-    // Puts an index into the list of a piece, if one is kept, unless it stands there already.
+    // Puts an index into the list of a piece, if one is kept, unless it is there already.
     fn put(&mut self, subject: &Subject, index: usize) -> Result<(), AllocError>
         ensures { OnOk result (IsPut index (is_same_piece (piece_of subject.now)) (list_of self.old) (list_of self.new)) }
     {
@@ -167,7 +167,7 @@ impl Lists {
     }
 }
 
-// Where the list of a piece stands.
+// The place of the list of a piece.
 fn slot_of(subject: &Subject) -> usize
     ensures value { result ≡ slot (piece_of subject.now) }
     ensures fits { PartitionFits (piece_of subject.now) }
@@ -179,7 +179,7 @@ fn slot_of(subject: &Subject) -> usize
     }
 }
 
-// Adds an index at the end of a list, unless it stands there already.
+// Adds an index at the end of a list, unless it is there already.
 fn put_last(list: &mut Vec<usize>, index: usize) -> Result<(), AllocError>
     ensures { OnOk result (list.new.items ≡ with_last index list.old.items) }
 {

@@ -1,8 +1,6 @@
 // The partitions and channels that a record names.
 
-ghost use Rattle.std.specs.Prelude.{◌≡◌, ◌↔◌, IsTrue, nat_eq};
-ghost use Rattle.std.specs.List.{list_all, list_any};
-ghost use Rattle.apex_machine.specs.Configuration.{has_partition};
+ghost use Rattle.std.specs.Prelude.{◌≡◌, ◌↔◌, IsTrue};
 ghost use Rattle.apex_machine.specs.State.{names_one_of};
 ghost use Rattle.apex_machine.specs.Step.{AllConfigured, OneConfigured, ChannelConfigured};
 
@@ -12,12 +10,6 @@ use module_config::Config;
 /// Whether each of these processes is of a configured partition.
 pub(crate) fn all_configured(config: &Config, named: &[Who]) -> bool
     ensures { IsTrue result ↔ AllConfigured config.now named.now }
-{
-    each_configured(config, named)
-}
-
-fn each_configured(config: &Config, named: &[Who]) -> bool
-    ensures { result ≡ list_all (λ who. has_partition config.now who.part) named.now }
 {
     named.iter().all(|who| config.has_partition(who.part))
 }
@@ -45,12 +37,6 @@ pub(crate) fn channel_configured(config: &Config, named: Option<ChanId>) -> bool
 /// Whether one of these processes is of this partition.
 pub(crate) fn names_one_of(named: &[Who], number: PartId) -> bool
     ensures { result ≡ names_one_of number named.now }
-{
-    any_of(named, number)
-}
-
-fn any_of(named: &[Who], number: PartId) -> bool
-    ensures { result ≡ list_any (λ who. nat_eq who.part number) named.now }
 {
     named.iter().any(|who| who.part == number)
 }

@@ -11,7 +11,7 @@ ghost use Rattle.piece_check.specs.Judged.{Judges};
 
 use crate::arguments::is_over;
 use crate::names::names_one_of;
-use apex_types::{Call, Cause, ChanId, Claim, Code, Out, PartId, Request};
+use apex_types::{Call, Cause, ChanId, Claim, Code, Out, PartId, QueuingOperation, Request};
 use wait_set::{Conditions, has_no_values};
 
 /// Judges the outcome of a call on which some error condition holds: it is one of the codes, and nothing else is claimed.
@@ -77,8 +77,11 @@ fn may_wait(request: &Request) -> bool
     ensures { IsTrue result ↔ MayWait (time_out_of request.now) }
 {
     match request {
-        Request::SendQueuingMessage { time_out, .. }
-        | Request::ReceiveQueuingMessage { time_out, .. } => !is_over(*time_out),
+        Request::QueuingPort { operation, .. } => match operation {
+            QueuingOperation::Send { time_out, .. } | QueuingOperation::Receive { time_out } => {
+                !is_over(*time_out)
+            }
+        },
         _ => false,
     }
 }

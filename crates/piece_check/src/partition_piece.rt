@@ -24,8 +24,8 @@ use crate::profile::is_within;
 use crate::views::{call_view, return_view};
 use apex_machine::{Outcome, WaitingSet};
 use apex_types::{
-    Body, Call, Cause, ChanId, CoreId, Ordered, PartId, ProcId, Request, Return, Service, View,
-    Who, Woken,
+    Body, Call, Cause, ChanId, CoreId, Ordered, PartId, ProcId, QueuingOperation, Request, Return,
+    Service, View, Who, Woken,
 };
 use dispatch_rule::{Clock, owns_window};
 use module_config::Config;
@@ -143,8 +143,8 @@ impl PartitionPiece {
         who.part == self.number
     }
 
-    // A call of one of the partition's own processes: what stands before its outcome is judged, then the outcome, and the call
-    // is carried out. The outcome of a call through a channel is the channel's to judge, but for what the partition sees of it.
+    // A call of one of the partition's own processes: what is demanded before its outcome is judged, then the outcome, and the
+    // call is carried out. The outcome of a call through a channel is the channel's to judge, but for what the partition sees of it.
     fn own_call(&mut self, config: &Config, ordered: &Ordered, call: &Call) -> Result<(), ObjFault>
         requires own { call.now.who.part ≡ self.old.number }
         requires place { ordered.now.pos < PLACE_COUNT }
@@ -154,21 +154,19 @@ impl PartitionPiece {
         ensures refused { IfErr result (RefusesOrWants (own_demands config.now self.old ordered.now.core call.now)) }
         ensures unchanged { OnErr result (self.new ≡ self.old) }
     {
-        match self.judge_caller(config, ordered.core, call) {
-            Ok(conditions) => {
-                if !conditions.is_empty() {
-                    return self.refuse(config, ordered, call, &conditions);
-                }
-                match self.state.channel_of(&call.request) {
-                    Some(channel) => self.pass(config, ordered, call, channel),
-                    None => self.serve(config, ordered, call),
-                }
-            }
-            Err(cause) => Err(ObjFault::Unlawful(cause)),
+        let conditions = self
+            .judge_caller(config, ordered.core, call)
+            .map_err(ObjFault::Unlawful)?;
+        if !conditions.is_empty() {
+            return self.refuse(config, ordered, call, &conditions);
+        }
+        match self.state.channel_of(&call.request) {
+            Some(channel) => self.pass(config, ordered, call, channel),
+            None => self.serve(config, ordered, call),
         }
     }
 
-    // Judges what stands before the outcome of one of the partition's own calls, and gives the error conditions that hold.
+    // Judges what is demanded before the outcome of one of the partition's own calls, and gives the error conditions that hold.
     fn judge_caller(&self, config: &Config, core: CoreId, call: &Call) -> Result<Conditions, Cause>
         ensures ok { OnOk result (AllHold (own_caller_demands config.now self.now core call.now)) }
         ensures conditions { IfOk result (λ conditions. conditions ≡ condition_codes config.now call.now.who self.now.state call.now.request) }
@@ -303,13 +301,11 @@ impl PartitionPiece {
         ensures refused { IfErr result (RefusesOrWants (foreign_call_demands config.now self.old.number self.old.clock.cores self.old.state ordered.now.core call.now)) }
         ensures unchanged { OnErr result (self.new ≡ self.old) }
     {
-        match self.judge_foreign_call(config, ordered.core, call) {
-            Ok(()) => match self.state.wake_named(self.number, ordered.pos, call) {
-                Ok(()) => Ok(()),
-                Err(_) => Err(ObjFault::Memory),
-            },
-            Err(cause) => Err(ObjFault::Unlawful(cause)),
-        }
+        self.judge_foreign_call(config, ordered.core, call)
+            .map_err(ObjFault::Unlawful)?;
+        self.state
+            .wake_named(self.number, ordered.pos, call)
+            .map_err(|_| ObjFault::Memory)
     }
 
     // In the partition's windows a dispatch names its choice.
@@ -365,13 +361,15 @@ impl PartitionPiece {
     fn wakes_here(&self, call: &Call) -> bool
         ensures { IsTrue result ↔ WakesHere call.now.request call.now.claim.chan self.now.number self.now.state.table call.now.claim.woken }
     {
+        let Request::QueuingPort { operation, .. } = &call.request else {
+            return false;
+        };
         let Some(channel) = call.claim.chan else {
             return false;
         };
-        let wanted = match &call.request {
-            Request::SendQueuingMessage { .. } => WaitingSet::ChannelReceivers(channel),
-            Request::ReceiveQueuingMessage { .. } => WaitingSet::ChannelSenders(channel),
-            _ => return false,
+        let wanted = match operation {
+            QueuingOperation::Send { .. } => WaitingSet::ChannelReceivers(channel),
+            QueuingOperation::Receive { .. } => WaitingSet::ChannelSenders(channel),
         };
         self.state
             .processes()

@@ -4,11 +4,11 @@ ghost use Rattle.std.specs.Prelude.{◌≡◌, ◌↔◌, IsTrue};
 ghost use Rattle.apex_machine.specs.Services as services;
 ghost use Rattle.apex_machine.specs.Step.{WhereNone};
 
-use apex_types::{Request, Who};
+use apex_types::{CallerOperation, ProcessOperation, Request, Who};
 use partition_state::PartitionState;
 use wait_set::Conditions;
 
-/// Whether a call stands within the profile, where these error conditions hold: where none holds the service is used as the
+/// Whether a call is within the profile, where these error conditions hold: where none holds the service is used as the
 /// profile has it.
 pub(crate) fn is_within(
     conditions: &Conditions,
@@ -28,10 +28,15 @@ fn in_profile(state: &PartitionState, who: Who, request: &Request) -> bool
     ensures { result ≡ services.in_profile who state.now request.now }
 {
     match request {
-        Request::Stop { process } => !state.numbered_owns_mutex(*process),
-        Request::StopSelf => who.proc.number() != 0 && !state.owns_mutex(who.proc),
-        Request::Suspend { process } | Request::SetPriority { process, .. } => {
-            !state.numbered_owns_mutex(*process) && !state.processes().waits_for_mutex(*process)
+        Request::Process { process, operation } => match operation {
+            ProcessOperation::Stop => !state.numbered_owns_mutex(*process),
+            ProcessOperation::Suspend | ProcessOperation::SetPriority { .. } => {
+                !state.numbered_owns_mutex(*process) && !state.processes().waits_for_mutex(*process)
+            }
+            _ => true,
+        },
+        Request::Caller(CallerOperation::StopSelf) => {
+            who.proc.number() != 0 && !state.owns_mutex(who.proc)
         }
         _ => true,
     }

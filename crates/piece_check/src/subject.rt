@@ -9,7 +9,7 @@ ghost use Rattle.piece_check.specs.Subjects.{piece_of};
 ghost use Rattle.piece_check.specs.Touching.{HasList};
 
 use crate::names::names_one_of;
-use apex_types::{Body, Call, ChanId, Code, Ordered, Out, PartId, Request};
+use apex_types::{Body, Call, ChanId, Code, Ordered, Out, PartId, ProcessOperation, Request};
 use module_config::Config;
 use partition_state::restart_of;
 
@@ -112,7 +112,10 @@ pub(crate) fn stops_some(call: &Call) -> bool
     ensures { result ≡ rules.stops_some call.now }
 {
     match call.request {
-        Request::Stop { .. } => call.claim.out == Out::Answer(Code::NoError),
+        Request::Process {
+            operation: ProcessOperation::Stop,
+            ..
+        } => call.claim.out == Out::Answer(Code::NoError),
         _ => restart_of(call).is_some(),
     }
 }

@@ -1,5 +1,5 @@
 -- Booleans put together.
-use Rattle.std.proofs.Common.{◌≡◌, Bool, true, false, ◌||◌, ◌&&◌, not, refl, sym}
+use Rattle.std.proofs.Common.{◌≡◌, Bool, true, false, ◌||◌, ◌&&◌, not, refl}
 
 pub both : (a b : Bool) → a ≡ true → b ≡ true → a && b ≡ true
 both true b h k = k
@@ -32,8 +32,3 @@ implied false b h k = cc
 pub implies : (a b : Bool) → (a ≡ true → b ≡ true) → not a || b ≡ true
 implies true b h = h refl
 implies false b h = refl
-
-pub same_tests : (a b : Bool) → (a ≡ true → b ≡ true) → (b ≡ true → a ≡ true) → a ≡ b
-same_tests true b to from = sym (to refl)
-same_tests false true to from = from refl
-same_tests false false to from = refl

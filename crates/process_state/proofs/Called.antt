@@ -5,6 +5,7 @@ use Rattle.std.specs.List.{IsDistinct}
 use Rattle.std.specs.Map.{keys_of}
 use Rattle.std.specs.Option.{option_copied}
 use Rattle.apex_types.specs.declared.record.Call.{Call as CallRecord}
+use Rattle.apex_types.specs.declared.operation.{CallerOperation.CallerOperation}
 use Rattle.apex_types.specs.declared.request.Request.{Request}
 use Rattle.apex_types.specs.declared.request.Request.TheVariants as request
 use Rattle.apex_machine.specs.declared.state.CoreState.{CoreState}
@@ -15,9 +16,9 @@ use Rattle.apex_machine.specs.State.{Partition, Table, each_item, is_free, is_na
 use Rattle.apex_machine.specs.Answer.{is_new}
 use Rattle.apex_machine.specs.DueTimes.{next_release}
 use Rattle.apex_machine.specs.Processes.{caller_after, message_handed_over, new_process, set_by, stopped, woken_by}
-use Rattle.apex_machine.specs.Waiting.{is_no_error, stops}
+use Rattle.apex_machine.specs.Waiting.{is_no_error, stop_of, stops}
 use Rattle.apex_machine.specs.After.{adjusted, called, created_by, is_done, mode_by, numbered, partition_called}
-use Rattle.process_state.specs.Changes.{named, only, with_each}
+use Rattle.process_state.specs.Changes.{only, with_each}
 use Rattle.process_state.specs.Peers.{peer_at, peer_woken, is_peer, stopped_by}
 use Rattle.process_state.specs.Processes.{Processes, processes_in, processes_of}
 use Rattle.process_state.specs.Sound.{AsksSoundly, IsSound, is_periodic_wait}
@@ -132,10 +133,9 @@ called-each place now period cores call partition change same =
     ∙ each_item-twice _ (peer_woken place call) partition.table
     ∙ each_item-congr _ (called place now period cores partition call) (peers-are place now period cores call partition change same) partition.table
 
--- no process is created that the call stops or whose wait it ends
-created-stays : (place first : ℕ) (call : CallRecord) (table : Table) → AsksSoundly table call call.request
-    → each_item (peer_woken place call) (each_item (stopped_by call) (created_by first call call.request)) ≡ created_by first call call.request
-created-stays place first call table sound = stays call.request refl
+-- a call of another service than STOP stops nobody
+pub stops-nobody : (call : CallRecord) → stop_of call.request ≡ None → (number : ℕ) → is_peer call number && stops call (peer_at call number) ≡ false
+stops-nobody call other number = rw (other, neither (is_peer call number) (is_no_error call.claim.out) (nat_eq call.who.part call.who.part)) refl
   where
     neither : (a b c : Bool) → a && (b && (c && false)) ≡ false
     neither true true true = refl
@@ -143,13 +143,18 @@ created-stays place first call table sound = stays call.request refl
     neither true false c = refl
     neither false b c = refl
 
+-- no process is created that the call stops or whose wait it ends
+created-stays : (place first : ℕ) (call : CallRecord) (table : Table) → AsksSoundly table call call.request
+    → each_item (peer_woken place call) (each_item (stopped_by call) (created_by first call call.request)) ≡ created_by first call call.request
+created-stays place first call table sound = stays call.request refl
+  where
     stays : (asked : Request) → call.request ≡ asked
         → each_item (peer_woken place call) (each_item (stopped_by call) (created_by first call asked)) ≡ created_by first call asked
     stays (request.CreateProcess name priority period) is = by (is_done call.claim.out) refl
       where
         not_stopped : (number : ℕ) (process : Process) → stopped_by call number process ≡ process
         not_stopped number process =
-            rw (is, neither (is_peer call number) (is_no_error call.claim.out) (nat_eq call.who.part call.who.part)) refl
+            rw (stops-nobody call (ap stop_of is) number) refl
 
         not_woken : is_done call.claim.out ≡ true → (number : ℕ) (process : Process) → peer_woken place call number process ≡ process
         not_woken done number process =
@@ -267,56 +272,11 @@ called-absent-in configuration place core period first cores call partition old 
     (λ adjusts_it sound_it looked_it. called-absent configuration place core period first cores call partition middle stopping new found first_is period_is adjusts_it sound_it looked_it absent stops wakes_them)
     adjusts sound looked
 
--- a process that the caller names, and that the call stops
-
-pub stopped-named : (call : CallRecord) (given : ℤ) (processes new : Processes) → call.request ≡ request.Stop given → is_no_error call.claim.out ≡ true
-    → ¬ (given ≡ pos call.who.proc) → new ≡ with_each (named given stopped) processes → new ≡ with_each (stopped_by call) processes
-stopped-named call given processes new asked no_error apart is = is ∙ ap (with_table processes) (each_item-congr _ _ (λ number process. same given asked apart number process) processes.table)
-  where
-    same : (given : ℤ) → call.request ≡ request.Stop given → ¬ (given ≡ pos call.who.proc) → (number : ℕ) (process : Process)
-        → named given stopped number process ≡ stopped_by call number process
-    same (pos n) asked apart number process =
-        let self_too : nat_eq call.who.part call.who.part ≡ true = grind (arith, nat_tests) in
-        let other : nat_eq n call.who.proc ≡ false = apart_too n (nat_eq n call.who.proc) refl apart in
-        rw (asked, no_error, self_too) (by number process (nat_eq n number) (nat_eq number n) (nat_eq number call.who.proc) refl refl refl other)
-      where
-        apart_too : (n : ℕ) (b : Bool) → nat_eq n call.who.proc ≡ b → ¬ (pos n ≡ pos call.who.proc) → b ≡ false
-        apart_too n true e differ = let equal : n ≡ call.who.proc = grind (arith, nat_tests) in absurd (differ (ap pos equal))
-        apart_too n false e differ = refl
-
-        by : (number : ℕ) (process : Process) (a b c : Bool) → nat_eq n number ≡ a → nat_eq number n ≡ b → nat_eq number call.who.proc ≡ c → nat_eq n call.who.proc ≡ false
-            → (if a then stopped process else process) ≡ (if not c && b then stopped process else process)
-        by number process true true true h k l other = let contrary : nat_eq n call.who.proc ≡ true = grind (arith, nat_tests) in cc
-        by number process true true false h k l other = refl
-        by number process true false c h k l other = let contrary : nat_eq number n ≡ true = grind (arith, nat_tests) in cc
-        by number process false true c h k l other = let contrary : nat_eq n number ≡ true = grind (arith, nat_tests) in cc
-        by number process false false true h k l other = refl
-        by number process false false false h k l other = refl
-    same (negsuc n) asked apart number process = rw (asked, neither (is_peer call number) (is_no_error call.claim.out) (nat_eq call.who.part call.who.part)) refl
-      where
-        neither : (a b c : Bool) → a && (b && (c && false)) ≡ false
-        neither true true true = refl
-        neither true true false = refl
-        neither true false c = refl
-        neither false b c = refl
-
 pub stopped-none : (call : CallRecord) (processes : Processes) → ((number : ℕ) → is_peer call number && stops call (peer_at call number) ≡ false)
     → processes ≡ with_each (stopped_by call) processes
 stopped-none call processes none = ap (with_table processes) (sym (each_item-same (stopped_by call) (λ number process. rw (none number) refl) processes.table))
 
--- a call of another service than STOP stops nobody
-pub stops-nobody : (call : CallRecord) (asked : Request) → call.request ≡ asked → ((given : ℤ) → asked ≡ request.Stop given → ⊥) → (number : ℕ)
-    → is_peer call number && stops call (peer_at call number) ≡ false
-stops-nobody call (request.Stop given) is not_stop number = absurd (not_stop given refl)
-stops-nobody call _ is not_stop number = rw (is, neither (is_peer call number) (is_no_error call.claim.out) (nat_eq call.who.part call.who.part)) refl
-  where
-    neither : (a b c : Bool) → a && (b && (c && false)) ≡ false
-    neither true true true = refl
-    neither true true false = refl
-    neither true false c = refl
-    neither false b c = refl
-
--- nor does one that does not answer NO_ERROR
+-- a call that does not answer NO_ERROR stops nobody
 pub stops-not : (call : CallRecord) → is_no_error call.claim.out ≡ false → (number : ℕ) → is_peer call number && stops call (peer_at call number) ≡ false
 stops-not call refused number = rw refused (never (is_peer call number))
   where
@@ -324,8 +284,8 @@ stops-not call refused number = rw refused (never (is_peer call number))
     never true = refl
     never false = refl
 
--- nor one that names its caller
-pub stops-itself : (call : CallRecord) → call.request ≡ request.Stop (pos call.who.proc) → (number : ℕ)
+-- nor does one that names its caller
+pub stops-itself : (call : CallRecord) → stop_of call.request ≡ Some (pos call.who.proc) → (number : ℕ)
     → is_peer call number && stops call (peer_at call number) ≡ false
 stops-itself call is number = rw is (by (nat_eq number call.who.proc) (is_no_error call.claim.out) (nat_eq call.who.part call.who.part))
   where
@@ -361,7 +321,7 @@ agree_at number f g (entry ∷ entries) distinct same = by (nat_eq number entry.
 -- PERIODIC_WAIT sets nothing beside its caller
 periodic-between : (place period first : ℕ) (cores : List CoreState) (call : CallRecord) (partition : Partition) (old : Processes) (asked : Request)
     → call.request ≡ asked → is_periodic_wait asked ≡ true → old ≡ between place period first cores call partition old
-periodic-between place period first cores call partition old request.PeriodicWait is periodic = by (is_done call.claim.out) refl
+periodic-between place period first cores call partition old (request.Caller CallerOperation.PeriodicWait) is periodic = by (is_done call.claim.out) refl
   where
     by : (b : Bool) → is_done call.claim.out ≡ b → old ≡ between place period first cores call partition old
     by true done =

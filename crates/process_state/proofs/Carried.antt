@@ -1,23 +1,21 @@
 -- What a call sets in its partition.
-use Rattle.std.proofs.Common.{◌≡◌, ℕ, ◌<◌, ◌^◌, true, false, nat_eq, List, [], ◌∷◌, ◌++◌, Option, Some, None, ℤ, pos, negsuc, MatchOption, nat_abs, refl, sym, ap, ◌∙◌, arith}
+use Rattle.std.proofs.Common.{◌≡◌, ℕ, ◌<◌, ◌^◌, Bool, true, false, if◌then◌else◌, nat_eq, List, [], ◌∷◌, ◌++◌, Option, Some, None, ℤ, pos, negsuc, MatchOption, nat_abs, refl, sym, ap, ◌∙◌, arith}
 use Rattle.std.proofs.lemmas.Bool.Decides.{nat_tests}
 use Rattle.apex_types.specs.declared.record.Call.{Call as CallRecord}
+use Rattle.apex_types.specs.declared.operation.{MutexOperation.MutexOperation, ProcessOperation.ProcessOperation}
 use Rattle.apex_types.specs.declared.request.Request.{Request}
 use Rattle.apex_types.specs.declared.request.Request.TheVariants as request
 use Rattle.apex_machine.specs.declared.state.CoreState.{CoreState}
 use Rattle.apex_machine.specs.declared.state.Process.{Process}
-use Rattle.apex_machine.specs.declared.state.Mode.TheVariants as mode
 use Rattle.apex_machine.specs.State.{Partition, Table, each_item, is_free, time_of}
 use Rattle.apex_machine.specs.Answer.{is_new}
-use Rattle.apex_machine.specs.Arguments.{is_priority, natural_of}
-use Rattle.apex_machine.specs.Processes.{after_normal, new_process, set_by, started}
+use Rattle.apex_machine.specs.Arguments.{is_number, is_priority, natural_of}
+use Rattle.apex_machine.specs.Processes.{new_process, set_by, set_in}
 use Rattle.apex_machine.specs.After.{created_by, is_done, mode_by}
-use Rattle.process_state.specs.Changes.{moved_to, named, only, reprioritised, resumed, suspended, with_each}
+use Rattle.process_state.specs.Changes.{named, only, with_each}
 use Rattle.process_state.specs.Numbers.{NumbersFit, number_of}
 use Rattle.process_state.specs.Processes.{Processes}
 use Rattle.process_state.specs.Sound.{AsksSoundly}
-use Rattle.process_state.specs.Transfers.{IsTransferOf, transferred}
-use Rattle.process_state.specs.declared.transfer.Transfer.{Transfer}
 use Rattle.process_state.proofs.Tables.{each_item-congr, each_item-same, nat_eq-swap, with_table}
 
 pub append-nothing : (table : Table) → table ++ [] ≡ table
@@ -57,25 +55,15 @@ carried place period first cores call asked partition old = record old {
 -- a service that sets nothing beside its caller
 pub carried-none : (place period first : ℕ) (cores : List CoreState) (call : CallRecord) (asked : Request) (partition : Partition) (old : Processes)
     → ((name : List ℕ) (priority own : ℤ) → asked ≡ request.CreateProcess name priority own → ⊥)
-    → ((process core : ℤ) → asked ≡ request.InitializeProcessCoreAffinity process core → ⊥)
-    → ((process : ℤ) → asked ≡ request.Start process → ⊥)
-    → ((process : ℤ) → asked ≡ request.Suspend process → ⊥)
-    → ((process : ℤ) → asked ≡ request.Resume process → ⊥)
-    → ((process priority : ℤ) → asked ≡ request.SetPriority process priority → ⊥)
+    → ((process : ℤ) (operation : ProcessOperation) → asked ≡ request.Process process operation → ⊥)
     → ((mode : ℤ) → asked ≡ request.SetPartitionMode mode → ⊥)
-    → ((mutex time_out : ℤ) → asked ≡ request.AcquireMutex mutex time_out → ⊥)
-    → ((mutex : ℤ) → asked ≡ request.ReleaseMutex mutex → ⊥)
+    → ((mutex : ℤ) (operation : MutexOperation) → asked ≡ request.Mutex mutex operation → ⊥)
     → old ≡ carried place period first cores call asked partition old
-carried-none place period first cores call (request.CreateProcess name priority own) partition old create move start suspend resume priority_set mode acquire release = absurd (create name priority own refl)
-carried-none place period first cores call (request.InitializeProcessCoreAffinity process on) partition old create move start suspend resume priority_set mode acquire release = absurd (move process on refl)
-carried-none place period first cores call (request.Start process) partition old create move start suspend resume priority_set mode acquire release = absurd (start process refl)
-carried-none place period first cores call (request.Suspend process) partition old create move start suspend resume priority_set mode acquire release = absurd (suspend process refl)
-carried-none place period first cores call (request.Resume process) partition old create move start suspend resume priority_set mode acquire release = absurd (resume process refl)
-carried-none place period first cores call (request.SetPriority process priority) partition old create move start suspend resume priority_set mode acquire release = absurd (priority_set process priority refl)
-carried-none place period first cores call (request.SetPartitionMode given) partition old create move start suspend resume priority_set mode acquire release = absurd (mode given refl)
-carried-none place period first cores call (request.AcquireMutex mutex time_out) partition old create move start suspend resume priority_set mode acquire release = absurd (acquire mutex time_out refl)
-carried-none place period first cores call (request.ReleaseMutex mutex) partition old create move start suspend resume priority_set mode acquire release = absurd (release mutex refl)
-carried-none place period first cores call _ partition old create move start suspend resume priority_set mode acquire release =
+carried-none place period first cores call (request.CreateProcess name priority own) partition old create target mode mutex = absurd (create name priority own refl)
+carried-none place period first cores call (request.Process process operation) partition old create target mode mutex = absurd (target process operation refl)
+carried-none place period first cores call (request.SetPartitionMode given) partition old create target mode mutex = absurd (mode given refl)
+carried-none place period first cores call (request.Mutex given operation) partition old create target mode mutex = absurd (mutex given operation refl)
+carried-none place period first cores call _ partition old create target mode mutex =
     ap (with_table old) (sym (append-nothing _ ∙ each_item-same _ (λ number process. refl) old.table))
 
 -- CREATE_PROCESS
@@ -114,57 +102,25 @@ carried-create place period first cores call name priority own partition old new
     ) refl) in
     is_new_one ∙ ap (with_table old) table
 
--- START, and INITIALIZE_PROCESS_CORE_AFFINITY, of the process that the caller names
+-- services that name a process
 
-pub carried-start : (place period first : ℕ) (cores : List CoreState) (call : CallRecord) (given : ℤ) (partition : Partition) (old new : Processes)
-    → partition.mode ≡ old.mode → new ≡ with_each (named given (λ found. started place period (time_of cores found.affinity) old.mode found)) old
-    → new ≡ carried place period first cores call (request.Start given) partition old
-carried-start place period first cores call given partition old new mode is =
-    is ∙ ap (λ current. with_each (named given (λ found. started place period (time_of cores found.affinity) current found)) old) (sym mode)
+pub carried-target : (place period first : ℕ) (cores : List CoreState) (call : CallRecord) (given : ℤ) (operation : ProcessOperation) (partition : Partition) (old new : Processes)
+    → partition.mode ≡ old.mode
+    → new ≡ with_each (named given (λ found. set_in place period (time_of cores found.affinity) old.mode operation found)) old
+    → new ≡ carried place period first cores call (request.Process given operation) partition old
+carried-target place period first cores call given operation partition old new mode is =
+    is ∙ ap (λ current. with_each (named given (λ found. set_in place period (time_of cores found.affinity) current operation found)) old) (sym mode)
     ∙ ap (with_table old) (sym (append-nothing _))
 
-pub carried-move : (place period first : ℕ) (cores : List CoreState) (call : CallRecord) (given core : ℤ) (partition : Partition) (old new : Processes)
-    → new ≡ with_each (named given (moved_to (natural_of core))) old
-    → new ≡ carried place period first cores call (request.InitializeProcessCoreAffinity given core) partition old
-carried-move place period first cores call given core partition old new is = is ∙ ap (with_table old) (sym (append-nothing _))
-
-pub carried-suspend : (place period first : ℕ) (cores : List CoreState) (call : CallRecord) (given : ℤ) (partition : Partition) (old new : Processes)
-    → new ≡ with_each (named given suspended) old → new ≡ carried place period first cores call (request.Suspend given) partition old
-carried-suspend place period first cores call given partition old new is = is ∙ ap (with_table old) (sym (append-nothing _))
-
-pub carried-resume : (place period first : ℕ) (cores : List CoreState) (call : CallRecord) (given : ℤ) (partition : Partition) (old new : Processes)
-    → new ≡ with_each (named given (resumed place)) old → new ≡ carried place period first cores call (request.Resume given) partition old
-carried-resume place period first cores call given partition old new is = is ∙ ap (with_table old) (sym (append-nothing _))
-
-pub carried-priority : (place period first : ℕ) (cores : List CoreState) (call : CallRecord) (given priority : ℤ) (partition : Partition) (old new : Processes) (cast : ℕ)
-    → new ≡ with_each (named given (reprioritised place cast)) old → cast ≡ nat_abs priority → is_priority priority ≡ true
-    → new ≡ carried place period first cores call (request.SetPriority given priority) partition old
-carried-priority place period first cores call given priority partition old new cast is kept within =
-    is ∙ ap (λ given_priority. with_each (named given (reprioritised place given_priority)) old) (kept ∙ natural-kept priority within)
-    ∙ ap (with_table old) (sym (append-nothing _))
+-- STOP sets nothing in its target here
+pub named-same : (given : ℤ) (processes : Processes) → processes ≡ with_each (named given (λ found. found)) processes
+named-same given processes = ap (with_table processes) (sym (each_item-same _ (λ number process. same (is_number given number) process) processes.table))
   where
-    natural-kept : (p : ℤ) → is_priority p ≡ true → nat_abs p ≡ natural_of p
-    natural-kept (pos n) h = refl
-    natural-kept (negsuc n) h = cc
+    same : (b : Bool) (process : Process) → (if b then process else process) ≡ process
+    same true process = refl
+    same false process = refl
 
--- ACQUIRE_MUTEX and RELEASE_MUTEX
-
-pub carried-acquire : (place period first : ℕ) (cores : List CoreState) (call : CallRecord) (mutex time_out : ℤ) (transfer : Transfer) (partition : Partition) (old new : Processes)
-    → new ≡ with_each (transferred transfer) old → IsTransferOf partition call.who.proc (request.AcquireMutex mutex time_out) transfer
-    → new ≡ carried place period first cores call (request.AcquireMutex mutex time_out) partition old
-carried-acquire place period first cores call mutex time_out transfer partition old new is tied =
-    is ∙ ap (with_table old) (each_item-congr _ _ (λ number process. sym (tied number process)) old.table ∙ sym (append-nothing _))
-
-pub carried-release : (place period first : ℕ) (cores : List CoreState) (call : CallRecord) (mutex : ℤ) (transfer : Transfer) (partition : Partition) (old new : Processes)
-    → new ≡ with_each (transferred transfer) old → IsTransferOf partition call.who.proc (request.ReleaseMutex mutex) transfer
-    → new ≡ carried place period first cores call (request.ReleaseMutex mutex) partition old
-carried-release place period first cores call mutex transfer partition old new is tied =
-    is ∙ ap (with_table old) (each_item-congr _ _ (λ number process. sym (tied number process)) old.table ∙ sym (append-nothing _))
-
--- SET_PARTITION_MODE to NORMAL
-
-pub carried-mode : (place period first : ℕ) (cores : List CoreState) (call : CallRecord) (given : ℤ) (partition : Partition) (old new : Processes)
-    → new ≡ record old { mode = mode.Normal; table = each_item (λ number process. after_normal place period (time_of cores process.affinity) process) old.table }
-    → new ≡ carried place period first cores call (request.SetPartitionMode given) partition old
-carried-mode place period first cores call given partition old new is =
-    is ∙ ap (λ (t : Table). record old { mode = mode.Normal; table = t }) (sym (append-nothing _))
+-- SET_PRIORITY gives a natural number
+pub priority-natural : (priority : ℤ) → is_priority priority ≡ true → nat_abs priority ≡ natural_of priority
+priority-natural (pos n) h = refl
+priority-natural (negsuc n) h = cc

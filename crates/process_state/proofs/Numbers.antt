@@ -32,10 +32,6 @@ created-none table (pos (suc n)) fit none = absent-above table (suc n) fit (abov
     above m h = grind (arith, nat_tests)
 created-none table (negsuc n) fit none = refl
 
--- 0 is no created process's
-pub created-zero : (table : Table) (given : ℤ) → given ≡ pos 0 → created table given ≡ None
-created-zero table given is = rw is refl
-
 -- another number has the process of the table
 pub created-some : (table : Table) (given : ℤ) (number : ℕ) → number_of given ≡ Some number → ¬ (given ≡ pos 0) → created table given ≡ item_at table number
 created-some table (pos zero) number found apart = absurd (apart refl)

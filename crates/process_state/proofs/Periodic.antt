@@ -1,5 +1,6 @@
 -- What no other service than PERIODIC_WAIT does.
 use Rattle.std.proofs.Common.{◌≡◌, ◌∙◌, ◌&&◌, ℕ, Bool, true, false, if◌then◌else◌, refl, sym}
+use Rattle.apex_types.specs.declared.operation.{CallerOperation.CallerOperation}
 use Rattle.apex_types.specs.declared.request.Request.{Request}
 use Rattle.apex_types.specs.declared.request.Request.TheVariants as request
 use Rattle.apex_machine.specs.declared.state.Process.{Process}
@@ -9,12 +10,12 @@ use Rattle.process_state.specs.Sound.{is_periodic_wait}
 
 -- no other service takes the next release
 pub none_taken : (asked : Request) (process : Process) → is_periodic_wait asked ≡ false → release_taken asked process ≡ process.last_release
-none_taken request.PeriodicWait process other = cc
+none_taken (request.Caller CallerOperation.PeriodicWait) process other = cc
 none_taken _ process other = refl
 
 -- PERIODIC_WAIT takes the next release
 pub next_taken : (asked : Request) (process : Process) → is_periodic_wait asked ≡ true → release_taken asked process ≡ next_release process
-next_taken request.PeriodicWait process periodic = refl
+next_taken (request.Caller CallerOperation.PeriodicWait) process periodic = refl
 next_taken _ process periodic = cc
 
 -- the last release of a caller whose call takes none

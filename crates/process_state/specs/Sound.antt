@@ -1,6 +1,7 @@
 -- What a call must keep to, so that a table can hold what it asks for.
 use Rattle.std.specs.Prelude.{◌≡◌, ◌<◌, ℕ, Some, [], IsTrue, Bool, true, false, nat_lt, ℤ, pos, negsuc}
 use Rattle.apex_types.specs.declared.record.Call.{Call as CallRecord}
+use Rattle.apex_types.specs.declared.operation.{BlackboardOperation.BlackboardOperation, CallerOperation.CallerOperation, EventOperation.EventOperation, MutexOperation.MutexOperation, ProcessOperation.ProcessOperation, SemaphoreOperation.SemaphoreOperation}
 use Rattle.apex_types.specs.declared.request.Request.{Request}
 use Rattle.apex_types.specs.declared.request.Request.TheVariants as request
 use Rattle.apex_machine.specs.declared.state.Process.{Process}
@@ -16,13 +17,18 @@ abbrev pub is_core_number : ℤ → Bool
 is_core_number (pos n) = nat_lt n 256
 is_core_number (negsuc n) = false
 
--- a CREATE_PROCESS that was carried out claims a new number, has a priority in range and ends no wait; an
--- INITIALIZE_PROCESS_CORE_AFFINITY that was carried out gives the number of a core, a SET_PRIORITY a priority in range
+-- an INITIALIZE_PROCESS_CORE_AFFINITY gives the number of a core, a SET_PRIORITY a priority in range
+abbrev pub GivesSoundly : ProcessOperation → Type 0
+GivesSoundly (ProcessOperation.InitializeCoreAffinity core) = IsTrue (is_core_number core)
+GivesSoundly (ProcessOperation.SetPriority priority) = IsTrue (is_priority priority)
+GivesSoundly _ = Unit {0}
+
+-- a CREATE_PROCESS that was carried out claims a new number, has a priority in range and ends no wait; a service that names a
+-- process and was carried out gives what it takes
 abbrev pub AsksSoundly : Table → CallRecord → Request → Type 0
 AsksSoundly table call (request.CreateProcess name priority period) =
     IsTrue (is_done call.claim.out) → IsTrue (is_new (is_free table) call.claim.val) × IsTrue (is_priority priority) × (call.claim.woken ≡ [])
-AsksSoundly table call (request.InitializeProcessCoreAffinity process core) = IsTrue (is_done call.claim.out) → IsTrue (is_core_number core)
-AsksSoundly table call (request.SetPriority process priority) = IsTrue (is_done call.claim.out) → IsTrue (is_priority priority)
+AsksSoundly table call (request.Process process operation) = IsTrue (is_done call.claim.out) → GivesSoundly operation
 AsksSoundly table call _ = Unit {0}
 
 -- the number of an object fits 32 bits
@@ -31,22 +37,21 @@ IsObjectNumber given = natural_of given < 4294967296
 
 -- where a call waits at an object, its number fits
 abbrev pub WaitsSoundly : Request → Type 0
-WaitsSoundly (request.SendBuffer buffer length time_out message) = IsObjectNumber buffer
-WaitsSoundly (request.ReceiveBuffer buffer time_out) = IsObjectNumber buffer
-WaitsSoundly (request.ReadBlackboard blackboard time_out) = IsObjectNumber blackboard
-WaitsSoundly (request.WaitSemaphore semaphore time_out) = IsObjectNumber semaphore
-WaitsSoundly (request.WaitEvent event time_out) = IsObjectNumber event
-WaitsSoundly (request.AcquireMutex mutex time_out) = IsObjectNumber mutex
+WaitsSoundly (request.Buffer buffer operation) = IsObjectNumber buffer
+WaitsSoundly (request.Blackboard blackboard (BlackboardOperation.Read time_out)) = IsObjectNumber blackboard
+WaitsSoundly (request.Semaphore semaphore (SemaphoreOperation.Wait time_out)) = IsObjectNumber semaphore
+WaitsSoundly (request.Event event (EventOperation.Wait time_out)) = IsObjectNumber event
+WaitsSoundly (request.Mutex mutex (MutexOperation.Acquire time_out)) = IsObjectNumber mutex
 WaitsSoundly _ = Unit {0}
 
 -- whether a request is PERIODIC_WAIT
 abbrev pub is_periodic_wait : Request → Bool
-is_periodic_wait request.PeriodicWait = true
+is_periodic_wait (request.Caller CallerOperation.PeriodicWait) = true
 is_periodic_wait _ = false
 
 -- the next release of a caller of PERIODIC_WAIT fits 64 bits
 abbrev pub ReleasesSoundly : Table → ℕ → Request → Type 0
-ReleasesSoundly table caller request.PeriodicWait = (process : Process) → item_at table caller ≡ Some process → next_release process < 18446744073709551616
+ReleasesSoundly table caller (request.Caller CallerOperation.PeriodicWait) = (process : Process) → item_at table caller ≡ Some process → next_release process < 18446744073709551616
 ReleasesSoundly table caller _ = Unit {0}
 
 -- a table can hold what a call asks for

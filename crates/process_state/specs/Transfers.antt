@@ -3,10 +3,9 @@ use Rattle.std.specs.Prelude.{◌≡◌, ℕ, if◌then◌else◌}
 use Rattle.apex_types.specs.declared.request.Request.{Request}
 use Rattle.apex_types.specs.declared.request.Request.TheVariants as request
 use Rattle.apex_machine.specs.declared.state.Process.{Process}
-use Rattle.apex_machine.specs.Objects.{acquired, is_owner, mutex_released}
+use Rattle.apex_machine.specs.Objects.{is_owner, mutex_effect}
 use Rattle.apex_machine.specs.Processes.{by_mutex, granted, restored}
 use Rattle.apex_machine.specs.State.{Partition, given_object}
-use Rattle.apex_machine.specs.Waiting.{first_waiter}
 use Rattle.process_state.specs.declared.transfer.Transfer.{Transfer}
 
 -- a process that no longer owns the mutex, if it did
@@ -19,12 +18,8 @@ abbrev pub transferred : Transfer → ℕ → Process → Process
 transferred transfer number process =
     if is_owner transfer.to number then granted transfer.priority (freed transfer number process) else freed transfer number process
 
--- a transfer is what ACQUIRE_MUTEX or RELEASE_MUTEX of this caller makes of the owners of its mutex; other services make nothing
--- of owners
+-- a transfer is what an operation of this caller on a mutex makes of its owners; other services make nothing of owners
 abbrev pub IsTransferOf : Partition → ℕ → Request → Transfer → Type 0
-IsTransferOf partition caller (request.AcquireMutex mutex time_out) transfer = (number : ℕ) (process : Process)
-    → by_mutex (given_object partition.mutexes mutex) (λ found. (acquired caller time_out found).next) number process ≡ transferred transfer number process
-IsTransferOf partition caller (request.ReleaseMutex mutex) transfer = (number : ℕ) (process : Process)
-    → by_mutex (given_object partition.mutexes mutex) (λ found. (mutex_released (first_waiter found.discipline found.waiters) found).next) number process
-    ≡ transferred transfer number process
+IsTransferOf partition caller (request.Mutex mutex operation) transfer = (number : ℕ) (process : Process)
+    → by_mutex (given_object partition.mutexes mutex) (λ found. (mutex_effect caller operation found).next) number process ≡ transferred transfer number process
 IsTransferOf partition caller _ transfer = Unit {0}

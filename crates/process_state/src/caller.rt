@@ -17,7 +17,7 @@ ghost use Rattle.process_state.specs.Sound.{WaitsSoundly};
 use crate::peer::answers_no_error;
 use crate::waiting::{is_periodic_wait, wait_of};
 use apex_machine::{Outcome, Wait};
-use apex_types::{Call, Code, Out, Place, Request};
+use apex_types::{Call, CallerOperation, Code, Out, Place, Request};
 
 /// What becomes of a caller after its call.
 #[derive(Drop)]
@@ -118,8 +118,8 @@ fn renews(request: &Request) -> bool
     ensures { result ≡ processes.renews request.now }
 {
     match request {
-        Request::TimedWait { delay } => *delay == 0,
-        Request::PeriodicWait => true,
+        Request::Caller(CallerOperation::TimedWait { delay }) => *delay == 0,
+        Request::Caller(CallerOperation::PeriodicWait) => true,
         _ => false,
     }
 }

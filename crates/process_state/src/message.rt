@@ -4,7 +4,7 @@ ghost use Rattle.std.specs.Prelude.{◌≡◌, IfOk, vec_len};
 ghost use Rattle.apex_machine.specs.Processes.{message_handed_over};
 ghost use Rattle.process_state.specs.HandedOver.{AreCopies};
 
-use apex_types::{Message, Request};
+use apex_types::{BlackboardOperation, BufferOperation, Message, QueuingOperation, Request};
 use std::alloc::{AllocError, Global};
 
 /// So many copies of the message that a request hands over.
@@ -32,9 +32,18 @@ fn message_handed_over(request: &Request) -> &[u8]
     ensures { result.now ≡ message_handed_over request.now }
 {
     match request {
-        Request::SendBuffer { message, .. }
-        | Request::DisplayBlackboard { message, .. }
-        | Request::SendQueuingMessage { message, .. } => message.as_bytes(),
+        Request::Buffer {
+            operation: BufferOperation::Send { message, .. },
+            ..
+        }
+        | Request::Blackboard {
+            operation: BlackboardOperation::Display { message, .. },
+            ..
+        }
+        | Request::QueuingPort {
+            operation: QueuingOperation::Send { message, .. },
+            ..
+        } => message.as_bytes(),
         _ => &[],
     }
 }

@@ -4,7 +4,7 @@ ghost use Rattle.std.specs.Prelude.{◌≡◌, ◌&&◌, nat_eq};
 ghost use Rattle.apex_machine.specs.Waiting as waiting;
 ghost use Rattle.process_state.specs.Peers as peers;
 
-use apex_types::{Call, Code, Out, ProcId, Request, Who};
+use apex_types::{Call, Code, Out, ProcId, ProcessOperation, Request, Who};
 
 /// Whether a call that names this process ends its wait: the process is of the caller's partition, not the caller, and not
 /// stopped by the call.
@@ -18,11 +18,22 @@ pub fn wakes(call: &Call, who: Who) -> bool
 pub fn stops(call: &Call, number: ProcId) -> bool
     ensures { result ≡ waiting.stops call.now (peers.peer_at call.now number) }
 {
-    match &call.request {
-        Request::Stop { process } => {
-            answers_no_error(call.claim.out) && *process == number.number() as i64
-        }
-        _ => false,
+    match stop_of(&call.request) {
+        Some(target) => answers_no_error(call.claim.out) && target == number.number() as i64,
+        None => false,
+    }
+}
+
+/// The process that a request is to stop, beside its caller, by the number that the caller gives.
+pub fn stop_of(request: &Request) -> Option<i64>
+    ensures { result ≡ waiting.stop_of request.now }
+{
+    match request {
+        Request::Process {
+            process,
+            operation: ProcessOperation::Stop,
+        } => Some(*process),
+        _ => None,
     }
 }
 

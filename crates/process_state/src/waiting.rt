@@ -1,16 +1,19 @@
 // Where a call waits, and until when.
 
-ghost use Rattle.std.specs.Prelude.{◌≡◌, ◌<◌, true};
+ghost use Rattle.std.specs.Prelude.{◌≡◌, ◌<◌, ℕ, ℤ, Option, Some, true};
 ghost use Rattle.apex_types.specs.declared.limits.TheConstants.{PLACE_COUNT};
+ghost use Rattle.apex_types.specs.declared.request.Request.TheVariants as request;
 ghost use Rattle.apex_machine.specs.declared.state.Process.{Process as ProcessValue};
 ghost use Rattle.apex_machine.specs.Arguments.{natural_of};
 ghost use Rattle.apex_machine.specs.DueTimes as due_times;
-ghost use Rattle.apex_machine.specs.Waiting as waiting;
 ghost use Rattle.process_state.specs.Sound as sound;
 ghost use Rattle.process_state.specs.Sound.{WaitsSoundly};
 
 use apex_machine::{Wait, WaitingSet};
-use apex_types::{ChanId, Request};
+use apex_types::{
+    BlackboardOperation, BufferOperation, CallerOperation, ChanId, EventOperation, MutexOperation,
+    QueuingOperation, Request, SemaphoreOperation,
+};
 
 /// What a caller waits for that began to wait when its core's time was `now`, by its next release, in ticks, which only
 /// PERIODIC_WAIT looks at; a port's set is that of its channel.
@@ -20,53 +23,98 @@ pub fn wait_of(request: &Request, channel: Option<ChanId>, now: u64, next: u64) 
     ensures { (process : ProcessValue) → (sound.is_periodic_wait request.now ≡ true → due_times.next_release process ≡ next) → result ≡ due_times.wait_of request.now channel now process }
 {
     match request {
-        Request::PeriodicWait => Wait::PeriodicRelease(next),
-        Request::TimedWait { delay } => {
-            if *delay < 0 {
-                Wait::Nothing
-            } else {
-                Wait::Until(now + *delay as u64)
-            }
+        Request::Caller(operation) => own_wait(operation, now, next),
+        Request::Buffer { buffer, operation } => {
+            wait_at_buffer(object_number(*buffer), operation, now)
         }
-        Request::SuspendSelf { time_out } => Wait::Suspended(due_time(*time_out, now)),
-        _ => match set_of(request, channel) {
-            Some(set) => Wait::At(set, due_of(request, now)),
+        Request::Blackboard {
+            blackboard,
+            operation: BlackboardOperation::Read { time_out },
+        } => {
+            let readers = WaitingSet::BlackboardReaders(object_number(*blackboard));
+            Wait::At(readers, due_time(*time_out, now))
+        }
+        Request::Semaphore {
+            semaphore,
+            operation: SemaphoreOperation::Wait { time_out },
+        } => {
+            let waiters = WaitingSet::SemaphoreWaiters(object_number(*semaphore));
+            Wait::At(waiters, due_time(*time_out, now))
+        }
+        Request::Event {
+            event,
+            operation: EventOperation::Wait { time_out },
+        } => {
+            let waiters = WaitingSet::EventWaiters(object_number(*event));
+            Wait::At(waiters, due_time(*time_out, now))
+        }
+        Request::Mutex {
+            mutex,
+            operation: MutexOperation::Acquire { time_out },
+        } => {
+            let waiters = WaitingSet::MutexWaiters(object_number(*mutex));
+            Wait::At(waiters, due_time(*time_out, now))
+        }
+        Request::QueuingPort { operation, .. } => match channel {
+            Some(channel) => wait_at_channel(channel, operation, now),
             None => Wait::Nothing,
         },
+        _ => Wait::Nothing,
     }
 }
 
-// The waiting set at which the caller of a request waits, where it does.
-fn set_of(request: &Request, channel: Option<ChanId>) -> Option<WaitingSet>
-    requires { WaitsSoundly request.now }
-    ensures { result ≡ waiting.set_of request.now channel }
+// What a caller waits for by what it asks for itself.
+fn own_wait(operation: &CallerOperation, now: u64, next: u64) -> Wait
+    requires { now < PLACE_COUNT }
+    ensures { (channel : Option ℕ) (process : ProcessValue)
+        → (sound.is_periodic_wait (request.Caller operation.now) ≡ true → due_times.next_release process ≡ next)
+        → result ≡ due_times.wait_of (request.Caller operation.now) channel now process }
 {
-    match request {
-        Request::SendBuffer { buffer, .. } => {
-            Some(WaitingSet::BufferSenders(object_number(*buffer)))
-        }
-        Request::ReceiveBuffer { buffer, .. } => {
-            Some(WaitingSet::BufferReceivers(object_number(*buffer)))
-        }
-        Request::ReadBlackboard { blackboard, .. } => {
-            Some(WaitingSet::BlackboardReaders(object_number(*blackboard)))
-        }
-        Request::WaitSemaphore { semaphore, .. } => {
-            Some(WaitingSet::SemaphoreWaiters(object_number(*semaphore)))
-        }
-        Request::WaitEvent { event, .. } => Some(WaitingSet::EventWaiters(object_number(*event))),
-        Request::AcquireMutex { mutex, .. } => {
-            Some(WaitingSet::MutexWaiters(object_number(*mutex)))
-        }
-        Request::SendQueuingMessage { .. } => match channel {
-            Some(channel) => Some(WaitingSet::ChannelSenders(channel)),
-            None => None,
+    match operation {
+        CallerOperation::SuspendSelf { time_out } => Wait::Suspended(due_time(*time_out, now)),
+        CallerOperation::TimedWait { delay } => match due_time(*delay, now) {
+            Some(due) => Wait::Until(due),
+            None => Wait::Nothing,
         },
-        Request::ReceiveQueuingMessage { .. } => match channel {
-            Some(channel) => Some(WaitingSet::ChannelReceivers(channel)),
-            None => None,
-        },
-        _ => None,
+        CallerOperation::PeriodicWait => Wait::PeriodicRelease(next),
+        CallerOperation::StopSelf | CallerOperation::GetMyId | CallerOperation::GetTime => {
+            Wait::Nothing
+        }
+    }
+}
+
+// What a caller waits for at the buffer of this number.
+fn wait_at_buffer(buffer: u32, operation: &BufferOperation, now: u64) -> Wait
+    requires { now < PLACE_COUNT }
+    ensures { (given : ℤ) (channel : Option ℕ) (process : ProcessValue) → natural_of given ≡ buffer
+        → result ≡ due_times.wait_of (request.Buffer given operation.now) channel now process }
+{
+    match operation {
+        BufferOperation::Send { time_out, .. } => {
+            let due = due_time(*time_out, now);
+            Wait::At(WaitingSet::BufferSenders(buffer), due)
+        }
+        BufferOperation::Receive { time_out } => {
+            let due = due_time(*time_out, now);
+            Wait::At(WaitingSet::BufferReceivers(buffer), due)
+        }
+    }
+}
+
+// What a caller waits for at the channel of a queuing port.
+fn wait_at_channel(channel: ChanId, operation: &QueuingOperation, now: u64) -> Wait
+    requires { now < PLACE_COUNT }
+    ensures { (port : ℤ) (process : ProcessValue) → result ≡ due_times.wait_of (request.QueuingPort port operation.now) (Some channel) now process }
+{
+    match operation {
+        QueuingOperation::Send { time_out, .. } => {
+            let due = due_time(*time_out, now);
+            Wait::At(WaitingSet::ChannelSenders(channel), due)
+        }
+        QueuingOperation::Receive { time_out } => {
+            let due = due_time(*time_out, now);
+            Wait::At(WaitingSet::ChannelReceivers(channel), due)
+        }
     }
 }
 
@@ -76,35 +124,6 @@ fn object_number(given: i64) -> u32
     ensures { result ≡ natural_of given }
 {
     if given < 0 { 0 } else { given as u32 }
-}
-
-// The time at which the time-out of a request falls due, if it has one.
-fn due_of(request: &Request, now: u64) -> Option<u64>
-    requires { now < PLACE_COUNT }
-    ensures { result ≡ due_times.due_of_call (due_times.time_out_of request.now) now }
-{
-    match time_out_of(request) {
-        Some(time_out) => due_time(time_out, now),
-        None => None,
-    }
-}
-
-// The time-out of a service that may wait for something.
-fn time_out_of(request: &Request) -> Option<i64>
-    ensures { result ≡ due_times.time_out_of request.now }
-{
-    match request {
-        Request::SuspendSelf { time_out }
-        | Request::SendBuffer { time_out, .. }
-        | Request::ReceiveBuffer { time_out, .. }
-        | Request::ReadBlackboard { time_out, .. }
-        | Request::WaitSemaphore { time_out, .. }
-        | Request::WaitEvent { time_out, .. }
-        | Request::AcquireMutex { time_out, .. }
-        | Request::SendQueuingMessage { time_out, .. }
-        | Request::ReceiveQueuingMessage { time_out, .. } => Some(*time_out),
-        _ => None,
-    }
 }
 
 // The time at which a time-out falls due that begins at the time `now`; one below 0 never does.
@@ -124,7 +143,7 @@ pub fn is_periodic_wait(request: &Request) -> bool
     ensures { result ≡ sound.is_periodic_wait request.now }
 {
     match request {
-        Request::PeriodicWait => true,
+        Request::Caller(CallerOperation::PeriodicWait) => true,
         _ => false,
     }
 }

@@ -1,50 +1,65 @@
 -- The request that the arguments of a call make.
-use Rattle.std.specs.Prelude.{ℕ, ℤ, List}
+use Rattle.std.specs.Prelude.{ℕ, ℤ, pos, ◌≡◌, ◌⊎◌, ◌+ℤ◌, ◌*ℤ◌, List}
+use Rattle.std.specs.Int.{int_div_euclid, int_rem_euclid}
 use Rattle.apex_types.specs.declared.service.Service.{Service}
 use Rattle.apex_types.specs.declared.service.Service.TheVariants as service
 use Rattle.apex_types.specs.declared.object_kind.ObjectKind.TheVariants as kind
+use Rattle.apex_types.specs.declared.operation.{BlackboardOperation.BlackboardOperation, BufferOperation.BufferOperation, CallerOperation.CallerOperation, EventOperation.EventOperation, MutexOperation.MutexOperation, NewObject.NewObject, ProcessOperation.ProcessOperation, QueuingOperation.QueuingOperation, SamplingOperation.SamplingOperation, SemaphoreOperation.SemaphoreOperation}
 use Rattle.apex_types.specs.declared.request.Request.{Request}
 use Rattle.apex_types.specs.declared.request.Request.TheVariants as request
+
+-- the direction in the third number of CREATE_QUEUING_PORT: its remainder by 2
+abbrev pub direction_in : ℤ → ℤ
+direction_in number = int_rem_euclid number (pos 2)
+
+-- the discipline in it: its half, rounded down
+abbrev pub discipline_in : ℤ → ℤ
+discipline_in number = int_div_euclid number (pos 2)
+
+-- a number is its direction, 0 or 1, and twice its discipline
+abbrev pub DirectionAndDisciplineAreOneNumber : Type 0
+DirectionAndDisciplineAreOneNumber = (number : ℤ) →
+    ((direction_in number ≡ pos 0) ⊎ (direction_in number ≡ pos 1)) × (number ≡ direction_in number +ℤ pos 2 *ℤ discipline_in number)
 
 -- the request of a service, from n1, n2, n3, the name and the message; what the service does not take is not used
 unfoldable pub request_of : Service → ℤ → ℤ → ℤ → List ℕ → List ℕ → Request
 request_of service.CreateProcess n1 n2 n3 name message = request.CreateProcess name n1 n2
-request_of service.InitializeProcessCoreAffinity n1 n2 n3 name message = request.InitializeProcessCoreAffinity n1 n2
-request_of service.Start n1 n2 n3 name message = request.Start n1
-request_of service.Stop n1 n2 n3 name message = request.Stop n1
-request_of service.StopSelf n1 n2 n3 name message = request.StopSelf
-request_of service.Suspend n1 n2 n3 name message = request.Suspend n1
-request_of service.SuspendSelf n1 n2 n3 name message = request.SuspendSelf n1
-request_of service.Resume n1 n2 n3 name message = request.Resume n1
-request_of service.SetPriority n1 n2 n3 name message = request.SetPriority n1 n2
-request_of service.GetMyId n1 n2 n3 name message = request.GetMyId
-request_of service.TimedWait n1 n2 n3 name message = request.TimedWait n1
-request_of service.PeriodicWait n1 n2 n3 name message = request.PeriodicWait
-request_of service.GetTime n1 n2 n3 name message = request.GetTime
+request_of service.InitializeProcessCoreAffinity n1 n2 n3 name message = request.Process n1 (ProcessOperation.InitializeCoreAffinity n2)
+request_of service.Start n1 n2 n3 name message = request.Process n1 ProcessOperation.Start
+request_of service.Stop n1 n2 n3 name message = request.Process n1 ProcessOperation.Stop
+request_of service.StopSelf n1 n2 n3 name message = request.Caller CallerOperation.StopSelf
+request_of service.Suspend n1 n2 n3 name message = request.Process n1 ProcessOperation.Suspend
+request_of service.SuspendSelf n1 n2 n3 name message = request.Caller (CallerOperation.SuspendSelf n1)
+request_of service.Resume n1 n2 n3 name message = request.Process n1 ProcessOperation.Resume
+request_of service.SetPriority n1 n2 n3 name message = request.Process n1 (ProcessOperation.SetPriority n2)
+request_of service.GetMyId n1 n2 n3 name message = request.Caller CallerOperation.GetMyId
+request_of service.TimedWait n1 n2 n3 name message = request.Caller (CallerOperation.TimedWait n1)
+request_of service.PeriodicWait n1 n2 n3 name message = request.Caller CallerOperation.PeriodicWait
+request_of service.GetTime n1 n2 n3 name message = request.Caller CallerOperation.GetTime
 request_of service.SetPartitionMode n1 n2 n3 name message = request.SetPartitionMode n1
-request_of service.CreateBuffer n1 n2 n3 name message = request.CreateBuffer name n1 n2 n3
-request_of service.SendBuffer n1 n2 n3 name message = request.SendBuffer n1 n2 n3 message
-request_of service.ReceiveBuffer n1 n2 n3 name message = request.ReceiveBuffer n1 n2
-request_of service.CreateBlackboard n1 n2 n3 name message = request.CreateBlackboard name n1
-request_of service.DisplayBlackboard n1 n2 n3 name message = request.DisplayBlackboard n1 n2 message
-request_of service.ReadBlackboard n1 n2 n3 name message = request.ReadBlackboard n1 n2
-request_of service.ClearBlackboard n1 n2 n3 name message = request.ClearBlackboard n1
-request_of service.CreateSemaphore n1 n2 n3 name message = request.CreateSemaphore name n1 n2 n3
-request_of service.WaitSemaphore n1 n2 n3 name message = request.WaitSemaphore n1 n2
-request_of service.SignalSemaphore n1 n2 n3 name message = request.SignalSemaphore n1
-request_of service.CreateEvent n1 n2 n3 name message = request.CreateEvent name
-request_of service.SetEvent n1 n2 n3 name message = request.SetEvent n1
-request_of service.ResetEvent n1 n2 n3 name message = request.ResetEvent n1
-request_of service.WaitEvent n1 n2 n3 name message = request.WaitEvent n1 n2
-request_of service.CreateMutex n1 n2 n3 name message = request.CreateMutex name n1 n2
-request_of service.AcquireMutex n1 n2 n3 name message = request.AcquireMutex n1 n2
-request_of service.ReleaseMutex n1 n2 n3 name message = request.ReleaseMutex n1
-request_of service.CreateSamplingPort n1 n2 n3 name message = request.CreateSamplingPort name n1 n2 n3
-request_of service.WriteSamplingMessage n1 n2 n3 name message = request.WriteSamplingMessage n1 n2 message
-request_of service.ReadSamplingMessage n1 n2 n3 name message = request.ReadSamplingMessage n1
-request_of service.CreateQueuingPort n1 n2 n3 name message = request.CreateQueuingPort name n1 n2 n3
-request_of service.SendQueuingMessage n1 n2 n3 name message = request.SendQueuingMessage n1 n2 n3 message
-request_of service.ReceiveQueuingMessage n1 n2 n3 name message = request.ReceiveQueuingMessage n1 n2
+request_of service.CreateBuffer n1 n2 n3 name message = request.Create name (NewObject.Buffer n1 n2 n3)
+request_of service.SendBuffer n1 n2 n3 name message = request.Buffer n1 (BufferOperation.Send n2 n3 message)
+request_of service.ReceiveBuffer n1 n2 n3 name message = request.Buffer n1 (BufferOperation.Receive n2)
+request_of service.CreateBlackboard n1 n2 n3 name message = request.Create name (NewObject.Blackboard n1)
+request_of service.DisplayBlackboard n1 n2 n3 name message = request.Blackboard n1 (BlackboardOperation.Display n2 message)
+request_of service.ReadBlackboard n1 n2 n3 name message = request.Blackboard n1 (BlackboardOperation.Read n2)
+request_of service.ClearBlackboard n1 n2 n3 name message = request.Blackboard n1 BlackboardOperation.Clear
+request_of service.CreateSemaphore n1 n2 n3 name message = request.Create name (NewObject.Semaphore n1 n2 n3)
+request_of service.WaitSemaphore n1 n2 n3 name message = request.Semaphore n1 (SemaphoreOperation.Wait n2)
+request_of service.SignalSemaphore n1 n2 n3 name message = request.Semaphore n1 SemaphoreOperation.Signal
+request_of service.CreateEvent n1 n2 n3 name message = request.Create name NewObject.Event
+request_of service.SetEvent n1 n2 n3 name message = request.Event n1 EventOperation.Set
+request_of service.ResetEvent n1 n2 n3 name message = request.Event n1 EventOperation.Reset
+request_of service.WaitEvent n1 n2 n3 name message = request.Event n1 (EventOperation.Wait n2)
+request_of service.CreateMutex n1 n2 n3 name message = request.Create name (NewObject.Mutex n1 n2)
+request_of service.AcquireMutex n1 n2 n3 name message = request.Mutex n1 (MutexOperation.Acquire n2)
+request_of service.ReleaseMutex n1 n2 n3 name message = request.Mutex n1 MutexOperation.Release
+request_of service.CreateSamplingPort n1 n2 n3 name message = request.Create name (NewObject.SamplingPort n1 n2 n3)
+request_of service.WriteSamplingMessage n1 n2 n3 name message = request.SamplingPort n1 (SamplingOperation.Write n2 message)
+request_of service.ReadSamplingMessage n1 n2 n3 name message = request.SamplingPort n1 SamplingOperation.Read
+request_of service.CreateQueuingPort n1 n2 n3 name message = request.Create name (NewObject.QueuingPort n1 n2 (direction_in n3) (discipline_in n3))
+request_of service.SendQueuingMessage n1 n2 n3 name message = request.QueuingPort n1 (QueuingOperation.Send n2 n3 message)
+request_of service.ReceiveQueuingMessage n1 n2 n3 name message = request.QueuingPort n1 (QueuingOperation.Receive n2)
 request_of service.GetBufferId n1 n2 n3 name message = request.GetId kind.Buffer name
 request_of service.GetBufferStatus n1 n2 n3 name message = request.GetStatus kind.Buffer n1
 request_of service.GetBlackboardId n1 n2 n3 name message = request.GetId kind.Blackboard name

@@ -2,6 +2,7 @@
 
 ghost use Rattle.std.specs.Prelude.{◌≡◌, ◌≢◌, ◌⊎◌, [], true, IfOk, IfErr, OnErr, Ok, Err};
 ghost use Rattle.csv.specs.Records.{fields_of};
+ghost use Rattle.apex_types.specs.Requested.{creation_service};
 ghost use Rattle.apex_types.specs.Services.{arguments_of};
 ghost use Rattle.record_read.specs.Arguments.{request_of};
 ghost use Rattle.record_read.specs.Payload.{IsHex, hex_bytes};
@@ -13,7 +14,11 @@ use crate::fault::RowFault;
 use crate::field::{read_argument, text};
 use crate::named::read_service;
 use crate::payload::{copy_message, copy_name, judge_message, judge_name};
-use apex_types::{Format, Message, Name, ObjectKind, Request, Service};
+use apex_types::{
+    BlackboardOperation, BufferOperation, CallerOperation, EventOperation, Format, Message,
+    MutexOperation, Name, NewObject, ObjectKind, ProcessOperation, QueuingOperation, Request,
+    SamplingOperation, SemaphoreOperation, Service,
+};
 use csv::ByteRecord;
 use std::alloc::{AllocError, Global};
 
@@ -84,107 +89,105 @@ fn fill_request(
             priority: n1,
             period: n2,
         },
-        Service::InitializeProcessCoreAffinity => Request::InitializeProcessCoreAffinity {
-            process: n1,
-            core: n2,
-        },
-        Service::Start => Request::Start { process: n1 },
-        Service::Stop => Request::Stop { process: n1 },
-        Service::StopSelf => Request::StopSelf,
-        Service::Suspend => Request::Suspend { process: n1 },
-        Service::SuspendSelf => Request::SuspendSelf { time_out: n1 },
-        Service::Resume => Request::Resume { process: n1 },
-        Service::SetPriority => Request::SetPriority {
-            process: n1,
-            priority: n2,
-        },
-        Service::GetMyId => Request::GetMyId,
-        Service::TimedWait => Request::TimedWait { delay: n1 },
-        Service::PeriodicWait => Request::PeriodicWait,
-        Service::GetTime => Request::GetTime,
+        Service::InitializeProcessCoreAffinity => {
+            on_process(n1, ProcessOperation::InitializeCoreAffinity { core: n2 })
+        }
+        Service::Start => on_process(n1, ProcessOperation::Start),
+        Service::Stop => on_process(n1, ProcessOperation::Stop),
+        Service::StopSelf => Request::Caller(CallerOperation::StopSelf),
+        Service::Suspend => on_process(n1, ProcessOperation::Suspend),
+        Service::SuspendSelf => Request::Caller(CallerOperation::SuspendSelf { time_out: n1 }),
+        Service::Resume => on_process(n1, ProcessOperation::Resume),
+        Service::SetPriority => on_process(n1, ProcessOperation::SetPriority { priority: n2 }),
+        Service::GetMyId => Request::Caller(CallerOperation::GetMyId),
+        Service::TimedWait => Request::Caller(CallerOperation::TimedWait { delay: n1 }),
+        Service::PeriodicWait => Request::Caller(CallerOperation::PeriodicWait),
+        Service::GetTime => Request::Caller(CallerOperation::GetTime),
         Service::SetPartitionMode => Request::SetPartitionMode { mode: n1 },
-        Service::CreateBuffer => Request::CreateBuffer {
-            name,
-            size: n1,
-            capacity: n2,
-            discipline: n3,
-        },
-        Service::SendBuffer => Request::SendBuffer {
+        Service::CreateBuffer => create(ObjectKind::Buffer, name, n1, n2, n3),
+        Service::SendBuffer => Request::Buffer {
             buffer: n1,
-            length: n2,
-            time_out: n3,
-            message,
+            operation: BufferOperation::Send {
+                length: n2,
+                time_out: n3,
+                message,
+            },
         },
-        Service::ReceiveBuffer => Request::ReceiveBuffer {
+        Service::ReceiveBuffer => Request::Buffer {
             buffer: n1,
-            time_out: n2,
+            operation: BufferOperation::Receive { time_out: n2 },
         },
-        Service::CreateBlackboard => Request::CreateBlackboard { name, size: n1 },
-        Service::DisplayBlackboard => Request::DisplayBlackboard {
+        Service::CreateBlackboard => create(ObjectKind::Blackboard, name, n1, n2, n3),
+        Service::DisplayBlackboard => Request::Blackboard {
             blackboard: n1,
-            length: n2,
-            message,
+            operation: BlackboardOperation::Display {
+                length: n2,
+                message,
+            },
         },
-        Service::ReadBlackboard => Request::ReadBlackboard {
+        Service::ReadBlackboard => Request::Blackboard {
             blackboard: n1,
-            time_out: n2,
+            operation: BlackboardOperation::Read { time_out: n2 },
         },
-        Service::ClearBlackboard => Request::ClearBlackboard { blackboard: n1 },
-        Service::CreateSemaphore => Request::CreateSemaphore {
-            name,
-            value: n1,
-            maximum: n2,
-            discipline: n3,
+        Service::ClearBlackboard => Request::Blackboard {
+            blackboard: n1,
+            operation: BlackboardOperation::Clear,
         },
-        Service::WaitSemaphore => Request::WaitSemaphore {
+        Service::CreateSemaphore => create(ObjectKind::Semaphore, name, n1, n2, n3),
+        Service::WaitSemaphore => Request::Semaphore {
             semaphore: n1,
-            time_out: n2,
+            operation: SemaphoreOperation::Wait { time_out: n2 },
         },
-        Service::SignalSemaphore => Request::SignalSemaphore { semaphore: n1 },
-        Service::CreateEvent => Request::CreateEvent { name },
-        Service::SetEvent => Request::SetEvent { event: n1 },
-        Service::ResetEvent => Request::ResetEvent { event: n1 },
-        Service::WaitEvent => Request::WaitEvent {
+        Service::SignalSemaphore => Request::Semaphore {
+            semaphore: n1,
+            operation: SemaphoreOperation::Signal,
+        },
+        Service::CreateEvent => create(ObjectKind::Event, name, n1, n2, n3),
+        Service::SetEvent => Request::Event {
             event: n1,
-            time_out: n2,
+            operation: EventOperation::Set,
         },
-        Service::CreateMutex => Request::CreateMutex {
-            name,
-            priority: n1,
-            discipline: n2,
+        Service::ResetEvent => Request::Event {
+            event: n1,
+            operation: EventOperation::Reset,
         },
-        Service::AcquireMutex => Request::AcquireMutex {
+        Service::WaitEvent => Request::Event {
+            event: n1,
+            operation: EventOperation::Wait { time_out: n2 },
+        },
+        Service::CreateMutex => create(ObjectKind::Mutex, name, n1, n2, n3),
+        Service::AcquireMutex => Request::Mutex {
             mutex: n1,
-            time_out: n2,
+            operation: MutexOperation::Acquire { time_out: n2 },
         },
-        Service::ReleaseMutex => Request::ReleaseMutex { mutex: n1 },
-        Service::CreateSamplingPort => Request::CreateSamplingPort {
-            name,
-            size: n1,
-            direction: n2,
-            refresh: n3,
+        Service::ReleaseMutex => Request::Mutex {
+            mutex: n1,
+            operation: MutexOperation::Release,
         },
-        Service::WriteSamplingMessage => Request::WriteSamplingMessage {
+        Service::CreateSamplingPort => create(ObjectKind::SamplingPort, name, n1, n2, n3),
+        Service::WriteSamplingMessage => Request::SamplingPort {
             port: n1,
-            length: n2,
-            message,
+            operation: SamplingOperation::Write {
+                length: n2,
+                message,
+            },
         },
-        Service::ReadSamplingMessage => Request::ReadSamplingMessage { port: n1 },
-        Service::CreateQueuingPort => Request::CreateQueuingPort {
-            name,
-            size: n1,
-            capacity: n2,
-            direction_and_discipline: n3,
-        },
-        Service::SendQueuingMessage => Request::SendQueuingMessage {
+        Service::ReadSamplingMessage => Request::SamplingPort {
             port: n1,
-            length: n2,
-            time_out: n3,
-            message,
+            operation: SamplingOperation::Read,
         },
-        Service::ReceiveQueuingMessage => Request::ReceiveQueuingMessage {
+        Service::CreateQueuingPort => create(ObjectKind::QueuingPort, name, n1, n2, n3),
+        Service::SendQueuingMessage => Request::QueuingPort {
             port: n1,
-            time_out: n2,
+            operation: QueuingOperation::Send {
+                length: n2,
+                time_out: n3,
+                message,
+            },
+        },
+        Service::ReceiveQueuingMessage => Request::QueuingPort {
+            port: n1,
+            operation: QueuingOperation::Receive { time_out: n2 },
         },
         Service::GetBufferId => ask_id(ObjectKind::Buffer, name),
         Service::GetBufferStatus => ask_status(ObjectKind::Buffer, n1),
@@ -201,6 +204,50 @@ fn fill_request(
         Service::GetQueuingPortId => ask_id(ObjectKind::QueuingPort, name),
         Service::GetQueuingPortStatus => ask_status(ObjectKind::QueuingPort, n1),
     }
+}
+
+// The request of a service that names a process.
+fn on_process(process: i64, operation: ProcessOperation) -> Request
+    ensures { result ≡ Request.Process process operation }
+{
+    Request::Process { process, operation }
+}
+
+// The request that creates one of a kind, from its name and its numbers.
+#[tactic(auto, unfolding(crate::specs::Arguments::request_of))]
+fn create(kind: ObjectKind, name: Name, n1: i64, n2: i64, n3: i64) -> Request
+    ensures { result ≡ request_of (creation_service kind) n1 n2 n3 name [] }
+{
+    let object = match kind {
+        ObjectKind::Buffer => NewObject::Buffer {
+            size: n1,
+            capacity: n2,
+            discipline: n3,
+        },
+        ObjectKind::Blackboard => NewObject::Blackboard { size: n1 },
+        ObjectKind::Semaphore => NewObject::Semaphore {
+            value: n1,
+            maximum: n2,
+            discipline: n3,
+        },
+        ObjectKind::Event => NewObject::Event,
+        ObjectKind::Mutex => NewObject::Mutex {
+            priority: n1,
+            discipline: n2,
+        },
+        ObjectKind::SamplingPort => NewObject::SamplingPort {
+            size: n1,
+            direction: n2,
+            refresh: n3,
+        },
+        ObjectKind::QueuingPort => NewObject::QueuingPort {
+            size: n1,
+            capacity: n2,
+            direction: n3.rem_euclid(2),
+            discipline: n3.div_euclid(2),
+        },
+    };
+    Request::Create { name, object }
 }
 
 // The request for the number of what has this name.

@@ -1,16 +1,17 @@
 // Events.
 
 ghost use Rattle.std.specs.Prelude.{◌≡◌, ◌↔◌, [], false, IfErr, IfOk, IsTrue, OnErr, OnOk};
+ghost use Rattle.apex_types.specs.declared.operation.EventOperation.TheVariants as on_event;
 ghost use Rattle.apex_types.specs.declared.record.Out.TheVariants as out;
 ghost use Rattle.apex_machine.specs.Demands.{AllHold, answer_demands};
-ghost use Rattle.apex_machine.specs.Objects.{event_reset, event_set, event_waited};
+ghost use Rattle.apex_machine.specs.Objects.{event_effect};
 ghost use Rattle.apex_machine.specs.Statuses.{event_status};
-ghost use Rattle.wait_set.specs.Actors.{OwesNothing, Refuses, entry_with};
+ghost use Rattle.wait_set.specs.Actors.{OwesNothing, Refuses, entry_with, joined_by, left_by};
 ghost use Rattle.wait_set.specs.Sets.{IsNew};
 ghost use Rattle.semaphore_event.specs.Events as rules;
 
 use apex_machine::Status;
-use apex_types::{Claim, Discipline, Name, Request, Who};
+use apex_types::{Claim, Discipline, EventOperation, Name, Who};
 use std::alloc::Global;
 use std::marker::Model;
 use wait_set::{Actor, ApexObject, Effect, Given, Named, ObjFault, WaitSet, judge_waking_all};
@@ -70,10 +71,10 @@ impl Event {
 
     // SET_EVENT: the event is up, and all who wait for it go on.
     fn set(&mut self, claim: &Claim) -> Result<Effect, ObjFault>
-        ensures ok { OnOk result (AllHold (answer_demands (event_set self.old.waiters).answer claim.now)) }
-        ensures after { OnOk result (self.new ≡ rules.after_set claim.now self.old) }
+        ensures ok { OnOk result (AllHold (answer_demands (event_effect on_event.Set self.old).answer claim.now)) }
+        ensures after { OnOk result (self.new ≡ record (event_effect on_event.Set self.old).next { waiters = left_by claim.now self.old.waiters }) }
         ensures waits { IfOk result (λ effect. IsTrue effect.waits ↔ (claim.now.out ≡ out.Waits)) }
-        ensures refused { IfErr result (Refuses (answer_demands (event_set self.old.waiters).answer claim.now)) }
+        ensures refused { IfErr result (Refuses (answer_demands (event_effect on_event.Set self.old).answer claim.now)) }
         ensures unchanged { OnErr result (self.new ≡ self.old) }
     {
         judge_waking_all(&self.waiters, claim).map_err(ObjFault::Unlawful)?;
@@ -84,10 +85,10 @@ impl Event {
 
     // RESET_EVENT: the event is down.
     fn reset(&mut self, claim: &Claim) -> Result<Effect, ObjFault>
-        ensures ok { OnOk result (AllHold (answer_demands event_reset.answer claim.now)) }
-        ensures after { OnOk result (self.new ≡ rules.after_reset claim.now self.old) }
+        ensures ok { OnOk result (AllHold (answer_demands (event_effect on_event.Reset self.old).answer claim.now)) }
+        ensures after { OnOk result (self.new ≡ record (event_effect on_event.Reset self.old).next { waiters = left_by claim.now self.old.waiters }) }
         ensures waits { IfOk result (λ effect. IsTrue effect.waits ↔ (claim.now.out ≡ out.Waits)) }
-        ensures refused { IfErr result (Refuses (answer_demands event_reset.answer claim.now)) }
+        ensures refused { IfErr result (Refuses (answer_demands (event_effect on_event.Reset self.old).answer claim.now)) }
         ensures unchanged { OnErr result (self.new ≡ self.old) }
     {
         Given::done().judge(claim).map_err(ObjFault::Unlawful)?;
@@ -99,10 +100,10 @@ impl Event {
     // WAIT_EVENT: an event that is up lets its caller go on; else the caller waits.
     fn wait(&mut self, actor: Actor, time_out: i64, claim: &Claim) -> Result<Effect, ObjFault>
         requires new { IsNew (entry_with actor []) self.old.waiters }
-        ensures ok { OnOk result (AllHold (answer_demands (event_waited time_out self.old.up).answer claim.now)) }
-        ensures after { OnOk result (self.new ≡ rules.after_wait actor time_out claim.now self.old) }
+        ensures ok { OnOk result (AllHold (answer_demands (event_effect (on_event.Wait time_out) self.old).answer claim.now)) }
+        ensures after { OnOk result (self.new ≡ record (event_effect (on_event.Wait time_out) self.old).next { waiters = joined_by actor claim.now [] self.old.waiters }) }
         ensures waits { IfOk result (λ effect. IsTrue effect.waits ↔ (claim.now.out ≡ out.Waits)) }
-        ensures refused { IfErr result (Refuses (answer_demands (event_waited time_out self.old.up).answer claim.now)) }
+        ensures refused { IfErr result (Refuses (answer_demands (event_effect (on_event.Wait time_out) self.old).answer claim.now)) }
         ensures unchanged { OnErr result (self.new ≡ self.old) }
     {
         let given = if self.up {
@@ -127,7 +128,7 @@ impl Named for Event {
 }
 
 impl ApexObject for Event {
-    ghost serves = { rules.serves };
+    type Operation = EventOperation;
 
     ghost owes = { OwesNothing };
 
@@ -142,14 +143,13 @@ impl ApexObject for Event {
     fn apply(
         &mut self,
         actor: Actor,
-        request: &Request,
+        operation: &EventOperation,
         claim: &Claim,
     ) -> Result<Effect, ObjFault> {
-        match request {
-            Request::SetEvent { .. } => self.set(claim),
-            Request::ResetEvent { .. } => self.reset(claim),
-            Request::WaitEvent { time_out, .. } => self.wait(actor, *time_out, claim),
-            _ => unreachable!(),
+        match operation {
+            EventOperation::Set => self.set(claim),
+            EventOperation::Reset => self.reset(claim),
+            EventOperation::Wait { time_out } => self.wait(actor, *time_out, claim),
         }
     }
 

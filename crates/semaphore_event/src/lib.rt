@@ -8,8 +8,8 @@
 //!
 //! ```text
 //! let mut lock = Semaphore::new(alloc, name, 1, 1, Discipline::Fifo);
-//! let wait = Request::WaitSemaphore { semaphore: 1, time_out: -1 };
-//! let signal = Request::SignalSemaphore { semaphore: 1 };
+//! let wait = SemaphoreOperation::Wait { time_out: -1 };
+//! let signal = SemaphoreOperation::Signal;
 //!
 //! // Process 1 takes the one that there is, and process 2 waits.
 //! lock.apply(first, &wait, &done)?;            // Effect { waits: false }

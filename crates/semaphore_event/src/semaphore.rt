@@ -1,16 +1,17 @@
 // Counting semaphores.
 
 ghost use Rattle.std.specs.Prelude.{◌≡◌, ◌↔◌, [], IfErr, IfOk, IsTrue, OnErr, OnOk};
+ghost use Rattle.apex_types.specs.declared.operation.SemaphoreOperation.TheVariants as on_semaphore;
 ghost use Rattle.apex_types.specs.declared.record.Out.TheVariants as out;
 ghost use Rattle.apex_machine.specs.Demands.{AllHold, answer_demands};
-ghost use Rattle.apex_machine.specs.Objects.{semaphore_waited};
+ghost use Rattle.apex_machine.specs.Objects.{semaphore_effect};
 ghost use Rattle.apex_machine.specs.Statuses.{semaphore_status};
-ghost use Rattle.wait_set.specs.Actors.{OwesNothing, Refuses, entry_with};
+ghost use Rattle.wait_set.specs.Actors.{OwesNothing, Refuses, entry_with, joined_by, left_by};
 ghost use Rattle.wait_set.specs.Sets.{IsNew};
 ghost use Rattle.semaphore_event.specs.Semaphores as rules;
 
 use apex_machine::Status;
-use apex_types::{Claim, Code, Discipline, Name, Request, Who};
+use apex_types::{Claim, Code, Discipline, Name, SemaphoreOperation, Who};
 use std::alloc::Global;
 use std::marker::Model;
 use wait_set::{Actor, ApexObject, Effect, Given, Named, ObjFault, WaitSet};
@@ -87,10 +88,10 @@ impl Semaphore {
     // WAIT_SEMAPHORE: one is taken of a value above 0; else the caller waits.
     fn wait(&mut self, actor: Actor, time_out: i64, claim: &Claim) -> Result<Effect, ObjFault>
         requires new { IsNew (entry_with actor []) self.old.waiters }
-        ensures ok { OnOk result (AllHold (answer_demands (semaphore_waited time_out self.old.value).answer claim.now)) }
-        ensures after { OnOk result (self.new ≡ rules.after_wait actor time_out claim.now self.old) }
+        ensures ok { OnOk result (AllHold (answer_demands (semaphore_effect (on_semaphore.Wait time_out) self.old).answer claim.now)) }
+        ensures after { OnOk result (self.new ≡ record (semaphore_effect (on_semaphore.Wait time_out) self.old).next { waiters = joined_by actor claim.now [] self.old.waiters }) }
         ensures waits { IfOk result (λ effect. IsTrue effect.waits ↔ (claim.now.out ≡ out.Waits)) }
-        ensures refused { IfErr result (Refuses (answer_demands (semaphore_waited time_out self.old.value).answer claim.now)) }
+        ensures refused { IfErr result (Refuses (answer_demands (semaphore_effect (on_semaphore.Wait time_out) self.old).answer claim.now)) }
         ensures unchanged { OnErr result (self.new ≡ self.old) }
     {
         let given = if self.value > 0 {
@@ -108,10 +109,10 @@ impl Semaphore {
 
     // SIGNAL_SEMAPHORE: the first who waits goes on; else one is added; at the maximum nothing is done.
     fn signal(&mut self, claim: &Claim) -> Result<Effect, ObjFault>
-        ensures ok { OnOk result (AllHold (answer_demands (rules.signal self.old).answer claim.now)) }
-        ensures after { OnOk result (self.new ≡ rules.after_signal claim.now self.old) }
+        ensures ok { OnOk result (AllHold (answer_demands (semaphore_effect on_semaphore.Signal self.old).answer claim.now)) }
+        ensures after { OnOk result (self.new ≡ record (semaphore_effect on_semaphore.Signal self.old).next { waiters = left_by claim.now self.old.waiters }) }
         ensures waits { IfOk result (λ effect. IsTrue effect.waits ↔ (claim.now.out ≡ out.Waits)) }
-        ensures refused { IfErr result (Refuses (answer_demands (rules.signal self.old).answer claim.now)) }
+        ensures refused { IfErr result (Refuses (answer_demands (semaphore_effect on_semaphore.Signal self.old).answer claim.now)) }
         ensures unchanged { OnErr result (self.new ≡ self.old) }
     {
         let first = self.waiters.first().map(|entry| entry.who);
@@ -139,7 +140,7 @@ impl Named for Semaphore {
 }
 
 impl ApexObject for Semaphore {
-    ghost serves = { rules.serves };
+    type Operation = SemaphoreOperation;
 
     ghost owes = { OwesNothing };
 
@@ -154,13 +155,12 @@ impl ApexObject for Semaphore {
     fn apply(
         &mut self,
         actor: Actor,
-        request: &Request,
+        operation: &SemaphoreOperation,
         claim: &Claim,
     ) -> Result<Effect, ObjFault> {
-        match request {
-            Request::WaitSemaphore { time_out, .. } => self.wait(actor, *time_out, claim),
-            Request::SignalSemaphore { .. } => self.signal(claim),
-            _ => unreachable!(),
+        match operation {
+            SemaphoreOperation::Wait { time_out } => self.wait(actor, *time_out, claim),
+            SemaphoreOperation::Signal => self.signal(claim),
         }
     }
 

@@ -1,5 +1,5 @@
 -- The entry of the least rank is the one that goes on first.
-use Rattle.std.proofs.Common.{◌≡◌, ◌<◌, ℕ, List, [], ◌∷◌, Option, Some, None, Bool, true, false, ◌||◌, ◌&&◌, nat_eq, nat_lt, if◌then◌else◌, refl, sym, ap, ◌∙◌, subst, length, arith, inl, inr, true≢false}
+use Rattle.std.proofs.Common.{◌≡◌, ◌<◌, ℕ, List, [], ◌∷◌, Option, Some, None, true, false, ◌||◌, ◌&&◌, nat_eq, nat_lt, refl, sym, ap, ◌∙◌, subst, length, arith, inl, inr, true≢false}
 use Rattle.std.proofs.lemmas.Bool.{and_from, and_parts, cases_Bool, eqb-true, eq-eqb}
 use Rattle.std.proofs.lemmas.Bool.Decides.{nat_tests}
 use Rattle.std.specs.BTreeMap.{is_at}
@@ -23,7 +23,6 @@ use Rattle.apex_machine.specs.State.{is_named, is_same}
 use Rattle.std.specs.Option.{is_some}
 use Rattle.wait_set.proofs.Maps.{any-same}
 use Rattle.wait_set.proofs.Orders.{number_is, precedes-rank, rank_above, rank_is, rank_precedes}
-use Rattle.wait_set.proofs.Tests.{neither_first}
 
 -- a rank is itself
 pub rank_itself : (rank : Rank) → is_rank rank rank ≡ true

@@ -1,5 +1,5 @@
 -- The laws on waiting sets.
-use Rattle.std.proofs.Common.{◌≡◌, ◌<◌, List, [], ◌∷◌, ◌++◌, Bool, true, false, nat_lt, refl, ap, arith}
+use Rattle.std.proofs.Common.{◌≡◌, ◌<◌, List, [], ◌∷◌, ◌++◌, true, nat_lt, refl, ap, arith}
 use Rattle.std.proofs.lemmas.Bool.Decides.{nat_tests}
 use Rattle.apex_machine.specs.declared.state.Entry.{Entry}
 use Rattle.wait_set.specs.Laws.{EntersLast, RisingIsListOfWaiters, StandBefore}

@@ -1,9 +1,8 @@
 -- What leaving does to entries in the order of their places.
-use Rattle.std.proofs.Common.{◌≡◌, ◌<◌, ◌≤◌, ◌+◌, ℕ, suc, List, [], ◌∷◌, Option, Some, None, Bool, true, false, ◌||◌, nat_eq, nat_lt, if◌then◌else◌, length, get_or, drop, drop-cons, add-one, refl, sym, ap, ◌∙◌, arith, inl, inr, true≢false, cond}
+use Rattle.std.proofs.Common.{◌≡◌, ◌<◌, ◌≤◌, ◌+◌, ℕ, suc, List, [], ◌∷◌, Option, Some, None, Bool, true, false, ◌||◌, nat_eq, if◌then◌else◌, length, get_or, drop, drop-cons, add-one, refl, sym, ap, ◌∙◌, arith, inl, inr, true≢false}
 use Rattle.std.proofs.Math.ListN.{drop_of_length-le}
-use Rattle.std.proofs.lemmas.Bool.{and_parts, cases_Bool, eqb-true, eq-eqb}
-use Rattle.std.proofs.lemmas.Bool.Decides.{nat_tests}
-use Rattle.std.specs.Option.{IsSome, is_some}
+use Rattle.std.proofs.lemmas.Bool.{and_parts, cases_Bool, eqb-true}
+use Rattle.std.specs.Option.{is_some}
 use Rattle.apex_types.specs.declared.discipline.Discipline.{Discipline}
 use Rattle.apex_types.specs.declared.record.Who.{Who}
 use Rattle.apex_machine.specs.declared.state.Entry.{Entry}
@@ -18,7 +17,7 @@ use Rattle.wait_set.specs.declared.object.Actor.{Actor}
 use Rattle.wait_set.specs.Actors.{entry_with, joined_by}
 use Rattle.wait_set.specs.Kept.{has_rank, is_rank, place_of}
 use Rattle.wait_set.specs.Ranks.{rank_of}
-use Rattle.wait_set.specs.Sets.{NobodyTwice, PlacesRise, StandBehind, entered, entry_of, has_place, waiter_of, without_found, without_named, without_one}
+use Rattle.wait_set.specs.Sets.{NobodyTwice, PlacesRise, StandBehind, entered, entry_of, waiter_of, without_found, without_named, without_one}
 use Rattle.wait_set.proofs.Orders.{number_swap}
 use Rattle.wait_set.proofs.Tests.{neither, neither_first, neither_later}
 use Rattle.wait_set.proofs.WaitersOf.{same_is, same_itself, same_swap, stands-named}

@@ -1,16 +1,14 @@
 -- What the maps of a waiting set hold after a change of each.
-use Rattle.std.proofs.Common.{◌≡◌, ◌<◌, ℕ, List, [], ◌∷◌, Option, Some, None, Bool, true, false, ◌||◌, nat_eq, nat_lt, if◌then◌else◌, refl, sym, ap, ◌∙◌, arith, inl, inr, true≢false, cond}
-use Rattle.std.proofs.lemmas.Bool.{and_parts, cases_Bool, eqb-true, eq-eqb}
+use Rattle.std.proofs.Common.{◌≡◌, ◌<◌, ℕ, List, [], ◌∷◌, Option, Some, Bool, true, false, nat_eq, nat_lt, if◌then◌else◌, refl, sym, ap, ◌∙◌, arith, inl, inr}
+use Rattle.std.proofs.lemmas.Bool.{cases_Bool, eq-eqb}
 use Rattle.std.proofs.lemmas.Bool.Decides.{nat_tests}
 use Rattle.std.specs.BTreeMap.{BTreeMap, UpdatesBy, insert_entry, is_at}
 use Rattle.std.specs.BTreeSet.{BTreeSet}
 use Rattle.std.specs.BTreeSet as set
 use Rattle.std.specs.List.{list_any}
 use Rattle.std.specs.Map.{lookup, remove_entry, values_of}
-use Rattle.std.specs.Option.{is_some}
-use Rattle.std.specs.Ordering.{is_eq, nat_cmp}
+use Rattle.std.specs.Ordering.{nat_cmp}
 use Rattle.std.specs.declared.cmp.Ordering.TheVariants.{Greater, Less}
-use Rattle.apex_types.specs.declared.discipline.Discipline.{Discipline}
 use Rattle.apex_types.specs.declared.record.Who.{Who}
 use Rattle.apex_types.specs.contracts.record.WhoOrd.TheImpl as who_order
 use Rattle.apex_machine.specs.declared.state.Entry.{Entry}
@@ -19,13 +17,11 @@ use Rattle.apex_machine.specs.Demands.{stands_in}
 use Rattle.apex_machine.specs.State.{is_named, is_same}
 use Rattle.wait_set.specs.declared.rank.Rank.{Rank}
 use Rattle.wait_set.specs.contracts.rank.RankOrd.TheImpl as rank_order
-use Rattle.wait_set.specs.Kept.{IsKept, by_place, has_rank, is_rank, place_of}
-use Rattle.wait_set.specs.Ranks.{rank_of}
-use Rattle.wait_set.specs.Sets.{IsNew, NobodyTwice, PlacesRise, entered, entry_of, has_place, without_one}
-use Rattle.wait_set.proofs.Entries.{found-stands, has_rank-entered, once-entered, place_of-entered, rising-entered}
-use Rattle.wait_set.proofs.Leaving.{found-behind, found-entry, has_rank-without, once-without, place_of-without, rank_swap, rising-without, without-absent}
-use Rattle.wait_set.proofs.Orders.{number_is, number_swap, rank_is, who_is}
-use Rattle.wait_set.proofs.Tests.{neither, neither_first, neither_later}
+use Rattle.wait_set.specs.Kept.{by_place, is_rank, place_of}
+use Rattle.wait_set.specs.Sets.{NobodyTwice, PlacesRise, entered, entry_of, has_place, without_one}
+use Rattle.wait_set.proofs.Leaving.{found-behind, found-entry, without-absent}
+use Rattle.wait_set.proofs.Orders.{number_is, rank_is, who_is}
+use Rattle.wait_set.proofs.Tests.{neither_first, neither_later}
 use Rattle.wait_set.proofs.WaitersOf.{same_is, same_swap, stands-named}
 
 -- a search by either of two tests that agree

@@ -1,12 +1,11 @@
 -- Who of a partition waits in a set.
-use Rattle.std.proofs.Common.{◌≡◌, ◌<◌, ◌≤◌, ℕ, suc, List, [], ◌∷◌, ◌&&◌, ◌||◌, Option, Some, None, Bool, true, false, nat_eq, nat_lt, length, cond, refl, sym, ap, ◌∙◌, arith, inl, inr, true≢false}
+use Rattle.std.proofs.Common.{◌≡◌, ◌<◌, ◌≤◌, ℕ, List, [], ◌∷◌, ◌&&◌, ◌||◌, Bool, true, false, nat_eq, nat_lt, length, cond, refl, sym, ap, ◌∙◌, arith, inl, inr, true≢false}
 use Rattle.std.proofs.lemmas.Bool.{cases_Bool, eqb-true, eq-eqb}
 use Rattle.std.proofs.lemmas.Bool.Decides.{nat_tests}
 use Rattle.std.specs.BTreeMap.{BTreeMap, get, is_at}
 use Rattle.std.specs.BTreeMap.Range.{IsLeBy, IsRangeOf}
 use Rattle.std.specs.Map.{lookup}
 use Rattle.std.specs.Option.{is_some}
-use Rattle.std.specs.Ordering.{is_gt, nat_cmp, ordering_then}
 use Rattle.std.specs.declared.ops.Bound.TheVariants.{Included, Unbounded}
 use Rattle.apex_types.specs.declared.record.Who.{Who}
 use Rattle.apex_types.specs.contracts.record.WhoOrd.TheImpl as who_order

@@ -1,5 +1,5 @@
 -- Plain facts about tests.
-use Rattle.std.proofs.Common.{◌≡◌, Bool, true, false, ◌||◌, if◌then◌else◌, refl, sym, true≢false}
+use Rattle.std.proofs.Common.{◌≡◌, Bool, true, false, ◌||◌, if◌then◌else◌, refl, true≢false}
 
 -- where neither test holds the first doesn't
 pub neither_first : (one other : Bool) → (one || other) ≡ false → one ≡ false

@@ -1,10 +1,8 @@
 -- Who makes a call on an object, and the object's waiting sets after it.
 use Rattle.std.specs.Prelude.{◌≡◌, ℕ, List, [], ◌∷◌, Option, Some, None, ℤ, if◌then◌else◌, IsTrue}
-use Rattle.apex_types.specs.declared.cause.Cause.{Cause}
 use Rattle.apex_types.specs.declared.cause.Cause.TheVariants as cause
 use Rattle.apex_types.specs.declared.record.Claim.{Claim}
 use Rattle.apex_types.specs.declared.record.Out.{Out}
-use Rattle.apex_types.specs.declared.request.Request.{Request}
 use Rattle.apex_machine.specs.declared.state.Entry.{Entry}
 use Rattle.apex_machine.specs.Answer.{HasValues, NamesExactly, Nothing, Number, Value}
 use Rattle.apex_machine.specs.Demands.{AllHold, Demand, FirstFails}
@@ -19,8 +17,8 @@ abbrev pub entry_with : Actor → List ℕ → Entry
 entry_with actor message = record { who = actor.who; priority = actor.priority; place = actor.place; message = message }
 
 -- an operation asks nothing of its caller and the object
-abbrev pub OwesNothing : {Object : Type 0} → Actor → Request → Object → Type 0
-OwesNothing actor request found = Unit {0}
+abbrev pub OwesNothing : {Operation Object : Type 0} → Actor → Operation → Object → Type 0
+OwesNothing actor operation found = Unit {0}
 
 -- a waiting set after a claim: whose wait ends leaves it
 abbrev pub left_by : Claim → List Entry → List Entry

@@ -1,10 +1,9 @@
 // What all objects share: who makes a call, what an operation says, and the operations themselves.
 
-ghost use Rattle.std.specs.Prelude.{◌≡◌, ◌↔◌, Bool, List, [], IfErr, IfOk, IsTrue, OnErr, OnOk};
+ghost use Rattle.std.specs.Prelude.{◌≡◌, ◌↔◌, List, [], IfErr, IfOk, IsTrue, OnErr, OnOk};
 ghost use Rattle.apex_types.specs.declared.record.Claim.{Claim as ClaimValue};
 ghost use Rattle.apex_types.specs.declared.record.Out.TheVariants as out;
 ghost use Rattle.apex_types.specs.declared.record.Who.{Who as WhoValue};
-ghost use Rattle.apex_types.specs.declared.request.Request.{Request as RequestValue};
 ghost use Rattle.apex_machine.specs.declared.state.Entry.{Entry};
 ghost use Rattle.apex_machine.specs.Answer.{Answer};
 ghost use Rattle.apex_machine.specs.Demands.{AllHold, answer_demands};
@@ -12,7 +11,7 @@ ghost use Rattle.wait_set.specs.declared.object.Actor.{Actor as ActorValue};
 ghost use Rattle.wait_set.specs.Actors.{Refuses, entry_with};
 ghost use Rattle.wait_set.specs.Sets.{IsNewInEach, stands_in_one};
 
-use apex_types::{Cause, Claim, Name, Out, Place, Request, Who};
+use apex_types::{Cause, Claim, Name, Out, Place, Who};
 use thiserror::Error;
 
 /// Who makes a call: the process, its current priority, and the place of the call.
@@ -63,19 +62,19 @@ pub trait Named {
         ensures { result.now ≡ name_of self.now };
 }
 
-/// An object of a partition. Its operations are the requests for it. That no error condition holds is judged before.
+/// An object of a partition. That no error condition holds is judged before an operation on it.
 pub trait ApexObject {
-    // The requests that are operations on it.
-    ghost serves: { RequestValue → Bool };
+    /// What is asked of it.
+    type Operation;
 
     // What an operation asks of its caller and the object.
-    ghost owes: { ActorValue → RequestValue → Self → Type 0 };
+    ghost owes: { ActorValue → Self.Operation → Self → Type 0 };
 
     // What an operation gives its caller. It has no value.
-    ghost answer: { ActorValue → RequestValue → Self → Answer };
+    ghost answer: { ActorValue → Self.Operation → Self → Answer };
 
     // The object after an operation that was accepted, its waiting sets too.
-    ghost after: { ActorValue → RequestValue → ClaimValue → Self → Self };
+    ghost after: { ActorValue → Self.Operation → ClaimValue → Self → Self };
 
     // Its waiting sets.
     ghost sets: { Self → List (List Entry) };
@@ -86,14 +85,18 @@ pub trait ApexObject {
     /// Carries out an operation, where the claim is what it gives its caller.
     ///
     /// Refused, with nothing changed, where the claim is another, or where memory is refused.
-    fn apply(&mut self, actor: Actor, request: &Request, claim: &Claim) -> Result<Effect, ObjFault>
-        requires served { IsTrue (serves request.now) }
+    fn apply(
+        &mut self,
+        actor: Actor,
+        operation: &Self::Operation,
+        claim: &Claim,
+    ) -> Result<Effect, ObjFault>
         requires new { IsNewInEach (entry_with actor []) (sets self.old) }
-        requires owed { owes actor request.now self.old }
-        ensures ok { OnOk result (AllHold (answer_demands (answer actor request.now self.old) claim.now)) }
-        ensures after { OnOk result (self.new ≡ after actor request.now claim.now self.old) }
+        requires owed { owes actor operation.now self.old }
+        ensures ok { OnOk result (AllHold (answer_demands (answer actor operation.now self.old) claim.now)) }
+        ensures after { OnOk result (self.new ≡ after actor operation.now claim.now self.old) }
         ensures waits { IfOk result (λ effect. IsTrue effect.waits ↔ (claim.now.out ≡ out.Waits)) }
-        ensures refused { IfErr result (Refuses (answer_demands (answer actor request.now self.old) claim.now)) }
+        ensures refused { IfErr result (Refuses (answer_demands (answer actor operation.now self.old) claim.now)) }
         ensures unchanged { OnErr result (self.new ≡ self.old) };
 
     /// Takes a process out of the waiting sets, and says whether it stood in one. Takes no memory.

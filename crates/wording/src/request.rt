@@ -2,49 +2,14 @@
 
 use crate::naming::{Ascii, Bytes, kind_name};
 use crate::words::Words;
-use apex_types::Request;
+use apex_types::{
+    BlackboardOperation, BufferOperation, CallerOperation, EventOperation, MutexOperation,
+    NewObject, ProcessOperation, QueuingOperation, Request, SamplingOperation, SemaphoreOperation,
+};
 
 /// Tells a service and what its caller gave it.
 pub fn tell_request(words: &mut Words, request: &Request) {
     words.say(Ascii(request.service().name()));
-    match request {
-        Request::StopSelf | Request::GetMyId | Request::PeriodicWait | Request::GetTime => {}
-        Request::CreateProcess { .. }
-        | Request::CreateBuffer { .. }
-        | Request::CreateBlackboard { .. }
-        | Request::CreateSemaphore { .. }
-        | Request::CreateEvent { .. }
-        | Request::CreateMutex { .. }
-        | Request::CreateSamplingPort { .. }
-        | Request::CreateQueuingPort { .. } => tell_creation(words, request),
-        Request::SendBuffer { .. }
-        | Request::ReceiveBuffer { .. }
-        | Request::DisplayBlackboard { .. }
-        | Request::ReadBlackboard { .. }
-        | Request::ClearBlackboard { .. } => tell_message_object(words, request),
-        Request::WaitSemaphore { .. }
-        | Request::SignalSemaphore { .. }
-        | Request::SetEvent { .. }
-        | Request::ResetEvent { .. }
-        | Request::WaitEvent { .. }
-        | Request::AcquireMutex { .. }
-        | Request::ReleaseMutex { .. } => tell_object(words, request),
-        Request::WriteSamplingMessage { .. }
-        | Request::ReadSamplingMessage { .. }
-        | Request::SendQueuingMessage { .. }
-        | Request::ReceiveQueuingMessage { .. } => tell_port(words, request),
-        Request::GetId { name, .. } => {
-            words.say(format_args!(" of \"{}\"", Ascii(name.as_bytes())));
-        }
-        Request::GetStatus { kind, object } => {
-            words.say(format_args!(" of {} {object}", kind_name(*kind)));
-        }
-        _ => tell_process(words, request),
-    }
-}
-
-// Tells what a creation takes.
-fn tell_creation(words: &mut Words, request: &Request) {
     match request {
         Request::CreateProcess {
             name,
@@ -54,66 +19,112 @@ fn tell_creation(words: &mut Words, request: &Request) {
             " \"{}\" of priority {priority} and period {period}",
             Ascii(name.as_bytes())
         )),
-        Request::CreateBuffer {
-            name,
+        Request::Process { process, operation } => {
+            words.say(format_args!(" of process {process}"));
+            tell_process(words, operation);
+        }
+        Request::Caller(operation) => tell_caller(words, operation),
+        Request::SetPartitionMode { mode } => words.say(format_args!(" to mode {mode}")),
+        Request::Create { name, object } => {
+            words.say(format_args!(" \"{}\"", Ascii(name.as_bytes())));
+            tell_creation(words, object);
+        }
+        Request::Buffer { buffer, operation } => tell_buffer(words, *buffer, operation),
+        Request::Blackboard {
+            blackboard,
+            operation,
+        } => tell_blackboard(words, *blackboard, operation),
+        Request::Semaphore {
+            semaphore,
+            operation,
+        } => tell_semaphore(words, *semaphore, operation),
+        Request::Event { event, operation } => tell_event(words, *event, operation),
+        Request::Mutex { mutex, operation } => tell_mutex(words, *mutex, operation),
+        Request::SamplingPort { port, operation } => tell_sampling(words, *port, operation),
+        Request::QueuingPort { port, operation } => tell_queuing(words, *port, operation),
+        Request::GetId { name, .. } => {
+            words.say(format_args!(" of \"{}\"", Ascii(name.as_bytes())));
+        }
+        Request::GetStatus { kind, object } => {
+            words.say(format_args!(" of {} {object}", kind_name(*kind)));
+        }
+    }
+}
+
+// Tells what a process is to get.
+fn tell_process(words: &mut Words, operation: &ProcessOperation) {
+    match operation {
+        ProcessOperation::InitializeCoreAffinity { core } => {
+            words.say(format_args!(" to core {core}"));
+        }
+        ProcessOperation::SetPriority { priority } => words.say(format_args!(" to {priority}")),
+        ProcessOperation::Start
+        | ProcessOperation::Stop
+        | ProcessOperation::Suspend
+        | ProcessOperation::Resume => {}
+    }
+}
+
+// Tells how long the caller is to wait.
+fn tell_caller(words: &mut Words, operation: &CallerOperation) {
+    match operation {
+        CallerOperation::SuspendSelf { time_out } => {
+            words.say(format_args!(" with time-out {time_out}"));
+        }
+        CallerOperation::TimedWait { delay } => words.say(format_args!(" with delay {delay}")),
+        CallerOperation::StopSelf
+        | CallerOperation::GetMyId
+        | CallerOperation::PeriodicWait
+        | CallerOperation::GetTime => {}
+    }
+}
+
+// Tells what an object or a port is to be like.
+fn tell_creation(words: &mut Words, object: &NewObject) {
+    match object {
+        NewObject::Buffer {
             size,
             capacity,
             discipline,
         } => words.say(format_args!(
-            " \"{}\" of size {size}, capacity {capacity} and discipline {discipline}",
-            Ascii(name.as_bytes())
+            " of size {size}, capacity {capacity} and discipline {discipline}"
         )),
-        Request::CreateBlackboard { name, size } => words.say(format_args!(
-            " \"{}\" of size {size}",
-            Ascii(name.as_bytes())
-        )),
-        Request::CreateSemaphore {
-            name,
+        NewObject::Blackboard { size } => words.say(format_args!(" of size {size}")),
+        NewObject::Semaphore {
             value,
             maximum,
             discipline,
         } => words.say(format_args!(
-            " \"{}\" of value {value}, maximum {maximum} and discipline {discipline}",
-            Ascii(name.as_bytes())
+            " of value {value}, maximum {maximum} and discipline {discipline}"
         )),
-        Request::CreateEvent { name } => {
-            words.say(format_args!(" \"{}\"", Ascii(name.as_bytes())));
-        }
-        Request::CreateMutex {
-            name,
+        NewObject::Event => {}
+        NewObject::Mutex {
             priority,
             discipline,
-        } => words.say(format_args!(
-            " \"{}\" of priority {priority} and discipline {discipline}",
-            Ascii(name.as_bytes())
-        )),
-        Request::CreateSamplingPort {
-            name,
+        } => {
+            words.say(format_args!(" of priority {priority} and discipline {discipline}"));
+        }
+        NewObject::SamplingPort {
             size,
             direction,
             refresh,
         } => words.say(format_args!(
-            " \"{}\" of size {size}, direction {direction} and refresh period {refresh}",
-            Ascii(name.as_bytes())
+            " of size {size}, direction {direction} and refresh period {refresh}"
         )),
-        Request::CreateQueuingPort {
-            name,
+        NewObject::QueuingPort {
             size,
             capacity,
-            direction_and_discipline,
+            direction,
+            discipline,
         } => words.say(format_args!(
-            " \"{}\" of size {size}, capacity {capacity}, direction and discipline {direction_and_discipline}",
-            Ascii(name.as_bytes())
+            " of size {size}, capacity {capacity}, direction {direction}, discipline {discipline}"
         )),
-        _ => {}
     }
 }
 
-// Tells what a call of a buffer or a blackboard takes.
-fn tell_message_object(words: &mut Words, request: &Request) {
-    match request {
-        Request::SendBuffer {
-            buffer,
+fn tell_buffer(words: &mut Words, buffer: i64, operation: &BufferOperation) {
+    match operation {
+        BufferOperation::Send {
             length,
             time_out,
             message,
@@ -121,68 +132,65 @@ fn tell_message_object(words: &mut Words, request: &Request) {
             " to buffer {buffer}, of {} in length {length}, with time-out {time_out}",
             Bytes(message.as_bytes())
         )),
-        Request::ReceiveBuffer { buffer, time_out } => {
+        BufferOperation::Receive { time_out } => {
             words.say(format_args!(" from buffer {buffer} with time-out {time_out}"));
         }
-        Request::DisplayBlackboard {
-            blackboard,
-            length,
-            message,
-        } => words.say(format_args!(
+    }
+}
+
+fn tell_blackboard(words: &mut Words, blackboard: i64, operation: &BlackboardOperation) {
+    match operation {
+        BlackboardOperation::Display { length, message } => words.say(format_args!(
             " on blackboard {blackboard}, of {} in length {length}",
             Bytes(message.as_bytes())
         )),
-        Request::ReadBlackboard {
-            blackboard,
-            time_out,
-        } => words.say(format_args!(" of blackboard {blackboard} with time-out {time_out}")),
-        Request::ClearBlackboard { blackboard } => {
-            words.say(format_args!(" of blackboard {blackboard}"));
+        BlackboardOperation::Read { time_out } => {
+            words.say(format_args!(" of blackboard {blackboard} with time-out {time_out}"));
         }
-        _ => {}
+        BlackboardOperation::Clear => words.say(format_args!(" of blackboard {blackboard}")),
     }
 }
 
-// Tells what a call of a semaphore, an event or a mutex takes.
-fn tell_object(words: &mut Words, request: &Request) {
-    match request {
-        Request::WaitSemaphore {
-            semaphore,
-            time_out,
-        } => words.say(format_args!(" for semaphore {semaphore} with time-out {time_out}")),
-        Request::SignalSemaphore { semaphore } => {
-            words.say(format_args!(" of semaphore {semaphore}"));
+fn tell_semaphore(words: &mut Words, semaphore: i64, operation: &SemaphoreOperation) {
+    match operation {
+        SemaphoreOperation::Wait { time_out } => {
+            words.say(format_args!(" for semaphore {semaphore} with time-out {time_out}"));
         }
-        Request::SetEvent { event } | Request::ResetEvent { event } => {
-            words.say(format_args!(" of event {event}"));
-        }
-        Request::WaitEvent { event, time_out } => {
+        SemaphoreOperation::Signal => words.say(format_args!(" of semaphore {semaphore}")),
+    }
+}
+
+fn tell_event(words: &mut Words, event: i64, operation: &EventOperation) {
+    match operation {
+        EventOperation::Set | EventOperation::Reset => words.say(format_args!(" of event {event}")),
+        EventOperation::Wait { time_out } => {
             words.say(format_args!(" for event {event} with time-out {time_out}"));
         }
-        Request::AcquireMutex { mutex, time_out } => {
-            words.say(format_args!(" of mutex {mutex} with time-out {time_out}"));
-        }
-        Request::ReleaseMutex { mutex } => words.say(format_args!(" of mutex {mutex}")),
-        _ => {}
     }
 }
 
-// Tells what a call through a port takes.
-fn tell_port(words: &mut Words, request: &Request) {
-    match request {
-        Request::WriteSamplingMessage {
-            port,
-            length,
-            message,
-        } => words.say(format_args!(
+fn tell_mutex(words: &mut Words, mutex: i64, operation: &MutexOperation) {
+    match operation {
+        MutexOperation::Acquire { time_out } => {
+            words.say(format_args!(" of mutex {mutex} with time-out {time_out}"));
+        }
+        MutexOperation::Release => words.say(format_args!(" of mutex {mutex}")),
+    }
+}
+
+fn tell_sampling(words: &mut Words, port: i64, operation: &SamplingOperation) {
+    match operation {
+        SamplingOperation::Write { length, message } => words.say(format_args!(
             " at sampling port {port}, of {} in length {length}",
             Bytes(message.as_bytes())
         )),
-        Request::ReadSamplingMessage { port } => {
-            words.say(format_args!(" at sampling port {port}"));
-        }
-        Request::SendQueuingMessage {
-            port,
+        SamplingOperation::Read => words.say(format_args!(" at sampling port {port}")),
+    }
+}
+
+fn tell_queuing(words: &mut Words, port: i64, operation: &QueuingOperation) {
+    match operation {
+        QueuingOperation::Send {
             length,
             time_out,
             message,
@@ -190,29 +198,8 @@ fn tell_port(words: &mut Words, request: &Request) {
             " at queuing port {port}, of {} in length {length}, with time-out {time_out}",
             Bytes(message.as_bytes())
         )),
-        Request::ReceiveQueuingMessage { port, time_out } => {
+        QueuingOperation::Receive { time_out } => {
             words.say(format_args!(" at queuing port {port} with time-out {time_out}"));
         }
-        _ => {}
-    }
-}
-
-// Tells what a call about processes and time takes.
-fn tell_process(words: &mut Words, request: &Request) {
-    match request {
-        Request::InitializeProcessCoreAffinity { process, core } => {
-            words.say(format_args!(" of process {process} to core {core}"));
-        }
-        Request::Start { process }
-        | Request::Stop { process }
-        | Request::Suspend { process }
-        | Request::Resume { process } => words.say(format_args!(" of process {process}")),
-        Request::SuspendSelf { time_out } => words.say(format_args!(" with time-out {time_out}")),
-        Request::SetPriority { process, priority } => {
-            words.say(format_args!(" of process {process} to {priority}"));
-        }
-        Request::TimedWait { delay } => words.say(format_args!(" with delay {delay}")),
-        Request::SetPartitionMode { mode } => words.say(format_args!(" to mode {mode}")),
-        _ => {}
     }
 }

@@ -1,36 +1,67 @@
-// The places in the specification where the rule of a service stands.
+// The places in the specification where the rule of a service is.
 
-use apex_types::{ObjectKind, Request};
+use apex_types::{
+    BlackboardOperation, BufferOperation, CallerOperation, EventOperation, MutexOperation,
+    ObjectKind, ProcessOperation, QueuingOperation, Request, SamplingOperation, SemaphoreOperation,
+};
+
+const SENDING: &str = "part 4, Sending (IsSending)";
+
+const RECEIVING: &str = "part 4, Receiving (IsReceiving)";
+
+const ANSWER: &str = "part 7, what a service gives (IsAnswer)";
 
 /// Where the specification tells what a service gives that meets no error condition.
 pub fn answer_rule(request: &Request) -> &'static str {
     match request {
-        Request::SendBuffer { .. } | Request::SendQueuingMessage { .. } => {
-            "part 4, Sending (IsSending)"
-        }
-        Request::ReceiveBuffer { .. } | Request::ReceiveQueuingMessage { .. } => {
-            "part 4, Receiving (IsReceiving)"
-        }
-        Request::DisplayBlackboard { .. } => "part 4, DISPLAY_BLACKBOARD (IsDisplay)",
-        Request::ReadBlackboard { .. } => "part 4, READ_BLACKBOARD (IsReading)",
-        Request::ClearBlackboard { .. } => "part 4, CLEAR_BLACKBOARD (IsClearing)",
-        Request::WaitSemaphore { .. } => "part 4, WAIT_SEMAPHORE (IsSemaphoreWait)",
-        Request::SignalSemaphore { .. } => "part 4, SIGNAL_SEMAPHORE (IsSignal)",
-        Request::SetEvent { .. } => "part 4, SET_EVENT (IsSetting)",
-        Request::ResetEvent { .. } => "part 4, RESET_EVENT (IsResetting)",
-        Request::WaitEvent { .. } => "part 4, WAIT_EVENT (IsEventWait)",
-        Request::AcquireMutex { .. } => "part 4, ACQUIRE_MUTEX (IsAcquiring)",
-        Request::ReleaseMutex { .. } => "part 4, RELEASE_MUTEX (IsReleasing)",
-        Request::WriteSamplingMessage { .. } => "part 5, WRITE_SAMPLING_MESSAGE (IsWriting)",
-        Request::ReadSamplingMessage { .. } => "part 5, READ_SAMPLING_MESSAGE (IsSampling)",
-        Request::Resume { .. } => "part 7, RESUME (IsResuming)",
+        Request::Process { operation, .. } => match operation {
+            ProcessOperation::Resume => "part 7, RESUME (IsResuming)",
+            ProcessOperation::InitializeCoreAffinity { .. }
+            | ProcessOperation::Start
+            | ProcessOperation::Stop
+            | ProcessOperation::Suspend
+            | ProcessOperation::SetPriority { .. } => ANSWER,
+        },
+        Request::CreateProcess { .. }
+        | Request::Caller(_)
+        | Request::SetPartitionMode { .. }
+        | Request::Create { .. } => ANSWER,
+        Request::Buffer { operation, .. } => match operation {
+            BufferOperation::Send { .. } => SENDING,
+            BufferOperation::Receive { .. } => RECEIVING,
+        },
+        Request::Blackboard { operation, .. } => match operation {
+            BlackboardOperation::Display { .. } => "part 4, DISPLAY_BLACKBOARD (IsDisplay)",
+            BlackboardOperation::Read { .. } => "part 4, READ_BLACKBOARD (IsReading)",
+            BlackboardOperation::Clear => "part 4, CLEAR_BLACKBOARD (IsClearing)",
+        },
+        Request::Semaphore { operation, .. } => match operation {
+            SemaphoreOperation::Wait { .. } => "part 4, WAIT_SEMAPHORE (IsSemaphoreWait)",
+            SemaphoreOperation::Signal => "part 4, SIGNAL_SEMAPHORE (IsSignal)",
+        },
+        Request::Event { operation, .. } => match operation {
+            EventOperation::Set => "part 4, SET_EVENT (IsSetting)",
+            EventOperation::Reset => "part 4, RESET_EVENT (IsResetting)",
+            EventOperation::Wait { .. } => "part 4, WAIT_EVENT (IsEventWait)",
+        },
+        Request::Mutex { operation, .. } => match operation {
+            MutexOperation::Acquire { .. } => "part 4, ACQUIRE_MUTEX (IsAcquiring)",
+            MutexOperation::Release => "part 4, RELEASE_MUTEX (IsReleasing)",
+        },
+        Request::SamplingPort { operation, .. } => match operation {
+            SamplingOperation::Write { .. } => "part 5, WRITE_SAMPLING_MESSAGE (IsWriting)",
+            SamplingOperation::Read => "part 5, READ_SAMPLING_MESSAGE (IsSampling)",
+        },
+        Request::QueuingPort { operation, .. } => match operation {
+            QueuingOperation::Send { .. } => SENDING,
+            QueuingOperation::Receive { .. } => RECEIVING,
+        },
         Request::GetId { .. } => "part 7, the number under a name (number_of)",
         Request::GetStatus {
             kind: ObjectKind::QueuingPort,
             ..
         } => "part 5, GET_QUEUING_PORT_STATUS (channel_status)",
         Request::GetStatus { .. } => "part 7, the status of an object (status_of)",
-        _ => "part 7, what a service gives (IsAnswer)",
     }
 }
 
@@ -38,34 +69,54 @@ pub fn answer_rule(request: &Request) -> &'static str {
 pub fn codes_rule(request: &Request) -> &'static str {
     match request {
         Request::CreateProcess { .. } => "create_process_codes",
-        Request::InitializeProcessCoreAffinity { .. } => "affinity_codes",
-        Request::Start { .. } => "start_codes",
-        Request::Stop { .. } => "stop_codes",
-        Request::Suspend { .. } => "suspend_codes",
-        Request::SuspendSelf { .. } => "suspend_self_codes",
-        Request::Resume { .. } => "resume_codes",
-        Request::SetPriority { .. } => "set_priority_codes",
-        Request::PeriodicWait => "periodic_wait_codes",
-        Request::CreateBuffer { .. } => "create_buffer_codes",
-        Request::CreateBlackboard { .. } => "create_blackboard_codes",
-        Request::CreateSemaphore { .. } => "create_semaphore_codes",
-        Request::CreateEvent { .. } => "create_event_codes",
-        Request::CreateMutex { .. } => "create_mutex_codes",
-        Request::SendBuffer { .. } | Request::DisplayBlackboard { .. } => "message_codes",
-        Request::ReceiveBuffer { .. }
-        | Request::ReadBlackboard { .. }
-        | Request::WaitSemaphore { .. }
-        | Request::WaitEvent { .. } => "object_codes",
-        Request::AcquireMutex { .. } => "acquire_codes",
-        Request::ReleaseMutex { .. } => "release_codes",
-        Request::CreateSamplingPort { .. } => "create_sampling_codes",
-        Request::CreateQueuingPort { .. } => "create_queuing_codes",
-        Request::WriteSamplingMessage { .. } | Request::SendQueuingMessage { .. } => "source_codes",
-        Request::ReadSamplingMessage { .. } | Request::ReceiveQueuingMessage { .. } => {
-            "destination_codes"
-        }
+        Request::Process { operation, .. } => match operation {
+            ProcessOperation::InitializeCoreAffinity { .. } => "affinity_codes",
+            ProcessOperation::Start => "start_codes",
+            ProcessOperation::Stop => "stop_codes",
+            ProcessOperation::Suspend => "suspend_codes",
+            ProcessOperation::Resume => "resume_codes",
+            ProcessOperation::SetPriority { .. } => "set_priority_codes",
+        },
+        Request::Caller(operation) => match operation {
+            CallerOperation::SuspendSelf { .. } => "suspend_self_codes",
+            CallerOperation::PeriodicWait => "periodic_wait_codes",
+            CallerOperation::StopSelf
+            | CallerOperation::GetMyId
+            | CallerOperation::TimedWait { .. }
+            | CallerOperation::GetTime => "condition_codes",
+        },
+        Request::SetPartitionMode { .. } => "condition_codes",
+        Request::Create { .. } => "create_codes",
+        Request::Buffer { operation, .. } => match operation {
+            BufferOperation::Send { .. } => "message_codes",
+            BufferOperation::Receive { .. } => "object_codes",
+        },
+        Request::Blackboard { operation, .. } => match operation {
+            BlackboardOperation::Display { .. } => "message_codes",
+            BlackboardOperation::Read { .. } => "object_codes",
+            BlackboardOperation::Clear => "condition_codes",
+        },
+        Request::Semaphore { operation, .. } => match operation {
+            SemaphoreOperation::Wait { .. } => "object_codes",
+            SemaphoreOperation::Signal => "condition_codes",
+        },
+        Request::Event { operation, .. } => match operation {
+            EventOperation::Set | EventOperation::Reset => "condition_codes",
+            EventOperation::Wait { .. } => "object_codes",
+        },
+        Request::Mutex { operation, .. } => match operation {
+            MutexOperation::Acquire { .. } => "acquire_codes",
+            MutexOperation::Release => "release_codes",
+        },
+        Request::SamplingPort { operation, .. } => match operation {
+            SamplingOperation::Write { .. } => "source_codes",
+            SamplingOperation::Read => "destination_codes",
+        },
+        Request::QueuingPort { operation, .. } => match operation {
+            QueuingOperation::Send { .. } => "source_codes",
+            QueuingOperation::Receive { .. } => "destination_codes",
+        },
         Request::GetId { .. } => "get_id_codes",
         Request::GetStatus { .. } => "get_status_codes",
-        _ => "condition_codes",
     }
 }

@@ -1,134 +1,150 @@
-// The error conditions of the services that create an object.
+// The error conditions of CREATE_BUFFER and its like.
 
-ghost use Rattle.std.specs.Prelude.{◌≡◌, true};
-ghost use Rattle.apex_machine.specs.ObjectConditions as objects;
-ghost use Rattle.apex_machine.specs.ServiceConditions.{condition_codes};
-ghost use Rattle.partition_state.specs.Calls.{creates_object};
+ghost use Rattle.std.specs.Prelude.{◌≡◌, ◌≤◌, ◌++◌, length, option_map};
+ghost use Rattle.apex_machine.specs.CreationConditions as creations;
+ghost use Rattle.apex_machine.specs.PortConditions as configured;
+ghost use Rattle.module_config.specs.Ports.{configured_queuing, configured_sampling};
 
 use super::{creation, is_reached};
 use crate::arguments::{
-    is_capacity, is_discipline, is_maximum, is_priority, is_size, suits_maximum,
+    direction_number, discipline_number, is_capacity, is_discipline, is_maximum, is_number,
+    is_priority, is_size, suits_maximum,
 };
-use apex_types::{Code, Name, PartId, Request, Who};
-use module_config::Config;
+use apex_machine::Direction;
+use apex_types::{Code, Name, NewObject, ObjectKind, PartId};
+use module_config::{Config, QueuingPort, SamplingPort};
 use partition_state::PartitionState;
 use wait_set::Conditions;
 
-/// The error conditions that hold for a call that creates an object.
-pub(super) fn creation_conditions(
+/// CREATE_BUFFER and its like: as each creation, and what it is given.
+pub(super) fn create_conditions(
     config: &Config,
+    number: PartId,
     state: &PartitionState,
-    who: Who,
-    request: &Request,
+    name: &Name,
+    object: &NewObject,
 ) -> Conditions
-    requires { creates_object request.now ≡ true }
-    ensures { result ≡ condition_codes config.now who state.now request.now }
+    ensures { result ≡ creations.create_codes config.now number state.now name.now object.now }
 {
-    let number = who.part;
-    match request {
-        Request::CreateBuffer {
-            name,
-            size,
-            capacity,
-            discipline,
-        } => create_buffer(config, number, state, name, *size, *capacity, *discipline),
-        Request::CreateBlackboard { name, size } => {
-            create_blackboard(config, number, state, name, *size)
+    let kind = object.kind();
+    let is_taken = state.number_of(kind, name).is_some();
+    let is_full = is_full(config, number, state, kind);
+    with_parameters(
+        creation(state, is_taken, is_full),
+        config,
+        number,
+        name,
+        object,
+    )
+}
+
+// Whether as many objects of a kind are created as are configured; of ports those that are configured may be, each once.
+fn is_full(config: &Config, number: PartId, state: &PartitionState, kind: ObjectKind) -> bool
+    ensures { result ≡ creations.is_full config.now number state.now kind }
+{
+    match kind {
+        ObjectKind::Buffer => is_reached(config.buffer_limit(number), state.buffers().len()),
+        ObjectKind::Blackboard => {
+            is_reached(config.blackboard_limit(number), state.blackboards().len())
         }
-        Request::CreateSemaphore {
-            name,
-            value,
-            maximum,
-            discipline,
-        } => create_semaphore(config, number, state, name, *value, *maximum, *discipline),
-        Request::CreateEvent { name } => create_event(config, number, state, name),
-        Request::CreateMutex {
-            name,
-            priority,
-            discipline,
-        } => create_mutex(config, number, state, name, *priority, *discipline),
-        _ => unreachable!(),
+        ObjectKind::Semaphore => is_reached(
+            config.semaphore_limit(number),
+            state.semaphores().len(),
+        ),
+        ObjectKind::Event => is_reached(config.event_limit(number), state.events().len()),
+        ObjectKind::Mutex => is_reached(config.mutex_limit(number), state.mutexes().len()),
+        ObjectKind::SamplingPort | ObjectKind::QueuingPort => false,
     }
 }
 
-// CREATE_BUFFER: as each creation; a size, a capacity and a discipline in range.
-fn create_buffer(
+// These conditions, and those of what a creation is given: of a buffer a size, a capacity and a discipline in range; of a
+// blackboard a size; of a semaphore a maximum and a discipline, and a value that suits the maximum; of a mutex a priority and a
+// discipline; of a port what is configured.
+fn with_parameters(
+    conditions: Conditions,
     config: &Config,
     number: PartId,
-    state: &PartitionState,
     name: &Name,
+    object: &NewObject,
+) -> Conditions
+    requires { length conditions ≤ 3 }
+    ensures { result ≡ conditions ++ creations.parameter_codes config.now number name.now object.now }
+{
+    match object {
+        NewObject::Buffer {
+            size,
+            capacity,
+            discipline,
+        } => conditions
+            .with(!is_size(*size), Code::InvalidParam)
+            .with(!is_capacity(*capacity), Code::InvalidParam)
+            .with(!is_discipline(*discipline), Code::InvalidParam),
+        NewObject::Blackboard { size } => conditions.with(!is_size(*size), Code::InvalidParam),
+        NewObject::Semaphore {
+            value,
+            maximum,
+            discipline,
+        } => conditions
+            .with(!is_maximum(*maximum), Code::InvalidParam)
+            .with(!suits_maximum(*maximum, *value), Code::InvalidParam)
+            .with(!is_discipline(*discipline), Code::InvalidParam),
+        NewObject::Event => conditions,
+        NewObject::Mutex {
+            priority,
+            discipline,
+        } => conditions
+            .with(!is_priority(*priority), Code::InvalidParam)
+            .with(!is_discipline(*discipline), Code::InvalidParam),
+        NewObject::SamplingPort {
+            size,
+            direction,
+            refresh,
+        } => {
+            let port = config.sampling_port(number, name);
+            let is_configured = is_sampling_port(port, *size, *direction, *refresh);
+            conditions.with(!is_configured, Code::InvalidConfig)
+        }
+        NewObject::QueuingPort {
+            size,
+            capacity,
+            direction,
+            discipline,
+        } => {
+            let port = config.queuing_port(number, name);
+            let is_configured = is_queuing_port(port, *size, *capacity, *direction, *discipline);
+            conditions.with(!is_configured, Code::InvalidConfig)
+        }
+    }
+}
+
+// Whether a sampling port is created as it is configured; the refresh period counts at a destination only.
+fn is_sampling_port(port: Option<SamplingPort>, size: i64, direction: i64, refresh: i64) -> bool
+    ensures { result ≡ configured.is_sampling_port (option_map configured_sampling port) size direction refresh }
+{
+    let Some(port) = port else {
+        return false;
+    };
+    let suits_refresh = port.direction == Direction::Source || is_number(refresh, port.refresh);
+    is_number(size, u64::from(port.size))
+        && is_number(direction, direction_number(port.direction))
+        && suits_refresh
+}
+
+// Whether a queuing port is created as it is configured.
+fn is_queuing_port(
+    port: Option<QueuingPort>,
     size: i64,
     capacity: i64,
+    direction: i64,
     discipline: i64,
-) -> Conditions
-    ensures { result ≡ objects.create_buffer_codes config.now number state.now name.now size capacity discipline }
+) -> bool
+    ensures { result ≡ configured.is_queuing_port (option_map configured_queuing port) size capacity direction discipline }
 {
-    let buffers = state.buffers();
-    let is_full = is_reached(config.buffer_limit(number), buffers.len());
-    creation(state, buffers.is_taken(name), is_full)
-        .with(!is_size(size), Code::InvalidParam)
-        .with(!is_capacity(capacity), Code::InvalidParam)
-        .with(!is_discipline(discipline), Code::InvalidParam)
-}
-
-// CREATE_BLACKBOARD: as each creation; a size in range.
-fn create_blackboard(
-    config: &Config,
-    number: PartId,
-    state: &PartitionState,
-    name: &Name,
-    size: i64,
-) -> Conditions
-    ensures { result ≡ objects.create_blackboard_codes config.now number state.now name.now size }
-{
-    let blackboards = state.blackboards();
-    let is_full = is_reached(config.blackboard_limit(number), blackboards.len());
-    creation(state, blackboards.is_taken(name), is_full).with(!is_size(size), Code::InvalidParam)
-}
-
-// CREATE_SEMAPHORE: as each creation; a maximum and a discipline in range, and a value that suits the maximum.
-fn create_semaphore(
-    config: &Config,
-    number: PartId,
-    state: &PartitionState,
-    name: &Name,
-    value: i64,
-    maximum: i64,
-    discipline: i64,
-) -> Conditions
-    ensures { result ≡ objects.create_semaphore_codes config.now number state.now name.now value maximum discipline }
-{
-    let semaphores = state.semaphores();
-    let is_full = is_reached(config.semaphore_limit(number), semaphores.len());
-    creation(state, semaphores.is_taken(name), is_full)
-        .with(!is_maximum(maximum), Code::InvalidParam)
-        .with(!suits_maximum(maximum, value), Code::InvalidParam)
-        .with(!is_discipline(discipline), Code::InvalidParam)
-}
-
-// CREATE_EVENT: as each creation.
-fn create_event(config: &Config, number: PartId, state: &PartitionState, name: &Name) -> Conditions
-    ensures { result ≡ objects.create_event_codes config.now number state.now name.now }
-{
-    let events = state.events();
-    let is_full = is_reached(config.event_limit(number), events.len());
-    creation(state, events.is_taken(name), is_full)
-}
-
-// CREATE_MUTEX: as each creation; a priority and a discipline in range.
-fn create_mutex(
-    config: &Config,
-    number: PartId,
-    state: &PartitionState,
-    name: &Name,
-    priority: i64,
-    discipline: i64,
-) -> Conditions
-    ensures { result ≡ objects.create_mutex_codes config.now number state.now name.now priority discipline }
-{
-    let mutexes = state.mutexes();
-    let is_full = is_reached(config.mutex_limit(number), mutexes.len());
-    creation(state, mutexes.is_taken(name), is_full)
-        .with(!is_priority(priority), Code::InvalidParam)
-        .with(!is_discipline(discipline), Code::InvalidParam)
+    let Some(port) = port else {
+        return false;
+    };
+    is_number(size, u64::from(port.size))
+        && is_number(capacity, u64::from(port.capacity))
+        && is_number(direction, direction_number(port.direction))
+        && is_number(discipline, discipline_number(port.discipline))
 }

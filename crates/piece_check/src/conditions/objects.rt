@@ -1,76 +1,112 @@
-// The error conditions of the services that use an object.
+// The error conditions of uses of buffers, blackboards, semaphores, events and mutexes.
 
-ghost use Rattle.std.specs.Prelude.{◌≡◌, ◌≤◌, ◌++◌, [], length as count_of, nat_lt, option_map, true};
+ghost use Rattle.std.specs.Prelude.{◌≡◌, ◌≤◌, [], length as count_of, nat_lt, option_map};
 ghost use Rattle.std.specs.Option.{option_copied};
+ghost use Rattle.apex_types.specs.declared.request.Request.TheVariants as request;
 ghost use Rattle.apex_machine.specs.Configuration.{Configuration};
 ghost use Rattle.apex_machine.specs.Conditions as shared;
-ghost use Rattle.apex_machine.specs.Conditions.{codes_for, time_out_codes, waiting_codes};
+ghost use Rattle.apex_machine.specs.Conditions.{codes_for};
 ghost use Rattle.apex_machine.specs.ObjectConditions as objects;
 ghost use Rattle.apex_machine.specs.ServiceConditions.{condition_codes};
 ghost use Rattle.apex_machine.specs.State as parts;
 ghost use Rattle.apex_machine.specs.declared.state.Process.{Process as ProcessValue};
-ghost use Rattle.piece_check.specs.Subjects.{uses_object};
 
 use super::with_wait;
 use crate::arguments::{is_length, is_longer, is_time_out};
 use apex_machine::Process;
-use apex_types::{Code, Request, Who};
+use apex_types::{
+    BlackboardOperation, BufferOperation, Code, EventOperation, MutexOperation, SemaphoreOperation,
+    Who,
+};
 use blackboard::Blackboard;
 use buffer::Buffer;
 use mutex_ceiling::Mutex653;
 use partition_state::PartitionState;
 use wait_set::Conditions;
 
-/// The error conditions that hold for a call that uses an object.
-pub(super) fn use_conditions(state: &PartitionState, who: Who, request: &Request) -> Conditions
-    requires { uses_object request.now ≡ true }
-    ensures { (configuration : Configuration) → result ≡ condition_codes configuration who state.now request.now }
+/// SEND_BUFFER and RECEIVE_BUFFER: a created buffer, to send of a size for the message; a time-out that there is; a caller that
+/// may wait.
+pub(super) fn buffer_conditions(
+    state: &PartitionState,
+    who: Who,
+    buffer: i64,
+    operation: &BufferOperation,
+) -> Conditions
+    ensures { (configuration : Configuration) → result ≡ condition_codes configuration who state.now (request.Buffer buffer operation.now) }
 {
-    match request {
-        Request::SendBuffer {
-            buffer,
+    let found = state.buffers().given(buffer);
+    match operation {
+        BufferOperation::Send {
             length,
             time_out,
             ..
-        } => send_buffer(
-            who,
-            state,
-            state.buffers().given(*buffer),
-            *length,
-            *time_out,
-        ),
-        Request::ReceiveBuffer { buffer, time_out } => {
-            wait_for(who, state, state.buffers().given(*buffer), *time_out)
-        }
-        Request::DisplayBlackboard {
-            blackboard,
-            length,
-            ..
-        } => display_blackboard(state.blackboards().given(*blackboard), *length),
-        Request::ReadBlackboard {
-            blackboard,
-            time_out,
-        } => wait_for(
-            who,
-            state,
-            state.blackboards().given(*blackboard),
-            *time_out,
-        ),
-        Request::ClearBlackboard { blackboard } => use_of(state.blackboards().given(*blackboard)),
-        Request::WaitSemaphore {
-            semaphore,
-            time_out,
-        } => wait_for(who, state, state.semaphores().given(*semaphore), *time_out),
-        Request::SignalSemaphore { semaphore } => use_of(state.semaphores().given(*semaphore)),
-        Request::SetEvent { event } | Request::ResetEvent { event } => {
-            use_of(state.events().given(*event))
-        }
-        Request::WaitEvent { event, time_out } => {
-            wait_for(who, state, state.events().given(*event), *time_out)
-        }
-        Request::AcquireMutex { mutex, time_out } => acquire_mutex(who, state, *mutex, *time_out),
-        Request::ReleaseMutex { mutex } => release_mutex(who, state.mutexes().given(*mutex)),
-        _ => unreachable!(),
+        } => { with_wait(message(buffer_size(found), *length), who, state, *time_out) }
+        BufferOperation::Receive { time_out } => wait_for(who, state, found, *time_out),
+    }
+}
+
+/// DISPLAY_BLACKBOARD, READ_BLACKBOARD and CLEAR_BLACKBOARD: a created blackboard, to display of a size for the message; to read,
+/// a time-out that there is and a caller that may wait.
+pub(super) fn blackboard_conditions(
+    state: &PartitionState,
+    who: Who,
+    blackboard: i64,
+    operation: &BlackboardOperation,
+) -> Conditions
+    ensures { (configuration : Configuration) → result ≡ condition_codes configuration who state.now (request.Blackboard blackboard operation.now) }
+{
+    let found = state.blackboards().given(blackboard);
+    match operation {
+        BlackboardOperation::Display { length, .. } => message(blackboard_size(found), *length),
+        BlackboardOperation::Read { time_out } => wait_for(who, state, found, *time_out),
+        BlackboardOperation::Clear => use_of(found),
+    }
+}
+
+/// WAIT_SEMAPHORE and SIGNAL_SEMAPHORE: a created semaphore; to wait, a time-out that there is and a caller that may wait.
+pub(super) fn semaphore_conditions(
+    state: &PartitionState,
+    who: Who,
+    semaphore: i64,
+    operation: &SemaphoreOperation,
+) -> Conditions
+    ensures { (configuration : Configuration) → result ≡ condition_codes configuration who state.now (request.Semaphore semaphore operation.now) }
+{
+    let found = state.semaphores().given(semaphore);
+    match operation {
+        SemaphoreOperation::Wait { time_out } => wait_for(who, state, found, *time_out),
+        SemaphoreOperation::Signal => use_of(found),
+    }
+}
+
+/// SET_EVENT, RESET_EVENT and WAIT_EVENT: a created event; to wait, a time-out that there is and a caller that may wait.
+pub(super) fn event_conditions(
+    state: &PartitionState,
+    who: Who,
+    event: i64,
+    operation: &EventOperation,
+) -> Conditions
+    ensures { (configuration : Configuration) → result ≡ condition_codes configuration who state.now (request.Event event operation.now) }
+{
+    let found = state.events().given(event);
+    match operation {
+        EventOperation::Set | EventOperation::Reset => use_of(found),
+        EventOperation::Wait { time_out } => wait_for(who, state, found, *time_out),
+    }
+}
+
+/// ACQUIRE_MUTEX and RELEASE_MUTEX.
+pub(super) fn mutex_conditions(
+    state: &PartitionState,
+    who: Who,
+    mutex: i64,
+    operation: &MutexOperation,
+) -> Conditions
+    ensures { (configuration : Configuration) → result ≡ condition_codes configuration who state.now (request.Mutex mutex operation.now) }
+{
+    match operation {
+        MutexOperation::Acquire { time_out } => acquire_mutex(who, state, mutex, *time_out),
+        MutexOperation::Release => release_mutex(who, state.mutexes().given(mutex)),
     }
 }
 
@@ -93,32 +129,18 @@ fn wait_for<Object>(
     with_wait(use_of(object), who, state, time_out)
 }
 
-// SEND_BUFFER: a created buffer, of a size for the message; a time-out that there is; a caller that may wait.
-fn send_buffer(
-    who: Who,
-    state: &PartitionState,
-    buffer: Option<&Buffer>,
-    length: i64,
-    time_out: i64,
-) -> Conditions
-    ensures { result ≡ objects.message_codes (option_map (λ (found : parts.Buffer). found.size) (option_copied buffer.entry)) length ++ time_out_codes time_out ++ waiting_codes who state.now time_out }
+// The size of the messages of a buffer, where there is one.
+fn buffer_size(buffer: Option<&Buffer>) -> Option<u16>
+    ensures { result ≡ option_map (λ (found : parts.Buffer). found.size) (option_copied buffer.entry) }
 {
-    let size = match buffer {
-        Some(found) => Some(found.size()),
-        None => None,
-    };
-    with_wait(message(size, length), who, state, time_out)
+    Some(buffer?.size())
 }
 
-// DISPLAY_BLACKBOARD: a created blackboard, of a size for the message.
-fn display_blackboard(blackboard: Option<&Blackboard>, length: i64) -> Conditions
-    ensures { result ≡ objects.message_codes (option_map (λ (found : parts.Blackboard). found.size) (option_copied blackboard.entry)) length }
+// The size of the messages of a blackboard, where there is one.
+fn blackboard_size(blackboard: Option<&Blackboard>) -> Option<u16>
+    ensures { result ≡ option_map (λ (found : parts.Blackboard). found.size) (option_copied blackboard.entry) }
 {
-    let size = match blackboard {
-        Some(found) => Some(found.size()),
-        None => None,
-    };
-    message(size, length)
+    Some(blackboard?.size())
 }
 
 // A message into an object of this size: a created one, of a size for the message; one byte at least.

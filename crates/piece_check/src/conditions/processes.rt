@@ -1,64 +1,67 @@
 // The error conditions of processes, their waits and the partition's mode.
 
-ghost use Rattle.std.specs.Prelude.{◌≡◌, true};
+ghost use Rattle.std.specs.Prelude.{◌≡◌};
 ghost use Rattle.std.specs.Option.{option_copied};
+ghost use Rattle.apex_types.specs.declared.request.Request.TheVariants as request;
 ghost use Rattle.apex_machine.specs.Conditions as shared;
+ghost use Rattle.apex_machine.specs.Configuration.{Configuration};
 ghost use Rattle.apex_machine.specs.DueTimes as due_times;
 ghost use Rattle.apex_machine.specs.ProcessConditions as processes;
 ghost use Rattle.apex_machine.specs.ServiceConditions.{condition_codes};
-ghost use Rattle.piece_check.specs.Subjects.{is_of_processes};
 
-use super::{is_normal, is_reached, may_not_wait};
+use super::{creation, is_normal, is_reached, may_not_wait};
 use crate::arguments::{
     is_mode, is_negative, is_normal_mode, is_period, is_priority, is_process, is_time_out,
     is_warm_start_mode, suits_period,
 };
 use apex_machine::{Mode, Process, Wait};
-use apex_types::{Code, Name, PartId, Request, Who};
+use apex_types::{CallerOperation, Code, Name, PartId, ProcessOperation, Who};
 use module_config::Config;
 use partition_state::PartitionState;
 use wait_set::Conditions;
 
-/// The error conditions that hold for a call of a service of processes, of a wait or of the mode.
+/// START and all other services that name a process.
 pub(super) fn process_conditions(
     config: &Config,
     state: &PartitionState,
     who: Who,
-    request: &Request,
+    process: i64,
+    operation: &ProcessOperation,
 ) -> Conditions
-    requires { is_of_processes request.now ≡ true }
-    ensures { result ≡ condition_codes config.now who state.now request.now }
+    ensures { result ≡ condition_codes config.now who state.now (request.Process process operation.now) }
 {
-    let processes = state.processes();
-    match request {
-        Request::CreateProcess {
-            name,
-            priority,
-            period,
-        } => create_process(config, who.part, state, name, *priority, *period),
-        Request::InitializeProcessCoreAffinity { process, core } => {
-            initialize_affinity(config, who.part, state, *process, *core)
+    let target = state.processes().created(process);
+    match operation {
+        ProcessOperation::InitializeCoreAffinity { core } => {
+            initialize_affinity(config, who.part, state, process, *core)
         }
-        Request::Start { process } => start(processes.created(*process)),
-        Request::Stop { process } => stop(who, processes.created(*process), *process),
-        Request::Suspend { process } => suspend(who, processes.created(*process), *process),
-        Request::SuspendSelf { time_out } => suspend_self(who, state, *time_out),
-        Request::Resume { process } => resume(who, processes.created(*process), *process),
-        Request::SetPriority { process, priority } => {
-            set_priority(processes.created(*process), *priority)
-        }
-        Request::GetMyId => get_my_id(who),
-        Request::TimedWait { delay } => timed_wait(who, state, *delay),
-        Request::PeriodicWait => periodic_wait(who, state),
-        Request::SetPartitionMode { mode } => set_mode(processes.mode(), *mode),
-        Request::StopSelf | Request::GetTime => Conditions::none(),
-        _ => unreachable!(),
+        ProcessOperation::Start => start(target),
+        ProcessOperation::Stop => stop(who, target, process),
+        ProcessOperation::Suspend => suspend(who, target, process),
+        ProcessOperation::Resume => resume(who, target, process),
+        ProcessOperation::SetPriority { priority } => set_priority(target, *priority),
     }
 }
 
-// CREATE_PROCESS: not in NORMAL; a name not yet taken; no more than configured; a priority and a period in range, and a
-// period that suits the partition's.
-fn create_process(
+/// STOP_SELF and all other services that a process asks for itself; STOP_SELF and GET_TIME have no error condition.
+pub(super) fn caller_conditions(
+    state: &PartitionState,
+    who: Who,
+    operation: &CallerOperation,
+) -> Conditions
+    ensures { (configuration : Configuration) → result ≡ condition_codes configuration who state.now (request.Caller operation.now) }
+{
+    match operation {
+        CallerOperation::SuspendSelf { time_out } => suspend_self(who, state, *time_out),
+        CallerOperation::GetMyId => get_my_id(who),
+        CallerOperation::TimedWait { delay } => timed_wait(who, state, *delay),
+        CallerOperation::PeriodicWait => periodic_wait(who, state),
+        CallerOperation::StopSelf | CallerOperation::GetTime => Conditions::none(),
+    }
+}
+
+/// CREATE_PROCESS: as each creation; a priority and a period in range, and a period that suits the partition's.
+pub(super) fn create_process(
     config: &Config,
     number: PartId,
     state: &PartitionState,
@@ -71,10 +74,7 @@ fn create_process(
     let processes = state.processes();
     let is_full = is_reached(config.process_limit(number), processes.len());
     let suits = suits_period(config.period(number), period);
-    Conditions::none()
-        .with(is_normal(processes.mode()), Code::InvalidMode)
-        .with(processes.named(name), Code::NoAction)
-        .with(is_full, Code::InvalidConfig)
+    creation(state, processes.named(name), is_full)
         .with(!is_priority(priority), Code::InvalidParam)
         .with(!is_period(period), Code::InvalidParam)
         .with(!suits, Code::InvalidConfig)
@@ -196,8 +196,8 @@ fn periodic_wait(who: Who, state: &PartitionState) -> Conditions
         .with(may_not_wait(state, who), Code::InvalidMode)
 }
 
-// SET_PARTITION_MODE: a mode that there is; not NORMAL in NORMAL, and not WARM_START in COLD_START.
-fn set_mode(current: Mode, mode: i64) -> Conditions
+/// SET_PARTITION_MODE: a mode that there is; not NORMAL in NORMAL, and not WARM_START in COLD_START.
+pub(super) fn set_mode(current: Mode, mode: i64) -> Conditions
     ensures { result ≡ processes.set_mode_codes current mode }
 {
     Conditions::none()

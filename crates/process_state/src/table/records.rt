@@ -8,15 +8,15 @@ ghost use Rattle.std.specs.Map.{keys_of};
 ghost use Rattle.apex_machine.specs.declared.state.Process.{Process as ProcessValue};
 ghost use Rattle.apex_machine.specs.DueTimes as due_times;
 ghost use Rattle.apex_machine.specs.State.{Partition, each_item, item_at, time_of};
-ghost use Rattle.apex_machine.specs.Processes.{message_handed_over, set_by};
+ghost use Rattle.apex_machine.specs.Processes.{message_handed_over, set_by, set_in};
 ghost use Rattle.apex_machine.specs.After as after;
-ghost use Rattle.process_state.specs.Changes.{only, with_each};
+ghost use Rattle.process_state.specs.Changes.{named, only, with_each};
 ghost use Rattle.process_state.specs.Peers.{peer_woken, stopped_by};
 ghost use Rattle.process_state.specs.HandedOver.{AreCopies};
 ghost use Rattle.process_state.specs.Prepared.{IsPreparedFor, creates_process};
 ghost use Rattle.process_state.specs.Processes.{processes_of};
 ghost use Rattle.process_state.specs.Settled.{settled};
-ghost use Rattle.process_state.specs.Sound.{IsSound, ReleasesSoundly, is_periodic_wait};
+ghost use Rattle.process_state.specs.Sound.{GivesSoundly, IsSound, ReleasesSoundly, is_periodic_wait};
 ghost use Rattle.process_state.specs.Timely.{IsTimely};
 ghost use Rattle.process_state.specs.Transfers.{IsTransferOf};
 
@@ -27,11 +27,13 @@ use crate::message::messages_for;
 use crate::moment::Moment;
 use crate::number::claimed_number;
 use crate::order::is_of;
-use crate::peer::{answers_no_error, wakes};
+use crate::peer::{answers_no_error, stop_of, wakes};
 use crate::prepared::{Prepared, prepared_for};
 use crate::process::next_release;
 use crate::transfer::Transfer;
-use apex_types::{Call, CoreId, Message, PartId, Place, ProcId, Request, Woken};
+use apex_types::{
+    Call, CallerOperation, CoreId, Message, PartId, Place, ProcId, ProcessOperation, Request, Woken,
+};
 use std::alloc::AllocError;
 
 impl ProcTable {
@@ -147,29 +149,50 @@ impl ProcTable {
                     self.create(first_core, number, name, *priority as u8, *own_period)?;
                 }
             }
-            Request::InitializeProcessCoreAffinity { process, core } => {
-                self.set_affinity_named(*process, CoreId::new(*core as u8));
-            }
-            Request::Start { process } => self.start_named(*process, period, moment),
-            Request::Suspend { process } => self.suspend_named(*process),
-            Request::Resume { process } => self.resume_named(*process, moment.place),
-            Request::SetPriority { process, priority } => {
-                self.set_priority_named(*process, moment.place, *priority as u8)
+            Request::Process { process, operation } => {
+                self.serve_target(*process, operation, period, moment)
             }
             Request::SetPartitionMode { .. } => self.normal(period, moment),
-            Request::AcquireMutex { .. } | Request::ReleaseMutex { .. } => self.transfer(transfer),
+            Request::Mutex { .. } => self.transfer(transfer),
             _ => {}
         }
         Ok(())
+    }
+
+    // What a service sets in the process that it names. STOP sets nothing here: `stop_peer` serves it.
+    fn serve_target(
+        &mut self,
+        given: i64,
+        operation: &ProcessOperation,
+        period: u64,
+        moment: &Moment<'_>,
+    )
+        requires timely { IsTimely period moment.now.cores.now }
+        requires sound { GivesSoundly operation.now }
+        ensures { self.new ≡ with_each
+            (named given (λ found. set_in moment.now.place period (time_of moment.now.cores.now found.affinity) self.old.mode operation.now found)) self.old }
+    {
+        match operation {
+            ProcessOperation::InitializeCoreAffinity { core } => {
+                self.set_affinity_named(given, CoreId::new(*core as u8));
+            }
+            ProcessOperation::Start => self.start_named(given, period, moment),
+            ProcessOperation::Stop => {}
+            ProcessOperation::Suspend => self.suspend_named(given),
+            ProcessOperation::Resume => self.resume_named(given, moment.place),
+            ProcessOperation::SetPriority { priority } => {
+                self.set_priority_named(given, moment.place, *priority as u8)
+            }
+        }
     }
 
     // STOP of another process than the caller.
     fn stop_peer(&mut self, call: &Call)
         ensures { self.new ≡ with_each (stopped_by call.now) self.old }
     {
-        if let Request::Stop { process } = &call.request {
-            if answers_no_error(call.claim.out) && *process != call.who.proc.number() as i64 {
-                self.stop_named(*process);
+        if let Some(target) = stop_of(&call.request) {
+            if answers_no_error(call.claim.out) && target != call.who.proc.number() as i64 {
+                self.stop_named(target);
             }
         }
     }
@@ -201,7 +224,7 @@ impl ProcTable {
         // That no number stands twice in the map is known where the map is used.
         let _ = self.processes.len();
         match &call.request {
-            Request::PeriodicWait => match self.proc(call.who.proc) {
+            Request::Caller(CallerOperation::PeriodicWait) => match self.proc(call.who.proc) {
                 Some(process) => next_release(process),
                 None => 0,
             },

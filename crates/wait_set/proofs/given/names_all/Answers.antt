@@ -1,4 +1,3 @@
-use Rattle.std.proofs.Common.{◌≡◌}
 use Rattle.apex_types.specs.Rising.{IsRising}
 use Rattle.wait_set.proofs.WaiterLists.{once-rising}
 use Rattle.wait_set.proofs.given.names_all.Goals as goal

@@ -1,4 +1,4 @@
-use Rattle.std.proofs.Common.{◌≡◌, sym, ◌∙◌, true≢false}
+use Rattle.std.proofs.Common.{sym, ◌∙◌, true≢false}
 use Rattle.wait_set.proofs.WaiterLists.{empty-names, names-empty, names-one, none-named, one-named, several-named}
 use Rattle.wait_set.proofs.named.names_only.Goals as goal
 

@@ -2,7 +2,7 @@
 use Rattle.std.proofs.Common.{◌∙◌, None, Some, sym, ap, nat_eq}
 use Rattle.std.proofs.lemmas.Int.{to_z-of_z}
 use Rattle.std.specs.Map.{set_value}
-use Rattle.object_table.proofs.Numbers.{given-found, given-none, given-some, natural-is}
+use Rattle.object_table.proofs.Numbers.{given-found, given-none, natural-is}
 use Rattle.object_table.proofs.Results.{on_err, on_ok}
 use Rattle.object_table.proofs.Tables.{NumbersFit-written, change-written, kept-written, lookup-item_at}
 use Rattle.object_table.proofs.table.ObjectTable.apply.Goals as goal
@@ -52,7 +52,7 @@ returns-clause-after g c =
     let fits = c.ranges.number in
     let number = simp to_z-of_z at (sym c.object_number.ensures ∙ c.in-Some.is) in
     let found = sym (lookup-item_at c.in-Some.key c.self.inside.objects.entries) ∙ sym c.in-Some-get_mut.ensures.value in
-    let change = g.Object.ApexObject.after c.args.actor c.args.request.now c.args.claim.now in
+    let change = g.Object.ApexObject.after c.args.actor c.args.operation.now c.args.claim.now in
     rw (← c.self.view_is, natural-is c.args.number c.in-Some.key number)
     (on_ok c.apply.result _ _
     (λ is. (c.get_mut.follows.holds c.apply.new.self).0

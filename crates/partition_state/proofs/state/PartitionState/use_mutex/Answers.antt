@@ -1,53 +1,47 @@
 -- The one mutex changes as its operation leaves it.
-use Rattle.std.proofs.Common.{ℕ, refl}
+use Rattle.std.proofs.Common.{ap, ◌∙◌}
 use Rattle.std.proofs.lemmas.Int.{to_z-of_z}
-use Rattle.apex_machine.specs.Demands.{answer_demands}
+use Rattle.apex_machine.specs.Demands.{AllHold, answer_demands}
+use Rattle.apex_machine.specs.Objects.{mutex_effect}
 use Rattle.wait_set.specs.Actors.{Refuses}
-use Rattle.partition_state.specs.Calls.{served_demands}
 use Rattle.partition_state.specs.contracts.state.PartitionState.{the_view}
-use Rattle.partition_state.proofs.Sets.{of_error}
-use Rattle.partition_state.proofs.MutexCalls.{answered, changed, is_new_there, owes_there, transfers}
+use Rattle.partition_state.proofs.ObjectCalls.{actor_of, mutex_new, mutexes_become, owes_there}
+use Rattle.partition_state.proofs.Sets.{answered_by, of_error}
 use Rattle.partition_state.proofs.state.PartitionState.use_mutex.Goals as goal
 
 pub apply-requires-clause-new : goal.apply-requires-clause-new
 apply-requires-clause-new c =
     let fits = c.ranges.mutex in
     let at_work = rw (← c.self.view_is) at c.requires.at_work in
-    simp to_z-of_z (rw c.caller_of-actor.ensures (is_new_there c.args.place _ c.args.call.now.who c.args.call.now.claim.prio c.args.mutex at_work))
+    simp to_z-of_z (rw c.caller_of.ensures (mutex_new c.args.place _ c.args.call.now c.args.mutex at_work))
 
 pub apply-requires-clause-owed : goal.apply-requires-clause-owed
 apply-requires-clause-owed c =
     let fits = c.ranges.mutex in
     let counted = rw (← c.self.view_is) at c.requires.counted in
-    simp to_z-of_z (rw c.caller_of-actor.ensures (owes_there (record { who = c.args.call.now.who; priority = c.args.call.now.claim.prio; place = c.args.place }) c.args.call.now.request _ counted))
+    simp to_z-of_z (rw c.caller_of.ensures (owes_there (actor_of c.args.place c.args.call.now) c.args.operation.now _ counted))
 
 pub returns-in_err-apply-clause-refused : goal.returns-in_err-apply-clause-refused
 returns-in_err-apply-clause-refused c =
     let fits = c.ranges.mutex in
-    let refused = rw c.caller_of-actor.ensures at (simp to_z-of_z at c.in_err-apply.ensures.refused) in
-    let refuses : (now : ℕ) → Refuses (served_demands now c.args.self.now c.args.call.now) c.in_err-apply.field-0.0 =
-    λ now. answered now (record { who = c.args.call.now.who; priority = c.args.call.now.claim.prio; place = c.args.place }) _ _ c.args.call.now.request c.args.mutex
-    (λ answer. Refuses (answer_demands answer c.args.call.now.claim) c.in_err-apply.field-0.0) c.self.view_is c.requires.asked c.requires.found refused in
-    of_error _ _ (λ fault same. rw same refuses) c.from_residual.result c.from_residual.ensures.1
+    let refused = rw c.caller_of.ensures at (simp to_z-of_z at c.in_err-apply.ensures.refused) in
+    of_error _ _ (λ fault same. rw same
+    (answered_by (λ answer. Refuses (answer_demands answer c.args.call.now.claim) c.in_err-apply.field-0.0) (λ found. (mutex_effect c.args.call.now.who.proc c.args.operation.now found).answer) _ c.requires.found
+    (rw (← c.self.view_is) refused))) c.from_residual.result c.from_residual.ensures.1
+
+pub returns-clause-ok : goal.returns-clause-ok
+returns-clause-ok c =
+    let fits = c.ranges.mutex in
+    let ok = rw c.caller_of.ensures at (simp to_z-of_z at c.in_ok-apply.ensures.ok) in
+    answered_by (λ answer. AllHold (answer_demands answer c.args.call.now.claim)) (λ found. (mutex_effect c.args.call.now.who.proc c.args.operation.now found).answer) _ c.requires.found (rw (← c.self.view_is) ok)
 
 pub returns-clause-after : goal.returns-clause-after
 returns-clause-after c =
     let fits = c.ranges.mutex in
     let at_work = rw (← c.self.view_is) at c.requires.at_work in
     let there = rw (← c.self.view_is) at c.requires.found in
-    let ok = rw c.caller_of-actor.ensures at (simp to_z-of_z at c.in_ok-apply.ensures.ok) in
-    let after = rw c.caller_of-actor.ensures at (simp to_z-of_z at c.in_ok-apply.ensures.after) in
+    let ok = rw c.caller_of.ensures at (simp to_z-of_z at c.in_ok-apply.ensures.ok) in
+    let after = rw c.caller_of.ensures at (simp to_z-of_z at c.in_ok-apply.ensures.after) in
     λ configuration.
-    rw (← c.self.view_is)
-    (changed configuration c.args.place _ c.args.call.now c.args.call.now.request c.args.mutex _ refl c.requires.asked at_work ok there after)
-
-pub returns-clause-transfer : goal.returns-clause-transfer
-returns-clause-transfer c =
-    let fits = c.ranges.mutex in
-    let there = rw (← c.self.view_is) at c.requires.found in
-    let after = rw c.caller_of-actor.ensures at (simp to_z-of_z at c.in_ok-apply.ensures.after) in
-    let was = rw (← c.self.view_is) at (simp to_z-of_z at c.mutex_owner-owner.ensures) in
-    let is = simp to_z-of_z at c.transfer_from.ensures in
-    rw (← c.self.view_is)
-    (transfers (record { who = c.args.call.now.who; priority = c.args.call.now.claim.prio; place = c.args.place }) c.args.call.now.claim (the_view c.self.inside) c.args.call.now.request
-    c.args.mutex _ c.mutex_owner-owner.result c.transfer_from.result c.requires.asked there was after is)
+    rw (← c.self.view_is, c.requires.asked)
+    (ap (λ mutexes. record (the_view c.self.inside) { mutexes = mutexes }) (after ∙ mutexes_become c.args.place _ c.args.call.now c.args.mutex c.args.operation.now c.requires.asked at_work there ok))

@@ -9,5 +9,5 @@ returns c =
     let priority = simp to_z-of_z at c.is_priority.ensures in
     let period = simp to_z-of_z at c.is_period.ensures in
     let suits = simp to_z-of_z at c.suits_period-suits.ensures in
-    rw (c.with-6.ensures.value, c.with-5.ensures.value, c.with-4.ensures.value, c.with-3.ensures.value, c.with-2.ensures.value, c.with.ensures.value, c.none.ensures, c.is_normal.ensures, c.mode.ensures, c.named.ensures, c.is_reached-is_full.ensures, c.process_limit.ensures.value, c.len.ensures, priority, period, suits, c.period.ensures.value, c.processes-processes.ensures)
+    rw (c.with-3.ensures.value, c.with-2.ensures.value, c.with.ensures.value, c.creation.ensures.value, c.named.ensures, c.is_reached-is_full.ensures, c.process_limit.ensures.value, c.len.ensures, priority, period, suits, c.period.ensures.value, c.processes-processes.ensures)
     refl

@@ -1,13 +1,13 @@
 -- What fails of the claim fails of the call.
 use Rattle.std.proofs.Common.{◌≡◌, None, rules}
 use Rattle.std.proofs.lemmas.Result.{IfErr-weaker}
-use Rattle.piece_check.proofs.Parting.{TimesFit_behind}
+use Rattle.piece_check.proofs.Parting.{TimesFit_before}
 use Rattle.piece_check.proofs.Passing.{served_fails}
 use Rattle.piece_check.proofs.partition_piece.PartitionPiece.serve.Goals as goal
 
 pub serve-requires-clause-times : goal.serve-requires-clause-times
 serve-requires-clause-times c =
-    rw c.states.ensures (TimesFit_behind c.args.ordered.now.pos c.args.self.now.clock.cores c.requires.place c.requires.holds_before.times)
+    rw c.states.ensures (TimesFit_before c.args.ordered.now.pos c.args.self.now.clock.cores c.requires.place c.requires.holds_before.times)
 
 pub returns-clause-refused : goal.returns-clause-refused
 returns-clause-refused c =

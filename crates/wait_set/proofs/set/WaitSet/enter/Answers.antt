@@ -1,7 +1,4 @@
-use Rattle.std.proofs.Common.{◌≡◌, refl, ap, sym, ◌∙◌, Some}
-use Rattle.std.specs.Map.{values_of}
-use Rattle.wait_set.specs.Kept.{IsKept}
-use Rattle.wait_set.specs.Sets.{IsNew}
+use Rattle.std.proofs.Common.{refl, sym, ◌∙◌}
 use Rattle.wait_set.proofs.Keeping.{Entered, entered-kept, put_back-kept, taken_back-kept}
 use Rattle.wait_set.proofs.Results.{on_err, on_ok}
 use Rattle.wait_set.proofs.set.WaitSet.enter.Goals as goal

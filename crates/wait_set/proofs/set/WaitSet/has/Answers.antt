@@ -1,4 +1,4 @@
-use Rattle.std.proofs.Common.{◌≡◌, ap, ◌∙◌, refl}
+use Rattle.std.proofs.Common.{ap, ◌∙◌, refl}
 use Rattle.std.specs.Option.{is_some}
 use Rattle.wait_set.proofs.Entries.{found-stands}
 use Rattle.wait_set.proofs.Keeping.{asked-place}

@@ -1,4 +1,4 @@
-use Rattle.std.proofs.Common.{◌≡◌, List, sym, ◌∙◌, true≢false}
+use Rattle.std.proofs.Common.{List, sym, ◌∙◌, true≢false}
 use Rattle.std.proofs.lemmas.Map.Entries.{length-values_of}
 use Rattle.std.specs.Map.{values_of}
 use Rattle.apex_machine.specs.declared.state.Entry.{Entry}

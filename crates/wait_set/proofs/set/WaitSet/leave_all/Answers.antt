@@ -1,6 +1,5 @@
-use Rattle.std.proofs.Common.{◌≡◌, nat_eq, ap, ◌∙◌}
+use Rattle.std.proofs.Common.{nat_eq, ap, ◌∙◌}
 use Rattle.std.proofs.lemmas.Bool.{eq-eqb}
-use Rattle.wait_set.specs.Sets.{without_part}
 use Rattle.wait_set.proofs.Members.{shorter, without-one_of}
 use Rattle.wait_set.proofs.set.WaitSet.leave_all.Goals as goal
 

@@ -1,4 +1,4 @@
-use Rattle.std.proofs.Common.{◌≡◌, sym, ◌∙◌}
+use Rattle.std.proofs.Common.{sym, ◌∙◌}
 use Rattle.std.proofs.lemmas.Bool.{eqb-true}
 use Rattle.wait_set.proofs.Members.{another_behind, first-stands, nobody_behind}
 use Rattle.wait_set.proofs.set.WaitSet.member.Goals as goal

@@ -1,8 +1,6 @@
 use Rattle.std.proofs.Common.{◌+◌, drop, sym, ap, ◌∙◌}
-use Rattle.apex_types.specs.declared.record.Who.{Who}
-use Rattle.apex_machine.specs.declared.state.Entry.{Entry}
-use Rattle.wait_set.specs.Sets.{without_named, without_one}
-use Rattle.wait_set.proofs.Leaving.{without-next, without-nobody, without-at, without-end}
+use Rattle.wait_set.specs.Sets.{without_named}
+use Rattle.wait_set.proofs.Leaving.{without-at, without-end}
 use Rattle.wait_set.proofs.set.WaitSet.release.Goals as goal
 
 pub loop-who-preserved : goal.loop-who-preserved

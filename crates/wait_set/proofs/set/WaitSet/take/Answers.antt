@@ -1,4 +1,4 @@
-use Rattle.std.proofs.Common.{◌≡◌, refl, ap, sym, ◌∙◌, List, Some, None, true≢false}
+use Rattle.std.proofs.Common.{◌≡◌, refl, ap, sym, ◌∙◌, List, Some, None}
 use Rattle.std.specs.Map.{values_of}
 use Rattle.std.specs.Option.{is_some}
 use Rattle.apex_machine.specs.declared.state.Entry.{Entry}

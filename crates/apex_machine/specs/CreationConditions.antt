@@ -1,0 +1,52 @@
+-- The error conditions of CREATE_BUFFER and its like.
+use Rattle.std.specs.Prelude.{ℕ, List, [], ◌++◌, length, Bool, false, not, nat_le}
+use Rattle.apex_types.specs.declared.code.Code.{Code}
+use Rattle.apex_types.specs.declared.code.Code.TheVariants as code
+use Rattle.apex_types.specs.declared.object_kind.ObjectKind.{ObjectKind}
+use Rattle.apex_types.specs.declared.object_kind.ObjectKind.TheVariants as kind
+use Rattle.apex_types.specs.declared.operation.{NewObject.NewObject}
+use Rattle.apex_types.specs.Requested.{kind_of}
+use Rattle.apex_machine.specs.Arguments.{is_capacity, is_discipline, is_maximum, is_priority, is_size, suits_maximum}
+use Rattle.apex_machine.specs.Channels.{queuing_port, sampling_port}
+use Rattle.apex_machine.specs.Conditions.{creation_codes, is_taken, when}
+use Rattle.apex_machine.specs.Configuration.{Configuration, object_limit}
+use Rattle.apex_machine.specs.PortConditions.{is_queuing_port, is_sampling_port}
+use Rattle.apex_machine.specs.State.{Partition, name_in, objects_of}
+
+-- whether as many objects of a kind are created as are configured; of ports those that are configured may be, each once
+abbrev pub is_full : Configuration → ℕ → Partition → ObjectKind → Bool
+is_full configuration number partition kind.Buffer = nat_le (object_limit configuration (λ limits. limits.buffers) number) (length partition.buffers)
+is_full configuration number partition kind.Blackboard =
+    nat_le (object_limit configuration (λ limits. limits.blackboards) number) (length partition.blackboards)
+is_full configuration number partition kind.Semaphore = nat_le (object_limit configuration (λ limits. limits.semaphores) number) (length partition.semaphores)
+is_full configuration number partition kind.Event = nat_le (object_limit configuration (λ limits. limits.events) number) (length partition.events)
+is_full configuration number partition kind.Mutex = nat_le (object_limit configuration (λ limits. limits.mutexes) number) (length partition.mutexes)
+is_full configuration number partition kind.SamplingPort = false
+is_full configuration number partition kind.QueuingPort = false
+
+-- what a creation is given: of a buffer a size, a capacity and a discipline in range; of a blackboard a size; of a semaphore a maximum
+-- and a discipline, and a value that suits the maximum; of a mutex a priority and a discipline; of a port what is configured
+abbrev pub parameter_codes : Configuration → ℕ → List ℕ → NewObject → List Code
+parameter_codes configuration number name (NewObject.Buffer size capacity discipline) =
+    when (not (is_size size)) code.InvalidParam
+    ++ when (not (is_capacity capacity)) code.InvalidParam
+    ++ when (not (is_discipline discipline)) code.InvalidParam
+parameter_codes configuration number name (NewObject.Blackboard size) = when (not (is_size size)) code.InvalidParam
+parameter_codes configuration number name (NewObject.Semaphore value maximum discipline) =
+    when (not (is_maximum maximum)) code.InvalidParam
+    ++ when (not (suits_maximum maximum value)) code.InvalidParam
+    ++ when (not (is_discipline discipline)) code.InvalidParam
+parameter_codes configuration number name NewObject.Event = []
+parameter_codes configuration number name (NewObject.Mutex priority discipline) =
+    when (not (is_priority priority)) code.InvalidParam ++ when (not (is_discipline discipline)) code.InvalidParam
+parameter_codes configuration number name (NewObject.SamplingPort size direction refresh) =
+    when (not (is_sampling_port (sampling_port configuration number name) size direction refresh)) code.InvalidConfig
+parameter_codes configuration number name (NewObject.QueuingPort size capacity direction discipline) =
+    when (not (is_queuing_port (queuing_port configuration number name) size capacity direction discipline)) code.InvalidConfig
+
+-- CREATE_BUFFER and its like: as each creation, and what it is given
+abbrev pub create_codes : Configuration → ℕ → Partition → List ℕ → NewObject → List Code
+create_codes configuration number partition name object =
+    creation_codes partition (is_taken (name_in (kind_of object)) name (objects_of partition (kind_of object)))
+    (is_full configuration number partition (kind_of object))
+    ++ parameter_codes configuration number name object
