@@ -11,8 +11,8 @@ use crate::operation::{
 use crate::service::Service;
 use crate::text::Name;
 
-/// A service with its arguments, by what it is about. Numbers are as the caller gave them, in range or not; times are in
-/// ticks, sizes and lengths in bytes.
+/// A service with its arguments, by what it is about. Where it is about a process, an object or a port, the first is the
+/// number of that. Numbers are as the caller gave them, in range or not; times are in ticks, sizes and lengths in bytes.
 #[derive(Debug, Drop)]
 pub enum Request {
     CreateProcess {
@@ -21,58 +21,24 @@ pub enum Request {
         period: i64,
     },
     /// START and all other services that name a process.
-    Process {
-        process: i64,
-        operation: ProcessOperation,
-    },
+    Process(i64, ProcessOperation),
     /// STOP_SELF and all other services that a process asks for itself.
     Caller(CallerOperation),
-    SetPartitionMode {
-        mode: i64,
-    },
+    /// SET_PARTITION_MODE, with the mode.
+    SetPartitionMode(i64),
     /// CREATE_BUFFER and its like.
-    Create {
-        name: Name,
-        object: NewObject,
-    },
-    Buffer {
-        buffer: i64,
-        operation: BufferOperation,
-    },
-    Blackboard {
-        blackboard: i64,
-        operation: BlackboardOperation,
-    },
-    Semaphore {
-        semaphore: i64,
-        operation: SemaphoreOperation,
-    },
-    Event {
-        event: i64,
-        operation: EventOperation,
-    },
-    Mutex {
-        mutex: i64,
-        operation: MutexOperation,
-    },
-    SamplingPort {
-        port: i64,
-        operation: SamplingOperation,
-    },
-    QueuingPort {
-        port: i64,
-        operation: QueuingOperation,
-    },
+    Create(Name, NewObject),
+    Buffer(i64, BufferOperation),
+    Blackboard(i64, BlackboardOperation),
+    Semaphore(i64, SemaphoreOperation),
+    Event(i64, EventOperation),
+    Mutex(i64, MutexOperation),
+    SamplingPort(i64, SamplingOperation),
+    QueuingPort(i64, QueuingOperation),
     /// GET_BUFFER_ID and its like, by the kind of what is asked for.
-    GetId {
-        kind: ObjectKind,
-        name: Name,
-    },
+    GetId(ObjectKind, Name),
     /// GET_BUFFER_STATUS and its like, by the kind of what is asked about.
-    GetStatus {
-        kind: ObjectKind,
-        object: i64,
-    },
+    GetStatus(ObjectKind, i64),
 }
 
 impl Request {
@@ -82,19 +48,19 @@ impl Request {
     {
         match self {
             Request::CreateProcess { .. } => Service::CreateProcess,
-            Request::Process { operation, .. } => operation.service(),
+            Request::Process(_, operation) => operation.service(),
             Request::Caller(operation) => operation.service(),
-            Request::SetPartitionMode { .. } => Service::SetPartitionMode,
-            Request::Create { object, .. } => object.kind().creation_service(),
-            Request::Buffer { operation, .. } => operation.service(),
-            Request::Blackboard { operation, .. } => operation.service(),
-            Request::Semaphore { operation, .. } => operation.service(),
-            Request::Event { operation, .. } => operation.service(),
-            Request::Mutex { operation, .. } => operation.service(),
-            Request::SamplingPort { operation, .. } => operation.service(),
-            Request::QueuingPort { operation, .. } => operation.service(),
-            Request::GetId { kind, .. } => kind.id_service(),
-            Request::GetStatus { kind, .. } => kind.status_service(),
+            Request::SetPartitionMode(..) => Service::SetPartitionMode,
+            Request::Create(_, object) => object.kind().creation_service(),
+            Request::Buffer(_, operation) => operation.service(),
+            Request::Blackboard(_, operation) => operation.service(),
+            Request::Semaphore(_, operation) => operation.service(),
+            Request::Event(_, operation) => operation.service(),
+            Request::Mutex(_, operation) => operation.service(),
+            Request::SamplingPort(_, operation) => operation.service(),
+            Request::QueuingPort(_, operation) => operation.service(),
+            Request::GetId(kind, _) => kind.id_service(),
+            Request::GetStatus(kind, _) => kind.status_service(),
         }
     }
 }

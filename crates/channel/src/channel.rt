@@ -134,19 +134,15 @@ impl Channel {
             place,
         };
         match (&mut self.kind, &call.request) {
-            (Kind::Sampling(channel), Request::SamplingPort { operation, .. }) => {
+            (Kind::Sampling(channel), Request::SamplingPort(_, operation)) => {
                 channel.apply(now, operation, &call.claim)
             }
-            (Kind::Queuing(channel), Request::QueuingPort { operation, .. }) => {
+            (Kind::Queuing(channel), Request::QueuingPort(_, operation)) => {
                 channel.apply(actor, operation, &call.claim)
             }
-            (
-                Kind::Queuing(channel),
-                Request::GetStatus {
-                    kind: ObjectKind::QueuingPort,
-                    ..
-                },
-            ) => { channel.ask(call.who.part, &call.claim) }
+            (Kind::Queuing(channel), Request::GetStatus(ObjectKind::QueuingPort, _)) => {
+                channel.ask(call.who.part, &call.claim)
+            }
             _ => Err(ObjFault::Unlawful(Cause::Chan)),
         }
     }

@@ -48,7 +48,7 @@ pub fn tell_channel(
 // Why a request does not suit a channel.
 fn unsuited(channel: &Channel, request: &Request) -> &'static str {
     match (request, channel.queue()) {
-        (Request::GetStatus { .. }, Some(_)) =>
+        (Request::GetStatus(..), Some(_)) =>
             "the caller's partition is at neither end of the channel",
         _ => "the service is not of the channel's kind",
     }

@@ -97,30 +97,30 @@ pub fn tell_answer(words: &mut Words, state: &PartitionState, now: u64, call: &C
 fn tell_basis(words: &mut Words, state: &PartitionState, now: u64, call: &Call) {
     match &call.request {
         Request::CreateProcess { .. }
-        | Request::SetPartitionMode { .. }
-        | Request::Create { .. }
+        | Request::SetPartitionMode(..)
+        | Request::Create(..)
         // These go through a channel.
-        | Request::SamplingPort { .. }
-        | Request::QueuingPort { .. } => {}
-        Request::Process { process, operation } => {
+        | Request::SamplingPort(..)
+        | Request::QueuingPort(..) => {}
+        Request::Process(process, operation) => {
             tell_target(words, state, call.who, *process, operation);
         }
         Request::Caller(operation) => tell_time(words, state, now, call.who.proc, operation),
-        Request::Buffer { buffer, .. } => tell_object(words, state, ObjectKind::Buffer, *buffer),
-        Request::Blackboard { blackboard, .. } => {
+        Request::Buffer(buffer, _) => tell_object(words, state, ObjectKind::Buffer, *buffer),
+        Request::Blackboard(blackboard, _) => {
             tell_object(words, state, ObjectKind::Blackboard, *blackboard);
         }
-        Request::Semaphore { semaphore, .. } => {
+        Request::Semaphore(semaphore, _) => {
             tell_object(words, state, ObjectKind::Semaphore, *semaphore);
         }
-        Request::Event { event, .. } => tell_object(words, state, ObjectKind::Event, *event),
-        Request::Mutex { mutex, .. } => tell_object(words, state, ObjectKind::Mutex, *mutex),
-        Request::GetId { kind, name } => {
+        Request::Event(event, _) => tell_object(words, state, ObjectKind::Event, *event),
+        Request::Mutex(mutex, _) => tell_object(words, state, ObjectKind::Mutex, *mutex),
+        Request::GetId(kind, name) => {
             if let Some(number) = state.number_of(*kind, name) {
                 tell_object(words, state, *kind, i64::from(number));
             }
         }
-        Request::GetStatus { kind, object } => tell_object(words, state, *kind, *object),
+        Request::GetStatus(kind, object) => tell_object(words, state, *kind, *object),
     }
 }
 
@@ -179,10 +179,10 @@ fn tell_time(
 // Those who wait at the object that a call uses, where the object has a service that ends the waits of all.
 fn all_of<'a>(state: &'a PartitionState, request: &Request) -> Option<&'a WaitSet> {
     match request {
-        Request::Blackboard { blackboard, .. } => {
+        Request::Blackboard(blackboard, _) => {
             Some(state.blackboards().given(*blackboard)?.readers())
         }
-        Request::Event { event, .. } => Some(state.events().given(*event)?.waiters()),
+        Request::Event(event, _) => Some(state.events().given(*event)?.waiters()),
         _ => None,
     }
 }

@@ -64,28 +64,25 @@ impl ConditionWriter<'_> {
                 priority,
                 period,
             } => self.tell_new_process(name, *priority, *period),
-            Request::Process { process, operation } => self.tell_process(*process, operation),
+            Request::Process(process, operation) => self.tell_process(*process, operation),
             Request::Caller(operation) => self.tell_caller(operation),
-            Request::SetPartitionMode { mode } => self.tell_mode(*mode),
-            Request::Create { name, object } => self.tell_creation(name, object),
-            Request::Buffer { buffer, operation } => self.tell_buffer(*buffer, operation),
-            Request::Blackboard {
-                blackboard,
+            Request::SetPartitionMode(mode) => self.tell_mode(*mode),
+            Request::Create(name, object) => self.tell_creation(name, object),
+            Request::Buffer(buffer, operation) => self.tell_buffer(*buffer, operation),
+            Request::Blackboard(blackboard, operation) => self.tell_blackboard(
+                *blackboard,
                 operation,
-            } => self.tell_blackboard(*blackboard, operation),
-            Request::Semaphore {
-                semaphore,
-                operation,
-            } => self.tell_semaphore(*semaphore, operation),
-            Request::Event { event, operation } => self.tell_event(*event, operation),
-            Request::Mutex { mutex, operation } => self.tell_mutex(*mutex, operation),
-            Request::SamplingPort { port, operation } => self.tell_sampling(*port, operation),
-            Request::QueuingPort { port, operation } => self.tell_queuing(*port, operation),
-            Request::GetId { kind, name } => {
+            ),
+            Request::Semaphore(semaphore, operation) => self.tell_semaphore(*semaphore, operation),
+            Request::Event(event, operation) => self.tell_event(*event, operation),
+            Request::Mutex(mutex, operation) => self.tell_mutex(*mutex, operation),
+            Request::SamplingPort(port, operation) => self.tell_sampling(*port, operation),
+            Request::QueuingPort(port, operation) => self.tell_queuing(*port, operation),
+            Request::GetId(kind, name) => {
                 let found = self.state.number_of(*kind, name);
                 self.invalid_config(found.is_none(), "nothing of this kind has the name");
             }
-            Request::GetStatus { kind, object } => self.tell_status(*kind, *object),
+            Request::GetStatus(kind, object) => self.tell_status(*kind, *object),
         }
     }
 

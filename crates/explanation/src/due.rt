@@ -80,7 +80,7 @@ pub fn tell_foreign_waits(words: &mut Words, refusing: &Refusing<'_>, call: &Cal
 // The waiting set of another partition in which a call can end a wait, if there is one.
 fn waiting_set(call: &Call) -> Option<WaitingSet> {
     let channel = call.claim.chan?;
-    let Request::QueuingPort { operation, .. } = &call.request else {
+    let Request::QueuingPort(_, operation) = &call.request else {
         return None;
     };
     Some(match operation {

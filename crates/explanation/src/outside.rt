@@ -12,7 +12,7 @@ pub fn tell_outside(words: &mut Words, state: &PartitionState, call: &Call) {
     );
     words.next_line();
     match &call.request {
-        Request::Process { process, operation } => tell_target(words, state, *process, operation),
+        Request::Process(process, operation) => tell_target(words, state, *process, operation),
         Request::Caller(CallerOperation::StopSelf) => words.say(if call.who.proc.number() == 0 {
             "it is the initialising process, which stops itself"
         } else {

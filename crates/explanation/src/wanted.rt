@@ -136,31 +136,31 @@ fn of_request<'a>(
     request: &Request,
 ) -> Option<Wanted<'a>> {
     let wanted = match request {
-        Request::CreateProcess { .. } | Request::Create { .. } => Wanted::valued(Value::New),
-        Request::Process { process, operation } => of_process(state, who, *process, operation),
+        Request::CreateProcess { .. } | Request::Create(..) => Wanted::valued(Value::New),
+        Request::Process(process, operation) => of_process(state, who, *process, operation),
         Request::Caller(operation) => of_caller(state, now, who.proc, operation),
-        Request::SetPartitionMode { .. } => Wanted::leaving(Out::Never),
-        Request::Buffer { buffer, operation } => {
+        Request::SetPartitionMode(..) => Wanted::leaving(Out::Never),
+        Request::Buffer(buffer, operation) => {
             of_buffer(state.buffers().given(*buffer)?.queue(), operation)
         }
-        Request::Blackboard {
-            blackboard,
+        Request::Blackboard(blackboard, operation) => of_blackboard(
+            state.blackboards().given(*blackboard)?,
             operation,
-        } => of_blackboard(state.blackboards().given(*blackboard)?, operation),
-        Request::Semaphore {
-            semaphore,
+        ),
+        Request::Semaphore(semaphore, operation) => of_semaphore(
+            state.semaphores().given(*semaphore)?,
             operation,
-        } => of_semaphore(state.semaphores().given(*semaphore)?, operation),
-        Request::Event { event, operation } => of_event(state.events().given(*event)?, operation),
-        Request::Mutex { mutex, operation } => {
+        ),
+        Request::Event(event, operation) => of_event(state.events().given(*event)?, operation),
+        Request::Mutex(mutex, operation) => {
             of_mutex(state.mutexes().given(*mutex)?, who.proc, operation)
         }
         // These go through a channel.
-        Request::SamplingPort { .. } | Request::QueuingPort { .. } => Wanted::done(),
-        Request::GetId { kind, name } => {
+        Request::SamplingPort(..) | Request::QueuingPort(..) => Wanted::done(),
+        Request::GetId(kind, name) => {
             Wanted::valued(Value::Number(i64::from(state.number_of(*kind, name)?)))
         }
-        Request::GetStatus { kind, object } => Wanted::reporting(state.status_of(*kind, *object)?),
+        Request::GetStatus(kind, object) => Wanted::reporting(state.status_of(*kind, *object)?),
     };
     Some(wanted)
 }
@@ -288,19 +288,19 @@ pub fn wanted_through<'a>(
     call: &Call,
 ) -> Wanted<'a> {
     match (kind, channel.queue(), &call.request) {
-        (ChannelKind::Sampling { refresh }, _, Request::SamplingPort { operation, .. }) => {
+        (ChannelKind::Sampling { refresh }, _, Request::SamplingPort(_, operation)) => {
             match operation {
                 SamplingOperation::Write { .. } => Wanted::done(),
                 SamplingOperation::Read => sampled(channel, now, *refresh),
             }
         }
-        (ChannelKind::Queuing { .. }, Some(queue), Request::QueuingPort { operation, .. }) => {
+        (ChannelKind::Queuing { .. }, Some(queue), Request::QueuingPort(_, operation)) => {
             match operation {
                 QueuingOperation::Send { time_out, .. } => sent(queue, *time_out),
                 QueuingOperation::Receive { time_out } => received(queue, *time_out),
             }
         }
-        (ChannelKind::Queuing { source, .. }, Some(queue), Request::GetStatus { .. }) => {
+        (ChannelKind::Queuing { source, .. }, Some(queue), Request::GetStatus(..)) => {
             Wanted::reporting(status_at_end(queue, call.who.part == *source))
         }
         // The service is not of the channel's kind.

@@ -53,7 +53,7 @@ impl PartitionState {
         ensures { result ≡ owner_in self.now request.now }
     {
         match request {
-            Request::Mutex { mutex, .. } => self.mutexes.given(*mutex)?.owner(),
+            Request::Mutex(mutex, _) => self.mutexes.given(*mutex)?.owner(),
             _ => None,
         }
     }
@@ -63,7 +63,7 @@ impl PartitionState {
         ensures { TransfersSince owner self.now request.now result }
     {
         match request {
-            Request::Mutex { mutex, .. } => match self.mutexes.given(*mutex) {
+            Request::Mutex(mutex, _) => match self.mutexes.given(*mutex) {
                 Some(found) => transfer_between(owner, found),
                 None => Transfer::none(),
             },

@@ -22,12 +22,11 @@ impl PartitionState {
         ensures { result ≡ channel_of self.now request.now }
     {
         match request {
-            Request::SamplingPort { port, .. } => self.sampling_ports.channel_of(*port),
-            Request::QueuingPort { port, .. } => self.queuing_ports.channel_of(*port),
-            Request::GetStatus {
-                kind: ObjectKind::QueuingPort,
-                object,
-            } => self.queuing_ports.channel_of(*object),
+            Request::SamplingPort(port, _) => self.sampling_ports.channel_of(*port),
+            Request::QueuingPort(port, _) => self.queuing_ports.channel_of(*port),
+            Request::GetStatus(ObjectKind::QueuingPort, object) => self
+                .queuing_ports
+                .channel_of(*object),
             _ => None,
         }
     }
@@ -37,11 +36,7 @@ impl PartitionState {
         requires port { ReadsAtPort call.now call.now.request self.old }
         ensures { self.new ≡ objects_noted call.now call.now.request self.old }
     {
-        if let Request::SamplingPort {
-            port,
-            operation: SamplingOperation::Read,
-        } = &call.request
-        {
+        if let Request::SamplingPort(port, SamplingOperation::Read) = &call.request {
             if is_done(call.claim.out) {
                 self.sampling_ports.note_read(*port, call.claim.val);
             }

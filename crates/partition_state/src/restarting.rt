@@ -18,7 +18,7 @@ pub fn restart_of(call: &Call) -> Option<Mode>
     ensures { result ≡ waiting.restart_of call.now }
 {
     match (&call.request, call.claim.out) {
-        (Request::SetPartitionMode { mode }, Out::Never) => restart_given(*mode),
+        (Request::SetPartitionMode(mode), Out::Never) => restart_given(*mode),
         _ => None,
     }
 }

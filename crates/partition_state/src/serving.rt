@@ -156,41 +156,39 @@ impl PartitionState {
     {
         let (place, claim) = (moment.place, &call.claim);
         match &call.request {
-            Request::Process {
-                process,
-                operation: ProcessOperation::Stop,
-            } => self.stop(place, call, *process),
-            Request::Create { name, object } => self.create(config, call.who, name, object, claim),
-            Request::Buffer { buffer, operation } => {
+            Request::Process(process, ProcessOperation::Stop) => self.stop(place, call, *process),
+            Request::Create(name, object) => self.create(config, call.who, name, object, claim),
+            Request::Buffer(buffer, operation) => {
                 self.use_buffer(place, call, *buffer, operation)
             }
-            Request::Blackboard {
-                blackboard,
+            Request::Blackboard(blackboard, operation) => self.use_blackboard(
+                place,
+                call,
+                *blackboard,
                 operation,
-            } => self.use_blackboard(place, call, *blackboard, operation),
-            Request::Semaphore {
-                semaphore,
-                operation,
-            } => self.use_semaphore(place, call, *semaphore, operation),
-            Request::Event { event, operation } => self.use_event(place, call, *event, operation),
-            Request::Mutex { mutex, operation } => self.use_mutex(place, call, *mutex, operation),
-            Request::SamplingPort { .. } | Request::QueuingPort { .. } => unreachable!(),
+            ),
+            Request::Semaphore(semaphore, operation) => self.use_semaphore(
+                place, call, *semaphore, operation,
+            ),
+            Request::Event(event, operation) => self.use_event(place, call, *event, operation),
+            Request::Mutex(mutex, operation) => self.use_mutex(place, call, *mutex, operation),
+            Request::SamplingPort(..) | Request::QueuingPort(..) => unreachable!(),
             Request::CreateProcess { .. } => {
                 judge_value(self.processes.is_new_number(claim.val), claim).map_err(
                     ObjFault::Unlawful,
                 )
             }
-            Request::Process { process, operation } => self
+            Request::Process(process, operation) => self
                 .judge_named(call, *process, operation)
                 .map_err(ObjFault::Unlawful),
             Request::Caller(operation) => self
                 .judge_own(now, call.who, operation, claim)
                 .map_err(ObjFault::Unlawful),
-            Request::SetPartitionMode { .. } => never().judge(claim).map_err(ObjFault::Unlawful),
-            Request::GetId { kind, name } => self
+            Request::SetPartitionMode(..) => never().judge(claim).map_err(ObjFault::Unlawful),
+            Request::GetId(kind, name) => self
                 .judge_id(*kind, name, claim)
                 .map_err(ObjFault::Unlawful),
-            Request::GetStatus { kind, object } => {
+            Request::GetStatus(kind, object) => {
                 judge_status(self.status_of(*kind, *object), claim).map_err(ObjFault::Unlawful)
             }
         }

@@ -138,11 +138,7 @@ fn empty_channel(alloc: Global, config: &Config, number: ChanId) -> Result<Chann
 fn stopped_by(call: &Call) -> Option<Who>
     ensures { (who : WhoValue) → who.proc < 4294967296 → stops call.now who ≡ is_the who result }
 {
-    let Request::Process {
-        process,
-        operation: ProcessOperation::Stop,
-    } = &call.request
-    else {
+    let Request::Process(process, ProcessOperation::Stop) = &call.request else {
         return None;
     };
     if call.claim.out != Out::Answer(Code::NoError)

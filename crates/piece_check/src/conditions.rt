@@ -37,31 +37,30 @@ pub(crate) fn conditions_of(config: &Config, state: &PartitionState, call: &Call
             priority,
             period,
         } => create_process(config, who.part, state, name, *priority, *period),
-        Request::Process { process, operation } => {
+        Request::Process(process, operation) => {
             process_conditions(config, state, who, *process, operation)
         }
         Request::Caller(operation) => caller_conditions(state, who, operation),
-        Request::SetPartitionMode { mode } => set_mode(state.processes().mode(), *mode),
-        Request::Create { name, object } => create_conditions(
-            config, who.part, state, name, object,
+        Request::SetPartitionMode(mode) => set_mode(state.processes().mode(), *mode),
+        Request::Create(name, object) => create_conditions(config, who.part, state, name, object),
+        Request::Buffer(buffer, operation) => buffer_conditions(state, who, *buffer, operation),
+        Request::Blackboard(blackboard, operation) => blackboard_conditions(
+            state,
+            who,
+            *blackboard,
+            operation,
         ),
-        Request::Buffer { buffer, operation } => buffer_conditions(state, who, *buffer, operation),
-        Request::Blackboard {
-            blackboard,
-            operation,
-        } => blackboard_conditions(state, who, *blackboard, operation),
-        Request::Semaphore {
-            semaphore,
-            operation,
-        } => semaphore_conditions(state, who, *semaphore, operation),
-        Request::Event { event, operation } => event_conditions(state, who, *event, operation),
-        Request::Mutex { mutex, operation } => mutex_conditions(state, who, *mutex, operation),
-        Request::SamplingPort { port, operation } => sampling_conditions(state, *port, operation),
-        Request::QueuingPort { port, operation } => {
+        Request::Semaphore(semaphore, operation) => semaphore_conditions(
+            state, who, *semaphore, operation,
+        ),
+        Request::Event(event, operation) => event_conditions(state, who, *event, operation),
+        Request::Mutex(mutex, operation) => mutex_conditions(state, who, *mutex, operation),
+        Request::SamplingPort(port, operation) => sampling_conditions(state, *port, operation),
+        Request::QueuingPort(port, operation) => {
             queuing_conditions(state, who, *port, operation)
         }
-        Request::GetId { kind, name } => id_conditions(state, *kind, name),
-        Request::GetStatus { kind, object } => status_conditions(state, *kind, *object),
+        Request::GetId(kind, name) => id_conditions(state, *kind, name),
+        Request::GetStatus(kind, object) => status_conditions(state, *kind, *object),
     }
 }
 

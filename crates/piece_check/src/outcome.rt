@@ -77,7 +77,7 @@ fn may_wait(request: &Request) -> bool
     ensures { IsTrue result ↔ MayWait (time_out_of request.now) }
 {
     match request {
-        Request::QueuingPort { operation, .. } => match operation {
+        Request::QueuingPort(_, operation) => match operation {
             QueuingOperation::Send { time_out, .. } | QueuingOperation::Receive { time_out } => {
                 !is_over(*time_out)
             }

@@ -361,7 +361,7 @@ impl PartitionPiece {
     fn wakes_here(&self, call: &Call) -> bool
         ensures { IsTrue result ↔ WakesHere call.now.request call.now.claim.chan self.now.number self.now.state.table call.now.claim.woken }
     {
-        let Request::QueuingPort { operation, .. } = &call.request else {
+        let Request::QueuingPort(_, operation) = &call.request else {
             return false;
         };
         let Some(channel) = call.claim.chan else {

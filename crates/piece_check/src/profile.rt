@@ -28,7 +28,7 @@ fn in_profile(state: &PartitionState, who: Who, request: &Request) -> bool
     ensures { result ≡ services.in_profile who state.now request.now }
 {
     match request {
-        Request::Process { process, operation } => match operation {
+        Request::Process(process, operation) => match operation {
             ProcessOperation::Stop => !state.numbered_owns_mutex(*process),
             ProcessOperation::Suspend | ProcessOperation::SetPriority { .. } => {
                 !state.numbered_owns_mutex(*process) && !state.processes().waits_for_mutex(*process)

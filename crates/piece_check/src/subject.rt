@@ -112,10 +112,7 @@ pub(crate) fn stops_some(call: &Call) -> bool
     ensures { result ≡ rules.stops_some call.now }
 {
     match call.request {
-        Request::Process {
-            operation: ProcessOperation::Stop,
-            ..
-        } => call.claim.out == Out::Answer(Code::NoError),
+        Request::Process(_, ProcessOperation::Stop) => call.claim.out == Out::Answer(Code::NoError),
         _ => restart_of(call).is_some(),
     }
 }

@@ -32,18 +32,9 @@ fn message_handed_over(request: &Request) -> &[u8]
     ensures { result.now ≡ message_handed_over request.now }
 {
     match request {
-        Request::Buffer {
-            operation: BufferOperation::Send { message, .. },
-            ..
-        }
-        | Request::Blackboard {
-            operation: BlackboardOperation::Display { message, .. },
-            ..
-        }
-        | Request::QueuingPort {
-            operation: QueuingOperation::Send { message, .. },
-            ..
-        } => message.as_bytes(),
+        Request::Buffer(_, BufferOperation::Send { message, .. })
+        | Request::Blackboard(_, BlackboardOperation::Display { message, .. })
+        | Request::QueuingPort(_, QueuingOperation::Send { message, .. }) => message.as_bytes(),
         _ => &[],
     }
 }

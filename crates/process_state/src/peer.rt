@@ -29,10 +29,7 @@ pub fn stop_of(request: &Request) -> Option<i64>
     ensures { result ≡ waiting.stop_of request.now }
 {
     match request {
-        Request::Process {
-            process,
-            operation: ProcessOperation::Stop,
-        } => Some(*process),
+        Request::Process(process, ProcessOperation::Stop) => Some(*process),
         _ => None,
     }
 }

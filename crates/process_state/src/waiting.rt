@@ -24,38 +24,26 @@ pub fn wait_of(request: &Request, channel: Option<ChanId>, now: u64, next: u64) 
 {
     match request {
         Request::Caller(operation) => own_wait(operation, now, next),
-        Request::Buffer { buffer, operation } => {
+        Request::Buffer(buffer, operation) => {
             wait_at_buffer(object_number(*buffer), operation, now)
         }
-        Request::Blackboard {
-            blackboard,
-            operation: BlackboardOperation::Read { time_out },
-        } => {
+        Request::Blackboard(blackboard, BlackboardOperation::Read { time_out }) => {
             let readers = WaitingSet::BlackboardReaders(object_number(*blackboard));
             Wait::At(readers, due_time(*time_out, now))
         }
-        Request::Semaphore {
-            semaphore,
-            operation: SemaphoreOperation::Wait { time_out },
-        } => {
+        Request::Semaphore(semaphore, SemaphoreOperation::Wait { time_out }) => {
             let waiters = WaitingSet::SemaphoreWaiters(object_number(*semaphore));
             Wait::At(waiters, due_time(*time_out, now))
         }
-        Request::Event {
-            event,
-            operation: EventOperation::Wait { time_out },
-        } => {
+        Request::Event(event, EventOperation::Wait { time_out }) => {
             let waiters = WaitingSet::EventWaiters(object_number(*event));
             Wait::At(waiters, due_time(*time_out, now))
         }
-        Request::Mutex {
-            mutex,
-            operation: MutexOperation::Acquire { time_out },
-        } => {
+        Request::Mutex(mutex, MutexOperation::Acquire { time_out }) => {
             let waiters = WaitingSet::MutexWaiters(object_number(*mutex));
             Wait::At(waiters, due_time(*time_out, now))
         }
-        Request::QueuingPort { operation, .. } => match channel {
+        Request::QueuingPort(_, operation) => match channel {
             Some(channel) => wait_at_channel(channel, operation, now),
             None => Wait::Nothing,
         },

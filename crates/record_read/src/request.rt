@@ -89,128 +89,95 @@ fn fill_request(
             priority: n1,
             period: n2,
         },
-        Service::InitializeProcessCoreAffinity => {
-            on_process(n1, ProcessOperation::InitializeCoreAffinity { core: n2 })
-        }
-        Service::Start => on_process(n1, ProcessOperation::Start),
-        Service::Stop => on_process(n1, ProcessOperation::Stop),
+        Service::InitializeProcessCoreAffinity => Request::Process(
+            n1,
+            ProcessOperation::InitializeCoreAffinity { core: n2 },
+        ),
+        Service::Start => Request::Process(n1, ProcessOperation::Start),
+        Service::Stop => Request::Process(n1, ProcessOperation::Stop),
         Service::StopSelf => Request::Caller(CallerOperation::StopSelf),
-        Service::Suspend => on_process(n1, ProcessOperation::Suspend),
+        Service::Suspend => Request::Process(n1, ProcessOperation::Suspend),
         Service::SuspendSelf => Request::Caller(CallerOperation::SuspendSelf { time_out: n1 }),
-        Service::Resume => on_process(n1, ProcessOperation::Resume),
-        Service::SetPriority => on_process(n1, ProcessOperation::SetPriority { priority: n2 }),
+        Service::Resume => Request::Process(n1, ProcessOperation::Resume),
+        Service::SetPriority => Request::Process(
+            n1,
+            ProcessOperation::SetPriority { priority: n2 },
+        ),
         Service::GetMyId => Request::Caller(CallerOperation::GetMyId),
         Service::TimedWait => Request::Caller(CallerOperation::TimedWait { delay: n1 }),
         Service::PeriodicWait => Request::Caller(CallerOperation::PeriodicWait),
         Service::GetTime => Request::Caller(CallerOperation::GetTime),
-        Service::SetPartitionMode => Request::SetPartitionMode { mode: n1 },
+        Service::SetPartitionMode => Request::SetPartitionMode(n1),
         Service::CreateBuffer => create(ObjectKind::Buffer, name, n1, n2, n3),
-        Service::SendBuffer => Request::Buffer {
-            buffer: n1,
-            operation: BufferOperation::Send {
+        Service::SendBuffer => Request::Buffer(
+            n1,
+            BufferOperation::Send {
                 length: n2,
                 time_out: n3,
                 message,
             },
-        },
-        Service::ReceiveBuffer => Request::Buffer {
-            buffer: n1,
-            operation: BufferOperation::Receive { time_out: n2 },
-        },
+        ),
+        Service::ReceiveBuffer => Request::Buffer(n1, BufferOperation::Receive { time_out: n2 }),
         Service::CreateBlackboard => create(ObjectKind::Blackboard, name, n1, n2, n3),
-        Service::DisplayBlackboard => Request::Blackboard {
-            blackboard: n1,
-            operation: BlackboardOperation::Display {
+        Service::DisplayBlackboard => Request::Blackboard(
+            n1,
+            BlackboardOperation::Display {
                 length: n2,
                 message,
             },
-        },
-        Service::ReadBlackboard => Request::Blackboard {
-            blackboard: n1,
-            operation: BlackboardOperation::Read { time_out: n2 },
-        },
-        Service::ClearBlackboard => Request::Blackboard {
-            blackboard: n1,
-            operation: BlackboardOperation::Clear,
-        },
+        ),
+        Service::ReadBlackboard => Request::Blackboard(
+            n1,
+            BlackboardOperation::Read { time_out: n2 },
+        ),
+        Service::ClearBlackboard => Request::Blackboard(n1, BlackboardOperation::Clear),
         Service::CreateSemaphore => create(ObjectKind::Semaphore, name, n1, n2, n3),
-        Service::WaitSemaphore => Request::Semaphore {
-            semaphore: n1,
-            operation: SemaphoreOperation::Wait { time_out: n2 },
-        },
-        Service::SignalSemaphore => Request::Semaphore {
-            semaphore: n1,
-            operation: SemaphoreOperation::Signal,
-        },
+        Service::WaitSemaphore => Request::Semaphore(n1, SemaphoreOperation::Wait { time_out: n2 }),
+        Service::SignalSemaphore => Request::Semaphore(n1, SemaphoreOperation::Signal),
         Service::CreateEvent => create(ObjectKind::Event, name, n1, n2, n3),
-        Service::SetEvent => Request::Event {
-            event: n1,
-            operation: EventOperation::Set,
-        },
-        Service::ResetEvent => Request::Event {
-            event: n1,
-            operation: EventOperation::Reset,
-        },
-        Service::WaitEvent => Request::Event {
-            event: n1,
-            operation: EventOperation::Wait { time_out: n2 },
-        },
+        Service::SetEvent => Request::Event(n1, EventOperation::Set),
+        Service::ResetEvent => Request::Event(n1, EventOperation::Reset),
+        Service::WaitEvent => Request::Event(n1, EventOperation::Wait { time_out: n2 }),
         Service::CreateMutex => create(ObjectKind::Mutex, name, n1, n2, n3),
-        Service::AcquireMutex => Request::Mutex {
-            mutex: n1,
-            operation: MutexOperation::Acquire { time_out: n2 },
-        },
-        Service::ReleaseMutex => Request::Mutex {
-            mutex: n1,
-            operation: MutexOperation::Release,
-        },
+        Service::AcquireMutex => Request::Mutex(n1, MutexOperation::Acquire { time_out: n2 }),
+        Service::ReleaseMutex => Request::Mutex(n1, MutexOperation::Release),
         Service::CreateSamplingPort => create(ObjectKind::SamplingPort, name, n1, n2, n3),
-        Service::WriteSamplingMessage => Request::SamplingPort {
-            port: n1,
-            operation: SamplingOperation::Write {
+        Service::WriteSamplingMessage => Request::SamplingPort(
+            n1,
+            SamplingOperation::Write {
                 length: n2,
                 message,
             },
-        },
-        Service::ReadSamplingMessage => Request::SamplingPort {
-            port: n1,
-            operation: SamplingOperation::Read,
-        },
+        ),
+        Service::ReadSamplingMessage => Request::SamplingPort(n1, SamplingOperation::Read),
         Service::CreateQueuingPort => create(ObjectKind::QueuingPort, name, n1, n2, n3),
-        Service::SendQueuingMessage => Request::QueuingPort {
-            port: n1,
-            operation: QueuingOperation::Send {
+        Service::SendQueuingMessage => Request::QueuingPort(
+            n1,
+            QueuingOperation::Send {
                 length: n2,
                 time_out: n3,
                 message,
             },
-        },
-        Service::ReceiveQueuingMessage => Request::QueuingPort {
-            port: n1,
-            operation: QueuingOperation::Receive { time_out: n2 },
-        },
-        Service::GetBufferId => ask_id(ObjectKind::Buffer, name),
-        Service::GetBufferStatus => ask_status(ObjectKind::Buffer, n1),
-        Service::GetBlackboardId => ask_id(ObjectKind::Blackboard, name),
-        Service::GetBlackboardStatus => ask_status(ObjectKind::Blackboard, n1),
-        Service::GetSemaphoreId => ask_id(ObjectKind::Semaphore, name),
-        Service::GetSemaphoreStatus => ask_status(ObjectKind::Semaphore, n1),
-        Service::GetEventId => ask_id(ObjectKind::Event, name),
-        Service::GetEventStatus => ask_status(ObjectKind::Event, n1),
-        Service::GetMutexId => ask_id(ObjectKind::Mutex, name),
-        Service::GetMutexStatus => ask_status(ObjectKind::Mutex, n1),
-        Service::GetSamplingPortId => ask_id(ObjectKind::SamplingPort, name),
-        Service::GetSamplingPortStatus => ask_status(ObjectKind::SamplingPort, n1),
-        Service::GetQueuingPortId => ask_id(ObjectKind::QueuingPort, name),
-        Service::GetQueuingPortStatus => ask_status(ObjectKind::QueuingPort, n1),
+        ),
+        Service::ReceiveQueuingMessage => Request::QueuingPort(
+            n1,
+            QueuingOperation::Receive { time_out: n2 },
+        ),
+        Service::GetBufferId => Request::GetId(ObjectKind::Buffer, name),
+        Service::GetBufferStatus => Request::GetStatus(ObjectKind::Buffer, n1),
+        Service::GetBlackboardId => Request::GetId(ObjectKind::Blackboard, name),
+        Service::GetBlackboardStatus => Request::GetStatus(ObjectKind::Blackboard, n1),
+        Service::GetSemaphoreId => Request::GetId(ObjectKind::Semaphore, name),
+        Service::GetSemaphoreStatus => Request::GetStatus(ObjectKind::Semaphore, n1),
+        Service::GetEventId => Request::GetId(ObjectKind::Event, name),
+        Service::GetEventStatus => Request::GetStatus(ObjectKind::Event, n1),
+        Service::GetMutexId => Request::GetId(ObjectKind::Mutex, name),
+        Service::GetMutexStatus => Request::GetStatus(ObjectKind::Mutex, n1),
+        Service::GetSamplingPortId => Request::GetId(ObjectKind::SamplingPort, name),
+        Service::GetSamplingPortStatus => Request::GetStatus(ObjectKind::SamplingPort, n1),
+        Service::GetQueuingPortId => Request::GetId(ObjectKind::QueuingPort, name),
+        Service::GetQueuingPortStatus => Request::GetStatus(ObjectKind::QueuingPort, n1),
     }
-}
-
-// The request of a service that names a process.
-fn on_process(process: i64, operation: ProcessOperation) -> Request
-    ensures { result ≡ Request.Process process operation }
-{
-    Request::Process { process, operation }
 }
 
 // The request that creates one of a kind, from its name and its numbers.
@@ -247,19 +214,5 @@ fn create(kind: ObjectKind, name: Name, n1: i64, n2: i64, n3: i64) -> Request
             discipline: n3.div_euclid(2),
         },
     };
-    Request::Create { name, object }
-}
-
-// The request for the number of what has this name.
-fn ask_id(kind: ObjectKind, name: Name) -> Request
-    ensures { result ≡ Request.GetId kind name }
-{
-    Request::GetId { kind, name }
-}
-
-// The request for the state of the one that has this number.
-fn ask_status(kind: ObjectKind, object: i64) -> Request
-    ensures { result ≡ Request.GetStatus kind object }
-{
-    Request::GetStatus { kind, object }
+    Request::Create(name, object)
 }

@@ -19,33 +19,31 @@ pub fn tell_request(words: &mut Words, request: &Request) {
             " \"{}\" of priority {priority} and period {period}",
             Ascii(name.as_bytes())
         )),
-        Request::Process { process, operation } => {
+        Request::Process(process, operation) => {
             words.say(format_args!(" of process {process}"));
             tell_process(words, operation);
         }
         Request::Caller(operation) => tell_caller(words, operation),
-        Request::SetPartitionMode { mode } => words.say(format_args!(" to mode {mode}")),
-        Request::Create { name, object } => {
+        Request::SetPartitionMode(mode) => words.say(format_args!(" to mode {mode}")),
+        Request::Create(name, object) => {
             words.say(format_args!(" \"{}\"", Ascii(name.as_bytes())));
             tell_creation(words, object);
         }
-        Request::Buffer { buffer, operation } => tell_buffer(words, *buffer, operation),
-        Request::Blackboard {
-            blackboard,
+        Request::Buffer(buffer, operation) => tell_buffer(words, *buffer, operation),
+        Request::Blackboard(blackboard, operation) => tell_blackboard(
+            words,
+            *blackboard,
             operation,
-        } => tell_blackboard(words, *blackboard, operation),
-        Request::Semaphore {
-            semaphore,
-            operation,
-        } => tell_semaphore(words, *semaphore, operation),
-        Request::Event { event, operation } => tell_event(words, *event, operation),
-        Request::Mutex { mutex, operation } => tell_mutex(words, *mutex, operation),
-        Request::SamplingPort { port, operation } => tell_sampling(words, *port, operation),
-        Request::QueuingPort { port, operation } => tell_queuing(words, *port, operation),
-        Request::GetId { name, .. } => {
+        ),
+        Request::Semaphore(semaphore, operation) => tell_semaphore(words, *semaphore, operation),
+        Request::Event(event, operation) => tell_event(words, *event, operation),
+        Request::Mutex(mutex, operation) => tell_mutex(words, *mutex, operation),
+        Request::SamplingPort(port, operation) => tell_sampling(words, *port, operation),
+        Request::QueuingPort(port, operation) => tell_queuing(words, *port, operation),
+        Request::GetId(_, name) => {
             words.say(format_args!(" of \"{}\"", Ascii(name.as_bytes())));
         }
-        Request::GetStatus { kind, object } => {
+        Request::GetStatus(kind, object) => {
             words.say(format_args!(" of {} {object}", kind_name(*kind)));
         }
     }

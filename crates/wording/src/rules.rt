@@ -14,7 +14,7 @@ const ANSWER: &str = "part 7, what a service gives (IsAnswer)";
 /// Where the specification tells what a service gives that meets no error condition.
 pub fn answer_rule(request: &Request) -> &'static str {
     match request {
-        Request::Process { operation, .. } => match operation {
+        Request::Process(_, operation) => match operation {
             ProcessOperation::Resume => "part 7, RESUME (IsResuming)",
             ProcessOperation::InitializeCoreAffinity { .. }
             | ProcessOperation::Start
@@ -24,44 +24,42 @@ pub fn answer_rule(request: &Request) -> &'static str {
         },
         Request::CreateProcess { .. }
         | Request::Caller(_)
-        | Request::SetPartitionMode { .. }
-        | Request::Create { .. } => ANSWER,
-        Request::Buffer { operation, .. } => match operation {
+        | Request::SetPartitionMode(..)
+        | Request::Create(..) => ANSWER,
+        Request::Buffer(_, operation) => match operation {
             BufferOperation::Send { .. } => SENDING,
             BufferOperation::Receive { .. } => RECEIVING,
         },
-        Request::Blackboard { operation, .. } => match operation {
+        Request::Blackboard(_, operation) => match operation {
             BlackboardOperation::Display { .. } => "part 4, DISPLAY_BLACKBOARD (IsDisplay)",
             BlackboardOperation::Read { .. } => "part 4, READ_BLACKBOARD (IsReading)",
             BlackboardOperation::Clear => "part 4, CLEAR_BLACKBOARD (IsClearing)",
         },
-        Request::Semaphore { operation, .. } => match operation {
+        Request::Semaphore(_, operation) => match operation {
             SemaphoreOperation::Wait { .. } => "part 4, WAIT_SEMAPHORE (IsSemaphoreWait)",
             SemaphoreOperation::Signal => "part 4, SIGNAL_SEMAPHORE (IsSignal)",
         },
-        Request::Event { operation, .. } => match operation {
+        Request::Event(_, operation) => match operation {
             EventOperation::Set => "part 4, SET_EVENT (IsSetting)",
             EventOperation::Reset => "part 4, RESET_EVENT (IsResetting)",
             EventOperation::Wait { .. } => "part 4, WAIT_EVENT (IsEventWait)",
         },
-        Request::Mutex { operation, .. } => match operation {
+        Request::Mutex(_, operation) => match operation {
             MutexOperation::Acquire { .. } => "part 4, ACQUIRE_MUTEX (IsAcquiring)",
             MutexOperation::Release => "part 4, RELEASE_MUTEX (IsReleasing)",
         },
-        Request::SamplingPort { operation, .. } => match operation {
+        Request::SamplingPort(_, operation) => match operation {
             SamplingOperation::Write { .. } => "part 5, WRITE_SAMPLING_MESSAGE (IsWriting)",
             SamplingOperation::Read => "part 5, READ_SAMPLING_MESSAGE (IsSampling)",
         },
-        Request::QueuingPort { operation, .. } => match operation {
+        Request::QueuingPort(_, operation) => match operation {
             QueuingOperation::Send { .. } => SENDING,
             QueuingOperation::Receive { .. } => RECEIVING,
         },
-        Request::GetId { .. } => "part 7, the number under a name (number_of)",
-        Request::GetStatus {
-            kind: ObjectKind::QueuingPort,
-            ..
-        } => "part 5, GET_QUEUING_PORT_STATUS (channel_status)",
-        Request::GetStatus { .. } => "part 7, the status of an object (status_of)",
+        Request::GetId(..) => "part 7, the number under a name (number_of)",
+        Request::GetStatus(ObjectKind::QueuingPort, _) =>
+            "part 5, GET_QUEUING_PORT_STATUS (channel_status)",
+        Request::GetStatus(..) => "part 7, the status of an object (status_of)",
     }
 }
 
@@ -69,7 +67,7 @@ pub fn answer_rule(request: &Request) -> &'static str {
 pub fn codes_rule(request: &Request) -> &'static str {
     match request {
         Request::CreateProcess { .. } => "create_process_codes",
-        Request::Process { operation, .. } => match operation {
+        Request::Process(_, operation) => match operation {
             ProcessOperation::InitializeCoreAffinity { .. } => "affinity_codes",
             ProcessOperation::Start => "start_codes",
             ProcessOperation::Stop => "stop_codes",
@@ -85,38 +83,38 @@ pub fn codes_rule(request: &Request) -> &'static str {
             | CallerOperation::TimedWait { .. }
             | CallerOperation::GetTime => "condition_codes",
         },
-        Request::SetPartitionMode { .. } => "condition_codes",
-        Request::Create { .. } => "create_codes",
-        Request::Buffer { operation, .. } => match operation {
+        Request::SetPartitionMode(..) => "condition_codes",
+        Request::Create(..) => "create_codes",
+        Request::Buffer(_, operation) => match operation {
             BufferOperation::Send { .. } => "message_codes",
             BufferOperation::Receive { .. } => "object_codes",
         },
-        Request::Blackboard { operation, .. } => match operation {
+        Request::Blackboard(_, operation) => match operation {
             BlackboardOperation::Display { .. } => "message_codes",
             BlackboardOperation::Read { .. } => "object_codes",
             BlackboardOperation::Clear => "condition_codes",
         },
-        Request::Semaphore { operation, .. } => match operation {
+        Request::Semaphore(_, operation) => match operation {
             SemaphoreOperation::Wait { .. } => "object_codes",
             SemaphoreOperation::Signal => "condition_codes",
         },
-        Request::Event { operation, .. } => match operation {
+        Request::Event(_, operation) => match operation {
             EventOperation::Set | EventOperation::Reset => "condition_codes",
             EventOperation::Wait { .. } => "object_codes",
         },
-        Request::Mutex { operation, .. } => match operation {
+        Request::Mutex(_, operation) => match operation {
             MutexOperation::Acquire { .. } => "acquire_codes",
             MutexOperation::Release => "release_codes",
         },
-        Request::SamplingPort { operation, .. } => match operation {
+        Request::SamplingPort(_, operation) => match operation {
             SamplingOperation::Write { .. } => "source_codes",
             SamplingOperation::Read => "destination_codes",
         },
-        Request::QueuingPort { operation, .. } => match operation {
+        Request::QueuingPort(_, operation) => match operation {
             QueuingOperation::Send { .. } => "source_codes",
             QueuingOperation::Receive { .. } => "destination_codes",
         },
-        Request::GetId { .. } => "get_id_codes",
-        Request::GetStatus { .. } => "get_status_codes",
+        Request::GetId(..) => "get_id_codes",
+        Request::GetStatus(..) => "get_status_codes",
     }
 }

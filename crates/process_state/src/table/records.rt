@@ -149,11 +149,11 @@ impl ProcTable {
                     self.create(first_core, number, name, *priority as u8, *own_period)?;
                 }
             }
-            Request::Process { process, operation } => {
+            Request::Process(process, operation) => {
                 self.serve_target(*process, operation, period, moment)
             }
-            Request::SetPartitionMode { .. } => self.normal(period, moment),
-            Request::Mutex { .. } => self.transfer(transfer),
+            Request::SetPartitionMode(..) => self.normal(period, moment),
+            Request::Mutex(..) => self.transfer(transfer),
             _ => {}
         }
         Ok(())
