@@ -9,4 +9,4 @@ returns-in-Buffer c = λ process next_is.
     rw c.in-Buffer.is (c.wait_at_buffer.ensures c.in-Buffer.buffer c.args.channel process (sym number))
 
 pub returns-in-Some : goal.returns-in-Some
-returns-in-Some c = λ process next_is. rw (c.in-QueuingPort.is, c.in-Some.is) (c.wait_at_channel.ensures c.in-QueuingPort.port process)
+returns-in-Some c = λ process next_is. rw (c.in-QueuingPort.is, c.in-Some.is) (c.wait_at_channel.ensures c.in-QueuingPort.field-0 process)
