@@ -1,19 +1,12 @@
--- What each operation on a blackboard gives its caller, and the blackboard after it.
+-- The blackboard after each operation.
 use Rattle.std.specs.Prelude.{List, [], ◌∷◌}
 use Rattle.apex_types.specs.declared.operation.{BlackboardOperation.BlackboardOperation}
 use Rattle.apex_types.specs.declared.record.Claim.{Claim}
-use Rattle.apex_types.specs.declared.record.Who.{Who}
 use Rattle.apex_machine.specs.declared.state.Entry.{Entry}
-use Rattle.apex_machine.specs.Answer.{Answer}
 use Rattle.apex_machine.specs.Objects.{blackboard_effect}
 use Rattle.apex_machine.specs.State.{Blackboard}
 use Rattle.wait_set.specs.declared.object.Actor.{Actor}
 use Rattle.wait_set.specs.Actors.{joined_by, left_by}
-use Rattle.wait_set.specs.Sets as waiters
-
--- what an operation gives its caller
-abbrev pub answer : Actor → BlackboardOperation → Blackboard → Answer
-answer actor operation found = (blackboard_effect operation found).answer
 
 -- those who wait to read after an operation: READ_BLACKBOARD adds a caller that waits
 abbrev pub readers_after : Actor → BlackboardOperation → Claim → List Entry → List Entry
@@ -29,7 +22,3 @@ after actor operation claim found =
 -- its one waiting set
 abbrev pub sets : Blackboard → List (List Entry)
 sets found = found.readers ∷ []
-
--- the blackboard at which this process does not wait
-abbrev pub without_one : Who → Blackboard → Blackboard
-without_one who found = record found { readers = waiters.without_one who found.readers }

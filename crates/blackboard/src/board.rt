@@ -1,15 +1,12 @@
 // Blackboards.
 
-ghost use Rattle.std.specs.Prelude.{◌≡◌, ◌↔◌, [], None, IfErr, IfOk, IsTrue, OnErr, OnOk};
+ghost use Rattle.std.specs.Prelude.{◌≡◌, [], None};
 ghost use Rattle.std.specs.Option.{option_copied};
 ghost use Rattle.apex_types.specs.declared.operation.BlackboardOperation.TheVariants as on_blackboard;
-ghost use Rattle.apex_types.specs.declared.record.Out.TheVariants as out;
-ghost use Rattle.apex_machine.specs.Demands.{AllHold, answer_demands};
-ghost use Rattle.apex_machine.specs.Objects.{blackboard_effect, displayed};
+ghost use Rattle.apex_machine.specs.Objects.{blackboard_effect};
 ghost use Rattle.apex_machine.specs.Statuses.{blackboard_status};
-ghost use Rattle.wait_set.specs.Actors.{OwesNothing, Refuses, entry_with, joined_by, left_by};
 ghost use Rattle.wait_set.specs.Givens.{answer_given};
-ghost use Rattle.wait_set.specs.Sets.{IsNew};
+ghost use Rattle.wait_set.specs.Sets.{without_one};
 ghost use Rattle.blackboard.specs.Blackboards as rules;
 
 use apex_machine::Status;
@@ -82,39 +79,6 @@ impl Blackboard {
         }
     }
 
-    // DISPLAY_BLACKBOARD: the message is on the blackboard, and all who wait for one get it.
-    fn display(&mut self, message: &Message, claim: &Claim) -> Result<Effect, ObjFault>
-        ensures ok { OnOk result (AllHold (answer_demands (displayed message.now self.old.readers).answer claim.now)) }
-        ensures after { OnOk result (self.new ≡ record self.old { message = (displayed message.now self.old.readers).next; readers = left_by claim.now self.old.readers }) }
-        ensures waits { IfOk result (λ effect. IsTrue effect.waits ↔ (claim.now.out ≡ out.Waits)) }
-        ensures refused { IfErr result (Refuses (answer_demands (displayed message.now self.old.readers).answer claim.now)) }
-        ensures unchanged { OnErr result (self.new ≡ self.old) }
-    {
-        judge_waking_all(&self.readers, claim).map_err(ObjFault::Unlawful)?;
-        let bytes = Vec::from_slice(self.alloc, message.as_bytes()).map_err(|_| ObjFault::Memory)?;
-        self.readers.release(claim.woken.as_slice());
-        self.message = Some(Message::new(bytes));
-        Ok(Effect::of(claim))
-    }
-
-    // READ_BLACKBOARD: the message stays on the blackboard; where there is none the caller waits.
-    fn read(&mut self, actor: Actor, time_out: i64, claim: &Claim) -> Result<Effect, ObjFault>
-        requires new { IsNew (entry_with actor []) self.old.readers }
-        ensures ok { OnOk result (AllHold (answer_demands (blackboard_effect (on_blackboard.Read time_out) self.old).answer claim.now)) }
-        ensures after { OnOk result (self.new ≡ record (blackboard_effect (on_blackboard.Read time_out) self.old).next { readers = joined_by actor claim.now [] self.old.readers }) }
-        ensures waits { IfOk result (λ effect. IsTrue effect.waits ↔ (claim.now.out ≡ out.Waits)) }
-        ensures refused { IfErr result (Refuses (answer_demands (blackboard_effect (on_blackboard.Read time_out) self.old).answer claim.now)) }
-        ensures unchanged { OnErr result (self.new ≡ self.old) }
-    {
-        self.given_to_reader(time_out)
-            .judge(claim)
-            .map_err(ObjFault::Unlawful)?;
-        self.readers
-            .settle(actor, claim, &[])
-            .map_err(|_| ObjFault::Memory)?;
-        Ok(Effect::of(claim))
-    }
-
     // What READ_BLACKBOARD gives its caller.
     fn given_to_reader(&self, time_out: i64) -> Given<'_>
         ensures { answer_given result ≡ (blackboard_effect (on_blackboard.Read time_out) self.now).answer }
@@ -123,20 +87,6 @@ impl Blackboard {
             Some(message) => Given::giving(message.as_bytes(), None),
             None => Given::unmet(time_out),
         }
-    }
-
-    // CLEAR_BLACKBOARD: the blackboard is empty.
-    fn clear(&mut self, claim: &Claim) -> Result<Effect, ObjFault>
-        ensures ok { OnOk result (AllHold (answer_demands (blackboard_effect on_blackboard.Clear self.old).answer claim.now)) }
-        ensures after { OnOk result (self.new ≡ record (blackboard_effect on_blackboard.Clear self.old).next { readers = left_by claim.now self.old.readers }) }
-        ensures waits { IfOk result (λ effect. IsTrue effect.waits ↔ (claim.now.out ≡ out.Waits)) }
-        ensures refused { IfErr result (Refuses (answer_demands (blackboard_effect on_blackboard.Clear self.old).answer claim.now)) }
-        ensures unchanged { OnErr result (self.new ≡ self.old) }
-    {
-        Given::done().judge(claim).map_err(ObjFault::Unlawful)?;
-        self.readers.release(claim.woken.as_slice());
-        self.message = None;
-        Ok(Effect::of(claim))
     }
 }
 
@@ -151,15 +101,13 @@ impl Named for Blackboard {
 impl ApexObject for Blackboard {
     type Operation = BlackboardOperation;
 
-    ghost owes = { OwesNothing };
-
-    ghost answer = { rules.answer };
+    ghost answer = { λ actor operation board. (blackboard_effect operation board).answer };
 
     ghost after = { rules.after };
 
     ghost sets = { rules.sets };
 
-    ghost without_one = { rules.without_one };
+    ghost without_one = { λ who board. record board { readers = without_one who board.readers } };
 
     fn apply(
         &mut self,
@@ -168,9 +116,33 @@ impl ApexObject for Blackboard {
         claim: &Claim,
     ) -> Result<Effect, ObjFault> {
         match operation {
-            BlackboardOperation::Display { message, .. } => self.display(message, claim),
-            BlackboardOperation::Read { time_out } => self.read(actor, *time_out, claim),
-            BlackboardOperation::Clear => self.clear(claim),
+            // The message is on the blackboard, and all who wait for one get it.
+            BlackboardOperation::Display { message, .. } => {
+                judge_waking_all(&self.readers, claim).map_err(ObjFault::Unlawful)?;
+                let bytes = Vec::from_slice(self.alloc, message.as_bytes()).map_err(
+                    |_| ObjFault::Memory,
+                )?;
+                self.readers.release(claim.woken.as_slice());
+                self.message = Some(Message::new(bytes));
+                Ok(Effect::of(claim))
+            }
+            // The message stays on the blackboard; where there is none the caller waits.
+            BlackboardOperation::Read { time_out } => {
+                self.given_to_reader(*time_out)
+                    .judge(claim)
+                    .map_err(ObjFault::Unlawful)?;
+                self.readers
+                    .settle(actor, claim, &[])
+                    .map_err(|_| ObjFault::Memory)?;
+                Ok(Effect::of(claim))
+            }
+            // The blackboard is empty.
+            BlackboardOperation::Clear => {
+                Given::done().judge(claim).map_err(ObjFault::Unlawful)?;
+                self.readers.release(claim.woken.as_slice());
+                self.message = None;
+                Ok(Effect::of(claim))
+            }
         }
     }
 

@@ -2,7 +2,6 @@
 
 ghost use Rattle.std.specs.Prelude.{◌≡◌, [], IfOk};
 ghost use Rattle.apex_machine.specs.Statuses.{buffer_status};
-ghost use Rattle.wait_set.specs.Actors.{OwesNothing};
 ghost use Rattle.buffer.specs.Buffers as rules;
 
 use apex_machine::Status;
@@ -96,8 +95,6 @@ impl Named for Buffer {
 
 impl ApexObject for Buffer {
     type Operation = BufferOperation;
-
-    ghost owes = { OwesNothing };
 
     ghost answer = { rules.answer };
 

@@ -1,27 +1,21 @@
--- What each operation on a mutex gives its caller, and the mutex after it.
+-- What an operation on a mutex asks, and the mutex and its owner after it.
 use Rattle.std.specs.Prelude.{◌≤◌, List, [], ◌∷◌, IsTrue}
 use Rattle.apex_types.specs.declared.operation.{MutexOperation.MutexOperation}
 use Rattle.apex_types.specs.declared.record.Claim.{Claim}
-use Rattle.apex_types.specs.declared.record.Who.{Who}
 use Rattle.apex_machine.specs.declared.state.Entry.{Entry}
-use Rattle.apex_machine.specs.Answer.{Answer}
 use Rattle.apex_machine.specs.Objects.{mutex_effect}
 use Rattle.apex_machine.specs.State.{Mutex}
 use Rattle.apex_machine.specs.Waiting.{is_waiting}
 use Rattle.wait_set.specs.declared.object.Actor.{Actor}
 use Rattle.wait_set.specs.declared.object.ObjFault.{ObjFault}
+use Rattle.wait_set.specs.declared.object.Owners.{Owners}
 use Rattle.wait_set.specs.declared.object.ObjFault.TheVariants.{Unlawful, Memory}
 use Rattle.wait_set.specs.Actors.{joined_by, left_by}
-use Rattle.wait_set.specs.Sets as waiters
 
 -- ACQUIRE_MUTEX asks that the count is not above its place: so it can rise by one
 abbrev pub Owes : Actor → MutexOperation → Mutex → Type 0
 Owes actor (MutexOperation.Acquire time_out) found = found.count ≤ actor.place
 Owes actor MutexOperation.Release found = Unit {0}
-
--- what an operation gives its caller
-abbrev pub answer : Actor → MutexOperation → Mutex → Answer
-answer actor operation found = (mutex_effect actor.who.proc operation found).answer
 
 -- those who wait after an operation: ACQUIRE_MUTEX adds a caller that waits
 abbrev pub waiters_after : Actor → MutexOperation → Claim → List Entry → List Entry
@@ -33,13 +27,17 @@ abbrev pub after : Actor → MutexOperation → Claim → Mutex → Mutex
 after actor operation claim found =
     record (mutex_effect actor.who.proc operation found).next { waiters = waiters_after actor operation claim found.waiters }
 
+-- who owns the mutex, and who owns it once it is the next one; its owner runs with its priority
+abbrev pub owners_from : Mutex → Mutex → Owners
+owners_from found next = record { before = found.owner; after = next.owner; priority = found.priority }
+
+-- who owns the mutex before an operation, and who owns it after
+abbrev pub owners : Actor → MutexOperation → Mutex → Owners
+owners actor operation found = owners_from found (mutex_effect actor.who.proc operation found).next
+
 -- its one waiting set
 abbrev pub sets : Mutex → List (List Entry)
 sets found = found.waiters ∷ []
-
--- the mutex at which this process does not wait
-abbrev pub without_one : Who → Mutex → Mutex
-without_one who found = record found { waiters = waiters.without_one who found.waiters }
 
 -- a refusal of memory: it comes only to a caller that waits
 abbrev pub WantsMemoryToWait : Claim → ObjFault → Type 0

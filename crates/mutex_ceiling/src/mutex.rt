@@ -10,14 +10,14 @@ ghost use Rattle.apex_machine.specs.Statuses.{mutex_status};
 ghost use Rattle.apex_machine.specs.Waiting.{first_waiter};
 ghost use Rattle.wait_set.specs.Actors.{Refuses, entry_with, left_by};
 ghost use Rattle.wait_set.specs.Givens.{answer_given};
-ghost use Rattle.wait_set.specs.Sets.{IsNew};
+ghost use Rattle.wait_set.specs.Sets.{IsNew, without_one};
 ghost use Rattle.mutex_ceiling.specs.Mutexes as rules;
 
 use apex_machine::Status;
 use apex_types::{Claim, Discipline, MutexOperation, Name, ProcId, Who};
 use std::alloc::Global;
 use std::marker::Model;
-use wait_set::{Actor, ApexObject, Effect, Given, Named, ObjFault, WaitSet};
+use wait_set::{Actor, ApexObject, Effect, Given, Named, ObjFault, Owners, WaitSet};
 
 /// A mutex: its priority, the process that owns it, how often its owner has acquired it, and those that wait.
 #[derive(Drop)]
@@ -121,6 +121,7 @@ impl Mutex653 {
         ensures after { OnOk result (self.new ≡ rules.after actor (on_mutex.Acquire time_out) claim.now self.old) }
         ensures counted { self.new.count ≤ self.old.count + 1 }
         ensures waits { IfOk result (λ effect. IsTrue effect.waits ↔ (claim.now.out ≡ out.Waits)) }
+        ensures owners { IfOk result (λ effect. effect.owners ≡ rules.owners actor (on_mutex.Acquire time_out) self.old) }
         ensures refused { IfErr result (Refuses (answer_demands (mutex_effect actor.who.proc (on_mutex.Acquire time_out) self.old).answer claim.now)) }
         ensures memory { IfErr result (rules.WantsMemoryToWait claim.now) }
         ensures unchanged { OnErr result (self.new ≡ self.old) }
@@ -131,8 +132,9 @@ impl Mutex653 {
         self.waiters
             .settle(actor, claim, &[])
             .map_err(|_| ObjFault::Memory)?;
+        let before = self.owner;
         self.take(&actor);
-        Ok(Effect::of(claim))
+        Ok(Effect::with_owners(claim, self.owners_since(before)))
     }
 
     // What ACQUIRE_MUTEX gives its caller: a free mutex and its own are had at once.
@@ -166,6 +168,7 @@ impl Mutex653 {
         ensures after { OnOk result (self.new ≡ record (mutex_released (first_waiter self.old.discipline self.old.waiters) self.old).next { waiters = left_by claim.now self.old.waiters }) }
         ensures counted { self.new.count ≤ self.old.count + 1 }
         ensures waits { IfOk result (λ effect. IsTrue effect.waits ↔ (claim.now.out ≡ out.Waits)) }
+        ensures owners { IfOk result (λ effect. effect.owners ≡ rules.owners_from self.old (mutex_released (first_waiter self.old.discipline self.old.waiters) self.old).next) }
         ensures refused { IfErr result (Refuses (answer_demands (mutex_released (first_waiter self.old.discipline self.old.waiters) self.old).answer claim.now)) }
         ensures memory { IfErr result (rules.WantsMemoryToWait claim.now) }
         ensures unchanged { OnErr result (self.new ≡ self.old) }
@@ -173,9 +176,10 @@ impl Mutex653 {
         self.answer_to_release()
             .judge(claim)
             .map_err(ObjFault::Unlawful)?;
+        let before = self.owner;
         self.give_up();
         self.waiters.release(claim.woken.as_slice());
-        Ok(Effect::of(claim))
+        Ok(Effect::with_owners(claim, self.owners_since(before)))
     }
 
     // What RELEASE_MUTEX gives: the wait of the first ends by the last release.
@@ -200,6 +204,17 @@ impl Mutex653 {
         match first {
             Some(process) => self.give_to(process),
             None => self.set_free(),
+        }
+    }
+
+    // Its owners, where this process owned it before.
+    fn owners_since(&self, before: Option<ProcId>) -> Owners
+        ensures { result ≡ record { before = before; after = self.now.owner; priority = self.now.priority } }
+    {
+        Owners {
+            before,
+            after: self.owner,
+            priority: self.priority,
         }
     }
 
@@ -233,13 +248,15 @@ impl ApexObject for Mutex653 {
 
     ghost owes = { rules.Owes };
 
-    ghost answer = { rules.answer };
+    ghost answer = { λ actor operation mutex. (mutex_effect actor.who.proc operation mutex).answer };
 
     ghost after = { rules.after };
 
+    ghost owners = { rules.owners };
+
     ghost sets = { rules.sets };
 
-    ghost without_one = { rules.without_one };
+    ghost without_one = { λ who mutex. record mutex { waiters = without_one who mutex.waiters } };
 
     #[tactic(auto, using(crate::proofs::TimeOuts::as_given))]
     fn apply(

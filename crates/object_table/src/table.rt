@@ -169,6 +169,7 @@ impl<Object: ApexObject> ObjectTable<Object> {
         ensures ok { OnOk result (IfSome (given_object self.old number) (λ object. AllHold (answer_demands (Object.answer actor operation.now object) claim.now))) }
         ensures after { OnOk result (self.new ≡ change_at (natural_of number) (Object.after actor operation.now claim.now) self.old) }
         ensures waits { IfOk result (λ effect. IsTrue effect.waits ↔ (claim.now.out ≡ out.Waits)) }
+        ensures owners { IfOk result (λ effect. IfSome (given_object self.old number) (λ object. effect.owners ≡ Object.owners actor operation.now object)) }
         ensures refused { IfErr result (λ fault. IfSome (given_object self.old number) (λ object. Refuses (answer_demands (Object.answer actor operation.now object) claim.now) fault)) }
         ensures unchanged { OnErr result (self.new ≡ self.old) }
     {

@@ -1,5 +1,5 @@
 -- What a call for an object makes of it.
-use Rattle.std.proofs.Common.{◌≡◌, ◌≢◌, ◌≤◌, ℕ, zero, suc, ℤ, pos, negsuc, List, [], ◌∷◌, Option, Some, None, Bool, true, false, length, nat_eq, nat_lt, refl, sym, ap, ◌∙◌, cond}
+use Rattle.std.proofs.Common.{◌≡◌, ◌≢◌, ◌≤◌, ℕ, zero, suc, ℤ, pos, negsuc, List, [], ◌∷◌, Option, Some, None, Result, Ok, Err, OnOk, Bool, true, false, length, nat_eq, nat_lt, refl, sym, ap, ◌∙◌, cond}
 use Rattle.std.specs.Option.{IfSome}
 use Rattle.apex_types.specs.declared.object_kind.ObjectKind.TheVariants as kind
 use Rattle.apex_types.specs.declared.operation.{BlackboardOperation.BlackboardOperation, BufferOperation.BufferOperation, EventOperation.EventOperation, MutexOperation.MutexOperation, SemaphoreOperation.SemaphoreOperation}
@@ -8,13 +8,15 @@ use Rattle.apex_types.specs.declared.record.Call.{Call as CallRecord}
 use Rattle.apex_types.specs.declared.record.Claim.{Claim}
 use Rattle.apex_types.specs.declared.record.Out.{Out}
 use Rattle.apex_types.specs.declared.request.Request.TheVariants as request
+use Rattle.apex_machine.specs.declared.state.CoreState.{CoreState}
 use Rattle.apex_machine.specs.declared.state.Entry.{Entry}
 use Rattle.apex_machine.specs.declared.state.WaitingSet.{WaitingSet}
 use Rattle.apex_machine.specs.declared.state.WaitingSet.TheVariants as set
 use Rattle.apex_machine.specs.After.{is_done, with_sets}
-use Rattle.apex_machine.specs.Answer.{Effect}
+use Rattle.apex_machine.specs.Answer.{Answer}
 use Rattle.apex_machine.specs.Arguments.{natural_of}
-use Rattle.apex_machine.specs.Demands.{AllHold, answer_demands}
+use Rattle.apex_machine.specs.Configuration.{Configuration}
+use Rattle.apex_machine.specs.Demands.{AllHold}
 use Rattle.apex_machine.specs.Objects.{acquired_from, blackboard_effect, board_read, buffer_effect, event_effect, event_waited, handed_on, message_by, messages_by, mutex_effect, mutex_released, semaphore_effect, semaphore_waited, signalled, up_by, value_by}
 use Rattle.apex_machine.specs.Queue.{Messages, received, sent}
 use Rattle.apex_machine.specs.State.{Blackboard, Buffer, Event, Mutex, Partition, Semaphore, change_at, given_object, item_at}
@@ -27,18 +29,17 @@ use Rattle.buffer.specs.Buffers as buffers
 use Rattle.mutex_ceiling.specs.Mutexes as mutexes
 use Rattle.semaphore_event.specs.Events as events
 use Rattle.semaphore_event.specs.Semaphores as semaphores
+use Rattle.process_state.specs.declared.transfer.Transfer.{Transfer}
 use Rattle.wait_set.specs.declared.object.Actor.{Actor}
+use Rattle.wait_set.specs.declared.object.ObjFault.{ObjFault}
 use Rattle.wait_set.specs.Actors.{entry_with, joined_by}
 use Rattle.wait_set.specs.Sets.{IsNewInEach}
-use Rattle.partition_state.specs.Calls.{IsAtWork}
+use Rattle.partition_state.specs.Calls.{IsAtWork, IsClear, actor_of, objects_served, used_demands}
+use Rattle.partition_state.proofs.Clear.{at_work, blackboard_found, buffer_found, event_found, mutex_found, semaphore_found}
 use Rattle.partition_state.proofs.Found.{with_false, with_true}
 use Rattle.partition_state.proofs.Sets.{change_given, either_way, in_order, is_new, same_number, set_joined, set_joined_plainly, set_left, set_left_plainly}
 
--- who makes a call
-abbrev pub actor_of : ℕ → CallRecord → Actor
-actor_of place call = record { who = call.who; priority = call.claim.prio; place = place }
-
--- its caller is new in the waiting sets of the object, if it is in those of each object
+-- the caller is new in the waiting sets of the object, if it is in those of each object
 pub new_there : {Object : Type 0} (actor : Actor) (sets : Object → List (List Entry)) (objects : List (ℕ × Object)) (given : ℤ)
     → ((number : ℕ) (found : Object) → item_at objects number ≡ Some found → IsNewInEach (entry_with actor []) (sets found))
     → IfSome (given_object objects given) (λ found. IsNewInEach (entry_with actor []) (sets found))
@@ -87,8 +88,6 @@ pub owes_there : (actor : Actor) (operation : MutexOperation) (given : Option Mu
 owes_there actor operation None counted = tt
 owes_there actor (MutexOperation.Acquire time_out) (Some found) counted = counted
 owes_there actor MutexOperation.Release (Some found) counted = tt
-
--- an effect that is claimed as it is answered
 
 -- where the call is not done, its rule leaves the object: so it does a part of it
 whole : {Part Object : Type 0} (with_part : Part → Object) (done : Bool) (part next : Part) → cond done next part ≡ next
@@ -297,49 +296,74 @@ mutex_becomes place call mutex operation found asked order is =
 
 -- so the objects of a kind are after the call
 
-becomes_there : {Object : Type 0} (given : ℤ) (objects : List (ℕ × Object)) (rule : Object → Effect Object) (after used : Object → Object) (claim : Claim)
-    → are_distinct objects ≡ true → given_object objects given ≢ None → IfSome (given_object objects given) (λ found. AllHold (answer_demands (rule found).answer claim))
-    → ((found : Object) → item_at objects (natural_of given) ≡ Some found → claim.out ≡ (rule found).answer.out → after found ≡ used found)
+becomes_there : {Object : Type 0} (given : ℤ) (objects : List (ℕ × Object)) (gives : Object → Answer) (after used : Object → Object) (claim : Claim)
+    → are_distinct objects ≡ true → given_object objects given ≢ None → AllHold (used_demands objects given gives claim)
+    → ((found : Object) → item_at objects (natural_of given) ≡ Some found → claim.out ≡ (gives found).out → after found ≡ used found)
     → change_at (natural_of given) after objects ≡ change_at (natural_of given) used objects
-becomes_there given objects rule after used claim distinct there holds becomes =
+becomes_there given objects gives after used claim distinct there holds becomes =
     change_given given after used objects distinct there (λ found here at. becomes found at (rw here at holds).0)
 
-pub buffers_become : (place : ℕ) (partition : Partition) (call : CallRecord) (given : ℤ) (operation : BufferOperation) → call.request ≡ request.Buffer given operation → IsAtWork place partition call.who
-    → given_object partition.buffers given ≢ None → IfSome (given_object partition.buffers given) (λ found. AllHold (answer_demands (buffer_effect operation found).answer call.claim))
-    → change_at (natural_of given) (buffers.after (actor_of place call) operation call.claim) partition.buffers
-    ≡ change_at (natural_of given) (used_by kind.Buffer place call (natural_of given) (λ found. (buffer_effect operation found).next)) partition.buffers
-buffers_become place partition call given operation asked at_work there holds =
-    becomes_there given partition.buffers (buffer_effect operation) _ _ call.claim (at_work.sound.objects kind.Buffer) there holds
-    (λ found at is. buffer_becomes place call given operation found asked (in_order place partition call.who at_work (set.BufferSenders (natural_of given)) found.senders (rw at refl)) (in_order place partition call.who at_work (set.BufferReceivers (natural_of given)) found.receivers (rw at refl)) is)
+pub buffers_served : (configuration : Configuration) (cores : List CoreState) (place core : ℕ) (partition : Partition) (call : CallRecord) (given : ℤ) (operation : BufferOperation)
+    → IsClear configuration cores place core partition call → call.request ≡ request.Buffer given operation → (result : Result Transfer ObjFault) (next : List (ℕ × Buffer))
+    → OnOk result (AllHold (used_demands partition.buffers given (buffers.answer (actor_of place call) operation) call.claim))
+    → OnOk result (next ≡ change_at (natural_of given) (buffers.after (actor_of place call) operation call.claim) partition.buffers)
+    → OnOk result (record partition { buffers = next } ≡ objects_served configuration place call (request.Buffer given operation) partition)
+buffers_served configuration cores place core partition call given operation clear asked (Err fault) next holds is = tt
+buffers_served configuration cores place core partition call given operation clear asked (Ok transfer) next holds is =
+    let work = at_work configuration cores place core partition call clear in
+    ap (λ buffers. record partition { buffers = buffers })
+    (is ∙ becomes_there given partition.buffers (buffers.answer (actor_of place call) operation) _ _ call.claim (work.sound.objects kind.Buffer)
+    (buffer_found configuration call.who partition given operation (rw asked at clear.codes)) holds
+    (λ found at same. buffer_becomes place call given operation found asked (in_order place partition call.who work (set.BufferSenders (natural_of given)) found.senders (rw at refl)) (in_order place partition call.who work (set.BufferReceivers (natural_of given)) found.receivers (rw at refl)) same))
 
-pub blackboards_become : (place : ℕ) (partition : Partition) (call : CallRecord) (given : ℤ) (operation : BlackboardOperation) → call.request ≡ request.Blackboard given operation → IsAtWork place partition call.who
-    → given_object partition.blackboards given ≢ None → IfSome (given_object partition.blackboards given) (λ found. AllHold (answer_demands (blackboard_effect operation found).answer call.claim))
-    → change_at (natural_of given) (blackboards.after (actor_of place call) operation call.claim) partition.blackboards
-    ≡ change_at (natural_of given) (used_by kind.Blackboard place call (natural_of given) (λ found. (blackboard_effect operation found).next)) partition.blackboards
-blackboards_become place partition call given operation asked at_work there holds =
-    becomes_there given partition.blackboards (blackboard_effect operation) _ _ call.claim (at_work.sound.objects kind.Blackboard) there holds
-    (λ found at is. blackboard_becomes place call given operation found asked (in_order place partition call.who at_work (set.BlackboardReaders (natural_of given)) found.readers (rw at refl)) is)
+pub blackboards_served : (configuration : Configuration) (cores : List CoreState) (place core : ℕ) (partition : Partition) (call : CallRecord) (given : ℤ) (operation : BlackboardOperation)
+    → IsClear configuration cores place core partition call → call.request ≡ request.Blackboard given operation → (result : Result Transfer ObjFault) (next : List (ℕ × Blackboard))
+    → OnOk result (AllHold (used_demands partition.blackboards given (λ found. (blackboard_effect operation found).answer) call.claim))
+    → OnOk result (next ≡ change_at (natural_of given) (blackboards.after (actor_of place call) operation call.claim) partition.blackboards)
+    → OnOk result (record partition { blackboards = next } ≡ objects_served configuration place call (request.Blackboard given operation) partition)
+blackboards_served configuration cores place core partition call given operation clear asked (Err fault) next holds is = tt
+blackboards_served configuration cores place core partition call given operation clear asked (Ok transfer) next holds is =
+    let work = at_work configuration cores place core partition call clear in
+    ap (λ blackboards. record partition { blackboards = blackboards })
+    (is ∙ becomes_there given partition.blackboards (λ found. (blackboard_effect operation found).answer) _ _ call.claim (work.sound.objects kind.Blackboard)
+    (blackboard_found configuration call.who partition given operation (rw asked at clear.codes)) holds
+    (λ found at same. blackboard_becomes place call given operation found asked (in_order place partition call.who work (set.BlackboardReaders (natural_of given)) found.readers (rw at refl)) same))
 
-pub semaphores_become : (place : ℕ) (partition : Partition) (call : CallRecord) (given : ℤ) (operation : SemaphoreOperation) → call.request ≡ request.Semaphore given operation → IsAtWork place partition call.who
-    → given_object partition.semaphores given ≢ None → IfSome (given_object partition.semaphores given) (λ found. AllHold (answer_demands (semaphore_effect operation found).answer call.claim))
-    → change_at (natural_of given) (semaphores.after (actor_of place call) operation call.claim) partition.semaphores
-    ≡ change_at (natural_of given) (used_by kind.Semaphore place call (natural_of given) (λ found. (semaphore_effect operation found).next)) partition.semaphores
-semaphores_become place partition call given operation asked at_work there holds =
-    becomes_there given partition.semaphores (semaphore_effect operation) _ _ call.claim (at_work.sound.objects kind.Semaphore) there holds
-    (λ found at is. semaphore_becomes place call given operation found asked (in_order place partition call.who at_work (set.SemaphoreWaiters (natural_of given)) found.waiters (rw at refl)) is)
+pub semaphores_served : (configuration : Configuration) (cores : List CoreState) (place core : ℕ) (partition : Partition) (call : CallRecord) (given : ℤ) (operation : SemaphoreOperation)
+    → IsClear configuration cores place core partition call → call.request ≡ request.Semaphore given operation → (result : Result Transfer ObjFault) (next : List (ℕ × Semaphore))
+    → OnOk result (AllHold (used_demands partition.semaphores given (λ found. (semaphore_effect operation found).answer) call.claim))
+    → OnOk result (next ≡ change_at (natural_of given) (semaphores.after (actor_of place call) operation call.claim) partition.semaphores)
+    → OnOk result (record partition { semaphores = next } ≡ objects_served configuration place call (request.Semaphore given operation) partition)
+semaphores_served configuration cores place core partition call given operation clear asked (Err fault) next holds is = tt
+semaphores_served configuration cores place core partition call given operation clear asked (Ok transfer) next holds is =
+    let work = at_work configuration cores place core partition call clear in
+    ap (λ semaphores. record partition { semaphores = semaphores })
+    (is ∙ becomes_there given partition.semaphores (λ found. (semaphore_effect operation found).answer) _ _ call.claim (work.sound.objects kind.Semaphore)
+    (semaphore_found configuration call.who partition given operation (rw asked at clear.codes)) holds
+    (λ found at same. semaphore_becomes place call given operation found asked (in_order place partition call.who work (set.SemaphoreWaiters (natural_of given)) found.waiters (rw at refl)) same))
 
-pub events_become : (place : ℕ) (partition : Partition) (call : CallRecord) (given : ℤ) (operation : EventOperation) → call.request ≡ request.Event given operation → IsAtWork place partition call.who
-    → given_object partition.events given ≢ None → IfSome (given_object partition.events given) (λ found. AllHold (answer_demands (event_effect operation found).answer call.claim))
-    → change_at (natural_of given) (events.after (actor_of place call) operation call.claim) partition.events
-    ≡ change_at (natural_of given) (used_by kind.Event place call (natural_of given) (λ found. (event_effect operation found).next)) partition.events
-events_become place partition call given operation asked at_work there holds =
-    becomes_there given partition.events (event_effect operation) _ _ call.claim (at_work.sound.objects kind.Event) there holds
-    (λ found at is. event_becomes place call given operation found asked (in_order place partition call.who at_work (set.EventWaiters (natural_of given)) found.waiters (rw at refl)) is)
+pub events_served : (configuration : Configuration) (cores : List CoreState) (place core : ℕ) (partition : Partition) (call : CallRecord) (given : ℤ) (operation : EventOperation)
+    → IsClear configuration cores place core partition call → call.request ≡ request.Event given operation → (result : Result Transfer ObjFault) (next : List (ℕ × Event))
+    → OnOk result (AllHold (used_demands partition.events given (λ found. (event_effect operation found).answer) call.claim))
+    → OnOk result (next ≡ change_at (natural_of given) (events.after (actor_of place call) operation call.claim) partition.events)
+    → OnOk result (record partition { events = next } ≡ objects_served configuration place call (request.Event given operation) partition)
+events_served configuration cores place core partition call given operation clear asked (Err fault) next holds is = tt
+events_served configuration cores place core partition call given operation clear asked (Ok transfer) next holds is =
+    let work = at_work configuration cores place core partition call clear in
+    ap (λ events. record partition { events = events })
+    (is ∙ becomes_there given partition.events (λ found. (event_effect operation found).answer) _ _ call.claim (work.sound.objects kind.Event)
+    (event_found configuration call.who partition given operation (rw asked at clear.codes)) holds
+    (λ found at same. event_becomes place call given operation found asked (in_order place partition call.who work (set.EventWaiters (natural_of given)) found.waiters (rw at refl)) same))
 
-pub mutexes_become : (place : ℕ) (partition : Partition) (call : CallRecord) (given : ℤ) (operation : MutexOperation) → call.request ≡ request.Mutex given operation → IsAtWork place partition call.who
-    → given_object partition.mutexes given ≢ None → IfSome (given_object partition.mutexes given) (λ found. AllHold (answer_demands (mutex_effect call.who.proc operation found).answer call.claim))
-    → change_at (natural_of given) (mutexes.after (actor_of place call) operation call.claim) partition.mutexes
-    ≡ change_at (natural_of given) (used_by kind.Mutex place call (natural_of given) (λ found. (mutex_effect call.who.proc operation found).next)) partition.mutexes
-mutexes_become place partition call given operation asked at_work there holds =
-    becomes_there given partition.mutexes (mutex_effect call.who.proc operation) _ _ call.claim (at_work.sound.objects kind.Mutex) there holds
-    (λ found at is. mutex_becomes place call given operation found asked (in_order place partition call.who at_work (set.MutexWaiters (natural_of given)) found.waiters (rw at refl)) is)
+pub mutexes_served : (configuration : Configuration) (cores : List CoreState) (place core : ℕ) (partition : Partition) (call : CallRecord) (given : ℤ) (operation : MutexOperation)
+    → IsClear configuration cores place core partition call → call.request ≡ request.Mutex given operation → (result : Result Transfer ObjFault) (next : List (ℕ × Mutex))
+    → OnOk result (AllHold (used_demands partition.mutexes given (λ found. (mutex_effect call.who.proc operation found).answer) call.claim))
+    → OnOk result (next ≡ change_at (natural_of given) (mutexes.after (actor_of place call) operation call.claim) partition.mutexes)
+    → OnOk result (record partition { mutexes = next } ≡ objects_served configuration place call (request.Mutex given operation) partition)
+mutexes_served configuration cores place core partition call given operation clear asked (Err fault) next holds is = tt
+mutexes_served configuration cores place core partition call given operation clear asked (Ok transfer) next holds is =
+    let work = at_work configuration cores place core partition call clear in
+    ap (λ mutexes. record partition { mutexes = mutexes })
+    (is ∙ becomes_there given partition.mutexes (λ found. (mutex_effect call.who.proc operation found).answer) _ _ call.claim (work.sound.objects kind.Mutex)
+    (mutex_found configuration call.who partition given operation (rw asked at clear.codes)) holds
+    (λ found at same. mutex_becomes place call given operation found asked (in_order place partition call.who work (set.MutexWaiters (natural_of given)) found.waiters (rw at refl)) same))

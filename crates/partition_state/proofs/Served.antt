@@ -1,5 +1,6 @@
 -- What a call that was served makes of the objects is what it makes of the partition's.
-use Rattle.std.proofs.Common.{◌≡◌, ℕ, List, Option, Some, None, Bool, true, false, refl}
+use Rattle.std.proofs.Common.{◌≡◌, ℕ, List, Option, Some, None, Result, Ok, Err, Bool, true, false, IfErr, OnOk, refl}
+use Rattle.apex_types.specs.declared.cause.Cause.{Cause}
 use Rattle.apex_types.specs.declared.operation.{NewObject.NewObject, ProcessOperation.ProcessOperation, SamplingOperation.SamplingOperation}
 use Rattle.apex_types.specs.declared.record.Call.{Call as CallRecord}
 use Rattle.apex_types.specs.declared.record.Who.{Who}
@@ -12,7 +13,7 @@ use Rattle.apex_machine.specs.declared.state.Wait.TheVariants as wait
 use Rattle.apex_machine.specs.declared.state.WaitingSet.TheVariants as set
 use Rattle.apex_machine.specs.After.{objects_called, partition_called}
 use Rattle.apex_machine.specs.Configuration.{Configuration}
-use Rattle.apex_machine.specs.Demands.{AllHold, Demand}
+use Rattle.apex_machine.specs.Demands.{AllHold, Demand, Judges}
 use Rattle.apex_machine.specs.Services.{peer}
 use Rattle.apex_machine.specs.State.{Partition, created, time_of}
 use Rattle.apex_machine.specs.Waiting.{is_no_error, restart_of}
@@ -22,10 +23,11 @@ use Rattle.apex_laws.specs.PartSets.{left_if_there}
 use Rattle.apex_laws.proofs.LeavingSets.{stopped_leaves}
 use Rattle.apex_laws.proofs.PartObjects.{one_object_changes}
 use Rattle.process_state.specs.Processes.{Processes, processes_of}
+use Rattle.process_state.specs.declared.transfer.Transfer.{Transfer}
 use Rattle.wait_set.specs.declared.object.ObjFault.{ObjFault}
 use Rattle.wait_set.specs.declared.object.ObjFault.TheVariants.{Unlawful, Memory}
 use Rattle.wait_set.specs.Actors.{Refuses}
-use Rattle.partition_state.specs.Calls.{IsClear, ReadsAtPort, RefusesOrWants, objects_noted, objects_served, served_demands}
+use Rattle.partition_state.specs.Calls.{IsClear, IsJudged, ReadsAtPort, RefusesOrWants, objects_noted, objects_served, served_demands}
 use Rattle.partition_state.proofs.Clear.{own_call, target_found}
 
 -- whether a request is STOP
@@ -65,6 +67,20 @@ changed_is_served configuration place call partition new = by call.request
         → new ≡ objects_served configuration place call asked partition
     by (request.Process process ProcessOperation.Stop) other e = let never : ◌≡◌ {A = Bool} true false = other in cc
     by _ other e = e
+
+-- what is accepted or refused as it is judged holds, or its cause is that of the first demand that fails
+
+pub accepted_ok : (demands : List {1} Demand) (judged : Result (Unit {0}) Cause) (result : Result Transfer ObjFault) → Judges demands judged
+    → IsJudged judged result → OnOk result (AllHold demands)
+accepted_ok demands (Ok done) (Ok transfer) judges is = judges
+accepted_ok demands (Err cause) (Ok transfer) judges is = absurd is
+accepted_ok demands judged (Err fault) judges is = tt
+
+pub accepted_refused : (demands : List {1} Demand) (judged : Result (Unit {0}) Cause) (result : Result Transfer ObjFault) → Judges demands judged
+    → IsJudged judged result → IfErr result (Refuses demands)
+accepted_refused demands judged (Ok transfer) judges is = tt
+accepted_refused demands (Ok done) (Err fault) judges is = let never : ◌≡◌ {A = Bool} false true = is in cc
+accepted_refused demands (Err cause) (Err fault) judges is = rw is judges
 
 -- a refusal is one where memory may be wanted too
 pub refuses_or_wants : (demands : List {1} Demand) (fault : ObjFault) → Refuses demands fault → RefusesOrWants demands fault

@@ -1,5 +1,6 @@
 -- Whom a partition may serve, what it answers, and which object a request is for.
-use Rattle.std.specs.Prelude.{◌≡◌, ◌≢◌, ◌⊎◌, ℕ, ℤ, List, [], None, IsFalse, IsTrue, is_some, if◌then◌else◌}
+use Rattle.std.specs.Prelude.{◌≡◌, ◌≢◌, ◌⊎◌, ℕ, ℤ, List, [], None, IsErrAnd, IsFalse, IsOk, IsTrue, MatchResult, Result, is_some, if◌then◌else◌}
+use Rattle.apex_types.specs.declared.cause.Cause.{Cause}
 use Rattle.apex_types.specs.declared.operation.{ProcessOperation.ProcessOperation, SamplingOperation.SamplingOperation}
 use Rattle.apex_types.specs.declared.record.Call.{Call as CallRecord}
 use Rattle.apex_types.specs.declared.record.Claim.{Claim}
@@ -9,7 +10,7 @@ use Rattle.apex_types.specs.declared.request.Request.TheVariants as request
 use Rattle.apex_machine.specs.declared.state.CoreState.{CoreState}
 use Rattle.apex_machine.specs.declared.state.WaitingSet.{WaitingSet}
 use Rattle.apex_machine.specs.After.{is_done}
-use Rattle.apex_machine.specs.Answer.{Effect}
+use Rattle.apex_machine.specs.Answer.{Answer}
 use Rattle.apex_machine.specs.Arguments.{natural_of}
 use Rattle.apex_machine.specs.Configuration.{Configuration}
 use Rattle.apex_machine.specs.Demands.{AllHold, Demand, FirstFails, answer_demands, caller_demands, stands_in}
@@ -24,6 +25,8 @@ use Rattle.apex_laws.specs.PartObjects.{objects_changed}
 use Rattle.apex_laws.specs.PartSets.{left_if_there}
 use Rattle.object_table.specs.Numbers.{NumbersFit}
 use Rattle.ports.specs.Ports.{read_at}
+use Rattle.process_state.specs.declared.transfer.Transfer.{Transfer}
+use Rattle.wait_set.specs.declared.object.Actor.{Actor}
 use Rattle.wait_set.specs.declared.object.ObjFault.{ObjFault}
 use Rattle.wait_set.specs.declared.object.ObjFault.TheVariants.{Unlawful, Memory}
 
@@ -55,9 +58,13 @@ pub record IsClear (configuration : Configuration) (cores : List CoreState) (pla
 abbrev pub served_demands : ℕ → Partition → CallRecord → List {1} Demand
 served_demands now partition call = answer_demands (answer_of now call.who partition call.request) call.claim
 
--- what is demanded of the claim of an operation on an object: it is what the object's rule gives
-abbrev pub used_demands : {Object : Type 0} → List (ℕ × Object) → ℤ → (Object → Effect Object) → Claim → List {1} Demand
-used_demands objects given rule claim = answer_demands (answer_by (given_object objects given) (λ found. (rule found).answer)) claim
+-- who makes a call, as an object sees it: with the priority that the call claims
+abbrev pub actor_of : ℕ → CallRecord → Actor
+actor_of place call = record { who = call.who; priority = call.claim.prio; place = place }
+
+-- what is demanded of the claim of an operation on an object: it is what the object gives
+abbrev pub used_demands : {Object : Type 0} → List (ℕ × Object) → ℤ → (Object → Answer) → Claim → List {1} Demand
+used_demands objects given gives claim = answer_demands (answer_by (given_object objects given) gives) claim
 
 -- what is demanded of the claim of a creation: it is a new number
 abbrev pub created_demands : {Object : Type 0} → List (ℕ × Object) → Claim → List {1} Demand
@@ -67,6 +74,10 @@ created_demands objects claim = answer_demands (done_with (NewNumber (is_free ob
 abbrev pub RefusesOrWants : List {1} Demand → ObjFault → Type 0
 RefusesOrWants demands (Unlawful cause) = FirstFails demands cause
 RefusesOrWants demands Memory = Unit {0}
+
+-- what a judgement makes of a call that changes no object: it is accepted, or refused for the cause that is judged
+abbrev pub IsJudged : Result (Unit {0}) Cause → Result Transfer ObjFault → Type 0
+IsJudged judged result = MatchResult judged (λ _. IsOk result) (λ cause. IsErrAnd result (λ fault. fault ≡ Unlawful cause))
 
 -- a call that leaves all objects of its partition: it is not done, or it uses a channel
 abbrev pub LeavesObjects : CallRecord → Type 0

@@ -1,18 +1,21 @@
 // What is created by a call.
 
-ghost use Rattle.std.specs.Prelude.{◌≡◌, [], IfErr, OnErr, OnOk};
+ghost use Rattle.std.specs.Prelude.{◌≡◌, ◌++◌, [], IfErr, IfOk, OnErr, OnOk};
 ghost use Rattle.apex_types.specs.Requested.{kind_of};
 ghost use Rattle.apex_types.specs.declared.request.Request.TheVariants as request;
-ghost use Rattle.apex_machine.specs.After.{objects_by};
+ghost use Rattle.apex_machine.specs.After.{numbered, objects_by};
 ghost use Rattle.apex_machine.specs.CreationConditions.{parameter_codes};
 ghost use Rattle.apex_machine.specs.Demands.{AllHold};
 ghost use Rattle.apex_machine.specs.State.{objects_of};
 ghost use Rattle.wait_set.specs.Actors.{Refuses};
+ghost use Rattle.wait_set.specs.declared.object.ObjFault.TheVariants.{Memory};
 ghost use Rattle.partition_state.specs.Calls.{created_demands};
 
+use crate::creations::{new_blackboard, new_buffer, new_event, new_mutex, new_semaphore};
 use crate::state::PartitionState;
 use apex_types::{Claim, Name, NewObject, Who};
 use module_config::Config;
+use object_table::ObjectTable;
 use wait_set::ObjFault;
 
 impl PartitionState {
@@ -40,20 +43,53 @@ impl PartitionState {
                 size,
                 capacity,
                 discipline,
-            } => self.create_buffer(alloc, claim, name, *size, *capacity, *discipline),
-            NewObject::Blackboard { size } => self.create_blackboard(alloc, claim, name, *size),
+            } => {
+                let made = new_buffer(alloc, name, *size, *capacity, *discipline);
+                add_created(&mut self.buffers, claim, made)
+            }
+            NewObject::Blackboard { size } => {
+                add_created(
+                    &mut self.blackboards,
+                    claim,
+                    new_blackboard(alloc, name, *size),
+                )
+            }
             NewObject::Semaphore {
                 value,
                 maximum,
                 discipline,
-            } => self.create_semaphore(alloc, claim, name, *value, *maximum, *discipline),
-            NewObject::Event => self.create_event(alloc, claim, name),
+            } => {
+                let made = new_semaphore(alloc, name, *value, *maximum, *discipline);
+                add_created(&mut self.semaphores, claim, made)
+            }
+            NewObject::Event => add_created(&mut self.events, claim, new_event(alloc, name)),
             NewObject::Mutex {
                 priority,
                 discipline,
-            } => self.create_mutex(alloc, claim, name, *priority, *discipline),
+            } => {
+                let made = new_mutex(alloc, name, *priority, *discipline);
+                add_created(&mut self.mutexes, claim, made)
+            }
             NewObject::SamplingPort { .. } => self.create_sampling_port(config, part, claim, name),
             NewObject::QueuingPort { .. } => self.create_queuing_port(config, part, claim, name),
         }
     }
+}
+
+// Adds what a creation makes after the others of its kind, under the number that is claimed.
+//
+// Refused, with nothing changed, where the claim is not what a creation gives, or where memory was refused.
+fn add_created<Object: Drop>(
+    objects: &mut ObjectTable<Object>,
+    claim: &Claim,
+    made: Result<Object, ObjFault>,
+) -> Result<(), ObjFault>
+    requires memory { IfErr made (λ fault. fault ≡ Memory) }
+    ensures ok { OnOk result (AllHold (created_demands objects.old claim.now)) }
+    ensures after { (object : Object) → IfOk made (λ found. found ≡ object) → OnOk result (objects.new ≡ objects.old ++ numbered claim.now.val object) }
+    ensures refused { IfErr result (Refuses (created_demands objects.old claim.now)) }
+    ensures unchanged { OnErr result (objects.new ≡ objects.old) }
+{
+    objects.judge_creation(claim)?;
+    objects.add(claim.val, made?)
 }

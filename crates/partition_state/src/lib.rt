@@ -8,18 +8,13 @@
 #![tactic(auto)]
 
 mod answers;
-mod blackboards;
-mod buffers;
-mod caller;
 mod creating;
 mod creations;
-mod events;
 mod leaving;
-mod mutexes;
+mod objects;
 mod owners;
 mod port_calls;
 mod restarting;
-mod semaphores;
 mod serving;
 mod state;
 mod telling;

@@ -2,9 +2,7 @@
 
 ghost use Rattle.std.specs.Prelude.{◌≡◌, None, IfErr, IfOk, OnErr, OnOk};
 ghost use Rattle.apex_machine.specs.After.{own_partition, partition_called};
-ghost use Rattle.apex_machine.specs.Configuration.{Configuration, period_of};
-ghost use Rattle.apex_machine.specs.Demands.{AllHold, caller_demands, own_call_demands};
-ghost use Rattle.apex_machine.specs.ServiceConditions.{condition_codes};
+ghost use Rattle.apex_machine.specs.Demands.{AllHold, own_call_demands};
 ghost use Rattle.apex_machine.specs.State.{time_of};
 ghost use Rattle.apex_machine.specs.Waiting as restarted;
 ghost use Rattle.apex_laws.specs.PartBounds.{IsBoundedPart};
@@ -12,12 +10,13 @@ ghost use Rattle.apex_laws.specs.PartLaws.{IsSoundPart};
 ghost use Rattle.process_state.specs.Timely.{TimesFit};
 ghost use Rattle.process_state.specs.Transfers.{IsTransferOf};
 ghost use Rattle.wait_set.specs.Actors.{Refuses};
-ghost use Rattle.partition_state.specs.Calls.{IsClear, LeavesObjects, RefusesOrWants, objects_served, served_demands};
+ghost use Rattle.partition_state.specs.Calls.{IsClear, IsJudged, LeavesObjects, RefusesOrWants, objects_served, served_demands};
 
 use crate::answers::never;
+use crate::objects::{caller_of, use_object};
 use crate::restarting::restart_of;
 use crate::state::PartitionState;
-use apex_types::{Call, ProcessOperation, Request};
+use apex_types::{Call, Cause, ProcessOperation, Request};
 use module_config::Config;
 use process_state::{Moment, Transfer};
 use std::alloc::AllocError;
@@ -54,6 +53,7 @@ impl PartitionState {
     }
 
     // The same for a call that does not restart the partition.
+    #[tactic(auto, using(crate::proofs::Served::refuses_or_wants))]
     fn carry_out(
         &mut self,
         config: &Config,
@@ -118,8 +118,8 @@ impl PartitionState {
     }
 
     // What a call claims is judged by what its service gives, and what it makes of the objects is made. It says what becomes of
-    // the owner of a mutex.
-    #[tactic(auto, using(crate::proofs::Served::refuses_or_wants))]
+    // the owner of a mutex. A call through a port goes through a channel.
+    #[tactic(auto, using(crate::proofs::Clear::at_work, crate::proofs::Served::accepted_ok, crate::proofs::Served::accepted_refused, crate::proofs::Served::changed_is_served))]
     fn operate(
         &mut self,
         config: &Config,
@@ -131,66 +131,56 @@ impl PartitionState {
         ensures ok { OnOk result (AllHold (served_demands now self.old call.now)) }
         ensures after { OnOk result (self.new ≡ objects_served config.now moment.now.place call.now call.now.request self.old) }
         ensures transfer { IfOk result (λ transfer. IsTransferOf self.old call.now.who.proc call.now.request transfer) }
-        ensures refused { IfErr result (RefusesOrWants (served_demands now self.old call.now)) }
-        ensures unchanged { OnErr result (self.new ≡ self.old) }
-    {
-        let owner = self.owner_in(&call.request);
-        self.operate_by_object(config, now, moment, call)?;
-        Ok(self.transfer_since(owner, &call.request))
-    }
-
-    // The same, without what becomes of owners. A call through a port goes through a channel.
-    #[tactic(auto, using(crate::proofs::Clear::at_work, crate::proofs::Clear::counts_fit, crate::proofs::Served::changed_is_served))]
-    fn operate_by_object(
-        &mut self,
-        config: &Config,
-        now: u64,
-        moment: &Moment<'_>,
-        call: &Call,
-    ) -> Result<(), ObjFault>
-        requires clear { IsClear config.now moment.now.cores.now moment.now.place moment.now.core self.old call.now }
-        ensures ok { OnOk result (AllHold (served_demands now self.old call.now)) }
-        ensures after { OnOk result (self.new ≡ objects_served config.now moment.now.place call.now call.now.request self.old) }
         ensures refused { IfErr result (Refuses (served_demands now self.old call.now)) }
         ensures unchanged { OnErr result (self.new ≡ self.old) }
     {
-        let (place, claim) = (moment.place, &call.claim);
+        let claim = &call.claim;
+        let caller = caller_of(moment.place, call);
         match &call.request {
-            Request::Process(process, ProcessOperation::Stop) => self.stop(place, call, *process),
-            Request::Create(name, object) => self.create(config, call.who, name, object, claim),
-            Request::Buffer(buffer, operation) => {
-                self.use_buffer(place, call, *buffer, operation)
+            Request::Process(process, ProcessOperation::Stop) => {
+                self.stop(moment.place, call, *process)?;
+                Ok(Transfer::none())
             }
-            Request::Blackboard(blackboard, operation) => self.use_blackboard(
-                place,
-                call,
-                *blackboard,
-                operation,
-            ),
-            Request::Semaphore(semaphore, operation) => self.use_semaphore(
-                place, call, *semaphore, operation,
-            ),
-            Request::Event(event, operation) => self.use_event(place, call, *event, operation),
-            Request::Mutex(mutex, operation) => self.use_mutex(place, call, *mutex, operation),
+            Request::Create(name, object) => {
+                self.create(config, call.who, name, object, claim)?;
+                Ok(Transfer::none())
+            }
+            Request::Buffer(buffer, operation) => {
+                use_object(&mut self.buffers, *buffer, caller, operation, claim)
+            }
+            Request::Blackboard(blackboard, operation) => {
+                use_object(&mut self.blackboards, *blackboard, caller, operation, claim)
+            }
+            Request::Semaphore(semaphore, operation) => {
+                use_object(&mut self.semaphores, *semaphore, caller, operation, claim)
+            }
+            Request::Event(event, operation) => {
+                use_object(&mut self.events, *event, caller, operation, claim)
+            }
+            Request::Mutex(mutex, operation) => {
+                use_object(&mut self.mutexes, *mutex, caller, operation, claim)
+            }
             Request::SamplingPort(..) | Request::QueuingPort(..) => unreachable!(),
             Request::CreateProcess { .. } => {
-                judge_value(self.processes.is_new_number(claim.val), claim).map_err(
-                    ObjFault::Unlawful,
-                )
+                accepted(judge_value(self.processes.is_new_number(claim.val), claim))
             }
-            Request::Process(process, operation) => self
-                .judge_named(call, *process, operation)
-                .map_err(ObjFault::Unlawful),
-            Request::Caller(operation) => self
-                .judge_own(now, call.who, operation, claim)
-                .map_err(ObjFault::Unlawful),
-            Request::SetPartitionMode(..) => never().judge(claim).map_err(ObjFault::Unlawful),
-            Request::GetId(kind, name) => self
-                .judge_id(*kind, name, claim)
-                .map_err(ObjFault::Unlawful),
+            Request::Process(process, operation) => {
+                accepted(self.judge_named(call, *process, operation))
+            }
+            Request::Caller(operation) => accepted(self.judge_own(now, call.who, operation, claim)),
+            Request::SetPartitionMode(..) => accepted(never().judge(claim)),
+            Request::GetId(kind, name) => accepted(self.judge_id(*kind, name, claim)),
             Request::GetStatus(kind, object) => {
-                judge_status(self.status_of(*kind, *object), claim).map_err(ObjFault::Unlawful)
+                accepted(judge_status(self.status_of(*kind, *object), claim))
             }
         }
     }
+}
+
+// What a call comes to that changes no object, by how its claim is judged: no mutex has another owner.
+fn accepted(judged: Result<(), Cause>) -> Result<Transfer, ObjFault>
+    ensures { IsJudged judged result }
+{
+    judged.map_err(ObjFault::Unlawful)?;
+    Ok(Transfer::none())
 }

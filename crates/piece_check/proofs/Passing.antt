@@ -42,22 +42,22 @@ served_fails configuration number cores partition core now call (Unlawful why) c
     (rw (none, nowhere) (inr (apart, rw at at fails)))
 served_fails configuration number cores partition core now call Memory caller none nowhere apart at wants = tt
 
--- where a channel is used, what is demanded of the outcome holds of the call, or fails of it
+-- where a channel is used, what is demanded of the outcome, whatever the service gives, holds of the call, or fails of it
 pub through_holds : (configuration : Configuration) (number : ℕ) (cores : List CoreState) (partition : Partition) (core : ℕ) (call : CallRecord) (channel : ℕ)
     → AllHold (caller_demands configuration number cores partition core call)
     → condition_codes configuration call.who partition call.request ≡ [] → channel_of partition call.request ≡ Some channel
-    → AllHold (outcome_demands [] (Some channel) number call.request (answer_of (time_of cores core) call.who partition call.request) call.claim)
+    → ((answer : Answer) → AllHold (outcome_demands [] (Some channel) number call.request answer call.claim))
     → AllHold (own_call_demands configuration number cores partition core call)
 through_holds configuration number cores partition core call channel caller none goes holds =
-    AllHold-append (caller_demands configuration number cores partition core call) _ caller (rw (none, goes) holds)
+    AllHold-append (caller_demands configuration number cores partition core call) _ caller (rw (none, goes) (holds (answer_of (time_of cores core) call.who partition call.request)))
 
 pub through_fails : (configuration : Configuration) (number : ℕ) (cores : List CoreState) (partition : Partition) (core : ℕ) (call : CallRecord) (channel : ℕ) (why : Cause)
     → AllHold (caller_demands configuration number cores partition core call)
     → condition_codes configuration call.who partition call.request ≡ [] → channel_of partition call.request ≡ Some channel
-    → FirstFails (outcome_demands [] (Some channel) number call.request (answer_of (time_of cores core) call.who partition call.request) call.claim) why
+    → ((answer : Answer) → FirstFails (outcome_demands [] (Some channel) number call.request answer call.claim) why)
     → FirstFails (own_call_demands configuration number cores partition core call) why
 through_fails configuration number cores partition core call channel why caller none goes fails =
-    fails_later (caller_demands configuration number cores partition core call) _ why caller (rw (none, goes) fails)
+    fails_later (caller_demands configuration number cores partition core call) _ why caller (rw (none, goes) (fails (answer_of (time_of cores core) call.who partition call.request)))
 
 -- where some error condition holds
 

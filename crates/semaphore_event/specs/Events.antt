@@ -1,19 +1,12 @@
--- What each operation on an event gives its caller, and the event after it.
+-- The event after each operation.
 use Rattle.std.specs.Prelude.{List, [], ◌∷◌}
 use Rattle.apex_types.specs.declared.operation.{EventOperation.EventOperation}
 use Rattle.apex_types.specs.declared.record.Claim.{Claim}
-use Rattle.apex_types.specs.declared.record.Who.{Who}
 use Rattle.apex_machine.specs.declared.state.Entry.{Entry}
-use Rattle.apex_machine.specs.Answer.{Answer}
 use Rattle.apex_machine.specs.Objects.{event_effect}
 use Rattle.apex_machine.specs.State.{Event}
 use Rattle.wait_set.specs.declared.object.Actor.{Actor}
 use Rattle.wait_set.specs.Actors.{joined_by, left_by}
-use Rattle.wait_set.specs.Sets as waiters
-
--- what an operation gives its caller
-abbrev pub answer : Actor → EventOperation → Event → Answer
-answer actor operation found = (event_effect operation found).answer
 
 -- those who wait after an operation: WAIT_EVENT adds a caller that waits
 abbrev pub waiters_after : Actor → EventOperation → Claim → List Entry → List Entry
@@ -28,7 +21,3 @@ after actor operation claim found = record (event_effect operation found).next {
 -- its one waiting set
 abbrev pub sets : Event → List (List Entry)
 sets found = found.waiters ∷ []
-
--- the event at which this process does not wait
-abbrev pub without_one : Who → Event → Event
-without_one who found = record found { waiters = waiters.without_one who found.waiters }

@@ -1,19 +1,12 @@
--- What each operation on a semaphore gives its caller, and the semaphore after it.
+-- The semaphore after each operation.
 use Rattle.std.specs.Prelude.{List, [], ◌∷◌}
 use Rattle.apex_types.specs.declared.operation.{SemaphoreOperation.SemaphoreOperation}
 use Rattle.apex_types.specs.declared.record.Claim.{Claim}
-use Rattle.apex_types.specs.declared.record.Who.{Who}
 use Rattle.apex_machine.specs.declared.state.Entry.{Entry}
-use Rattle.apex_machine.specs.Answer.{Answer}
 use Rattle.apex_machine.specs.Objects.{semaphore_effect}
 use Rattle.apex_machine.specs.State.{Semaphore}
 use Rattle.wait_set.specs.declared.object.Actor.{Actor}
 use Rattle.wait_set.specs.Actors.{joined_by, left_by}
-use Rattle.wait_set.specs.Sets as waiters
-
--- what an operation gives its caller
-abbrev pub answer : Actor → SemaphoreOperation → Semaphore → Answer
-answer actor operation found = (semaphore_effect operation found).answer
 
 -- those who wait after an operation: WAIT_SEMAPHORE adds a caller that waits
 abbrev pub waiters_after : Actor → SemaphoreOperation → Claim → List Entry → List Entry
@@ -28,7 +21,3 @@ after actor operation claim found =
 -- its one waiting set
 abbrev pub sets : Semaphore → List (List Entry)
 sets found = found.waiters ∷ []
-
--- the semaphore at which this process does not wait
-abbrev pub without_one : Who → Semaphore → Semaphore
-without_one who found = record found { waiters = waiters.without_one who found.waiters }

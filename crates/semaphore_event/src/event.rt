@@ -1,13 +1,9 @@
 // Events.
 
-ghost use Rattle.std.specs.Prelude.{◌≡◌, ◌↔◌, [], false, IfErr, IfOk, IsTrue, OnErr, OnOk};
-ghost use Rattle.apex_types.specs.declared.operation.EventOperation.TheVariants as on_event;
-ghost use Rattle.apex_types.specs.declared.record.Out.TheVariants as out;
-ghost use Rattle.apex_machine.specs.Demands.{AllHold, answer_demands};
+ghost use Rattle.std.specs.Prelude.{◌≡◌, [], false};
 ghost use Rattle.apex_machine.specs.Objects.{event_effect};
 ghost use Rattle.apex_machine.specs.Statuses.{event_status};
-ghost use Rattle.wait_set.specs.Actors.{OwesNothing, Refuses, entry_with, joined_by, left_by};
-ghost use Rattle.wait_set.specs.Sets.{IsNew};
+ghost use Rattle.wait_set.specs.Sets.{without_one};
 ghost use Rattle.semaphore_event.specs.Events as rules;
 
 use apex_machine::Status;
@@ -68,55 +64,6 @@ impl Event {
             val3: None,
         }
     }
-
-    // SET_EVENT: the event is up, and all who wait for it go on.
-    fn set(&mut self, claim: &Claim) -> Result<Effect, ObjFault>
-        ensures ok { OnOk result (AllHold (answer_demands (event_effect on_event.Set self.old).answer claim.now)) }
-        ensures after { OnOk result (self.new ≡ record (event_effect on_event.Set self.old).next { waiters = left_by claim.now self.old.waiters }) }
-        ensures waits { IfOk result (λ effect. IsTrue effect.waits ↔ (claim.now.out ≡ out.Waits)) }
-        ensures refused { IfErr result (Refuses (answer_demands (event_effect on_event.Set self.old).answer claim.now)) }
-        ensures unchanged { OnErr result (self.new ≡ self.old) }
-    {
-        judge_waking_all(&self.waiters, claim).map_err(ObjFault::Unlawful)?;
-        self.waiters.release(claim.woken.as_slice());
-        self.up = true;
-        Ok(Effect::of(claim))
-    }
-
-    // RESET_EVENT: the event is down.
-    fn reset(&mut self, claim: &Claim) -> Result<Effect, ObjFault>
-        ensures ok { OnOk result (AllHold (answer_demands (event_effect on_event.Reset self.old).answer claim.now)) }
-        ensures after { OnOk result (self.new ≡ record (event_effect on_event.Reset self.old).next { waiters = left_by claim.now self.old.waiters }) }
-        ensures waits { IfOk result (λ effect. IsTrue effect.waits ↔ (claim.now.out ≡ out.Waits)) }
-        ensures refused { IfErr result (Refuses (answer_demands (event_effect on_event.Reset self.old).answer claim.now)) }
-        ensures unchanged { OnErr result (self.new ≡ self.old) }
-    {
-        Given::done().judge(claim).map_err(ObjFault::Unlawful)?;
-        self.waiters.release(claim.woken.as_slice());
-        self.up = false;
-        Ok(Effect::of(claim))
-    }
-
-    // WAIT_EVENT: an event that is up lets its caller go on; else the caller waits.
-    fn wait(&mut self, actor: Actor, time_out: i64, claim: &Claim) -> Result<Effect, ObjFault>
-        requires new { IsNew (entry_with actor []) self.old.waiters }
-        ensures ok { OnOk result (AllHold (answer_demands (event_effect (on_event.Wait time_out) self.old).answer claim.now)) }
-        ensures after { OnOk result (self.new ≡ record (event_effect (on_event.Wait time_out) self.old).next { waiters = joined_by actor claim.now [] self.old.waiters }) }
-        ensures waits { IfOk result (λ effect. IsTrue effect.waits ↔ (claim.now.out ≡ out.Waits)) }
-        ensures refused { IfErr result (Refuses (answer_demands (event_effect (on_event.Wait time_out) self.old).answer claim.now)) }
-        ensures unchanged { OnErr result (self.new ≡ self.old) }
-    {
-        let given = if self.up {
-            Given::done()
-        } else {
-            Given::unmet(time_out)
-        };
-        given.judge(claim).map_err(ObjFault::Unlawful)?;
-        self.waiters
-            .settle(actor, claim, &[])
-            .map_err(|_| ObjFault::Memory)?;
-        Ok(Effect::of(claim))
-    }
 }
 
 impl Named for Event {
@@ -130,15 +77,13 @@ impl Named for Event {
 impl ApexObject for Event {
     type Operation = EventOperation;
 
-    ghost owes = { OwesNothing };
-
-    ghost answer = { rules.answer };
+    ghost answer = { λ actor operation event. (event_effect operation event).answer };
 
     ghost after = { rules.after };
 
     ghost sets = { rules.sets };
 
-    ghost without_one = { rules.without_one };
+    ghost without_one = { λ who event. record event { waiters = without_one who event.waiters } };
 
     fn apply(
         &mut self,
@@ -147,9 +92,33 @@ impl ApexObject for Event {
         claim: &Claim,
     ) -> Result<Effect, ObjFault> {
         match operation {
-            EventOperation::Set => self.set(claim),
-            EventOperation::Reset => self.reset(claim),
-            EventOperation::Wait { time_out } => self.wait(actor, *time_out, claim),
+            // The event is up, and all who wait for it go on.
+            EventOperation::Set => {
+                judge_waking_all(&self.waiters, claim).map_err(ObjFault::Unlawful)?;
+                self.waiters.release(claim.woken.as_slice());
+                self.up = true;
+                Ok(Effect::of(claim))
+            }
+            // The event is down.
+            EventOperation::Reset => {
+                Given::done().judge(claim).map_err(ObjFault::Unlawful)?;
+                self.waiters.release(claim.woken.as_slice());
+                self.up = false;
+                Ok(Effect::of(claim))
+            }
+            // An event that is up lets its caller go on; else the caller waits.
+            EventOperation::Wait { time_out } => {
+                let given = if self.up {
+                    Given::done()
+                } else {
+                    Given::unmet(*time_out)
+                };
+                given.judge(claim).map_err(ObjFault::Unlawful)?;
+                self.waiters
+                    .settle(actor, claim, &[])
+                    .map_err(|_| ObjFault::Memory)?;
+                Ok(Effect::of(claim))
+            }
         }
     }
 

@@ -12,12 +12,12 @@
 //! let signal = SemaphoreOperation::Signal;
 //!
 //! // Process 1 takes the one that there is, and process 2 waits.
-//! lock.apply(first, &wait, &done)?;            // Effect { waits: false }
-//! lock.apply(second, &wait, &waits)?;          // Effect { waits: true }
+//! lock.apply(first, &wait, &done)?;            // its caller goes on
+//! lock.apply(second, &wait, &waits)?;          // its caller waits
 //!
 //! // A signal that wakes nobody is not what the rule gives: process 2 waits first.
 //! lock.apply(first, &signal, &done);           // Err(ObjFault::Unlawful(Cause::Woken))
-//! lock.apply(first, &signal, &wakes_second)?;  // Effect { waits: false }
+//! lock.apply(first, &signal, &wakes_second)?;  // its caller goes on
 //! ```
 //!
 //! A caller that is killed leaves by `leave`. Whether an error condition holds of a call is judged before its operation is applied.

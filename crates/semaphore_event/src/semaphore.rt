@@ -1,13 +1,11 @@
 // Counting semaphores.
 
-ghost use Rattle.std.specs.Prelude.{◌≡◌, ◌↔◌, [], IfErr, IfOk, IsTrue, OnErr, OnOk};
+ghost use Rattle.std.specs.Prelude.{◌≡◌, []};
 ghost use Rattle.apex_types.specs.declared.operation.SemaphoreOperation.TheVariants as on_semaphore;
-ghost use Rattle.apex_types.specs.declared.record.Out.TheVariants as out;
-ghost use Rattle.apex_machine.specs.Demands.{AllHold, answer_demands};
 ghost use Rattle.apex_machine.specs.Objects.{semaphore_effect};
 ghost use Rattle.apex_machine.specs.Statuses.{semaphore_status};
-ghost use Rattle.wait_set.specs.Actors.{OwesNothing, Refuses, entry_with, joined_by, left_by};
-ghost use Rattle.wait_set.specs.Sets.{IsNew};
+ghost use Rattle.wait_set.specs.Givens.{answer_given};
+ghost use Rattle.wait_set.specs.Sets.{without_one};
 ghost use Rattle.semaphore_event.specs.Semaphores as rules;
 
 use apex_machine::Status;
@@ -85,49 +83,16 @@ impl Semaphore {
         }
     }
 
-    // WAIT_SEMAPHORE: one is taken of a value above 0; else the caller waits.
-    fn wait(&mut self, actor: Actor, time_out: i64, claim: &Claim) -> Result<Effect, ObjFault>
-        requires new { IsNew (entry_with actor []) self.old.waiters }
-        ensures ok { OnOk result (AllHold (answer_demands (semaphore_effect (on_semaphore.Wait time_out) self.old).answer claim.now)) }
-        ensures after { OnOk result (self.new ≡ record (semaphore_effect (on_semaphore.Wait time_out) self.old).next { waiters = joined_by actor claim.now [] self.old.waiters }) }
-        ensures waits { IfOk result (λ effect. IsTrue effect.waits ↔ (claim.now.out ≡ out.Waits)) }
-        ensures refused { IfErr result (Refuses (answer_demands (semaphore_effect (on_semaphore.Wait time_out) self.old).answer claim.now)) }
-        ensures unchanged { OnErr result (self.new ≡ self.old) }
-    {
-        let given = if self.value > 0 {
-            Given::done()
-        } else {
-            Given::unmet(time_out)
-        };
-        given.judge(claim).map_err(ObjFault::Unlawful)?;
-        self.waiters
-            .settle(actor, claim, &[])
-            .map_err(|_| ObjFault::Memory)?;
-        self.value = self.value.saturating_sub(1);
-        Ok(Effect::of(claim))
-    }
-
-    // SIGNAL_SEMAPHORE: the first who waits goes on; else one is added; at the maximum nothing is done.
-    fn signal(&mut self, claim: &Claim) -> Result<Effect, ObjFault>
-        ensures ok { OnOk result (AllHold (answer_demands (semaphore_effect on_semaphore.Signal self.old).answer claim.now)) }
-        ensures after { OnOk result (self.new ≡ record (semaphore_effect on_semaphore.Signal self.old).next { waiters = left_by claim.now self.old.waiters }) }
-        ensures waits { IfOk result (λ effect. IsTrue effect.waits ↔ (claim.now.out ≡ out.Waits)) }
-        ensures refused { IfErr result (Refuses (answer_demands (semaphore_effect on_semaphore.Signal self.old).answer claim.now)) }
-        ensures unchanged { OnErr result (self.new ≡ self.old) }
+    // What SIGNAL_SEMAPHORE gives its caller: at the maximum, where nobody waits, it does nothing.
+    fn given_to_signaller(&self) -> Given<'static>
+        ensures { answer_given result ≡ (semaphore_effect on_semaphore.Signal self.now).answer }
     {
         let first = self.waiters.first().map(|entry| entry.who);
-        let is_raised = first.is_none() && self.value < self.maximum;
-        let given = if first.is_some() || is_raised {
+        if first.is_some() || self.value < self.maximum {
             Given::waking(first)
         } else {
             Given::answering(Code::NoAction)
-        };
-        given.judge(claim).map_err(ObjFault::Unlawful)?;
-        self.waiters.release(claim.woken.as_slice());
-        if is_raised {
-            self.value += 1;
         }
-        Ok(Effect::of(claim))
     }
 }
 
@@ -142,15 +107,13 @@ impl Named for Semaphore {
 impl ApexObject for Semaphore {
     type Operation = SemaphoreOperation;
 
-    ghost owes = { OwesNothing };
-
-    ghost answer = { rules.answer };
+    ghost answer = { λ actor operation semaphore. (semaphore_effect operation semaphore).answer };
 
     ghost after = { rules.after };
 
     ghost sets = { rules.sets };
 
-    ghost without_one = { rules.without_one };
+    ghost without_one = { λ who semaphore. record semaphore { waiters = without_one who semaphore.waiters } };
 
     fn apply(
         &mut self,
@@ -159,8 +122,32 @@ impl ApexObject for Semaphore {
         claim: &Claim,
     ) -> Result<Effect, ObjFault> {
         match operation {
-            SemaphoreOperation::Wait { time_out } => self.wait(actor, *time_out, claim),
-            SemaphoreOperation::Signal => self.signal(claim),
+            // One is taken of a value above 0; else the caller waits.
+            SemaphoreOperation::Wait { time_out } => {
+                let given = if self.value > 0 {
+                    Given::done()
+                } else {
+                    Given::unmet(*time_out)
+                };
+                given.judge(claim).map_err(ObjFault::Unlawful)?;
+                self.waiters
+                    .settle(actor, claim, &[])
+                    .map_err(|_| ObjFault::Memory)?;
+                self.value = self.value.saturating_sub(1);
+                Ok(Effect::of(claim))
+            }
+            // The first who waits goes on; else one is added; at the maximum nothing is done.
+            SemaphoreOperation::Signal => {
+                self.given_to_signaller()
+                    .judge(claim)
+                    .map_err(ObjFault::Unlawful)?;
+                let is_raised = self.waiters.first().is_none() && self.value < self.maximum;
+                self.waiters.release(claim.woken.as_slice());
+                if is_raised {
+                    self.value += 1;
+                }
+                Ok(Effect::of(claim))
+            }
         }
     }
 

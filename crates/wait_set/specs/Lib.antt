@@ -1,6 +1,7 @@
 pub mod Sets
 pub mod Kept
 pub mod Actors
+pub mod Owners
 pub mod Givens
 pub mod Ranks
 pub mod Laws

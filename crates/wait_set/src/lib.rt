@@ -20,6 +20,6 @@ mod status;
 pub use conditions::Conditions;
 pub use given::{Given, has_no_values, judge_value, judge_waking_all};
 pub use laws::{enters_last, rising_is_list_of_waiters};
-pub use object::{Actor, ApexObject, Effect, Named, ObjFault};
+pub use object::{Actor, ApexObject, Effect, Named, ObjFault, Owners};
 pub use set::{Refused, WaitSet};
 pub use status::judge_status;

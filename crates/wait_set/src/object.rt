@@ -8,10 +8,12 @@ ghost use Rattle.apex_machine.specs.declared.state.Entry.{Entry};
 ghost use Rattle.apex_machine.specs.Answer.{Answer};
 ghost use Rattle.apex_machine.specs.Demands.{AllHold, answer_demands};
 ghost use Rattle.wait_set.specs.declared.object.Actor.{Actor as ActorValue};
-ghost use Rattle.wait_set.specs.Actors.{Refuses, entry_with};
+ghost use Rattle.wait_set.specs.declared.object.Owners.{Owners as OwnersValue};
+ghost use Rattle.wait_set.specs.Actors.{OwesNothing, Refuses, entry_with};
+ghost use Rattle.wait_set.specs.Owners.{nobody, owned_by_nobody};
 ghost use Rattle.wait_set.specs.Sets.{IsNewInEach, stands_in_one};
 
-use apex_types::{Cause, Claim, Name, Out, Place, Who};
+use apex_types::{Cause, Claim, Name, Out, Place, ProcId, Who};
 use thiserror::Error;
 
 /// Who makes a call: the process, its current priority, and the place of the call.
@@ -22,19 +24,51 @@ pub struct Actor {
     pub place: Place,
 }
 
-/// What an operation that was accepted says: whether its caller waits.
+/// Who owns an object before an operation, who owns it after, and the priority with which an owner runs.
+#[derive(Clone, Copy, Debug, PartialEq, Eq)]
+pub struct Owners {
+    pub before: Option<ProcId>,
+    pub after: Option<ProcId>,
+    pub priority: u8,
+}
+
+impl Owners {
+    /// Nobody owns the object.
+    pub fn nobody() -> Owners
+        ensures { result ≡ nobody }
+    {
+        Owners {
+            before: None,
+            after: None,
+            priority: 0,
+        }
+    }
+}
+
+/// What an operation that was accepted says: whether its caller waits, and what became of the object's owner.
 #[derive(Clone, Copy, Debug, PartialEq, Eq)]
 pub struct Effect {
     pub waits: bool,
+    pub owners: Owners,
 }
 
 impl Effect {
-    /// What an operation says whose claim is what it gives.
+    /// What an operation says whose claim is what it gives, on an object that nobody owns.
     pub fn of(claim: &Claim) -> Effect
-        ensures { IsTrue result.waits ↔ (claim.now.out ≡ out.Waits) }
+        ensures waits { IsTrue result.waits ↔ (claim.now.out ≡ out.Waits) }
+        ensures owners { result.owners ≡ nobody }
+    {
+        Effect::with_owners(claim, Owners::nobody())
+    }
+
+    /// What an operation says whose claim is what it gives, on an object with these owners.
+    pub fn with_owners(claim: &Claim, owners: Owners) -> Effect
+        ensures waits { IsTrue result.waits ↔ (claim.now.out ≡ out.Waits) }
+        ensures owners { result.owners ≡ owners }
     {
         Effect {
             waits: claim.out == Out::Waits,
+            owners,
         }
     }
 }
@@ -67,14 +101,17 @@ pub trait ApexObject {
     /// What is asked of it.
     type Operation;
 
-    // What an operation asks of its caller and the object.
-    ghost owes: { ActorValue → Self.Operation → Self → Type 0 };
+    // What an operation asks of its caller and the object: nothing, where an object says no more.
+    ghost owes: { ActorValue → Self.Operation → Self → Type 0 } = { OwesNothing };
 
     // What an operation gives its caller. It has no value.
     ghost answer: { ActorValue → Self.Operation → Self → Answer };
 
     // The object after an operation that was accepted, its waiting sets too.
     ghost after: { ActorValue → Self.Operation → ClaimValue → Self → Self };
+
+    // Who owns the object before an operation that was accepted, and who owns it after: nobody, where an object says no more.
+    ghost owners: { ActorValue → Self.Operation → Self → OwnersValue } = { owned_by_nobody };
 
     // Its waiting sets.
     ghost sets: { Self → List (List Entry) };
@@ -96,6 +133,7 @@ pub trait ApexObject {
         ensures ok { OnOk result (AllHold (answer_demands (answer actor operation.now self.old) claim.now)) }
         ensures after { OnOk result (self.new ≡ after actor operation.now claim.now self.old) }
         ensures waits { IfOk result (λ effect. IsTrue effect.waits ↔ (claim.now.out ≡ out.Waits)) }
+        ensures owners { IfOk result (λ effect. effect.owners ≡ owners actor operation.now self.old) }
         ensures refused { IfErr result (Refuses (answer_demands (answer actor operation.now self.old) claim.now)) }
         ensures unchanged { OnErr result (self.new ≡ self.old) };
 

@@ -68,3 +68,9 @@ returns-clause-unchanged g c =
     ∙ ap (set_value (nat_eq c.in-Some.key) c.self.inside.objects.entries) is
     ∙ kept-written c.in-Some.key c.in-Some-get_mut.object.now c.self.inside.objects.entries found)
     c.apply.ensures.unchanged)
+
+pub returns-clause-owners : goal.returns-clause-owners
+returns-clause-owners g c =
+    let fits = c.ranges.number in
+    let number = simp to_z-of_z at (sym c.object_number.ensures ∙ c.in-Some.is) in
+    rw (← c.self.view_is, given-found c.self.inside.objects.entries c.args.number c.in-Some.key (Some c.in-Some-get_mut.object.now) number c.in-Some-get_mut.ensures.value) c.apply.ensures.owners

@@ -1,8 +1,6 @@
 -- What the partition sees of the outcome holds of the call, or fails of it.
 use Rattle.std.proofs.Common.{Result, Ok, Err}
 use Rattle.std.specs.Prelude.{OnOk}
-use Rattle.apex_machine.specs.Services.{Answer, answer_of}
-use Rattle.apex_machine.specs.State.{time_of}
 use Rattle.piece_check.proofs.Passing.{through_fails, through_holds}
 use Rattle.piece_check.proofs.partition_piece.PartitionPiece.pass.Goals as goal
 
@@ -11,8 +9,7 @@ note-requires-clause-lawful c =
     let a = c.args in
     let own = a.self.now in
     let call = a.call.now in
-    let answer : Answer = answer_of (time_of own.clock.cores a.ordered.now.core) call.who own.state call.request in
-    through_holds a.config.now own.number own.clock.cores own.state a.ordered.now.core call a.channel c.requires.caller c.requires.clear c.requires.through (c.in-Ok.ensures answer)
+    through_holds a.config.now own.number own.clock.cores own.state a.ordered.now.core call a.channel c.requires.caller c.requires.clear c.requires.through c.in-Ok.ensures
 
 -- a fact stands where nothing is refused
 ok_with : {Value Fault : Type 0} (result : Result Value Fault) (Fact : Type 0) → Fact → OnOk result Fact
@@ -24,14 +21,12 @@ returns-in-Ok-clause-ok c =
     let a = c.args in
     let own = a.self.now in
     let call = a.call.now in
-    let answer : Answer = answer_of (time_of own.clock.cores a.ordered.now.core) call.who own.state call.request in
     ok_with c.note.result _
-    (through_holds a.config.now own.number own.clock.cores own.state a.ordered.now.core call a.channel c.requires.caller c.requires.clear c.requires.through (c.in-Ok.ensures answer))
+    (through_holds a.config.now own.number own.clock.cores own.state a.ordered.now.core call a.channel c.requires.caller c.requires.clear c.requires.through c.in-Ok.ensures)
 
 pub returns-in-Err-clause-refused : goal.returns-in-Err-clause-refused
 returns-in-Err-clause-refused c =
     let a = c.args in
     let own = a.self.now in
     let call = a.call.now in
-    let answer : Answer = answer_of (time_of own.clock.cores a.ordered.now.core) call.who own.state call.request in
-    through_fails a.config.now own.number own.clock.cores own.state a.ordered.now.core call a.channel c.in-Err.cause c.requires.caller c.requires.clear c.requires.through (c.in-Err.ensures answer)
+    through_fails a.config.now own.number own.clock.cores own.state a.ordered.now.core call a.channel c.in-Err.cause c.requires.caller c.requires.clear c.requires.through c.in-Err.ensures
