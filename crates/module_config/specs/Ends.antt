@@ -1,6 +1,6 @@
 -- The ends of the channels, and what is judged of them over the whole.
 use Rattle.std.specs.Prelude.{ℕ, List, [], ◌∷◌, ◌++◌, count_by, Bool, not, ◌&&◌, is_some, nat_eq, nat_lt}
-use Rattle.std.specs.List.{list_all, list_any}
+use Rattle.std.specs.List.{flat_map, list_all, list_any}
 use Rattle.apex_machine.specs.Channels.{is_port}
 use Rattle.apex_machine.specs.Configuration.{ChannelEnd, Configuration, PartitionLimits, QueuingChannel, SamplingChannel, limits_among}
 use Rattle.module_config.specs.declared.ends.Likeness.{Likeness}
@@ -12,8 +12,7 @@ sampling_ends_of channel = channel.source ∷ channel.destinations
 
 -- the ends of sampling channels
 abbrev pub sampling_ends : List SamplingChannel → List ChannelEnd
-sampling_ends [] = []
-sampling_ends (channel ∷ channels) = sampling_ends_of channel ++ sampling_ends channels
+sampling_ends channels = flat_map sampling_ends_of channels
 
 -- the ends of a queuing channel
 abbrev pub queuing_ends_of : QueuingChannel → List ChannelEnd
@@ -21,8 +20,7 @@ queuing_ends_of channel = channel.source ∷ channel.destination ∷ []
 
 -- the ends of queuing channels
 abbrev pub queuing_ends : List QueuingChannel → List ChannelEnd
-queuing_ends [] = []
-queuing_ends (channel ∷ channels) = queuing_ends_of channel ++ queuing_ends channels
+queuing_ends channels = flat_map queuing_ends_of channels
 
 -- the ends of channels of both kinds
 abbrev pub ends_of : List SamplingChannel → List QueuingChannel → List ChannelEnd

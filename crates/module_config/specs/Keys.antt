@@ -2,12 +2,14 @@
 use Rattle.std.specs.Prelude.{◌≡◌, ◌≢◌, ℕ, suc, List, [], ◌∷◌, length, Option, Some, None, Result, Ok, Err, Bool, true, false, ◌&&◌, nat_le, pos, negsuc, codes, if◌then◌else◌}
 use Rattle.std.specs.List.{list_all}
 use Rattle.std.specs.Str.{bytes_eq}
-use Rattle.toml.specs.Data.{Data, integer, string, array, table, Items, no_items, item}
+use Rattle.toml.specs.Data.{Data, integer, string, array, table, Items, no_items, item, Members}
 use Rattle.apex_types.specs.declared.limits.TheConstants.{GREATEST_SPAN, LONGEST_NAME}
 use Rattle.apex_types.specs.declared.discipline.Discipline.{Discipline}
 use Rattle.apex_types.specs.declared.discipline.Discipline.TheVariants as discipline
 use Rattle.module_config.specs.declared.fault.ConfigFault.{ConfigFault}
 use Rattle.module_config.specs.declared.fault.ConfigFault.TheVariants.{Missing, WrongType, OutOfRange, Memory}
+use Rattle.module_config.specs.declared.keys.ItemType.{ItemType}
+use Rattle.module_config.specs.declared.keys.ItemType.TheVariants as of
 
 infixl 10 ◌>>=◌
 -- a reading and then the next one; the first refusal stands
@@ -88,15 +90,16 @@ discipline_in text =
 abbrev pub discipline_at : Option Data → Result Discipline ConfigFault
 discipline_at value = text_at value >>= discipline_in
 
--- the value is an integer
-abbrev pub is_integer : Data → Bool
-is_integer (integer number) = true
-is_integer _ = false
+-- a table
+abbrev pub table_in : Data → Result Members ConfigFault
+table_in (table keys) = Ok keys
+table_in _ = Err WrongType
 
--- the value is a table
-abbrev pub is_table : Data → Bool
-is_table (table keys) = true
-is_table _ = false
+-- the value is of this type
+abbrev pub is_of : ItemType → Data → Bool
+is_of of.Integer (integer number) = true
+is_of of.Table (table keys) = true
+is_of _ _ = false
 
 -- each item of a list passes the test
 abbrev pub all_items : (Data → Bool) → Items → Bool
@@ -127,7 +130,15 @@ abbrev pub each_item : {A : Type 0} → (Data → Result A ConfigFault) → Item
 each_item reading no_items = Ok []
 each_item reading (item value items) = reading value >>= (λ first. each_item reading items >>= (λ rest. Ok (first ∷ rest)))
 
+-- a list of tables
+abbrev pub tables_in : Data → Result Items ConfigFault
+tables_in value = list_of (is_of of.Table) value
+
 -- the tables of the list under a key; without the key there is none
 abbrev pub tables_at : Option Data → Result Items ConfigFault
 tables_at None = Ok no_items
-tables_at (Some value) = list_of is_table value
+tables_at (Some value) = tables_in value
+
+-- what each table of the list under a key is read as, in turn
+abbrev pub each_at : {A : Type 0} → (Data → Result A ConfigFault) → Option Data → Result (List A) ConfigFault
+each_at reading value = tables_at value >>= each_item reading

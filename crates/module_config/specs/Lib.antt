@@ -9,4 +9,3 @@ pub mod WindowLaw
 pub mod Reading
 pub mod Limits
 pub mod Laid
-pub mod Held

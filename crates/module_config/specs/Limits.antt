@@ -2,8 +2,14 @@
 use Rattle.std.specs.Prelude.{◌≡◌, ℕ, ◌+◌, ◌≤◌, ◌<◌, List, length, map, All, AllPairs, IsTrue, true, false}
 use Rattle.apex_types.specs.declared.limits.TheConstants.{GREATEST_CHANNEL, GREATEST_PARTITION, GREATEST_SPAN, LONGEST_MESSAGE, MOST_CORES, MOST_MESSAGES, MOST_PROCESSES}
 use Rattle.apex_machine.specs.Configuration.{Configuration, PartitionLimits, QueuingChannel, SamplingChannel, Window, has_core, limits_of}
+use Rattle.module_config.specs.declared.described.ModuleSize.{ModuleSize}
 use Rattle.module_config.specs.Ends.{are_joined}
 use Rattle.module_config.specs.Whole.{are_of_partitions, has_overlap, is_given_twice, is_too_large}
+
+-- a module has from 1 to the most cores
+pub record IsSize (size : ModuleSize) : Type 0 where
+  pub least : 1 ≤ size.cores
+  pub most : size.cores ≤ MOST_CORES
 
 -- a partition's number, period and processes are within their limits
 pub record AreLimits (number period processes : ℕ) : Type 0 where

@@ -1,12 +1,13 @@
 -- What a table configures: a walk over its keys in a fixed order, which ends at the first refusal.
-use Rattle.std.specs.Prelude.{ℕ, ◌+◌, ◌-◌, List, [], ◌∷◌, Option, Result, Ok, Err, pos, nat_le, nat_lt, ◌&&◌, if◌then◌else◌, codes}
-use Rattle.toml.specs.Data.{Data, integer, table, Items, no_items, item, Members, get_member}
+use Rattle.std.specs.Prelude.{ℕ, ◌+◌, ◌-◌, List, [], ◌∷◌, Option, Result, Ok, Err, Bool, pos, nat_le, nat_lt, ◌&&◌, if◌then◌else◌, codes}
+use Rattle.toml.specs.Data.{Data, integer, Items, no_items, item, Members, get_member}
 use Rattle.apex_types.specs.declared.limits.TheConstants.{GREATEST_PARTITION, MOST_CORES, MOST_OBJECTS, MOST_PROCESSES}
 use Rattle.apex_machine.specs.Configuration.{Configuration, PartitionLimits, Window}
 use Rattle.module_config.specs.declared.fault.ConfigFault.{ConfigFault}
-use Rattle.module_config.specs.declared.fault.ConfigFault.TheVariants.{WrongType, OutOfRange}
+use Rattle.module_config.specs.declared.fault.ConfigFault.TheVariants.{OutOfRange}
+use Rattle.module_config.specs.declared.keys.ItemType.TheVariants as of
 use Rattle.module_config.specs.ChannelWalk.{queuing_at, sampling_at}
-use Rattle.module_config.specs.Keys.{◌>>=◌, integer_at, natural_at, ticks_at, required, is_integer, is_table, list_of, at_least_one, each_item, tables_at}
+use Rattle.module_config.specs.Keys.{◌>>=◌, integer_at, natural_at, ticks_at, required, is_of, list_of, at_least_one, each_at, each_item, table_in, tables_in}
 use Rattle.module_config.specs.Order.{in_order, stands_before, begins_before}
 
 -- the next core of a partition's list: above those before it, and one that the module has
@@ -23,15 +24,20 @@ rising_cores count least (item value items) =
 
 -- the cores of a partition: a list of integers, of which there is one at least, rising, and each a core of the module
 abbrev pub cores_at : ℕ → Option Data → Result (List ℕ) ConfigFault
-cores_at count value = required value >>= list_of is_integer >>= at_least_one >>= rising_cores count 0
+cores_at count value = required value >>= list_of (is_of of.Integer) >>= at_least_one >>= rising_cores count 0
 
 -- how many objects of a kind a partition may create
 abbrev pub objects_at : Option Data → Result ℕ ConfigFault
 objects_at value = integer_at 0 MOST_OBJECTS value
 
--- the partition that a table describes, in a module of this many cores
-abbrev pub partition_under : ℕ → Members → Result PartitionLimits ConfigFault
-partition_under count keys =
+-- what is read, put in an order
+abbrev pub put_by : {A : Type 0} → (A → A → Bool) → Result (List A) ConfigFault → Result (List A) ConfigFault
+put_by precedes reading = reading >>= (λ all. Ok (in_order precedes [] all))
+
+-- the partition that a value describes, which has to be a table, in a module of this many cores
+abbrev pub partition_in : ℕ → Data → Result PartitionLimits ConfigFault
+partition_in count value =
+    table_in value >>= (λ keys.
     integer_at 0 GREATEST_PARTITION (get_member (codes "number") keys) >>= (λ number.
     ticks_at (get_member (codes "period") keys) >>= (λ period.
     cores_at count (get_member (codes "cores") keys) >>= (λ cores.
@@ -51,42 +57,25 @@ partition_under count keys =
       semaphores = semaphores;
       events = events;
       mutexes = mutexes;
-    }))))))))))
+    })))))))))))
 
--- the partition that a value describes, which has to be a table
-abbrev pub partition_in : ℕ → Data → Result PartitionLimits ConfigFault
-partition_in count (table keys) = partition_under count keys
-partition_in count _ = Err WrongType
-
--- the partitions that the items of a list describe, in the order of their numbers
-abbrev pub ordered_partitions : ℕ → Items → Result (List PartitionLimits) ConfigFault
-ordered_partitions count items = each_item (partition_in count) items >>= (λ partitions. Ok (in_order stands_before [] partitions))
-
--- the partitions: a list of tables, of which there is one at least
+-- the partitions: a list of tables, of which there is one at least, put in the order of their numbers
 abbrev pub partitions_at : ℕ → Option Data → Result (List PartitionLimits) ConfigFault
-partitions_at count value = required value >>= list_of is_table >>= at_least_one >>= ordered_partitions count
+partitions_at count value = put_by stands_before (required value >>= tables_in >>= at_least_one >>= each_item (partition_in count))
 
--- the window that a table describes: it ends within the major frame
-abbrev pub window_under : ℕ → ℕ → Members → Result Window ConfigFault
-window_under count frame keys =
+-- the window that a value describes, which has to be a table: it ends within the major frame
+abbrev pub window_in : ℕ → ℕ → Data → Result Window ConfigFault
+window_in count frame value =
+    table_in value >>= (λ keys.
     integer_at 0 (count - 1) (get_member (codes "core") keys) >>= (λ core.
     integer_at 0 GREATEST_PARTITION (get_member (codes "partition") keys) >>= (λ partition.
     natural_at (get_member (codes "start") keys) >>= (λ start.
     integer_at 1 (frame - start) (get_member (codes "length") keys) >>= (λ span.
-    Ok (record { core = core; partition = partition; start = start; span = span })))))
+    Ok (record { core = core; partition = partition; start = start; span = span }))))))
 
--- the window that a value describes, which has to be a table
-abbrev pub window_in : ℕ → ℕ → Data → Result Window ConfigFault
-window_in count frame (table keys) = window_under count frame keys
-window_in count frame _ = Err WrongType
-
--- the windows that the items of a list describe, in the order of their cores and starts
-abbrev pub ordered_windows : ℕ → ℕ → Items → Result (List Window) ConfigFault
-ordered_windows count frame items = each_item (window_in count frame) items >>= (λ windows. Ok (in_order begins_before [] windows))
-
--- the windows: a list of tables; without the key there is none
+-- the windows: a list of tables, put in the order of their cores and starts; without the key there is none
 abbrev pub windows_at : ℕ → ℕ → Option Data → Result (List Window) ConfigFault
-windows_at count frame value = tables_at value >>= ordered_windows count frame
+windows_at count frame value = put_by begins_before (each_at (window_in count frame) value)
 
 -- what a table configures, each key judged by itself; the channels stand in the order of the text; keys of other names say nothing
 abbrev pub walk : Members → Result Configuration ConfigFault

@@ -1,11 +1,11 @@
 // The configuration of a module, and the readers of its fields.
 
-ghost use Rattle.std.specs.Prelude.{◌≡◌, ◌≤◌, ◌<◌, ◌%◌, ◌↔◌, All, AllPairs, IfOk, IfErr, IfSome, Bool, true, length, slice_index};
+ghost use Rattle.std.specs.Prelude.{◌≡◌, ◌≤◌, ◌<◌, ◌%◌, ◌↔◌, All, AllPairs, IfOk, IfErr, IfSome, Bool, true, length, option_map, slice_index};
 ghost use Rattle.toml.specs.Errors.{IsMemory};
 ghost use Rattle.toml.specs.View.{table_view};
 ghost use Rattle.apex_types.specs.declared.limits.TheConstants.{GREATEST_PARTITION, GREATEST_SPAN, LONGEST_CONFIGURATION, MOST_CORES, MOST_PARTITIONS, MOST_PROCESSES};
 ghost use Rattle.apex_machine.specs.Channels.{EndsAreApart};
-ghost use Rattle.apex_machine.specs.Configuration.{PartitionLimits, window_at, has_partition, WindowsAreConfigured, first_core, object_limit, process_limit, period_of, is_core};
+ghost use Rattle.apex_machine.specs.Configuration.{PartitionLimits, window_at, has_partition, WindowsAreConfigured, first_core, object_limit, process_limit, period_of, is_core, limits_of};
 ghost use Rattle.module_config.specs.declared.fault.ConfigFault.TheVariants.{Memory, NotToml, TooMany};
 ghost use Rattle.module_config.specs.Keys.{Gives};
 ghost use Rattle.module_config.specs.Reading.{configuration_of, configuration_under, unless_refused};
@@ -19,11 +19,8 @@ use crate::counts::channel_numbers;
 use crate::fault::ConfigFault;
 use crate::layout::{Layout, read_layout};
 use crate::partition::Partition;
-use crate::queuing::QueuedChannel;
-use crate::sampling::SampledChannel;
 use crate::timetable::{begun_near, window_among};
 use crate::whole::{find_partition, whole_fault};
-use crate::window::TimeWindow;
 use apex_types::limits::{LONGEST_CONFIGURATION, MOST_CHANNELS};
 use apex_types::{CoreId, PartId};
 use arrayvec::ArrayVec;
@@ -36,13 +33,7 @@ use toml::de::Error;
 /// their numbers in rising order.
 #[derive(Debug, Drop)]
 pub struct Config {
-    pub(crate) cores: u8,
-    frame: u64,
-    skew: u64,
-    partitions: Vec<Partition>,
-    windows: Vec<TimeWindow>,
-    pub(crate) sampling: Vec<SampledChannel>,
-    pub(crate) queuing: Vec<QueuedChannel>,
+    pub(crate) layout: Layout,
     pub(crate) numbers: ArrayVec<u16, MOST_CHANNELS>,
 }
 
@@ -54,11 +45,11 @@ impl Model for Config {
     ghost use Rattle.std.specs.Prelude.{◌≡◌};
     ghost use Rattle.apex_machine.specs.Channels.{channel_numbers};
     ghost use Rattle.module_config.specs.Limits.{IsConsistent, IsWithinLimits};
-    ghost use Rattle.module_config.specs.Held.{held_in};
+    ghost use Rattle.module_config.specs.Laid.{laid_out};
 
-    ghost view = { held_in };
+    ghost view = { λ config. laid_out config.layout };
 
-    ghost invariant = { λ config. IsWithinLimits (held_in config) × IsConsistent (held_in config) × (config.numbers.items ≡ channel_numbers (held_in config)) };
+    ghost invariant = { λ config. IsWithinLimits (laid_out config.layout) × IsConsistent (laid_out config.layout) × (config.numbers.items ≡ channel_numbers (laid_out config.layout)) };
 }
 
 impl Config {
@@ -103,25 +94,7 @@ impl Config {
             return Err(fault);
         }
         let numbers = channel_numbers(&layout);
-        let Layout {
-            cores,
-            frame,
-            skew,
-            partitions,
-            windows,
-            sampling,
-            queuing,
-        } = layout;
-        Ok(Config {
-            cores,
-            frame,
-            skew,
-            partitions,
-            windows,
-            sampling,
-            queuing,
-            numbers,
-        })
+        Ok(Config { layout, numbers })
     }
 
     /// Tells what every configuration keeps: its limits; partitions in rising order, windows of configured partitions
@@ -134,7 +107,7 @@ impl Config {
         ensures cores { CoresAreOfModule self.now }
         ensures ends { EndsAreApart self.now }
     {
-        let _ = &self.cores;
+        let _ = &self.layout.cores;
     }
 
     /// How many cores the module has.
@@ -143,7 +116,7 @@ impl Config {
         ensures least { 1 ≤ result }
         ensures most { result ≤ MOST_CORES }
     {
-        self.cores
+        self.layout.cores
     }
 
     /// How many ticks the major frame has.
@@ -152,7 +125,7 @@ impl Config {
         ensures least { 1 ≤ result }
         ensures most { result ≤ GREATEST_SPAN }
     {
-        self.frame
+        self.layout.frame
     }
 
     /// How many ticks a core may be ahead of another.
@@ -161,7 +134,7 @@ impl Config {
         ensures least { 1 ≤ result }
         ensures most { result ≤ GREATEST_SPAN }
     {
-        self.skew
+        self.layout.skew
     }
 
     /// The partition whose window of a core holds a time, if there is one.
@@ -180,7 +153,7 @@ impl Config {
         ensures value { result ≡ window_at self.now core time }
         ensures configured { IfSome result (λ part. has_partition self.now part ≡ true) }
     {
-        window_among(&self.windows, guess, core, self.offset(time))
+        window_among(&self.layout.windows, guess, core, self.offset(time))
     }
 
     /// How many windows are of earlier cores, or have begun on this core by a time of the major frame.
@@ -189,14 +162,14 @@ impl Config {
     pub fn windows_begun(&self, guess: usize, core: CoreId, time: u64) -> usize
         ensures { result ≡ windows_begun self.now core time }
     {
-        begun_near(&self.windows, guess, core, self.offset(time))
+        begun_near(&self.layout.windows, guess, core, self.offset(time))
     }
 
     // The time within the major frame.
     fn offset(&self, time: u64) -> u64
         ensures { result ≡ time % self.now.frame }
     {
-        time % self.frame
+        time % self.layout.frame
     }
 
     /// How many partitions are configured.
@@ -205,7 +178,7 @@ impl Config {
         ensures least { 1 ≤ result }
         ensures most { result ≤ MOST_PARTITIONS }
     {
-        self.partitions.len()
+        self.layout.partitions.len()
     }
 
     /// The number of the partition at an index.
@@ -215,14 +188,21 @@ impl Config {
         ensures most { result ≤ GREATEST_PARTITION }
         ensures configured { has_partition self.now result ≡ true }
     {
-        self.partitions[index].number
+        self.layout.partitions[index].number
+    }
+
+    // The partition of this number, if it is configured.
+    fn partition(&self, part: PartId) -> Option<&Partition>
+        ensures { option_map (λ partition. partition.now) result ≡ limits_of self.now part }
+    {
+        find_partition(&self.layout.partitions, part)
     }
 
     /// Whether a partition of this number is configured.
     pub fn has_partition(&self, part: PartId) -> bool
         ensures { result ≡ has_partition self.now part }
     {
-        find_partition(&self.partitions, part).is_some()
+        self.partition(part).is_some()
     }
 
     /// The first core of a partition, and core 0 where none of this number is configured.
@@ -230,7 +210,7 @@ impl Config {
         ensures value { result ≡ first_core self.now part }
         ensures below { result < self.now.cores }
     {
-        match find_partition(&self.partitions, part) {
+        match find_partition(&self.layout.partitions, part) {
             Some(partition) => partition.cores.first(),
             None => CoreId::new(0),
         }
@@ -241,7 +221,7 @@ impl Config {
     pub fn has_core(&self, part: PartId, given: i64) -> bool
         ensures { result ≡ is_core self.now part given }
     {
-        match find_partition(&self.partitions, part) {
+        match self.partition(part) {
             Some(partition) => given >= 0 && partition.cores.contains(given as u64),
             None => false,
         }
@@ -252,7 +232,7 @@ impl Config {
         ensures value { result ≡ process_limit self.now part }
         ensures most { result ≤ MOST_PROCESSES }
     {
-        match find_partition(&self.partitions, part) {
+        match self.partition(part) {
             Some(partition) => partition.processes,
             None => 0,
         }
@@ -262,50 +242,35 @@ impl Config {
     pub fn buffer_limit(&self, part: PartId) -> u32
         ensures { result ≡ object_limit self.now (λ (limits : PartitionLimits). limits.buffers) part }
     {
-        match find_partition(&self.partitions, part) {
-            Some(partition) => partition.buffers,
-            None => 0,
-        }
+        self.partition(part).map_or(0, |limits| limits.buffers)
     }
 
     /// How many blackboards a partition may create, and 0 where none of this number is configured.
     pub fn blackboard_limit(&self, part: PartId) -> u32
         ensures { result ≡ object_limit self.now (λ (limits : PartitionLimits). limits.blackboards) part }
     {
-        match find_partition(&self.partitions, part) {
-            Some(partition) => partition.blackboards,
-            None => 0,
-        }
+        self.partition(part).map_or(0, |limits| limits.blackboards)
     }
 
     /// How many semaphores a partition may create, and 0 where none of this number is configured.
     pub fn semaphore_limit(&self, part: PartId) -> u32
         ensures { result ≡ object_limit self.now (λ (limits : PartitionLimits). limits.semaphores) part }
     {
-        match find_partition(&self.partitions, part) {
-            Some(partition) => partition.semaphores,
-            None => 0,
-        }
+        self.partition(part).map_or(0, |limits| limits.semaphores)
     }
 
     /// How many events a partition may create, and 0 where none of this number is configured.
     pub fn event_limit(&self, part: PartId) -> u32
         ensures { result ≡ object_limit self.now (λ (limits : PartitionLimits). limits.events) part }
     {
-        match find_partition(&self.partitions, part) {
-            Some(partition) => partition.events,
-            None => 0,
-        }
+        self.partition(part).map_or(0, |limits| limits.events)
     }
 
     /// How many mutexes a partition may create, and 0 where none of this number is configured.
     pub fn mutex_limit(&self, part: PartId) -> u32
         ensures { result ≡ object_limit self.now (λ (limits : PartitionLimits). limits.mutexes) part }
     {
-        match find_partition(&self.partitions, part) {
-            Some(partition) => partition.mutexes,
-            None => 0,
-        }
+        self.partition(part).map_or(0, |limits| limits.mutexes)
     }
 
     /// The period of a partition in ticks, and 1 where none of this number is configured.
@@ -314,7 +279,7 @@ impl Config {
         ensures least { 1 ≤ result }
         ensures most { result ≤ GREATEST_SPAN }
     {
-        match find_partition(&self.partitions, part) {
+        match self.partition(part) {
             Some(partition) => partition.period,
             None => 1,
         }

@@ -1,18 +1,20 @@
 // The numbers of the channels, and their ends, counted over both kinds.
 
-ghost use Rattle.std.specs.Prelude.{◌≡◌, ◌+◌, ◌<◌, ◌≤◌, length, nat_eq, nat_le};
+ghost use Rattle.std.specs.Prelude.{◌≡◌, ◌+◌, ◌<◌, ◌≤◌, ◌∷◌, length, map, nat_eq, nat_le};
 ghost use Rattle.std.specs.List.{list_any, position_or_len};
 ghost use Rattle.arrayvec.specs.ArrayVec.{array_vec_len};
 ghost use Rattle.apex_types.specs.declared.limits.TheConstants.{MOST_CHANNELS};
-ghost use Rattle.apex_machine.specs.Channels.{channel_numbers, put_rising};
-ghost use Rattle.module_config.specs.Ends.{are_too_many, ends_of, is_exceeded, queuing_ends_of, sampling_ends_of};
+ghost use Rattle.apex_machine.specs.Channels.{channel_numbers, put_rising, rising};
+ghost use Rattle.module_config.specs.Ends.{are_too_many, ends_of, is_exceeded};
 ghost use Rattle.module_config.specs.Laid.{laid_out};
 ghost use Rattle.module_config.specs.Whole.{has_number_twice};
 
+use crate::configured::{ConfiguredChannel, count_alike};
 use crate::ends::{Likeness, PortEnd};
 use crate::layout::Layout;
-use crate::queuing::{QueuedChannel, count_in_queuing};
-use crate::sampling::{SampledChannel, count_in_sampling};
+use crate::number::Numbered;
+use crate::queuing::QueuedChannel;
+use crate::sampling::SampledChannel;
 use apex_types::limits::MOST_CHANNELS;
 use arrayvec::ArrayVec;
 
@@ -22,13 +24,20 @@ pub(crate) fn channel_numbers(layout: &Layout) -> ArrayVec<u16, MOST_CHANNELS>
     ensures { result.items ≡ channel_numbers (laid_out layout.now) }
 {
     let mut numbers = ArrayVec::new();
-    for channel in &layout.queuing {
-        put_rising(&mut numbers, channel.number.number());
-    }
-    for channel in &layout.sampling {
-        put_rising(&mut numbers, channel.number.number());
-    }
+    put_numbers(&mut numbers, &layout.queuing);
+    put_numbers(&mut numbers, &layout.sampling);
     numbers
+}
+
+// Puts the number of each channel among those in rising order.
+fn put_numbers<Channel: Numbered>(numbers: &mut ArrayVec<u16, MOST_CHANNELS>, channels: &[Channel])
+    requires { array_vec_len numbers.old + length channels.now ≤ MOST_CHANNELS }
+    ensures value { numbers.new.items ≡ rising (map Channel.number_of channels.now) numbers.old.items }
+    ensures as_many { array_vec_len numbers.new ≡ array_vec_len numbers.old + length channels.now }
+{
+    for channel in channels {
+        put_rising(numbers, channel.number());
+    }
 }
 
 // Puts a number before the first that is not below it.
@@ -88,37 +97,27 @@ impl EndCount<'_> {
         requires { length self.now.sampling.now + length self.now.queuing.now ≤ MOST_CHANNELS }
         ensures { result ≡ are_too_many self.now.likeness self.now.most (ends_of self.now.sampling.now self.now.queuing.now) }
     {
-        for channel in self.sampling {
-            if self.is_exceeded_by_sampling(channel) {
-                return true;
-            }
-        }
-        for channel in self.queuing {
-            if self.is_exceeded_by_queuing(channel) {
-                return true;
-            }
-        }
-        false
+        self.is_exceeded_in(self.sampling) || self.is_exceeded_in(self.queuing)
     }
 
-    // Whether an end of a sampling channel has more alike it.
-    fn is_exceeded_by_sampling(&self, channel: &SampledChannel) -> bool
+    // Whether an end of one of these channels has more alike it.
+    fn is_exceeded_in<Channel: ConfiguredChannel>(&self, channels: &[Channel]) -> bool
         requires { length self.now.sampling.now + length self.now.queuing.now ≤ MOST_CHANNELS }
-        ensures { result ≡ list_any (is_exceeded self.now.likeness self.now.most (ends_of self.now.sampling.now self.now.queuing.now)) (sampling_ends_of channel.now) }
+        ensures { result ≡ list_any (λ channel. list_any (is_exceeded self.now.likeness self.now.most (ends_of self.now.sampling.now self.now.queuing.now)) (Channel.source_of channel ∷ Channel.destinations_of channel)) channels.now }
     {
-        self.is_exceeded_at(&channel.source) || self.is_exceeded_in(&channel.destinations)
+        channels.iter().any(|channel| self.is_exceeded_by(channel))
     }
 
-    // Whether an end of a queuing channel has more alike it.
-    fn is_exceeded_by_queuing(&self, channel: &QueuedChannel) -> bool
+    // Whether an end of a channel has more alike it.
+    fn is_exceeded_by<Channel: ConfiguredChannel>(&self, channel: &Channel) -> bool
         requires { length self.now.sampling.now + length self.now.queuing.now ≤ MOST_CHANNELS }
-        ensures { result ≡ list_any (is_exceeded self.now.likeness self.now.most (ends_of self.now.sampling.now self.now.queuing.now)) (queuing_ends_of channel.now) }
+        ensures { result ≡ list_any (is_exceeded self.now.likeness self.now.most (ends_of self.now.sampling.now self.now.queuing.now)) (Channel.source_of channel.now ∷ Channel.destinations_of channel.now) }
     {
-        self.is_exceeded_at(&channel.source) || self.is_exceeded_at(&channel.destination)
+        self.is_exceeded_at(channel.source()) || self.is_exceeded_among(channel.destinations())
     }
 
     // Whether one of these ends has more alike it.
-    fn is_exceeded_in(&self, ends: &[PortEnd]) -> bool
+    fn is_exceeded_among(&self, ends: &[PortEnd]) -> bool
         requires { length self.now.sampling.now + length self.now.queuing.now ≤ MOST_CHANNELS }
         ensures { result ≡ list_any (is_exceeded self.now.likeness self.now.most (ends_of self.now.sampling.now self.now.queuing.now)) ends.now }
     {
@@ -130,8 +129,8 @@ impl EndCount<'_> {
         requires { length self.now.sampling.now + length self.now.queuing.now ≤ MOST_CHANNELS }
         ensures { result ≡ is_exceeded self.now.likeness self.now.most (ends_of self.now.sampling.now self.now.queuing.now) end.now }
     {
-        let count = count_in_sampling(self.sampling, self.likeness, end)
-            + count_in_queuing(self.queuing, self.likeness, end);
+        let count = count_alike(self.sampling, self.likeness, end)
+            + count_alike(self.queuing, self.likeness, end);
         count > self.most
     }
 }

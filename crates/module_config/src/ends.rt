@@ -6,12 +6,12 @@ ghost use Rattle.toml.specs.Data.{get_member};
 ghost use Rattle.toml.specs.View.{view, table_view, items_view};
 ghost use Rattle.apex_types.specs.declared.limits.TheConstants.{MOST_DESTINATIONS};
 ghost use Rattle.apex_machine.specs.Channels.{is_port};
-ghost use Rattle.module_config.specs.ChannelWalk.{end_at, end_in, end_under, ends_at};
+ghost use Rattle.module_config.specs.ChannelWalk.{end_at, end_in, ends_at};
 ghost use Rattle.module_config.specs.Ends.{count_alike, goes_to, is_alike, is_joined};
 ghost use Rattle.module_config.specs.Keys.{Reads, each_item};
 
 use crate::fault::ConfigFault;
-use crate::keys::{integer, member, name, tables};
+use crate::keys::{ItemType, integer, list, name, required, table};
 use crate::partition::Partition;
 use crate::whole::find_partition;
 use apex_types::limits::{GREATEST_PARTITION, LONGEST_NAME, MOST_DESTINATIONS};
@@ -57,26 +57,14 @@ impl PortEnd {
     pub(crate) fn under(keys: &Table, key: &str) -> Result<PortEnd, ConfigFault>
         ensures { result ≡ end_at (get_member key.now (table_view keys.now)) }
     {
-        match member(keys, key) {
-            Some(value) => PortEnd::read(value),
-            None => Err(ConfigFault::Missing),
-        }
+        PortEnd::read(required(keys, key)?)
     }
 
     // Reads the end that a value describes.
     fn read(value: &Value) -> Result<PortEnd, ConfigFault>
         ensures { result ≡ end_in (view value.now) }
     {
-        match value.as_table() {
-            Some(keys) => PortEnd::from_table(keys),
-            None => Err(ConfigFault::WrongType),
-        }
-    }
-
-    // The end that a table describes.
-    fn from_table(keys: &Table) -> Result<PortEnd, ConfigFault>
-        ensures { result ≡ end_under (table_view keys.now) }
-    {
+        let keys = table(value)?;
         let partition = integer(keys, "partition", 0, GREATEST_PARTITION as u64)?;
         let port = name(keys, "port")?;
         Ok(PortEnd {
@@ -166,10 +154,7 @@ pub(crate) fn ends_under(
 ) -> Result<ArrayVec<PortEnd, MOST_DESTINATIONS>, ConfigFault>
     ensures { Reads (λ ends. ends.items) result (ends_at (get_member key.now (table_view keys.now))) }
 {
-    let Some(value) = member(keys, key) else {
-        return Err(ConfigFault::Missing);
-    };
-    let items = tables(value)?;
+    let items = list(required(keys, key)?, ItemType::Table)?;
     if items.is_empty() {
         return Err(ConfigFault::OutOfRange);
     }

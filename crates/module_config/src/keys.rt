@@ -5,11 +5,12 @@ ghost use Rattle.std.specs.List.{list_all};
 ghost use Rattle.toml.specs.Data.{get_member};
 ghost use Rattle.toml.specs.View.{view, table_view, items_view};
 ghost use Rattle.apex_types.specs.declared.limits.TheConstants.{GREATEST_SPAN, LONGEST_NAME};
-ghost use Rattle.module_config.specs.Keys.{Reads, natural_at, integer_at, ticks_at, text_at, name_at, discipline_at, is_name, is_printable, is_integer, is_table, all_items, list_of, tables_at};
+ghost use Rattle.module_config.specs.Keys.{Reads, required, natural_at, integer_at, ticks_at, text_at, name_at, discipline_at, is_name, is_printable, is_of, all_items, list_of, table_in, tables_at};
+ghost use Rattle.module_config.specs.Walk.{objects_at};
 
 use crate::fault::ConfigFault;
 use apex_types::Discipline;
-use apex_types::limits::{GREATEST_SPAN, LONGEST_NAME};
+use apex_types::limits::{GREATEST_SPAN, LONGEST_NAME, MOST_OBJECTS};
 use arrayvec::ArrayVec;
 use toml::{Table, Value};
 
@@ -20,14 +21,18 @@ pub(crate) fn member<'a>(table: &'a Table, key: &str) -> Option<&'a Value>
     table.get(key)
 }
 
+/// The value under a key, which must be there.
+pub(crate) fn required<'a>(table: &'a Table, key: &str) -> Result<&'a Value, ConfigFault>
+    ensures { Reads (λ value. view value.now) result (required (get_member key.now (table_view table.now))) }
+{
+    member(table, key).ok_or(ConfigFault::Missing)
+}
+
 /// The number under a key, which must be there and not be negative.
 pub(crate) fn natural(table: &Table, key: &str) -> Result<u64, ConfigFault>
     ensures { result ≡ natural_at (get_member key.now (table_view table.now)) }
 {
-    let Some(value) = member(table, key) else {
-        return Err(ConfigFault::Missing);
-    };
-    let Some(number) = value.as_integer() else {
+    let Some(number) = required(table, key)?.as_integer() else {
         return Err(ConfigFault::WrongType);
     };
     if number < 0 {
@@ -58,17 +63,22 @@ pub(crate) fn ticks(table: &Table, key: &str) -> Result<u64, ConfigFault>
     integer(table, key, 1, GREATEST_SPAN as u64)
 }
 
+/// How many objects of a kind a partition may create, by the number under a key.
+pub(crate) fn objects(table: &Table, key: &str) -> Result<u32, ConfigFault>
+    ensures { result ≡ objects_at (get_member key.now (table_view table.now)) }
+{
+    let number = integer(table, key, 0, MOST_OBJECTS as u64)?;
+    Ok(number as u32)
+}
+
 // The string under a key, which must be there.
 fn text<'a>(table: &'a Table, key: &str) -> Result<&'a str, ConfigFault>
     ensures { Reads (λ text. text.now) result (text_at (get_member key.now (table_view table.now))) }
 {
-    let Some(value) = member(table, key) else {
-        return Err(ConfigFault::Missing);
-    };
-    let Some(text) = value.as_str() else {
-        return Err(ConfigFault::WrongType);
-    };
-    Ok(text)
+    match required(table, key)?.as_str() {
+        Some(text) => Ok(text),
+        None => Err(ConfigFault::WrongType),
+    }
 }
 
 /// The name under a key, which must be there and have 1 to 32 bytes, all printable ASCII.
@@ -94,14 +104,7 @@ fn is_name(bytes: &[u8]) -> bool
 fn are_printable(bytes: &[u8]) -> bool
     ensures { result ≡ list_all is_printable bytes.now }
 {
-    bytes.iter().all(|byte| is_printable(*byte))
-}
-
-// Whether a byte is printable ASCII.
-fn is_printable(byte: u8) -> bool
-    ensures { result ≡ is_printable byte }
-{
-    0x20 <= byte && byte <= 0x7E
+    bytes.iter().all(|byte| 0x20 <= *byte && *byte <= 0x7E)
 }
 
 // A copy of 32 bytes at most.
@@ -130,55 +133,29 @@ pub(crate) fn discipline(table: &Table, key: &str) -> Result<Discipline, ConfigF
     Err(ConfigFault::OutOfRange)
 }
 
-/// Whether a value is an integer.
-pub(crate) fn is_integer(value: &Value) -> bool
-    ensures { result ≡ is_integer (view value.now) }
+/// The table that a value is.
+pub(crate) fn table<'a>(value: &'a Value) -> Result<&'a Table, ConfigFault>
+    ensures { Reads (λ keys. table_view keys.now) result (table_in (view value.now)) }
 {
-    value.as_integer().is_some()
+    value.as_table().ok_or(ConfigFault::WrongType)
 }
 
-/// Whether a value is a table.
-pub(crate) fn is_table(value: &Value) -> bool
-    ensures { result ≡ is_table (view value.now) }
-{
-    value.as_table().is_some()
+/// Of what type the items of a list are.
+#[derive(Clone, Copy)]
+pub(crate) enum ItemType {
+    Integer,
+    Table,
 }
 
-/// The items of a list of integers.
-pub(crate) fn integers<'a>(value: &'a Value) -> Result<&'a [Value], ConfigFault>
-    ensures { Reads (λ items. items_view items.now) result (list_of is_integer (view value.now)) }
+/// The items of a list, each of this type.
+pub(crate) fn list<'a>(value: &'a Value, item_type: ItemType) -> Result<&'a [Value], ConfigFault>
+    ensures { Reads (λ items. items_view items.now) result (list_of (is_of item_type) (view value.now)) }
 {
     let Some(array) = value.as_array() else {
         return Err(ConfigFault::WrongType);
     };
     let items = array.as_slice();
-    if !are_integers(items) {
-        return Err(ConfigFault::WrongType);
-    }
-    Ok(items)
-}
-
-fn are_integers(items: &[Value]) -> bool
-    ensures { result ≡ all_items is_integer (items_view items.now) }
-{
-    each_is_integer(items)
-}
-
-fn each_is_integer(items: &[Value]) -> bool
-    ensures { result ≡ list_all (λ value. is_integer (view value)) items.now }
-{
-    items.iter().all(|value| is_integer(value))
-}
-
-/// The items of a list of tables.
-pub(crate) fn tables<'a>(value: &'a Value) -> Result<&'a [Value], ConfigFault>
-    ensures { Reads (λ items. items_view items.now) result (list_of is_table (view value.now)) }
-{
-    let Some(array) = value.as_array() else {
-        return Err(ConfigFault::WrongType);
-    };
-    let items = array.as_slice();
-    if !are_tables(items) {
+    if !are_of(item_type, items) {
         return Err(ConfigFault::WrongType);
     }
     Ok(items)
@@ -189,19 +166,30 @@ pub(crate) fn tables_under<'a>(table: &'a Table, key: &str) -> Result<&'a [Value
     ensures { Reads (λ items. items_view items.now) result (tables_at (get_member key.now (table_view table.now))) }
 {
     match member(table, key) {
-        Some(value) => tables(value),
+        Some(value) => list(value, ItemType::Table),
         None => Ok(&[]),
     }
 }
 
-fn are_tables(items: &[Value]) -> bool
-    ensures { result ≡ all_items is_table (items_view items.now) }
+// Whether each item is of this type.
+fn are_of(item_type: ItemType, items: &[Value]) -> bool
+    ensures { result ≡ all_items (is_of item_type) (items_view items.now) }
 {
-    each_is_table(items)
+    each_is_of(item_type, items)
 }
 
-fn each_is_table(items: &[Value]) -> bool
-    ensures { result ≡ list_all (λ value. is_table (view value)) items.now }
+fn each_is_of(item_type: ItemType, items: &[Value]) -> bool
+    ensures { result ≡ list_all (λ value. is_of item_type (view value)) items.now }
 {
-    items.iter().all(|value| is_table(value))
+    items.iter().all(|value| is_of(item_type, value))
+}
+
+// Whether a value is of this type.
+fn is_of(item_type: ItemType, value: &Value) -> bool
+    ensures { result ≡ is_of item_type (view value.now) }
+{
+    match item_type {
+        ItemType::Integer => value.as_integer().is_some(),
+        ItemType::Table => value.as_table().is_some(),
+    }
 }

@@ -2,22 +2,21 @@
 
 ghost use Rattle.std.specs.Prelude.{◌≡◌, ◌≤◌, IfOk, IfErr, IsOk, All, AllPairs, codes, length};
 ghost use Rattle.std.specs.List.{position_or_len};
-ghost use Rattle.std.specs.Result.{result_err};
 ghost use Rattle.toml.specs.Data.{get_member};
 ghost use Rattle.toml.specs.View.{table_view, items_view};
-ghost use Rattle.apex_types.specs.declared.limits.TheConstants.{MOST_CORES};
 ghost use Rattle.module_config.specs.Keys.{Gives, each_item};
-ghost use Rattle.module_config.specs.Order.{is_numbered_above};
-ghost use Rattle.module_config.specs.Walk.{partition_in, ordered_partitions, partitions_at, walk};
-ghost use Rattle.module_config.specs.Limits.{AreCoresOf, BeginsNoLater, HasTick, IsWithinLimits, IsOrdered};
+ghost use Rattle.module_config.specs.Order.{is_numbered_above, stands_before};
+ghost use Rattle.module_config.specs.Walk.{partition_in, partitions_at, put_by, walk};
+ghost use Rattle.module_config.specs.Limits.{AreCoresOf, BeginsNoLater, HasTick, IsWithinLimits, IsOrdered, IsSize};
 ghost use Rattle.module_config.specs.Laid.{laid_out};
 
+use crate::described::{Described, ModuleSize, items_under, judge, read_each};
 use crate::fault::ConfigFault;
-use crate::keys::{integer, member, tables, ticks};
+use crate::keys::{ItemType, integer, list, required, ticks};
 use crate::partition::Partition;
-use crate::queuing::{QueuedChannel, queuing_channels, queuing_items};
-use crate::sampling::{SampledChannel, sampling_channels, sampling_items};
-use crate::timetable::{ordered_windows, window_items};
+use crate::queuing::QueuedChannel;
+use crate::sampling::SampledChannel;
+use crate::timetable::ordered_windows;
 use crate::window::TimeWindow;
 use apex_types::PartId;
 use apex_types::limits::MOST_CORES;
@@ -48,14 +47,15 @@ pub(crate) fn read_layout(alloc: Global, keys: &Table) -> Result<Layout, ConfigF
     let cores = integer(keys, "cores", 1, MOST_CORES as u64)? as u8;
     let frame = ticks(keys, "frame")?;
     let skew = ticks(keys, "skew")?;
-    let partition_items = partition_items(keys, cores)?;
-    let window_items = window_items(keys, cores, frame)?;
-    let sampling_items = sampling_items(keys)?;
-    let queuing_items = queuing_items(keys)?;
-    let partitions = ordered_partitions(alloc, partition_items, cores)?;
-    let windows = ordered_windows(alloc, window_items, cores, frame)?;
-    let sampling = sampling_channels(alloc, sampling_items)?;
-    let queuing = queuing_channels(alloc, queuing_items)?;
+    let size = ModuleSize { cores, frame };
+    let partition_items = partition_items(keys, size)?;
+    let window_items = items_under::<TimeWindow>(keys, "window", size)?;
+    let sampling_items = items_under::<SampledChannel>(keys, "sampling", size)?;
+    let queuing_items = items_under::<QueuedChannel>(keys, "queuing", size)?;
+    let partitions = ordered_partitions(alloc, partition_items, size)?;
+    let windows = ordered_windows(alloc, window_items, size)?;
+    let sampling = read_each(alloc, sampling_items, size)?;
+    let queuing = read_each(alloc, queuing_items, size)?;
     Ok(Layout {
         cores,
         frame,
@@ -67,51 +67,37 @@ pub(crate) fn read_layout(alloc: Global, keys: &Table) -> Result<Layout, ConfigF
     })
 }
 
-// The items of the list of partitions, in a module of `count` cores. There is one at least, and each describes a partition.
-fn partition_items<'a>(keys: &'a Table, count: u8) -> Result<&'a [Value], ConfigFault>
-    requires { count ≤ MOST_CORES }
-    ensures listed { IfOk result (λ items. partitions_at count (get_member (codes "partition") (table_view keys.now)) ≡ ordered_partitions count (items_view items.now)) }
+// The items of the list of partitions. There is one at least, and each describes a partition.
+fn partition_items<'a>(keys: &'a Table, size: ModuleSize) -> Result<&'a [Value], ConfigFault>
+    requires { IsSize size }
+    ensures listed { IfOk result (λ items. partitions_at size.cores (get_member (codes "partition") (table_view keys.now)) ≡ put_by stands_before (each_item (partition_in size.cores) (items_view items.now))) }
     ensures some { IfOk result (λ items. 1 ≤ length items.now) }
-    ensures judged { IfOk result (λ items. IsOk (ordered_partitions count (items_view items.now))) }
-    ensures refused { IfErr result (λ fault. partitions_at count (get_member (codes "partition") (table_view keys.now)) ≡ Err fault) }
+    ensures judged { IfOk result (λ items. IsOk (each_item (partition_in size.cores) (items_view items.now))) }
+    ensures refused { IfErr result (λ fault. partitions_at size.cores (get_member (codes "partition") (table_view keys.now)) ≡ Err fault) }
 {
-    let Some(value) = member(keys, "partition") else {
-        return Err(ConfigFault::Missing);
-    };
-    let items = tables(value)?;
+    let items = list(required(keys, "partition")?, ItemType::Table)?;
     if items.is_empty() {
         return Err(ConfigFault::OutOfRange);
     }
-    judge_partitions(items, count)?;
+    judge::<Partition>(items, size)?;
     Ok(items)
-}
-
-// Refuses the first item that describes no partition.
-fn judge_partitions(items: &[Value], count: u8) -> Result<(), ConfigFault>
-    requires { count ≤ MOST_CORES }
-    ensures { result_err result ≡ result_err (each_item (partition_in count) (items_view items.now)) }
-{
-    for item in items {
-        Partition::read(item, count)?;
-    }
-    Ok(())
 }
 
 // The partitions that the items of a list describe, put in the order of their numbers.
 fn ordered_partitions(
     alloc: Global,
     items: &[Value],
-    count: u8,
+    size: ModuleSize,
 ) -> Result<Vec<Partition>, ConfigFault>
-    requires { count ≤ MOST_CORES }
-    ensures value { Gives (λ found. found.items) result (ordered_partitions count (items_view items.now)) }
+    requires { IsSize size }
+    ensures value { Gives (λ found. found.items) result (put_by stands_before (each_item (partition_in size.cores) (items_view items.now))) }
     ensures as_many { IfOk result (λ found. length found.items ≡ length items.now) }
-    ensures own_cores { IfOk result (λ found. All (AreCoresOf count) found.items) }
+    ensures own_cores { IfOk result (λ found. All (AreCoresOf size.cores) found.items) }
     ensures ordered { IfOk result (λ found. IsOrdered found.items) }
 {
     let mut found = Vec::new(alloc);
     for item in items {
-        let partition = Partition::read(item, count)?;
+        let partition = Partition::read(item, size)?;
         let place = place_among(&found, partition.number);
         found.insert(place, partition)?;
     }

@@ -7,13 +7,16 @@
 
 mod channels;
 mod config;
+mod configured;
 mod cores;
 mod counts;
+mod described;
 mod ends;
 mod fault;
 mod keys;
 mod laws;
 mod layout;
+mod number;
 mod partition;
 mod port;
 mod queuing;

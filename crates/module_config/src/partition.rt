@@ -1,19 +1,13 @@
 // What is configured of a partition.
 
-ghost use Rattle.std.specs.Prelude.{◌≡◌, ◌≤◌, IfOk};
-ghost use Rattle.toml.specs.Data.{get_member};
-ghost use Rattle.toml.specs.View.{view, table_view};
-ghost use Rattle.apex_types.specs.declared.limits.TheConstants.{MOST_CORES};
-ghost use Rattle.module_config.specs.Limits.{AreCoresOf};
-ghost use Rattle.module_config.specs.Walk.{objects_at, partition_in, partition_under};
-
 use crate::cores::CoreList;
+use crate::described::{Described, ModuleSize};
 use crate::fault::ConfigFault;
-use crate::keys::{integer, ticks};
+use crate::keys::{integer, objects, table, ticks};
 use apex_types::PartId;
-use apex_types::limits::{GREATEST_PARTITION, MOST_OBJECTS, MOST_PROCESSES};
+use apex_types::limits::{GREATEST_PARTITION, MOST_PROCESSES};
 use std::marker::Model;
-use toml::{Table, Value};
+use toml::Value;
 
 /// A partition: its number, period and cores, and how many of each kind it may create.
 #[derive(Debug, Drop)]
@@ -51,28 +45,19 @@ impl Model for Partition {
     ghost invariant = { λ own. AreLimits own.number own.period own.processes };
 }
 
-impl Partition {
-    /// Reads a partition of a module of `count` cores.
-    pub(crate) fn read(value: &Value, count: u8) -> Result<Partition, ConfigFault>
-        requires { count ≤ MOST_CORES }
-        ensures value { result ≡ partition_in count (view value.now) }
-        ensures own_cores { IfOk result (λ own. AreCoresOf count own) }
-    {
-        let Some(keys) = value.as_table() else {
-            return Err(ConfigFault::WrongType);
-        };
-        Partition::from_table(keys, count)
-    }
+impl Described for Partition {
+    ghost use Rattle.module_config.specs.Limits.{AreCoresOf};
+    ghost use Rattle.module_config.specs.Walk.{partition_in};
 
-    // The partition that a table describes.
-    fn from_table(keys: &Table, count: u8) -> Result<Partition, ConfigFault>
-        requires { count ≤ MOST_CORES }
-        ensures value { result ≡ partition_under count (table_view keys.now) }
-        ensures own_cores { IfOk result (λ own. AreCoresOf count own) }
-    {
+    ghost described = { λ size. partition_in size.cores };
+
+    ghost keeps = { λ size. AreCoresOf size.cores };
+
+    fn read(value: &Value, size: ModuleSize) -> Result<Partition, ConfigFault> {
+        let keys = table(value)?;
         let number = integer(keys, "number", 0, GREATEST_PARTITION as u64)?;
         let period = ticks(keys, "period")?;
-        let cores = CoreList::read(keys, count)?;
+        let cores = CoreList::read(keys, size.cores)?;
         let processes = integer(keys, "processes", 1, MOST_PROCESSES as u64)?;
         let buffers = objects(keys, "buffers")?;
         let blackboards = objects(keys, "blackboards")?;
@@ -91,12 +76,4 @@ impl Partition {
             mutexes,
         })
     }
-}
-
-// How many objects of a kind a partition may create.
-fn objects(keys: &Table, key: &str) -> Result<u32, ConfigFault>
-    ensures { result ≡ objects_at (get_member key.now (table_view keys.now)) }
-{
-    let number = integer(keys, key, 0, MOST_OBJECTS as u64)?;
-    Ok(number as u32)
 }

@@ -7,13 +7,12 @@ ghost use Rattle.module_config.specs.Laid.{laid_out};
 ghost use Rattle.module_config.specs.Limits.{BeginsNoLater, HasTick};
 ghost use Rattle.module_config.specs.Whole.{is_too_large, has_many_channels, has_many_ports, is_given_twice, has_port_twice, has_duplicate, is_of_partition, are_of_partitions, whole_fault};
 
+use crate::configured::are_joined as channels_are_joined;
 use crate::counts::{EndCount, channel_numbers, has_number_twice};
 use crate::ends::Likeness;
 use crate::fault::ConfigFault;
 use crate::layout::Layout;
 use crate::partition::Partition;
-use crate::queuing::are_queuing_joined;
-use crate::sampling::are_sampling_joined;
 use crate::timetable::has_overlap;
 use crate::window::TimeWindow;
 use apex_types::PartId;
@@ -109,8 +108,8 @@ fn has_port_twice(layout: &Layout) -> bool
 fn are_joined(layout: &Layout) -> bool
     ensures { result ≡ are_joined (laid_out layout.now) }
 {
-    are_sampling_joined(&layout.sampling, &layout.partitions)
-        && are_queuing_joined(&layout.queuing, &layout.partitions)
+    channels_are_joined(&layout.sampling, &layout.partitions)
+        && channels_are_joined(&layout.queuing, &layout.partitions)
 }
 
 /// The partition of this number, if there is one.

@@ -3,6 +3,7 @@ use Rattle.std.specs.Prelude.{◌≡◌, ◌≢◌, ℕ, suc, List, length, Opti
 use Rattle.std.specs.List.{list_all}
 use Rattle.toml.specs.Data.{Data, string, array, Items, Members, no_members, member}
 use Rattle.apex_types.specs.declared.limits.TheConstants.{LONGEST_RULE_NAME}
+use Rattle.record_read.specs.Payload.{is_printable}
 use Rattle.rules_file.specs.declared.fault.RuleFault.{RuleFault}
 use Rattle.rules_file.specs.declared.fault.RuleFault.TheVariants.{BadName, Missing, UnknownKey, WrongType}
 
@@ -51,10 +52,6 @@ text_in _ = Err WrongType
 abbrev pub list_in : Data → Result Items RuleFault
 list_in (array items) = Ok items
 list_in _ = Err WrongType
-
--- a byte of printable ASCII
-abbrev pub is_printable : ℕ → Bool
-is_printable byte = nat_le 0x20 byte && nat_le byte 0x7E
 
 -- a text of 1 to 64 bytes, all printable
 abbrev pub is_name : List ℕ → Bool

@@ -4,7 +4,8 @@ ghost use Rattle.std.specs.Prelude.{◌≡◌, option_map};
 ghost use Rattle.std.specs.List.{list_all};
 ghost use Rattle.toml.specs.Data.{get_member};
 ghost use Rattle.toml.specs.View.{view, table_view, items_view};
-ghost use Rattle.rules_file.specs.Keys.{Reads, is_name, is_printable, list_in, member_count, name_in, no_more, required, text_in};
+ghost use Rattle.record_read.specs.Payload.{is_printable};
+ghost use Rattle.rules_file.specs.Keys.{Reads, is_name, list_in, member_count, name_in, no_more, required, text_in};
 
 use crate::fault::RuleFault;
 use apex_types::limits::LONGEST_RULE_NAME;
@@ -80,12 +81,5 @@ fn is_name(bytes: &[u8]) -> bool
 fn are_printable(bytes: &[u8]) -> bool
     ensures { result ≡ list_all is_printable bytes.now }
 {
-    bytes.iter().all(|byte| is_printable(*byte))
-}
-
-// Whether a byte is printable ASCII.
-fn is_printable(byte: u8) -> bool
-    ensures { result ≡ is_printable byte }
-{
-    0x20 <= byte && byte <= 0x7E
+    bytes.iter().all(|byte| 0x20 <= *byte && *byte <= 0x7E)
 }

@@ -7,4 +7,4 @@ use Rattle.module_config.proofs.layout.ordered_partitions.Given as goal
 
 abbrev pub invariant-loop-item : goal.invariant-loop-item
 invariant-loop-item l =
-    KeepsPlaced stands_before (AreCoresOf l.count) (λ limits other. limits.number ≤ other.number) (partition_in l.count) l.items l.item-index l.found.items
+    KeepsPlaced stands_before (AreCoresOf l.size.cores) (λ limits other. limits.number ≤ other.number) (partition_in l.size.cores) l.items l.item-index l.found.items

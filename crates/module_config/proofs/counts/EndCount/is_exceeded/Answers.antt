@@ -1,28 +1,17 @@
-use Rattle.std.proofs.Common.{sym, ◌∙◌, arith}
-use Rattle.module_config.specs.Ends.{ends_of, is_exceeded}
-use Rattle.module_config.proofs.Counted.{none-here, queuing-tested, sampling-tested, some-here}
+use Rattle.std.proofs.Common.{sym, ◌∙◌}
+use Rattle.module_config.specs.Ends.{ends_of, is_exceeded, queuing_ends_of, sampling_ends_of}
+use Rattle.module_config.proofs.Counted.{any-in-both}
 use Rattle.module_config.proofs.counts.EndCount.is_exceeded.Goals as goal
 
-pub returns-then-is_exceeded_by_sampling : goal.returns-then-is_exceeded_by_sampling
-returns-then-is_exceeded_by_sampling c =
-    let test = is_exceeded c.args.self.now.likeness c.args.self.now.most (ends_of c.args.self.now.sampling.now c.args.self.now.queuing.now) in
-    let step = sampling-tested test c.args.self.now.sampling.now c.args.self.now.queuing.now c.loop-channel.channel-index c.channel-item.result (omega arith) c.channel-item.is in
-    some-here _ _ _ _ step (sym c.is_exceeded_by_sampling.ensures ∙ c.if-is_exceeded_by_sampling.true) c.loop-channel.invariant
+pub returns-then-is_exceeded_in : goal.returns-then-is_exceeded_in
+returns-then-is_exceeded_in c =
+    let self = c.args.self.now in
+    let test = is_exceeded self.likeness self.most (ends_of self.sampling.now self.queuing.now) in
+    rw (any-in-both test sampling_ends_of self.sampling.now queuing_ends_of self.queuing.now, sym c.is_exceeded_in.ensures ∙ c.if-is_exceeded_in.true) c.if-is_exceeded_in.true
 
-pub loop-channel-preserved : goal.loop-channel-preserved
-loop-channel-preserved c =
-    let test = is_exceeded c.args.self.now.likeness c.args.self.now.most (ends_of c.args.self.now.sampling.now c.args.self.now.queuing.now) in
-    let step = sampling-tested test c.args.self.now.sampling.now c.args.self.now.queuing.now c.loop-channel.channel-index c.channel-item.result (omega arith) c.channel-item.is in
-    none-here _ _ _ _ step (sym c.is_exceeded_by_sampling.ensures ∙ c.if-is_exceeded_by_sampling.false) c.loop-channel.invariant
-
-pub returns-then-is_exceeded_by_queuing : goal.returns-then-is_exceeded_by_queuing
-returns-then-is_exceeded_by_queuing c =
-    let test = is_exceeded c.args.self.now.likeness c.args.self.now.most (ends_of c.args.self.now.sampling.now c.args.self.now.queuing.now) in
-    let step = queuing-tested test c.args.self.now.queuing.now c.loop-channel-2.channel-index c.channel-item-in-loop-channel-2.result (omega arith) c.channel-item-in-loop-channel-2.is in
-    some-here _ _ _ _ step (sym c.is_exceeded_by_queuing.ensures ∙ c.if-is_exceeded_by_queuing.true) c.loop-channel-2.invariant
-
-pub loop-channel-2-preserved : goal.loop-channel-2-preserved
-loop-channel-2-preserved c =
-    let test = is_exceeded c.args.self.now.likeness c.args.self.now.most (ends_of c.args.self.now.sampling.now c.args.self.now.queuing.now) in
-    let step = queuing-tested test c.args.self.now.queuing.now c.loop-channel-2.channel-index c.channel-item-in-loop-channel-2.result (omega arith) c.channel-item-in-loop-channel-2.is in
-    none-here _ _ _ _ step (sym c.is_exceeded_by_queuing.ensures ∙ c.if-is_exceeded_by_queuing.false) c.loop-channel-2.invariant
+pub returns-else-is_exceeded_in : goal.returns-else-is_exceeded_in
+returns-else-is_exceeded_in c =
+    let self = c.args.self.now in
+    let test = is_exceeded self.likeness self.most (ends_of self.sampling.now self.queuing.now) in
+    rw (any-in-both test sampling_ends_of self.sampling.now queuing_ends_of self.queuing.now, sym c.is_exceeded_in.ensures ∙ c.if-is_exceeded_in.false)
+    c.is_exceeded_in-else-is_exceeded_in.ensures
