@@ -1,31 +1,24 @@
 -- The cores of a clock, as the definitions walk them and as the code reads and writes them.
-use Rattle.std.proofs.Common.{◌≡◌, ℕ, zero, suc, ◌-◌, ◌<◌, ◌≤◌, List, [], ◌∷◌, None, nat_le, length, get_or, set, take, refl, ap, sym, arith, IsTrue, ◌↔◌}
+use Rattle.std.proofs.Common.{◌≡◌, ℕ, zero, suc, ◌-◌, ◌<◌, ◌≤◌, List, [], ◌∷◌, None, nat_le, length, get_or, set, take, refl, ap, arith, IsTrue, ◌↔◌}
 use Rattle.std.specs.List.{list_all}
 use Rattle.apex_machine.specs.declared.state.CoreState.{CoreState}
 use Rattle.apex_machine.specs.State.{time_of, occupant_of, at_core}
 use Rattle.apex_machine.specs.Step.{KeepsSkew}
+use Rattle.process_state.proofs.Reading.{read_past, read_there}
 
 -- a core that is there has the time and the occupant of its state
 pub time_of_there : (states : List CoreState) (core : ℕ) (state : CoreState) → core < length states → state ≡ get_or states core state → time_of states core ≡ state.time
-time_of_there [] core state below at = absurd (omega arith)
-time_of_there (other ∷ states) zero state below at = ap (λ (s : CoreState). s.time) (sym at)
-time_of_there (other ∷ states) (suc core) state below at = time_of_there states core state (omega arith) at
+time_of_there = read_there time_of (λ _ _ _. refl) (λ (state : CoreState). state.time) (λ _ _. refl)
 
 pub occupant_of_there : (states : List CoreState) (core : ℕ) (state : CoreState) → core < length states → state ≡ get_or states core state → occupant_of states core ≡ state.occupant
-occupant_of_there [] core state below at = absurd (omega arith)
-occupant_of_there (other ∷ states) zero state below at = ap (λ (s : CoreState). s.occupant) (sym at)
-occupant_of_there (other ∷ states) (suc core) state below at = occupant_of_there states core state (omega arith) at
+occupant_of_there = read_there occupant_of (λ _ _ _. refl) (λ (state : CoreState). state.occupant) (λ _ _. refl)
 
 -- a core that is not there has none
 pub time_of_past : (states : List CoreState) (core : ℕ) → length states ≤ core → time_of states core ≡ 0
-time_of_past [] core past = refl
-time_of_past (other ∷ states) zero past = absurd (omega arith)
-time_of_past (other ∷ states) (suc core) past = time_of_past states core (omega arith)
+time_of_past = read_past time_of (λ _ _ _. refl) 0 (λ _. refl)
 
 pub occupant_of_past : (states : List CoreState) (core : ℕ) → length states ≤ core → occupant_of states core ≡ None
-occupant_of_past [] core past = refl
-occupant_of_past (other ∷ states) zero past = absurd (omega arith)
-occupant_of_past (other ∷ states) (suc core) past = occupant_of_past states core (omega arith)
+occupant_of_past = read_past occupant_of (λ _ _ _. refl) None (λ _. refl)
 
 -- a core among the first n has the time of its state
 pub time_of_first : (n core : ℕ) (states : List CoreState) (default : CoreState) → core < length (take n states)

@@ -1,18 +1,15 @@
 -- The times of the cores, as the definitions walk them and as the code reads and writes them.
-use Rattle.std.proofs.Common.{◌≡◌, ℕ, zero, suc, ◌+◌, ◌<◌, ◌≤◌, List, [], ◌∷◌, length, get_or, set, take, refl, ap, sym, arith}
+use Rattle.std.proofs.Common.{◌≡◌, ℕ, zero, suc, ◌+◌, ◌<◌, ◌≤◌, List, [], ◌∷◌, length, get_or, set, take, refl, ap, arith}
 use Rattle.apex_machine.specs.Pieces.{one_more, time_at}
+use Rattle.process_state.proofs.Reading.{read_past, read_there}
 
 -- a core that is there has its time
 pub time_at_there : (times : List ℕ) (core time : ℕ) → core < length times → time ≡ get_or times core time → time_at times core ≡ time
-time_at_there [] core time below at = absurd (omega arith)
-time_at_there (other ∷ times) zero time below at = sym at
-time_at_there (other ∷ times) (suc core) time below at = time_at_there times core time (omega arith) at
+time_at_there = read_there time_at (λ _ _ _. refl) (λ time. time) (λ _ _. refl)
 
 -- a core that is not there has none
 pub time_at_past : (times : List ℕ) (core : ℕ) → length times ≤ core → time_at times core ≡ 0
-time_at_past [] core past = refl
-time_at_past (other ∷ times) zero past = absurd (omega arith)
-time_at_past (other ∷ times) (suc core) past = time_at_past times core (omega arith)
+time_at_past = read_past time_at (λ _ _ _. refl) 0 (λ _. refl)
 
 -- a core among the first n has its time
 pub time_at_first : (n core : ℕ) (times : List ℕ) (default : ℕ) → core < length (take n times) → time_at (take n times) core ≡ get_or times core default

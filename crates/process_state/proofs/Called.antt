@@ -1,5 +1,6 @@
 -- A table after a call: what the call sets there, and what becomes of its caller.
 use Rattle.std.proofs.Common.{◌≡◌, ℕ, Bool, true, false, not, ◌&&◌, nat_eq, List, [], ◌∷◌, ◌++◌, Option, Some, None, ℤ, pos, negsuc, is_some, if◌then◌else◌, Bor, refl, sym, ap, subst, ◌∙◌, arith}
+use Rattle.std.proofs.lemmas.Bool.{and_right}
 use Rattle.std.proofs.lemmas.Bool.Decides.{nat_tests}
 use Rattle.std.specs.List.{IsDistinct}
 use Rattle.std.specs.Map.{keys_of}
@@ -19,9 +20,9 @@ use Rattle.apex_machine.specs.Processes.{caller_after, message_handed_over, new_
 use Rattle.apex_machine.specs.Waiting.{is_no_error, stop_of, stops}
 use Rattle.apex_machine.specs.After.{adjusted, called, created_by, is_done, mode_by, numbered, partition_called}
 use Rattle.process_state.specs.Changes.{only, with_each}
-use Rattle.process_state.specs.Peers.{peer_at, peer_woken, is_peer, stopped_by}
+use Rattle.process_state.specs.Peers.{peer_at, peer_woken, is_peer, stopped_by, wakes}
 use Rattle.process_state.specs.Processes.{Processes, processes_in, processes_of}
-use Rattle.process_state.specs.Sound.{AsksSoundly, IsSound, is_periodic_wait}
+use Rattle.process_state.specs.Sound.{AsksSoundly, is_periodic_wait}
 use Rattle.process_state.proofs.Carried.{append-nothing, carried}
 use Rattle.process_state.proofs.Numbers.{new-absent}
 use Rattle.process_state.proofs.Tables.{absent_from, with_table, each_item-append, each_item-congr, each_item-same, each_item-twice, only-absent}
@@ -90,11 +91,12 @@ absent-each change (entry ∷ entries) number none = by (nat_eq number entry.0) 
     by : (b : Bool) → nat_eq number entry.0 ≡ b → (item_at entries number ≡ None → item_at (each_item change entries) number ≡ None)
         → item_at (each_item change (entry ∷ entries)) number ≡ None
     by true e rest = let found = rw e at none in cc
-    by false e rest = let others : item_at entries number ≡ None = rw e at none in rw e (rest others)
+    by false e rest = rw e (rest (rw e at none))
 
-copied-some : (found : Option (Bor Process)) → is_some (option_copied found) ≡ is_some found
-copied-some None = refl
-copied-some (Some process) = refl
+-- a caller that is found is in the table, and one that is not is not
+pub looked : (found : Option (Bor Process)) (there : Option Process) (b : Bool) → option_copied found ≡ there → is_some found ≡ b → is_some there ≡ b
+looked None there b copied is = ap is_some (sym copied) ∙ is
+looked (Some process) there b copied is = ap is_some (sym copied) ∙ is
 
 none-some : (found : Option Process) → is_some found ≡ false → found ≡ None
 none-some None h = refl
@@ -103,45 +105,25 @@ none-some (Some process) h = cc
 -- the caller's peers
 
 -- what is done of its peers' part by a call, one after another, is what becomes of each
-peers-are : (place now period : ℕ) (cores : List CoreState) (call : CallRecord) (partition : Partition) (change : Process → Process)
-    → ((process : Process) → change process ≡ caller_after place now call process) → (number : ℕ) (process : Process)
-    → peer_woken place call number (stopped_by call number (only call.who.proc change number (adjusted place period cores partition call number process)))
+peers-are : (place now period : ℕ) (cores : List CoreState) (call : CallRecord) (partition : Partition) (number : ℕ) (process : Process)
+    → peer_woken place call number (stopped_by call number (only call.who.proc (caller_after place now call) number (adjusted place period cores partition call number process)))
     ≡ called place now period cores partition call number process
-peers-are place now period cores call partition change same number process =
+peers-are place now period cores call partition number process =
     by (nat_eq number call.who.proc) (stops call (peer_at call number)) (is_named (peer_at call number) call.claim.woken) (adjusted place period cores partition call number process)
   where
     by : (c s n : Bool) (x : Process)
-        → (if n && (not c && not s)
-        then woken_by place (message_handed_over call.request) (if not c && s then stopped (if c then change x else x) else (if c then change x else x))
-        else (if not c && s then stopped (if c then change x else x) else (if c then change x else x)))
+        → (if (not c && not s) && n
+        then woken_by place (message_handed_over call.request) (if not c && s then stopped (if c then caller_after place now call x else x) else (if c then caller_after place now call x else x))
+        else (if not c && s then stopped (if c then caller_after place now call x else x) else (if c then caller_after place now call x else x)))
         ≡ (if c then caller_after place now call x else if s then stopped x else if n then woken_by place (message_handed_over call.request) x else x)
-    by true s true x = same x
-    by true s false x = same x
-    by false true true x = refl
-    by false true false x = refl
+    by true s n x = refl
+    by false true n x = refl
     by false false true x = refl
     by false false false x = refl
 
--- each process after the call, by the change of the caller
-called-each : (place now period : ℕ) (cores : List CoreState) (call : CallRecord) (partition : Partition) (change : Process → Process)
-    → ((process : Process) → change process ≡ caller_after place now call process)
-    → each_item (peer_woken place call) (each_item (stopped_by call) (each_item (only call.who.proc change) (each_item (adjusted place period cores partition call) partition.table)))
-    ≡ each_item (called place now period cores partition call) partition.table
-called-each place now period cores call partition change same =
-    ap (λ t. each_item (peer_woken place call) (each_item (stopped_by call) t)) (each_item-twice (adjusted place period cores partition call) (only call.who.proc change) partition.table)
-    ∙ ap (each_item (peer_woken place call)) (each_item-twice _ (stopped_by call) partition.table)
-    ∙ each_item-twice _ (peer_woken place call) partition.table
-    ∙ each_item-congr _ (called place now period cores partition call) (peers-are place now period cores call partition change same) partition.table
-
 -- a call of another service than STOP stops nobody
 pub stops-nobody : (call : CallRecord) → stop_of call.request ≡ None → (number : ℕ) → is_peer call number && stops call (peer_at call number) ≡ false
-stops-nobody call other number = rw (other, neither (is_peer call number) (is_no_error call.claim.out) (nat_eq call.who.part call.who.part)) refl
-  where
-    neither : (a b c : Bool) → a && (b && (c && false)) ≡ false
-    neither true true true = refl
-    neither true true false = refl
-    neither true false c = refl
-    neither false b c = refl
+stops-nobody call other number = rw other (and_right (is_peer call number) _ (and_right (is_no_error call.claim.out) _ (and_right _ false refl)))
 
 -- no process is created that the call stops or whose wait it ends
 created-stays : (place first : ℕ) (call : CallRecord) (table : Table) → AsksSoundly table call call.request
@@ -159,7 +141,7 @@ created-stays place first call table sound = stays call.request refl
         not_woken : is_done call.claim.out ≡ true → (number : ℕ) (process : Process) → peer_woken place call number process ≡ process
         not_woken done number process =
             let facts = rw is at sound in
-            rw ((facts done).2) refl
+            rw ((facts done).2, and_right (wakes call number) false refl) refl
 
         by : (b : Bool) → is_done call.claim.out ≡ b
             → each_item (peer_woken place call) (each_item (stopped_by call) (if b then numbered call.claim.val (new_process first name priority period) else []))
@@ -170,107 +152,49 @@ created-stays place first call table sound = stays call.request refl
         by false refused = refl
     stays _ is = refl
 
--- the peers of a table, and the created process
-peers-append : (place : ℕ) (call : CallRecord) (a b : Table)
-    → each_item (peer_woken place call) (each_item (stopped_by call) (a ++ b))
-    ≡ each_item (peer_woken place call) (each_item (stopped_by call) a) ++ each_item (peer_woken place call) (each_item (stopped_by call) b)
-peers-append place call a b =
-    ap (each_item (peer_woken place call)) (each_item-append (stopped_by call) a b)
-    ∙ each_item-append (peer_woken place call) (each_item (stopped_by call) a) (each_item (stopped_by call) b)
+-- the mode and the processes once the caller is settled too
+abbrev pub after_caller : ℕ → ℕ → ℕ → ℕ → List CoreState → CallRecord → Partition → Processes → Processes
+after_caller place now period first cores call partition old = processes_in (mode_between call old.mode)
+    (each_item (only call.who.proc (caller_after place now call)) (each_item (adjusted place period cores partition call) old.table) ++ created_by first call call.request)
 
--- the mode and the processes after the call
-whole : (configuration : Configuration) (place core period first : ℕ) (cores : List CoreState) (call : CallRecord) (partition : Partition)
-    → first_core configuration call.who.part ≡ first → period_of configuration call.who.part ≡ period
-    → processes_in (mode_between call partition.mode)
-    (each_item (called place (time_of cores core) period cores partition call) partition.table ++ created_by first call call.request)
-    ≡ processes_of (partition_called configuration cores place core call partition)
-whole configuration place core period first cores call partition first_is period_is =
-    let own : first ≡ first_core configuration call.who.part = sym first_is in
-    let ticks : period ≡ period_of configuration call.who.part = sym period_is in
-    λ i. processes_in (mode_between call partition.mode)
-    (each_item (called place (time_of cores core) (ticks i) cores partition call) partition.table ++ created_by (own i) call call.request)
-
--- a caller that stands in the table has become what its call makes of it, and so have its peers
-called-stands : (configuration : Configuration) (place core period first : ℕ) (cores : List CoreState) (call : CallRecord) (partition : Partition)
-    (middle own stopping new : Processes) (change : Process → Process) (found : Option (Bor Process))
-    → first_core configuration call.who.part ≡ first → period_of configuration call.who.part ≡ period
-    → middle ≡ between place period first cores call partition (processes_of partition) → IsSound partition.table call
-    → option_copied found ≡ item_at partition.table call.who.proc → is_some found ≡ true
-    → ((process : Process) → change process ≡ caller_after place (time_of cores core) call process)
-    → own ≡ with_each (only call.who.proc change) middle → stopping ≡ with_each (stopped_by call) own → new ≡ with_each (peer_woken place call) stopping
-    → new ≡ processes_of (partition_called configuration cores place core call partition)
-called-stands configuration place core period first cores call partition middle own stopping new change found first_is period_is adjusts sound looked stands same is stops wakes_them =
-    let there : is_some (item_at partition.table call.who.proc) ≡ true = ap is_some (sym looked) ∙ copied-some found ∙ stands in
-    let created : Table = created_by first call call.request in
-    let before : Table = each_item (adjusted place period cores partition call) partition.table in
-    let of_caller : each_item (only call.who.proc change) (before ++ created) ≡ each_item (only call.who.proc change) before ++ created
-    = each_item-append (only call.who.proc change) before created
-    ∙ ap (λ t. each_item (only call.who.proc change) before ++ t)
-    (only-absent call.who.proc change created (creates-apart first call call.request partition.table call.who.proc sound.asks there)) in
-    let each : each_item (peer_woken place call) (each_item (stopped_by call) (each_item (only call.who.proc change) (before ++ created)))
-    ≡ each_item (called place (time_of cores core) period cores partition call) partition.table ++ created
-    = ap (λ t. each_item (peer_woken place call) (each_item (stopped_by call) t)) of_caller
-    ∙ peers-append place call (each_item (only call.who.proc change) before) created
-    ∙ ap (λ t. each_item (peer_woken place call) (each_item (stopped_by call) (each_item (only call.who.proc change) before)) ++ t) (created-stays place first call partition.table sound.asks)
-    ∙ ap (λ t. t ++ created) (called-each place (time_of cores core) period cores call partition change same) in
-    wakes_them ∙ ap (with_each (peer_woken place call)) (stops ∙ ap (with_each (stopped_by call)) (is ∙ ap (with_each (only call.who.proc change)) adjusts))
-    ∙ ap (processes_in (mode_between call partition.mode)) each
-    ∙ whole configuration place core period first cores call partition first_is period_is
+-- a caller that stands in the table has become what its call makes of it
+pub caller-stands : (place now period first : ℕ) (cores : List CoreState) (call : CallRecord) (partition : Partition) (old middle own : Processes)
+    → middle ≡ between place period first cores call partition old → AsksSoundly old.table call call.request → is_some (item_at old.table call.who.proc) ≡ true
+    → own ≡ with_each (only call.who.proc (caller_after place now call)) middle → own ≡ after_caller place now period first cores call partition old
+caller-stands place now period first cores call partition old middle own adjusts sound there is =
+    let change : ℕ → Process → Process = only call.who.proc (caller_after place now call) in
+    is ∙ ap (with_each change) adjusts
+    ∙ ap (processes_in (mode_between call old.mode))
+    (each_item-append change (each_item (adjusted place period cores partition call) old.table) (created_by first call call.request)
+    ∙ ap (λ created. each_item change (each_item (adjusted place period cores partition call) old.table) ++ created)
+    (only-absent call.who.proc (caller_after place now call) _ (creates-apart first call call.request old.table call.who.proc sound there)))
 
 -- of a caller that does not, nothing becomes
-called-absent : (configuration : Configuration) (place core period first : ℕ) (cores : List CoreState) (call : CallRecord) (partition : Partition)
-    (middle stopping new : Processes) (found : Option (Bor Process))
-    → first_core configuration call.who.part ≡ first → period_of configuration call.who.part ≡ period
-    → middle ≡ between place period first cores call partition (processes_of partition) → IsSound partition.table call
-    → option_copied found ≡ item_at partition.table call.who.proc → is_some found ≡ false
-    → stopping ≡ with_each (stopped_by call) middle → new ≡ with_each (peer_woken place call) stopping
+pub caller-absent : (place now period first : ℕ) (cores : List CoreState) (call : CallRecord) (partition : Partition) (old middle own : Processes)
+    → middle ≡ between place period first cores call partition old → is_some (item_at old.table call.who.proc) ≡ false
+    → own ≡ middle → own ≡ after_caller place now period first cores call partition old
+caller-absent place now period first cores call partition old middle own adjusts absent is =
+    is ∙ adjusts
+    ∙ ap (λ table. processes_in (mode_between call old.mode) (table ++ created_by first call call.request))
+    (sym (only-absent call.who.proc (caller_after place now call) _
+    (absent-each (adjusted place period cores partition call) old.table call.who.proc (none-some _ absent))))
+
+-- with its peers it has the mode and the processes after the call
+pub called-whole : (configuration : Configuration) (place core period first : ℕ) (cores : List CoreState) (call : CallRecord) (partition : Partition) (old own stopping new : Processes)
+    → processes_of partition ≡ old → first_core configuration call.who.part ≡ first → period_of configuration call.who.part ≡ period
+    → AsksSoundly old.table call call.request → own ≡ after_caller place (time_of cores core) period first cores call partition old
+    → stopping ≡ with_each (stopped_by call) own → new ≡ with_each (peer_woken place call) stopping
     → new ≡ processes_of (partition_called configuration cores place core call partition)
-called-absent configuration place core period first cores call partition middle stopping new found first_is period_is adjusts sound looked absent stops wakes_them =
-    let none : item_at partition.table call.who.proc ≡ None = none-some _ (ap is_some (sym looked) ∙ copied-some found ∙ absent) in
-    let change : Process → Process = caller_after place (time_of cores core) call in
+called-whole configuration place core period first cores call partition old own stopping new seen first_is period_is sound settles stops wakes_them =
+    let before : Table = each_item (only call.who.proc (caller_after place (time_of cores core) call)) (each_item (adjusted place period cores partition call) old.table) in
     let created : Table = created_by first call call.request in
-    let before : Table = each_item (adjusted place period cores partition call) partition.table in
-    let none_too : item_at before call.who.proc ≡ None = absent-each (adjusted place period cores partition call) partition.table call.who.proc none in
     let each : each_item (peer_woken place call) (each_item (stopped_by call) (before ++ created))
-    ≡ each_item (called place (time_of cores core) period cores partition call) partition.table ++ created
-    = ap (λ t. each_item (peer_woken place call) (each_item (stopped_by call) (t ++ created))) (sym (only-absent call.who.proc change before none_too))
-    ∙ peers-append place call (each_item (only call.who.proc change) before) created
-    ∙ ap (λ t. each_item (peer_woken place call) (each_item (stopped_by call) (each_item (only call.who.proc change) before)) ++ t) (created-stays place first call partition.table sound.asks)
-    ∙ ap (λ t. t ++ created) (called-each place (time_of cores core) period cores call partition change (λ process. refl)) in
-    wakes_them ∙ ap (with_each (peer_woken place call)) (stops ∙ ap (with_each (stopped_by call)) adjusts)
-    ∙ ap (processes_in (mode_between call partition.mode)) each
-    ∙ whole configuration place core period first cores call partition first_is period_is
-
--- the same of any partition that has the mode and the processes of a table
-
-pub called-stands-in : (configuration : Configuration) (place core period first : ℕ) (cores : List CoreState) (call : CallRecord) (partition : Partition)
-    (old middle own stopping new : Processes) (change : Process → Process) (found : Option (Bor Process)) → processes_of partition ≡ old
-    → first_core configuration call.who.part ≡ first → period_of configuration call.who.part ≡ period
-    → middle ≡ between place period first cores call partition old → IsSound old.table call
-    → option_copied found ≡ item_at old.table call.who.proc → is_some found ≡ true
-    → ((process : Process) → change process ≡ caller_after place (time_of cores core) call process)
-    → own ≡ with_each (only call.who.proc change) middle → stopping ≡ with_each (stopped_by call) own → new ≡ with_each (peer_woken place call) stopping
-    → new ≡ processes_of (partition_called configuration cores place core call partition)
-called-stands-in configuration place core period first cores call partition old middle own stopping new change found seen first_is period_is adjusts sound looked stands same is stops wakes_them =
-    let P : Processes → Type 0 = λ one. middle ≡ between place period first cores call partition one → IsSound one.table call
-    → option_copied found ≡ item_at one.table call.who.proc → new ≡ processes_of (partition_called configuration cores place core call partition) in
-    subst P seen
-    (λ adjusts_it sound_it looked_it. called-stands configuration place core period first cores call partition middle own stopping new change found first_is period_is adjusts_it sound_it looked_it stands same is stops wakes_them)
-    adjusts sound looked
-
-pub called-absent-in : (configuration : Configuration) (place core period first : ℕ) (cores : List CoreState) (call : CallRecord) (partition : Partition)
-    (old middle stopping new : Processes) (found : Option (Bor Process)) → processes_of partition ≡ old
-    → first_core configuration call.who.part ≡ first → period_of configuration call.who.part ≡ period
-    → middle ≡ between place period first cores call partition old → IsSound old.table call
-    → option_copied found ≡ item_at old.table call.who.proc → is_some found ≡ false
-    → stopping ≡ with_each (stopped_by call) middle → new ≡ with_each (peer_woken place call) stopping
-    → new ≡ processes_of (partition_called configuration cores place core call partition)
-called-absent-in configuration place core period first cores call partition old middle stopping new found seen first_is period_is adjusts sound looked absent stops wakes_them =
-    let P : Processes → Type 0 = λ one. middle ≡ between place period first cores call partition one → IsSound one.table call
-    → option_copied found ≡ item_at one.table call.who.proc → new ≡ processes_of (partition_called configuration cores place core call partition) in
-    subst P seen
-    (λ adjusts_it sound_it looked_it. called-absent configuration place core period first cores call partition middle stopping new found first_is period_is adjusts_it sound_it looked_it absent stops wakes_them)
-    adjusts sound looked
+    ≡ each_item (called place (time_of cores core) period cores partition call) old.table ++ created
+    = simp each_item-append (ap (λ t. each_item (peer_woken place call) (each_item (stopped_by call) before) ++ t) (created-stays place first call old.table sound)
+    ∙ ap (λ t. t ++ created) (simp each_item-twice (each_item-congr _ _ (peers-are place (time_of cores core) period cores call partition) old.table))) in
+    wakes_them ∙ ap (with_each (peer_woken place call)) (stops ∙ ap (with_each (stopped_by call)) settles) ∙ ap (processes_in (mode_between call old.mode)) each
+    ∙ sym (λ i. processes_in (mode_between call (seen i).mode)
+    (each_item (called place (time_of cores core) (period_is i) cores partition call) (seen i).table ++ created_by (first_is i) call call.request))
 
 pub stopped-none : (call : CallRecord) (processes : Processes) → ((number : ℕ) → is_peer call number && stops call (peer_at call number) ≡ false)
     → processes ≡ with_each (stopped_by call) processes
@@ -278,11 +202,7 @@ stopped-none call processes none = ap (with_table processes) (sym (each_item-sam
 
 -- a call that does not answer NO_ERROR stops nobody
 pub stops-not : (call : CallRecord) → is_no_error call.claim.out ≡ false → (number : ℕ) → is_peer call number && stops call (peer_at call number) ≡ false
-stops-not call refused number = rw refused (never (is_peer call number))
-  where
-    never : (a : Bool) → a && false ≡ false
-    never true = refl
-    never false = refl
+stops-not call refused number = rw refused (and_right (is_peer call number) false refl)
 
 -- nor does one that names its caller
 pub stops-itself : (call : CallRecord) → stop_of call.request ≡ Some (pos call.who.proc) → (number : ℕ)

@@ -1,5 +1,5 @@
 -- What a call sets in its partition.
-use Rattle.std.proofs.Common.{◌≡◌, ℕ, ◌<◌, ◌^◌, Bool, true, false, if◌then◌else◌, nat_eq, List, [], ◌∷◌, ◌++◌, Option, Some, None, ℤ, pos, negsuc, MatchOption, nat_abs, refl, sym, ap, ◌∙◌, arith}
+use Rattle.std.proofs.Common.{◌≡◌, ℕ, ◌<◌, ◌^◌, true, false, nat_eq, List, [], ◌∷◌, ◌++◌, Option, Some, None, ℤ, pos, negsuc, MatchOption, nat_abs, refl, sym, ap, ◌∙◌, arith}
 use Rattle.std.proofs.lemmas.Bool.Decides.{nat_tests}
 use Rattle.apex_types.specs.declared.record.Call.{Call as CallRecord}
 use Rattle.apex_types.specs.declared.operation.{MutexOperation.MutexOperation, ProcessOperation.ProcessOperation}
@@ -9,7 +9,7 @@ use Rattle.apex_machine.specs.declared.state.CoreState.{CoreState}
 use Rattle.apex_machine.specs.declared.state.Process.{Process}
 use Rattle.apex_machine.specs.State.{Partition, Table, each_item, is_free, time_of}
 use Rattle.apex_machine.specs.Answer.{is_new}
-use Rattle.apex_machine.specs.Arguments.{is_number, is_priority, natural_of}
+use Rattle.apex_machine.specs.Arguments.{is_priority}
 use Rattle.apex_machine.specs.Processes.{new_process, set_by, set_in}
 use Rattle.apex_machine.specs.After.{created_by, is_done, mode_by}
 use Rattle.process_state.specs.Changes.{named, only, with_each}
@@ -111,16 +111,3 @@ pub carried-target : (place period first : ℕ) (cores : List CoreState) (call :
 carried-target place period first cores call given operation partition old new mode is =
     is ∙ ap (λ current. with_each (named given (λ found. set_in place period (time_of cores found.affinity) current operation found)) old) (sym mode)
     ∙ ap (with_table old) (sym (append-nothing _))
-
--- STOP sets nothing in its target here
-pub named-same : (given : ℤ) (processes : Processes) → processes ≡ with_each (named given (λ found. found)) processes
-named-same given processes = ap (with_table processes) (sym (each_item-same _ (λ number process. same (is_number given number) process) processes.table))
-  where
-    same : (b : Bool) (process : Process) → (if b then process else process) ≡ process
-    same true process = refl
-    same false process = refl
-
--- SET_PRIORITY gives a natural number
-pub priority-natural : (priority : ℤ) → is_priority priority ≡ true → nat_abs priority ≡ natural_of priority
-priority-natural (pos n) h = refl
-priority-natural (negsuc n) h = cc

@@ -1,5 +1,6 @@
 -- As many are named as fall due, and each that is named falls due: so each that falls due is named.
-use Rattle.std.proofs.Common.{◌≡◌, ℕ, suc, ◌+◌, ◌≤◌, Bool, true, false, ◌||◌, ◌&&◌, nat_eq, List, [], ◌∷◌, length, Option, Some, None, if◌then◌else◌, refl, sym, ap, ◌∙◌, arith}
+use Rattle.std.proofs.Common.{◌≡◌, ℕ, suc, ◌+◌, ◌≤◌, Bool, true, false, ◌||◌, ◌&&◌, nat_eq, List, [], ◌∷◌, length, Option, Some, None, if◌then◌else◌, refl, sym, ◌∙◌, arith}
+use Rattle.std.proofs.lemmas.Bool.{and_right, or_right}
 use Rattle.std.proofs.lemmas.Bool.Decides.{nat_tests}
 use Rattle.std.specs.List.{AllByRecursion, IsDistinct}
 use Rattle.std.specs.Map.{keys_of}
@@ -14,6 +15,7 @@ use Rattle.process_state.specs.Firsts.{due_count, is_reached}
 use Rattle.process_state.specs.Orders.{inserted, keys_in, with_key}
 use Rattle.process_state.specs.Ranks.{due_at, due_before, due_time_of, time_due}
 use Rattle.process_state.specs.declared.order.DueTime.{DueTime}
+use Rattle.process_state.proofs.Due.{process_of}
 use Rattle.process_state.proofs.Rising.{behind-trans, rising_rest}
 
 -- numbers in lists that have none twice
@@ -35,12 +37,9 @@ left_out number (other ∷ others) = if nat_eq number other then others else oth
 
 length-left_out : (number : ℕ) (numbers : List ℕ) → has number numbers ≡ true → length (left_out number numbers) + 1 ≡ length numbers
 length-left_out number [] there = cc
-length-left_out number (other ∷ others) there = by (nat_eq number other) refl (length-left_out number others)
-  where
-    by : (b : Bool) → nat_eq number other ≡ b → (has number others ≡ true → length (left_out number others) + 1 ≡ length others)
-        → length (if b then others else other ∷ left_out number others) + 1 ≡ length (other ∷ others)
-    by true e rest = omega arith
-    by false e rest = let there_too : has number others ≡ true = rw e at there in let shorter = rest there_too in omega (arith, shorter)
+length-left_out number (other ∷ others) there =
+    let rest : has number others ≡ true → length (left_out number others) + 1 ≡ length others = length-left_out number others in
+    grind (arith, nat_tests)
 
 has-left_out : (number other : ℕ) (numbers : List ℕ) → nat_eq other number ≡ false → has other numbers ≡ true → has other (left_out number numbers) ≡ true
 has-left_out number other [] apart there = cc
@@ -67,11 +66,7 @@ fewer (number ∷ numbers) all once among =
 
     others : (other : ℕ) → has other numbers ≡ true → has other (left_out number all) ≡ true
     others other h =
-        has-left_out number other all (apart other h (nat_eq other number) refl) (among other (either (nat_eq other number) h))
-      where
-        either : (b : Bool) → has other numbers ≡ true → b || has other numbers ≡ true
-        either true h = refl
-        either false h = h
+        has-left_out number other all (apart other h (nat_eq other number) refl) (among other (or_right (nat_eq other number) _ h))
 
 -- so if it has as many, it has them all
 all_there : (some all : List ℕ) → HasOnce some → HasOnce all → ((number : ℕ) → has number some ≡ true → has number all ≡ true) → length some ≡ length all
@@ -97,16 +92,9 @@ numbers_named partition (who ∷ others) = if nat_eq who.part partition then who
 
 length-named : (partition : ℕ) (named : List Who) → length (numbers_named partition named) ≡ count_of partition named
 length-named partition [] = refl
-length-named partition (who ∷ others) = by (nat_eq who.part partition) (length-named partition others)
-  where
-    by : (b : Bool) → length (numbers_named partition others) ≡ count_of partition others
-        → length (if b then who.proc ∷ numbers_named partition others else numbers_named partition others)
-        ≡ (if b then suc (count_of partition others) else count_of partition others)
-    by true rest = ap suc rest
-    by false rest = rest
-
-abbrev process_of : ℕ → ℕ → Who
-process_of partition number = record { part = partition; proc = number }
+length-named partition (who ∷ others) =
+    let rest : length (numbers_named partition others) ≡ count_of partition others = length-named partition others in
+    grind (arith, nat_tests)
 
 has-named : (partition number : ℕ) (named : List Who) → has number (numbers_named partition named) ≡ is_named (process_of partition number) named
 has-named partition number [] = refl
@@ -193,30 +181,14 @@ key_reached core time None = false
 key_reached core time (Some due) = is_reached core time due
 
 reached-falls : (core time affinity number : ℕ) (wait : Wait) → key_reached core time (due_at affinity number (time_due wait)) ≡ (nat_eq affinity core && due_by time wait)
-reached-falls core time affinity number wait.Nothing = never (nat_eq affinity core)
-  where
-    never : (b : Bool) → false ≡ (b && false)
-    never true = refl
-    never false = refl
-reached-falls core time affinity number wait.NormalMode = never (nat_eq affinity core)
-  where
-    never : (b : Bool) → false ≡ (b && false)
-    never true = refl
-    never false = refl
+reached-falls core time affinity number wait.Nothing = sym (and_right (nat_eq affinity core) false refl)
+reached-falls core time affinity number wait.NormalMode = sym (and_right (nat_eq affinity core) false refl)
 reached-falls core time affinity number (wait.FirstRelease due) = refl
 reached-falls core time affinity number (wait.Until due) = refl
 reached-falls core time affinity number (wait.PeriodicRelease due) = refl
-reached-falls core time affinity number (wait.Suspended None) = never (nat_eq affinity core)
-  where
-    never : (b : Bool) → false ≡ (b && false)
-    never true = refl
-    never false = refl
+reached-falls core time affinity number (wait.Suspended None) = sym (and_right (nat_eq affinity core) false refl)
 reached-falls core time affinity number (wait.Suspended (Some due)) = refl
-reached-falls core time affinity number (wait.At set None) = never (nat_eq affinity core)
-  where
-    never : (b : Bool) → false ≡ (b && false)
-    never true = refl
-    never false = refl
+reached-falls core time affinity number (wait.At set None) = sym (and_right (nat_eq affinity core) false refl)
 reached-falls core time affinity number (wait.At set (Some due)) = refl
 
 due_count-inserted : (core time : ℕ) (due : DueTime) (keys : List DueTime)

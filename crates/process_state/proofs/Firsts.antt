@@ -1,5 +1,5 @@
 -- The first rank of a core, and the due times that are reached, in lists that are in order.
-use Rattle.std.proofs.Common.{◌≡◌, ℕ, zero, suc, ◌+◌, ◌<◌, ◌≤◌, Bool, true, false, ◌||◌, ◌&&◌, not, nat_eq, nat_lt, nat_le, List, [], ◌∷◌, length, get_or, Option, Some, None, option_map, if◌then◌else◌, cond, refl, sym, ◌∙◌, arith}
+use Rattle.std.proofs.Common.{◌≡◌, ℕ, suc, ◌+◌, ◌<◌, Bool, true, false, ◌||◌, ◌&&◌, not, nat_eq, nat_lt, nat_le, List, [], ◌∷◌, slice_get, Option, Some, None, option_map, if◌then◌else◌, cond, refl, sym, ◌∙◌, arith}
 use Rattle.std.proofs.lemmas.Bool.Decides.{nat_tests}
 use Rattle.apex_types.specs.declared.record.Who.{Who}
 use Rattle.apex_machine.specs.declared.state.Process.{Process}
@@ -22,18 +22,6 @@ is_below core rank = nat_lt rank.core core
 pub below_carries : (core : ℕ) (one other : Rank) → rank_before other one ≡ false → is_below core other ≡ true → is_below core one ≡ true
 below_carries core one other behind below = grind (arith, nat_tests)
 
-pub first_on-there : (core place : ℕ) (found : Rank) (ranks : List Rank) → place ≡ place_where (is_below core) ranks → place < length ranks
-    → found ≡ get_or ranks place found → nat_eq found.core core ≡ true → first_on core ranks ≡ Some found.number
-first_on-there core place found [] at within is here = absurd (omega arith)
-first_on-there core zero found (rank ∷ ranks) at within is here = let own : nat_eq rank.core core ≡ true = rw (← is) here in rw (own, ← is) refl
-first_on-there core (suc place) found (rank ∷ ranks) at within is here =
-    by (is_below core rank) refl at (λ later. first_on-there core place found ranks later (omega arith) is here)
-  where
-    by : (b : Bool) → is_below core rank ≡ b → suc place ≡ (if b then suc (place_where (is_below core) ranks) else 0)
-        → (place ≡ place_where (is_below core) ranks → first_on core ranks ≡ Some found.number) → first_on core (rank ∷ ranks) ≡ Some found.number
-    by true e at rest = let other : nat_eq rank.core core ≡ false = grind (arith, nat_tests) in rw other (rest (omega arith))
-    by false e at rest = absurd (omega arith)
-
 none_on : (core : ℕ) (rank : Rank) (ranks : List Rank) → core < rank.core → NoneBefore rank_before rank ranks → first_on core ranks ≡ None
 none_on core rank [] above none = refl
 none_on core rank (other ∷ others) above none =
@@ -41,35 +29,26 @@ none_on core rank (other ∷ others) above none =
     let apart : nat_eq other.core core ≡ false = grind (arith, nat_tests) in
     rw apart (none_on core rank others above none.1)
 
-pub first_on-other : (core place : ℕ) (found : Rank) (ranks : List Rank) → IsInOrder rank_before ranks → place ≡ place_where (is_below core) ranks → place < length ranks
-    → found ≡ get_or ranks place found → nat_eq found.core core ≡ false → first_on core ranks ≡ None
-first_on-other core place found [] ordered at within is apart = refl
-first_on-other core zero found (rank ∷ ranks) ordered at within is apart = by (is_below core rank) refl at
-  where
-    by : (b : Bool) → is_below core rank ≡ b → 0 ≡ (if b then suc (place_where (is_below core) ranks) else 0) → first_on core (rank ∷ ranks) ≡ None
-    by true e at = absurd (omega arith)
-    by false e at =
-        let other : nat_eq rank.core core ≡ false = rw (← is) apart in
-        let above : core < rank.core = grind (arith, nat_tests) in
-        rw other (none_on core rank ranks above ordered.0)
-first_on-other core (suc place) found (rank ∷ ranks) ordered at within is apart =
-    by (is_below core rank) refl at (λ later. first_on-other core place found ranks ordered.1 later (omega arith) is apart)
-  where
-    by : (b : Bool) → is_below core rank ≡ b → suc place ≡ (if b then suc (place_where (is_below core) ranks) else 0)
-        → (place ≡ place_where (is_below core) ranks → first_on core ranks ≡ None) → first_on core (rank ∷ ranks) ≡ None
-    by true e at rest = let other : nat_eq rank.core core ≡ false = grind (arith, nat_tests) in rw other (rest (omega arith))
-    by false e at rest = absurd (omega arith)
+-- the process of a rank, if there is one that is of this core
+abbrev pub on_core : ℕ → Option Rank → Option ℕ
+on_core core None = None
+on_core core (Some rank) = if nat_eq rank.core core then Some rank.number else None
 
-pub first_on-past : (core place : ℕ) (ranks : List Rank) → place ≡ place_where (is_below core) ranks → length ranks ≤ place → first_on core ranks ≡ None
-first_on-past core place [] at past = refl
-first_on-past core zero (rank ∷ ranks) at past = absurd (omega arith)
-first_on-past core (suc place) (rank ∷ ranks) at past =
-    by (is_below core rank) refl at (λ later. first_on-past core place ranks later (omega arith))
+-- it is read after the ranks of lower cores
+first_on-first : (core : ℕ) (ranks : List Rank) → IsInOrder rank_before ranks → first_on core ranks ≡ on_core core (slice_get ranks (place_where (is_below core) ranks))
+first_on-first core [] ordered = refl
+first_on-first core (rank ∷ ranks) ordered = by (is_below core rank) (nat_eq rank.core core) refl refl (first_on-first core ranks ordered.1)
   where
-    by : (b : Bool) → is_below core rank ≡ b → suc place ≡ (if b then suc (place_where (is_below core) ranks) else 0)
-        → (place ≡ place_where (is_below core) ranks → first_on core ranks ≡ None) → first_on core (rank ∷ ranks) ≡ None
-    by true e at rest = let other : nat_eq rank.core core ≡ false = grind (arith, nat_tests) in rw other (rest (omega arith))
-    by false e at rest = absurd (omega arith)
+    by : (b d : Bool) → is_below core rank ≡ b → nat_eq rank.core core ≡ d → first_on core ranks ≡ on_core core (slice_get ranks (place_where (is_below core) ranks))
+        → (if d then Some rank.number else first_on core ranks) ≡ on_core core (slice_get (rank ∷ ranks) (if b then suc (place_where (is_below core) ranks) else 0))
+    by true true e h rest = absurd (grind (arith, nat_tests))
+    by true false e h rest = rest
+    by false true e h rest = rw h refl
+    by false false e h rest = rw h (none_on core rank ranks (grind (arith, nat_tests)) ordered.0)
+
+pub first_on-at : (core place : ℕ) (ranks : List Rank) (found : Option Rank) → IsInOrder rank_before ranks → place ≡ place_where (is_below core) ranks
+    → slice_get ranks place ≡ found → first_on core ranks ≡ on_core core found
+first_on-at core place ranks found ordered at is = rw (← is, at) (first_on-first core ranks ordered)
 
 -- the first rank of a core is that of the choice
 

@@ -1,7 +1,8 @@
 -- What a table keeps beside its processes, as one of them changes or is added.
-use Rattle.std.proofs.Common.{◌≡◌, ℕ, suc, ◌+◌, ◌<◌, ◌≤◌, Bool, true, false, nat_eq, List, [], ◌∷◌, ◌++◌, length, Option, Some, None, if◌then◌else◌, cond, refl, sym, ap, ◌∙◌, arith, length-append}
+use Rattle.std.proofs.Common.{◌≡◌, ℕ, ◌+◌, ◌<◌, ◌≤◌, Bool, true, false, nat_eq, List, [], ◌∷◌, ◌++◌, length, Option, Some, None, if◌then◌else◌, cond, refl, sym, ap, ◌∙◌, arith, length-append}
 use Rattle.std.proofs.lemmas.Bool.Decides.{nat_tests}
 use Rattle.std.specs.Map.{lookup, set_value}
+use Rattle.std.proofs.lemmas.Map.{keys-set_value, length-set_value}
 use Rattle.apex_machine.specs.declared.state.Process.{Process}
 use Rattle.apex_machine.specs.State.{Table, item_at}
 use Rattle.process_state.specs.declared.order.DueTime.{DueTime}
@@ -10,7 +11,7 @@ use Rattle.process_state.specs.Kept.{IsKept}
 use Rattle.process_state.specs.Orders.{IsInOrder, IsStrictOrder, Sequence, inserted, keys_in, with_key, without_key}
 use Rattle.process_state.specs.Ranks.{due_before, due_laws, due_time_of, rank_before, rank_laws, rank_of}
 use Rattle.process_state.proofs.Orders.{IsInOrder-inserted, inserted-twice, without-with}
-use Rattle.process_state.proofs.Tables.{NumbersFit-push, NumbersFit-written, lookup-item_at}
+use Rattle.process_state.proofs.Tables.{NumbersFit-push, lookup-item_at}
 
 -- a table without the process of a number
 abbrev pub table_without : ℕ → Table → Table
@@ -20,12 +21,9 @@ table_without number (entry ∷ entries) = if nat_eq number entry.0 then entries
 length-table_without : (number : ℕ) (old : Process) (entries : Table) → item_at entries number ≡ Some old
     → length (table_without number entries) + 1 ≡ length entries
 length-table_without number old [] found = cc
-length-table_without number old (entry ∷ entries) found = by (nat_eq number entry.0) refl (length-table_without number old entries)
-  where
-    by : (b : Bool) → nat_eq number entry.0 ≡ b → (item_at entries number ≡ Some old → length (table_without number entries) + 1 ≡ length entries)
-        → length (if b then entries else entry ∷ table_without number entries) + 1 ≡ length (entry ∷ entries)
-    by true e rest = omega arith
-    by false e rest = let found_rest : item_at entries number ≡ Some old = rw e at found in let shorter = rest found_rest in omega (arith, shorter)
+length-table_without number old (entry ∷ entries) found =
+    let rest : item_at entries number ≡ Some old → length (table_without number entries) + 1 ≡ length entries = length-table_without number old entries in
+    grind (arith, nat_tests)
 
 item_at-written : (number : ℕ) (old written : Process) (entries : Table) → item_at entries number ≡ Some old
     → item_at (set_value (nat_eq number) entries written) number ≡ Some written
@@ -36,7 +34,7 @@ item_at-written number old written (entry ∷ entries) found = by (nat_eq number
         → (item_at entries number ≡ Some old → item_at (set_value (nat_eq number) entries written) number ≡ Some written)
         → item_at (cond b ((entry.0, written) ∷ entries) (entry ∷ set_value (nat_eq number) entries written)) number ≡ Some written
     by true e rest = rw e refl
-    by false e rest = let found_rest : item_at entries number ≡ Some old = rw e at found in rw e (rest found_rest)
+    by false e rest = rw e (rest (rw e at found))
 
 without-written : (number : ℕ) (written : Process) (entries : Table)
     → table_without number (set_value (nat_eq number) entries written) ≡ table_without number entries
@@ -49,15 +47,6 @@ without-written number written (entry ∷ entries) = by (nat_eq number entry.0) 
         ≡ (if b then entries else entry ∷ table_without number entries)
     by true e rest = rw e refl
     by false e rest = rw (e, rest) refl
-
-length-set_value : (test : ℕ → Bool) (written : Process) (entries : Table) → length (set_value test entries written) ≡ length entries
-length-set_value test written [] = refl
-length-set_value test written (entry ∷ entries) = by (test entry.0) (length-set_value test written entries)
-  where
-    by : (b : Bool) → length (set_value test entries written) ≡ length entries
-        → length (cond b ((entry.0, written) ∷ entries) (entry ∷ set_value test entries written)) ≡ length (entry ∷ entries)
-    by true rest = refl
-    by false rest = ap suc rest
 
 module _ {Key : Type 0} (before : Key → Key → Bool) (order : IsStrictOrder before) (key_of : ℕ → Process → Option Key) where
   with_key-twice : (a b : Option Key) (keys : List Key) → with_key before a (with_key before b keys) ≡ with_key before b (with_key before a keys)
@@ -82,8 +71,7 @@ module _ {Key : Type 0} (before : Key → Key → Bool) (order : IsStrictOrder b
           let old_is : old ≡ entry.1 = cc in
           rw (same, old_is) refl
       by false e rest =
-          let found_rest : item_at entries number ≡ Some old = rw e at found in
-          rw (rest found_rest) (with_key-twice (key_of entry.0 entry.1) (key_of number old) (keys_in before key_of (table_without number entries)))
+          rw (rest (rw e at found)) (with_key-twice (key_of entry.0 entry.1) (key_of number old) (keys_in before key_of (table_without number entries)))
 
   -- the keys once a process is written at its number
   keys_in-written : (number : ℕ) (old written : Process) (entries : Table) → item_at entries number ≡ Some old
@@ -96,12 +84,9 @@ module _ {Key : Type 0} (before : Key → Key → Bool) (order : IsStrictOrder b
   length-with_key : (key : Option Key) (keys : List Key) → length (with_key before key keys) ≤ length keys + 1
   length-with_key None keys = omega arith
   length-with_key (Some key) [] = omega arith
-  length-with_key (Some key) (other ∷ others) = by (before other key) (length-with_key (Some key) others)
-    where
-      by : (b : Bool) → length (inserted before key others) ≤ length others + 1
-          → length (if b then other ∷ inserted before key others else key ∷ other ∷ others) ≤ length (other ∷ others) + 1
-      by true rest = omega arith
-      by false rest = omega arith
+  length-with_key (Some key) (other ∷ others) =
+      let rest : length (inserted before key others) ≤ length others + 1 = length-with_key (Some key) others in
+      grind (arith, nat_tests)
 
   length-keys_in : (entries : Table) → length (keys_in before key_of entries) ≤ length entries
   length-keys_in [] = omega arith
@@ -116,7 +101,7 @@ module _ {Key : Type 0} (before : Key → Key → Bool) (order : IsStrictOrder b
       ∙ without-with before order (key_of number old) (keys_in before key_of (table_without number entries))
 
   -- so that there is room for one more
-  room_left : (number : ℕ) (old : Process) (entries : Table) (keys : List Key) (room : ℕ) → item_at entries number ≡ Some old
+  pub room_left : (number : ℕ) (old : Process) (entries : Table) (keys : List Key) (room : ℕ) → item_at entries number ≡ Some old
       → keys ≡ keys_in before key_of entries → length entries ≤ room → length (without_key before (key_of number old) keys) < room
   room_left number old entries keys room found kept fits =
       let left : length (without_key before (key_of number old) keys) ≡ length (keys_in before key_of (table_without number entries))
@@ -124,7 +109,7 @@ module _ {Key : Type 0} (before : Key → Key → Bool) (order : IsStrictOrder b
       omega (arith, left, length-keys_in (table_without number entries), length-table_without number old entries found, fits)
 
   -- its key stands among those of the table
-  stands : (number : ℕ) (old : Process) (entries : Table) (keys : List Key) → item_at entries number ≡ Some old → keys ≡ keys_in before key_of entries
+  pub stands : (number : ℕ) (old : Process) (entries : Table) (keys : List Key) → item_at entries number ≡ Some old → keys ≡ keys_in before key_of entries
       → with_key before (key_of number old) (without_key before (key_of number old) keys) ≡ keys
   stands number old entries keys found kept =
       ap (with_key before (key_of number old)) (taken_out number old entries keys _ found kept refl) ∙ sym (kept ∙ keys_in-found number old entries found)
@@ -151,34 +136,8 @@ module _ {Key : Type 0} (before : Key → Key → Bool) (order : IsStrictOrder b
       by None rest = rest
       by (Some key) rest = IsInOrder-inserted before order key (keys_in before key_of entries) rest
 
-found_there : (number : ℕ) (old : Process) (entries : Table) → Some old ≡ lookup (nat_eq number) entries → item_at entries number ≡ Some old
+pub found_there : (number : ℕ) (old : Process) (entries : Table) → Some old ≡ lookup (nat_eq number) entries → item_at entries number ≡ Some old
 found_there number old entries found = sym (found ∙ lookup-item_at number entries)
-
--- there is room for the rank and the due time of a process whose own are taken out
-
-pub ready_room_left : (number : ℕ) (old : Process) (entries : Table) (spare : ℕ) (ready : Sequence Rank) (due : Sequence DueTime) → IsKept entries spare ready due
-    → Some old ≡ lookup (nat_eq number) entries → length (without_key rank_before (rank_of number old) ready.keys) < ready.room
-ready_room_left number old entries spare ready due kept found =
-    room_left rank_before rank_laws rank_of number old entries ready.keys ready.room (found_there number old entries found) kept.ranks kept.ready_room
-
-pub due_room_left : (number : ℕ) (old : Process) (entries : Table) (spare : ℕ) (ready : Sequence Rank) (due : Sequence DueTime) → IsKept entries spare ready due
-    → Some old ≡ lookup (nat_eq number) entries → length (without_key due_before (due_time_of number old) due.keys) < due.room
-due_room_left number old entries spare ready due kept found =
-    room_left due_before due_laws due_time_of number old entries due.keys due.room (found_there number old entries found) kept.due_times kept.due_room
-
--- and these stand there
-
-pub rank-stands : (number : ℕ) (old : Process) (entries : Table) (spare : ℕ) (ready : Sequence Rank) (due : Sequence DueTime) → IsKept entries spare ready due
-    → Some old ≡ lookup (nat_eq number) entries
-    → with_key rank_before (rank_of number old) (without_key rank_before (rank_of number old) ready.keys) ≡ ready.keys
-rank-stands number old entries spare ready due kept found =
-    stands rank_before rank_laws rank_of number old entries ready.keys (found_there number old entries found) kept.ranks
-
-pub due-stands : (number : ℕ) (old : Process) (entries : Table) (spare : ℕ) (ready : Sequence Rank) (due : Sequence DueTime) → IsKept entries spare ready due
-    → Some old ≡ lookup (nat_eq number) entries
-    → with_key due_before (due_time_of number old) (without_key due_before (due_time_of number old) due.keys) ≡ due.keys
-due-stands number old entries spare ready due kept found =
-    stands due_before due_laws due_time_of number old entries due.keys (found_there number old entries found) kept.due_times
 
 -- what is kept once a process has changed
 pub IsKept-written : (number : ℕ) (old written : Process) (entries next : Table) (spare spare_new : ℕ) (ready ready_new : Sequence Rank) (due due_new : Sequence DueTime)
@@ -188,9 +147,9 @@ pub IsKept-written : (number : ℕ) (old written : Process) (entries next : Tabl
     → IsKept next spare_new ready_new due_new
 IsKept-written number old written entries next spare spare_new ready ready_new due due_new kept found is r_put r_grows d_put d_grows =
     let there = found_there number old entries found in
-    let long : length next ≡ length entries = ap length is ∙ length-set_value (nat_eq number) written entries in
+    let long : length next ≡ length entries = ap length is ∙ length-set_value (nat_eq number) entries written in
     record {
-      numbers = NumbersFit-written (nat_eq number) entries next written kept.numbers is;
+      numbers = rw (is, keys-set_value (nat_eq number) entries written) kept.numbers;
       ranks = rw is (put_back rank_before rank_laws rank_of number old written entries ready.keys ready_new.keys there kept.ranks r_put);
       due_times = rw is (put_back due_before due_laws due_time_of number old written entries due.keys due_new.keys there kept.due_times d_put);
       ready_room = omega (arith, long, kept.ready_room, r_grows);

@@ -1,4 +1,3 @@
-pub mod Booleans
 pub mod Tables
 pub mod Numbers
 pub mod Searches
@@ -14,6 +13,7 @@ pub mod Ticks
 pub mod Carried
 pub mod Called
 pub mod Releases
+pub mod Reading
 pub mod Times
 pub mod Waiters
 pub mod HandedOver

@@ -1,5 +1,6 @@
 -- The numbers of processes: new ones, and those that callers give.
 use Rattle.std.proofs.Common.{◌≡◌, ◌≢◌, true≢false, is_some, ℕ, zero, suc, ◌<◌, ◌≤◌, ◌^◌, true, is_none, nat_le, nat_lt, Option, Some, None, ℤ, pos, negsuc, refl, sym, ap, arith}
+use Rattle.std.proofs.lemmas.Bool.{and_parts}
 use Rattle.std.proofs.lemmas.Bool.Decides.{nat_tests}
 use Rattle.apex_types.specs.declared.limits.TheConstants.{GREATEST_NUMBER}
 use Rattle.apex_machine.specs.declared.state.Process.{Process}
@@ -7,7 +8,6 @@ use Rattle.apex_machine.specs.State.{Table, created, is_free, item_at}
 use Rattle.apex_machine.specs.Answer.{is_new}
 use Rattle.process_state.specs.Numbers.{NumbersFit, number_of}
 use Rattle.process_state.proofs.Tables.{absent-above}
-use Rattle.process_state.proofs.Booleans.{both-left, both-right}
 
 none_of : (found : Option Process) → is_none found ≡ true → found ≡ None
 none_of None h = refl
@@ -15,13 +15,11 @@ none_of (Some process) h = cc
 
 -- no process has a new number
 pub new-absent : (table : Table) (number : ℕ) → is_new (is_free table) (Some (pos number)) ≡ true → item_at table number ≡ None
-new-absent table number new = none_of _ (both-right _ _ (both-right _ _ new))
+new-absent table number new = none_of _ (and_parts (nat_le number GREATEST_NUMBER) _ (and_parts (nat_lt 0 number) _ new).1).1
 
 -- a new number fits
 pub new-fits : (table : Table) (number : ℕ) → is_new (is_free table) (Some (pos number)) ≡ true → number < 2 ^ 32
-new-fits table number new =
-    let least : nat_le number GREATEST_NUMBER ≡ true = both-left (nat_le number GREATEST_NUMBER) _ (both-right (nat_lt 0 number) _ new) in
-    grind (arith, nat_tests)
+new-fits table number new = grind (arith, nat_tests)
 
 -- a number that can be no process's has no process
 pub created-none : (table : Table) (given : ℤ) → NumbersFit table → number_of given ≡ None → created table given ≡ None

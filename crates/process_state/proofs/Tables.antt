@@ -51,10 +51,7 @@ only-absent number change (entry ∷ entries) none = by (nat_eq number entry.0) 
     by : (b : Bool) → nat_eq number entry.0 ≡ b → (item_at entries number ≡ None → each_item (only number change) entries ≡ entries)
         → each_item (only number change) (entry ∷ entries) ≡ entry ∷ entries
     by true e others = let found = rw e at none in cc
-    by false e others =
-        let apart : nat_eq entry.0 number ≡ false = rw (nat_eq-swap entry.0 number) e in
-        let rest : item_at entries number ≡ None = rw e at none in
-        rw (apart, others rest)
+    by false e others = rw (nat_eq-swap entry.0 number, e, others (rw e at none)) refl
 
 -- a number that no key of the rest equals is none of the rest's
 pub absent_from : (number : ℕ) (entries : Table) → AllByRecursion (λ key. nat_eq number key ≡ false) (keys_of entries) → item_at entries number ≡ None
@@ -74,16 +71,11 @@ only-written number change old written (entry ∷ entries) distinct found is =
         → (item_at entries number ≡ Some old → set_value (nat_eq number) entries written ≡ each_item (only number change) entries)
         → set_value (nat_eq number) (entry ∷ entries) written ≡ each_item (only number change) (entry ∷ entries)
     by true e others =
-        let here : nat_eq entry.0 number ≡ true = rw (nat_eq-swap entry.0 number) e in
         let same : number ≡ entry.0 = grind (arith, nat_tests) in
         let found_here = rw e at found in
         let old_is : old ≡ entry.1 = cc in
-        let rest : each_item (only number change) entries ≡ entries = only-absent number change entries (rw same (absent_from entry.0 entries distinct.0)) in
-        rw (e, here, rest, is, old_is)
-    by false e others =
-        let apart : nat_eq entry.0 number ≡ false = rw (nat_eq-swap entry.0 number) e in
-        let found_rest : item_at entries number ≡ Some old = rw e at found in
-        rw (e, apart, others found_rest)
+        rw (nat_eq-swap entry.0 number, e, only-absent number change entries (rw same (absent_from entry.0 entries distinct.0)), is, old_is) refl
+    by false e others = rw (nat_eq-swap entry.0 number, e, others (rw e at found)) refl
 
 -- numbers that fit stay so
 
@@ -118,15 +110,3 @@ pub processes-kept : (mode : Mode) (number : ℕ) (change : Process → Process)
     → processes_in mode next ≡ with_each (only number change) (processes_in mode entries)
 processes-kept mode number change entries next none kept =
     ap (processes_in mode) (kept ∙ sym (only-absent number change entries (sym (none ∙ lookup-item_at number entries))))
-
--- a written value leaves the numbers
-NumbersFit-set : (test : ℕ → Bool) (written : Process) (entries : Table) → NumbersFit entries → NumbersFit (set_value test entries written)
-NumbersFit-set test written [] fit = tt
-NumbersFit-set test written (entry ∷ entries) fit = by (test entry.0) (NumbersFit-set test written entries fit.1)
-  where
-    by : (b : Bool) → NumbersFit (set_value test entries written) → NumbersFit (cond b ((entry.0, written) ∷ entries) (entry ∷ set_value test entries written))
-    by true rest = fit
-    by false rest = (fit.0, rest)
-
-pub NumbersFit-written : (test : ℕ → Bool) (entries next : Table) (written : Process) → NumbersFit entries → next ≡ set_value test entries written → NumbersFit next
-NumbersFit-written test entries next written fit is = rw is (NumbersFit-set test written entries fit)

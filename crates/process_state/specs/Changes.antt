@@ -1,5 +1,5 @@
 -- Changes of one process of a table, and of each.
-use Rattle.std.specs.Prelude.{ℕ, Option, Some, None, true, false, nat_eq, if◌then◌else◌, ℤ}
+use Rattle.std.specs.Prelude.{ℕ, Option, Some, None, nat_eq, if◌then◌else◌, ℤ}
 use Rattle.apex_machine.specs.declared.state.Outcome.{Outcome}
 use Rattle.apex_machine.specs.declared.state.Process.{Process}
 use Rattle.apex_machine.specs.declared.state.Wait.{Wait}
@@ -19,10 +19,6 @@ only chosen change number process = if nat_eq number chosen then change process 
 -- a change of the process that a caller names by this number
 abbrev pub named : ℤ → (Process → Process) → ℕ → Process → Process
 named given change number process = if is_number given number then change process else process
-
--- a process that runs on this core from now on
-abbrev pub moved_to : ℕ → Process → Process
-moved_to core process = record process { affinity = core }
 
 -- a caller that is dormant after its call
 abbrev pub stopped_self : ℕ → Process → Process
@@ -46,15 +42,3 @@ answered now renewed reached outcome process = record process {
   due = Some outcome;
   called_at = now;
 }
-
--- a process that another one suspends; what it waits for stays
-abbrev pub suspended : Process → Process
-suspended process = record process { suspended = true }
-
--- a process that another one resumes at this place
-abbrev pub resumed : ℕ → Process → Process
-resumed place process = record process { suspended = false; ready_position = place }
-
--- a process that gets this current priority at this place
-abbrev pub reprioritised : ℕ → ℕ → Process → Process
-reprioritised place priority process = record process { current_priority = priority; ready_position = place }

@@ -1,11 +1,12 @@
 -- The numbers of processes.
-use Rattle.std.specs.Prelude.{ℕ, ◌<◌, ◌^◌, [], ◌∷◌, Option, Some, None, ℤ, pos, negsuc, nat_lt, if◌then◌else◌}
+use Rattle.std.specs.List.{AllByRecursion}
+use Rattle.std.specs.Map.{keys_of}
+use Rattle.std.specs.Prelude.{ℕ, ◌<◌, ◌^◌, Option, Some, None, ℤ, pos, negsuc, nat_lt, if◌then◌else◌}
 use Rattle.apex_machine.specs.State.{Table}
 
 -- each number fits 32 bits
 abbrev pub NumbersFit : Table → Type 0
-NumbersFit [] = Unit {0}
-NumbersFit (entry ∷ entries) = (entry.0 < 2 ^ 32) × NumbersFit entries
+NumbersFit table = AllByRecursion (λ number. number < 2 ^ 32) (keys_of table)
 
 -- the number of a process that a caller's number can be: one that fits 32 bits
 abbrev pub number_of : ℤ → Option ℕ

@@ -26,4 +26,4 @@ wakes call number = is_peer call number && not (stops call (peer_at call number)
 -- such a process, whose wait the call may end
 abbrev pub peer_woken : ℕ → CallRecord → ℕ → Process → Process
 peer_woken place call number process =
-    if is_named (peer_at call number) call.claim.woken && wakes call number then woken_by place (message_handed_over call.request) process else process
+    if wakes call number && is_named (peer_at call number) call.claim.woken then woken_by place (message_handed_over call.request) process else process

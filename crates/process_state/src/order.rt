@@ -23,24 +23,6 @@ pub struct Rank {
     priority: u8,
 }
 
-impl Rank {
-    /// The rank of this process, where it is ready.
-    pub fn of(number: ProcId, process: &Process) -> Option<Rank>
-        ensures { result ≡ ranks.rank_of number process.now }
-    {
-        if is_ready(process) {
-            Some(Rank {
-                core: process.affinity,
-                priority: process.current_priority,
-                position: process.ready_position,
-                number,
-            })
-        } else {
-            None
-        }
-    }
-}
-
 impl Key for Rank {
     ghost before = { rank_before };
 
@@ -58,6 +40,24 @@ impl Key for Rank {
     }
 
     ghost is_order = { rank_laws };
+}
+
+impl Rank {
+    /// The rank of this process, where it is ready.
+    pub fn of(number: ProcId, process: &Process) -> Option<Rank>
+        ensures { result ≡ ranks.rank_of number process.now }
+    {
+        if is_ready(process) {
+            Some(Rank {
+                core: process.affinity,
+                priority: process.current_priority,
+                position: process.ready_position,
+                number,
+            })
+        } else {
+            None
+        }
+    }
 }
 
 /// By what those are put in order whose wait time ends: the core, and on it the due time, in ticks, and the number.

@@ -9,9 +9,9 @@ use apex_types::{Call, Code, Out, ProcId, ProcessOperation, Request, Who};
 /// Whether a call that names this process ends its wait: the process is of the caller's partition, not the caller, and not
 /// stopped by the call.
 pub fn wakes(call: &Call, who: Who) -> bool
-    ensures { result ≡ nat_eq who.part call.now.who.part && peers.wakes call.now who.proc }
+    ensures { result ≡ peers.wakes call.now who.proc && nat_eq who.part call.now.who.part }
 {
-    who.part == call.who.part && who.proc != call.who.proc && !stops(call, who.proc)
+    who.proc != call.who.proc && !stops(call, who.proc) && who.part == call.who.part
 }
 
 /// Whether a call stops the process of this number of its caller's partition.

@@ -6,11 +6,12 @@ ghost use Rattle.apex_machine.specs.Arguments.{period_given};
 ghost use Rattle.apex_machine.specs.DueTimes as due_times;
 ghost use Rattle.apex_machine.specs.Processes as processes;
 ghost use Rattle.apex_machine.specs.State.{initialising_process};
-ghost use Rattle.process_state.specs.Changes.{answered, moved_to, reprioritised, resumed, stopped_self, suspended, waiting_for};
+ghost use Rattle.process_state.specs.Changes.{answered, stopped_self, waiting_for};
+ghost use Rattle.process_state.specs.Sound.{GivesSoundly};
 
 use crate::wait;
 use apex_machine::{Mode, Outcome, Process, Wait};
-use apex_types::{Code, CoreId, Message, Name, Place, Service};
+use apex_types::{Code, CoreId, Message, Name, Place, ProcessOperation, Service};
 use std::alloc::{AllocError, Global};
 
 /// The initialising process, ready since this place on this core with priority 0. Takes no memory.
@@ -69,16 +70,43 @@ fn own_period(given: i64) -> Option<u64>
     if given < 0 { None } else { Some(given as u64) }
 }
 
-/// The process runs on this core from now on.
-pub fn move_to(process: &mut Process, core: CoreId)
-    ensures { process.new ≡ moved_to core process.old }
+/// What a service that names the process sets in it at this place, when its core's time is `now`, in this mode of its
+/// partition; the period is the partition's, in ticks. STOP sets nothing here: `stop` does.
+pub fn serve(
+    process: &mut Process,
+    operation: &ProcessOperation,
+    place: Place,
+    period: u64,
+    now: u64,
+    mode: Mode,
+)
+    requires least { 1 ≤ period }
+    requires most { period ≤ GREATEST_SPAN }
+    requires time { now < PLACE_COUNT }
+    requires sound { GivesSoundly operation.now }
+    ensures { process.new ≡ processes.set_in place period now mode operation.now process.old }
 {
-    process.affinity = core;
+    match operation {
+        ProcessOperation::InitializeCoreAffinity { core } => {
+            process.affinity = CoreId::new(*core as u8);
+        }
+        ProcessOperation::Start => start(process, place, period, now, mode),
+        ProcessOperation::Stop => {}
+        ProcessOperation::Suspend => process.suspended = true,
+        ProcessOperation::Resume => {
+            process.suspended = false;
+            process.ready_position = place.number();
+        }
+        ProcessOperation::SetPriority { priority } => {
+            process.current_priority = *priority as u8;
+            process.ready_position = place.number();
+        }
+    }
 }
 
-/// The process is started at this place, when its core's time is `now`, in this mode of its partition; the period is the
-/// partition's, in ticks.
-pub fn start(process: &mut Process, place: Place, period: u64, now: u64, mode: Mode)
+// The process is started at this place, when its core's time is `now`, in this mode of its partition; the period is the
+// partition's, in ticks.
+fn start(process: &mut Process, place: Place, period: u64, now: u64, mode: Mode)
     requires least { 1 ≤ period }
     requires most { period ≤ GREATEST_SPAN }
     requires time { now < PLACE_COUNT }
@@ -172,36 +200,6 @@ pub fn stop_self(process: &mut Process, now: u64)
 {
     stop(process);
     process.called_at = now;
-}
-
-/// Another process has suspended this one; what it waits for stays.
-pub fn suspend(process: &mut Process)
-    ensures { process.new ≡ suspended process.old }
-{
-    process.suspended = true;
-}
-
-/// Another process has resumed this one, at this place.
-pub fn resume(process: &mut Process, place: Place)
-    ensures { process.new ≡ resumed place process.old }
-{
-    process.suspended = false;
-    put_behind(process, place);
-}
-
-/// The process has another current priority, at this place.
-pub fn set_priority(process: &mut Process, place: Place, priority: u8)
-    ensures { process.new ≡ reprioritised place priority process.old }
-{
-    process.current_priority = priority;
-    put_behind(process, place);
-}
-
-// The process stands behind the others of its priority that became ready before this place.
-fn put_behind(process: &mut Process, place: Place)
-    ensures { process.new ≡ record process.old { ready_position = place } }
-{
-    process.ready_position = place.number();
 }
 
 /// The process owns a mutex of this priority from now on, and keeps its own.

@@ -4,17 +4,17 @@ ghost use Rattle.std.specs.Prelude.{◌≡◌, ◌≢◌, ◌∷◌, ◌↔◌, 
 ghost use Rattle.std.specs.Map.Iter.{deref_pair};
 ghost use Rattle.std.specs.Option.{option_copied};
 ghost use Rattle.apex_types.specs.Rising.{IsRising};
-ghost use Rattle.apex_machine.specs.declared.state.Process.{Process as ProcessValue};
-ghost use Rattle.apex_machine.specs.State.{created, first_processes, is_free, item_at};
-ghost use Rattle.apex_machine.specs.Choice.{choice_in};
 ghost use Rattle.apex_machine.specs.Answer.{is_new};
 ghost use Rattle.apex_machine.specs.Arguments.{natural_of};
-ghost use Rattle.apex_machine.specs.ProcessConditions.{created_count};
+ghost use Rattle.apex_machine.specs.Choice.{choice_in};
+ghost use Rattle.apex_machine.specs.declared.state.Process.{Process as ProcessValue};
 ghost use Rattle.apex_machine.specs.Conditions.{is_taken};
 ghost use Rattle.apex_machine.specs.Demands.{AllWaitAt};
 ghost use Rattle.apex_machine.specs.DueTimes as due_times;
+ghost use Rattle.apex_machine.specs.ProcessConditions.{created_count};
 ghost use Rattle.apex_machine.specs.Services.{waits_for_mutex};
-ghost use Rattle.apex_machine.specs.Waiting.{waits_at};
+ghost use Rattle.apex_machine.specs.State.{created, first_processes, is_free, item_at};
+ghost use Rattle.apex_machine.specs.Waiting as waiting;
 ghost use Rattle.process_state.specs.Due.{DueAreNamed, NamedFallDue};
 ghost use Rattle.process_state.specs.Processes.{processes_in};
 
@@ -219,7 +219,7 @@ impl ProcTable {
 
     // Whether a process of this number stands that waits in this set.
     fn waits_at(&self, wanted: WaitingSet, number: ProcId) -> bool
-        ensures { result ≡ waits_at wanted (item_at self.now.table number) }
+        ensures { result ≡ waiting.waits_at wanted (item_at self.now.table number) }
     {
         match self.proc(number) {
             Some(process) => process.alive && wait::is_in(process.wait, wanted),

@@ -15,40 +15,21 @@ use apex_types::{Code, Service};
 pub fn is_none(wait: Wait) -> bool
     ensures { result ≡ choice.waits_for_nothing wait }
 {
-    match wait {
-        Wait::Nothing => true,
-        Wait::NormalMode
-        | Wait::FirstRelease(_)
-        | Wait::Until(_)
-        | Wait::PeriodicRelease(_)
-        | Wait::Suspended(_)
-        | Wait::At(..) => false,
-    }
+    matches!(wait, Wait::Nothing)
 }
 
 /// Whether a wait is that for NORMAL.
 pub fn is_for_normal(wait: Wait) -> bool
     ensures { result ≡ due_times.waits_for_normal wait }
 {
-    match wait {
-        Wait::NormalMode => true,
-        Wait::Nothing
-        | Wait::FirstRelease(_)
-        | Wait::Until(_)
-        | Wait::PeriodicRelease(_)
-        | Wait::Suspended(_)
-        | Wait::At(..) => false,
-    }
+    matches!(wait, Wait::NormalMode)
 }
 
 /// Whether a wait is one for a mutex.
 pub fn is_for_mutex(wait: Wait) -> bool
     ensures { result ≡ due_times.is_for_mutex wait }
 {
-    match wait {
-        Wait::At(WaitingSet::MutexWaiters(_), _) => true,
-        _ => false,
-    }
+    matches!(wait, Wait::At(WaitingSet::MutexWaiters(_), _))
 }
 
 /// When a wait is over, in ticks of its core, if time ends it.
@@ -158,12 +139,7 @@ pub fn is_in(wait: Wait, wanted: WaitingSet) -> bool
 {
     match wait {
         Wait::At(found, _) => is_same_set(found, wanted),
-        Wait::Nothing
-        | Wait::NormalMode
-        | Wait::FirstRelease(_)
-        | Wait::Until(_)
-        | Wait::PeriodicRelease(_)
-        | Wait::Suspended(_) => false,
+        _ => false,
     }
 }
 

@@ -6,6 +6,7 @@ ghost use Rattle.apex_types.specs.declared.request.Request.TheVariants as reques
 ghost use Rattle.apex_machine.specs.declared.state.Process.{Process as ProcessValue};
 ghost use Rattle.apex_machine.specs.Arguments.{natural_of};
 ghost use Rattle.apex_machine.specs.DueTimes as due_times;
+ghost use Rattle.apex_machine.specs.Waiting as waiting;
 ghost use Rattle.process_state.specs.Sound as sound;
 ghost use Rattle.process_state.specs.Sound.{WaitsSoundly};
 
@@ -24,30 +25,10 @@ pub fn wait_of(request: &Request, channel: Option<ChanId>, now: u64, next: u64) 
 {
     match request {
         Request::Caller(operation) => own_wait(operation, now, next),
-        Request::Buffer(buffer, operation) => {
-            wait_at_buffer(object_number(*buffer), operation, now)
-        }
-        Request::Blackboard(blackboard, BlackboardOperation::Read { time_out }) => {
-            let readers = WaitingSet::BlackboardReaders(object_number(*blackboard));
-            Wait::At(readers, due_time(*time_out, now))
-        }
-        Request::Semaphore(semaphore, SemaphoreOperation::Wait { time_out }) => {
-            let waiters = WaitingSet::SemaphoreWaiters(object_number(*semaphore));
-            Wait::At(waiters, due_time(*time_out, now))
-        }
-        Request::Event(event, EventOperation::Wait { time_out }) => {
-            let waiters = WaitingSet::EventWaiters(object_number(*event));
-            Wait::At(waiters, due_time(*time_out, now))
-        }
-        Request::Mutex(mutex, MutexOperation::Acquire { time_out }) => {
-            let waiters = WaitingSet::MutexWaiters(object_number(*mutex));
-            Wait::At(waiters, due_time(*time_out, now))
-        }
-        Request::QueuingPort(_, operation) => match channel {
-            Some(channel) => wait_at_channel(channel, operation, now),
+        _ => match set_of(request, channel) {
+            Some(set) => Wait::At(set, due_of_call(request, now)),
             None => Wait::Nothing,
         },
-        _ => Wait::Nothing,
     }
 }
 
@@ -71,38 +52,71 @@ fn own_wait(operation: &CallerOperation, now: u64, next: u64) -> Wait
     }
 }
 
-// What a caller waits for at the buffer of this number.
-fn wait_at_buffer(buffer: u32, operation: &BufferOperation, now: u64) -> Wait
-    requires { now < PLACE_COUNT }
-    ensures { (given : ℤ) (channel : Option ℕ) (process : ProcessValue) → natural_of given ≡ buffer
-        → result ≡ due_times.wait_of (request.Buffer given operation.now) channel now process }
+// The set in which a caller waits, if it waits in one; a port's set is that of its channel.
+fn set_of(request: &Request, channel: Option<ChanId>) -> Option<WaitingSet>
+    requires { WaitsSoundly request.now }
+    ensures { result ≡ waiting.set_of request.now channel }
 {
-    match operation {
-        BufferOperation::Send { time_out, .. } => {
-            let due = due_time(*time_out, now);
-            Wait::At(WaitingSet::BufferSenders(buffer), due)
-        }
-        BufferOperation::Receive { time_out } => {
-            let due = due_time(*time_out, now);
-            Wait::At(WaitingSet::BufferReceivers(buffer), due)
-        }
+    match request {
+        Request::Buffer(buffer, operation) => Some(set_at_buffer(
+            object_number(*buffer),
+            operation,
+        )),
+        Request::Blackboard(blackboard, BlackboardOperation::Read { .. }) => Some(
+            WaitingSet::BlackboardReaders(object_number(*blackboard)),
+        ),
+        Request::Semaphore(semaphore, SemaphoreOperation::Wait { .. }) => Some(
+            WaitingSet::SemaphoreWaiters(object_number(*semaphore)),
+        ),
+        Request::Event(event, EventOperation::Wait { .. }) => Some(WaitingSet::EventWaiters(
+            object_number(*event),
+        )),
+        Request::Mutex(mutex, MutexOperation::Acquire { .. }) => Some(WaitingSet::MutexWaiters(
+            object_number(*mutex),
+        )),
+        Request::QueuingPort(_, QueuingOperation::Send { .. }) => Some(WaitingSet::ChannelSenders(
+            channel?,
+        )),
+        Request::QueuingPort(_, QueuingOperation::Receive { .. }) => Some(
+            WaitingSet::ChannelReceivers(channel?),
+        ),
+        _ => None,
     }
 }
 
-// What a caller waits for at the channel of a queuing port.
-fn wait_at_channel(channel: ChanId, operation: &QueuingOperation, now: u64) -> Wait
-    requires { now < PLACE_COUNT }
-    ensures { (port : ℤ) (process : ProcessValue) → result ≡ due_times.wait_of (request.QueuingPort port operation.now) (Some channel) now process }
+// The set of the buffer of this number in which a caller waits.
+fn set_at_buffer(buffer: u32, operation: &BufferOperation) -> WaitingSet
+    ensures { (given : ℤ) (channel : Option ℕ) → natural_of given ≡ buffer → Some result ≡ waiting.set_of (request.Buffer given operation.now) channel }
 {
     match operation {
-        QueuingOperation::Send { time_out, .. } => {
-            let due = due_time(*time_out, now);
-            Wait::At(WaitingSet::ChannelSenders(channel), due)
-        }
-        QueuingOperation::Receive { time_out } => {
-            let due = due_time(*time_out, now);
-            Wait::At(WaitingSet::ChannelReceivers(channel), due)
-        }
+        BufferOperation::Send { .. } => WaitingSet::BufferSenders(buffer),
+        BufferOperation::Receive { .. } => WaitingSet::BufferReceivers(buffer),
+    }
+}
+
+// The time at which a call's time-out falls due that begins at the time `now`, if it has one that does.
+fn due_of_call(request: &Request, now: u64) -> Option<u64>
+    requires { now < PLACE_COUNT }
+    ensures { result ≡ due_times.due_of_call (due_times.time_out_of request.now) now }
+{
+    due_time(time_out_of(request)?, now)
+}
+
+// The time-out of a call, if it has one.
+fn time_out_of(request: &Request) -> Option<i64>
+    ensures { result ≡ due_times.time_out_of request.now }
+{
+    match request {
+        Request::Caller(CallerOperation::SuspendSelf { time_out })
+        | Request::Buffer(_, BufferOperation::Send { time_out, .. })
+        | Request::Buffer(_, BufferOperation::Receive { time_out })
+        | Request::Blackboard(_, BlackboardOperation::Read { time_out })
+        | Request::Semaphore(_, SemaphoreOperation::Wait { time_out })
+        | Request::Event(_, EventOperation::Wait { time_out })
+        | Request::Mutex(_, MutexOperation::Acquire { time_out })
+        | Request::QueuingPort(_, QueuingOperation::Send { time_out, .. })
+        | Request::QueuingPort(_, QueuingOperation::Receive { time_out }) => Some(*time_out),
+        _ => None,
     }
 }
 
@@ -130,8 +144,5 @@ fn due_time(time_out: i64, now: u64) -> Option<u64>
 pub fn is_periodic_wait(request: &Request) -> bool
     ensures { result ≡ sound.is_periodic_wait request.now }
 {
-    match request {
-        Request::Caller(CallerOperation::PeriodicWait) => true,
-        _ => false,
-    }
+    matches!(request, Request::Caller(CallerOperation::PeriodicWait))
 }

@@ -5,10 +5,10 @@ ghost use Rattle.std.specs.Fn.{FnOnceReturnsAtMut};
 ghost use Rattle.apex_types.specs.declared.limits.TheConstants.{PLACE_COUNT};
 ghost use Rattle.apex_machine.specs.declared.state.Process.{Process as ProcessValue};
 ghost use Rattle.apex_machine.specs.Answer.{is_new};
-ghost use Rattle.apex_machine.specs.Processes.{after_normal, granted, new_process, released, restored, started, stopped, woken_by};
+ghost use Rattle.apex_machine.specs.Processes.{after_normal, granted, new_process, released, restored, stopped, woken_by};
 ghost use Rattle.apex_machine.specs.State.{each_item, first_processes, initialising_process, is_free, time_of};
 ghost use Rattle.apex_machine.specs.After.{returned};
-ghost use Rattle.process_state.specs.Changes.{answered, moved_to, named, only, reprioritised, resumed, stopped_self, suspended, waiting_for, with_each};
+ghost use Rattle.process_state.specs.Changes.{answered, named, only, stopped_self, waiting_for, with_each};
 ghost use Rattle.process_state.specs.Processes.{processes_in};
 ghost use Rattle.process_state.specs.Transfers.{transferred};
 ghost use Rattle.process_state.specs.Timely.{IsTimely, TimesFit};
@@ -47,49 +47,6 @@ impl ProcTable {
         self.due.reserve(count)?;
         self.processes.insert(number, created)?;
         Ok(())
-    }
-
-    /// INITIALIZE_PROCESS_CORE_AFFINITY: this process runs on this core from now on. Takes no memory.
-    pub fn set_affinity(&mut self, process: ProcId, core: CoreId)
-        ensures { self.new ≡ with_each (only process (moved_to core)) self.old }
-    {
-        self.change(process, |process| process::move_to(process, core));
-    }
-
-    /// The same of the process that a caller names by this number: of none, where there is none. Takes no memory.
-    pub fn set_affinity_named(&mut self, given: i64, core: CoreId)
-        ensures { self.new ≡ with_each (named given (moved_to core)) self.old }
-    {
-        // What is known of each table, that its numbers fit 32 bits, is known where one of its fields is used.
-        let _ = &self.processes;
-        if let Some(process) = process_number(given) {
-            self.set_affinity(process, core);
-        }
-    }
-
-    /// START of this process at this moment; the period is the partition's, in ticks. Takes no memory.
-    pub fn start(&mut self, process: ProcId, period: u64, moment: &Moment<'_>)
-        requires { IsTimely period moment.now.cores.now }
-        ensures { self.new ≡ with_each (only process (λ found. started moment.now.place period (time_of moment.now.cores.now found.affinity) self.old.mode found)) self.old }
-    {
-        let mode = self.mode;
-        let (place, cores) = (moment.place, moment.cores);
-        self.change(process, |process| {
-            let now = time_at(cores, process.affinity);
-            process::start(process, place, period, now, mode);
-        });
-    }
-
-    /// The same of the process that a caller names by this number: of none, where there is none. Takes no memory.
-    pub fn start_named(&mut self, given: i64, period: u64, moment: &Moment<'_>)
-        requires { IsTimely period moment.now.cores.now }
-        ensures { self.new ≡ with_each (named given (λ found. started moment.now.place period (time_of moment.now.cores.now found.affinity) self.old.mode found)) self.old }
-    {
-        // What is known of each table, that its numbers fit 32 bits, is known where one of its fields is used.
-        let _ = &self.processes;
-        if let Some(process) = process_number(given) {
-            self.start(process, period, moment);
-        }
     }
 
     /// SET_PARTITION_MODE to NORMAL at this moment: each process that waits for NORMAL enters it. The period is the
@@ -194,30 +151,7 @@ impl ProcTable {
         self.change(returner, |process| process::give_back(process));
     }
 
-    /// SUSPEND of the process that a caller names by this number: of none, where there is none. Takes no memory.
-    pub fn suspend_named(&mut self, given: i64)
-        ensures { self.new ≡ with_each (named given suspended) self.old }
-    {
-        self.change_named(given, |process| process::suspend(process));
-    }
-
-    /// RESUME of such a process, at this place. Takes no memory.
-    pub fn resume_named(&mut self, given: i64, place: Place)
-        ensures { self.new ≡ with_each (named given (resumed place)) self.old }
-    {
-        self.change_named(given, |process| process::resume(process, place));
-    }
-
-    /// SET_PRIORITY of such a process, at this place. Takes no memory.
-    pub fn set_priority_named(&mut self, given: i64, place: Place, priority: u8)
-        ensures { self.new ≡ with_each (named given (reprioritised place priority)) self.old }
-    {
-        self.change_named(given, |process| {
-            process::set_priority(process, place, priority)
-        });
-    }
-
-    /// STOP of such a process. Takes no memory.
+    /// STOP of the process that a caller names by this number: of none, where there is none. Takes no memory.
     pub fn stop_named(&mut self, given: i64)
         ensures { self.new ≡ with_each (named given stopped) self.old }
     {
@@ -252,7 +186,7 @@ impl ProcTable {
     }
 
     // Changes the process that a caller names by this number in place: none, where there is none. Takes no memory.
-    fn change_named<F: FnOnce(&mut Process)>(&mut self, given: i64, change: F)
+    pub(super) fn change_named<F: FnOnce(&mut Process)>(&mut self, given: i64, change: F)
         requires { F.IsAlwaysCallable change }
         ensures { (becomes : ProcessValue → ProcessValue) → ((old new : ProcessValue) → FnOnceReturnsAtMut F.FnOnce change old tt new → new ≡ becomes old) → self.new ≡ with_each (named given becomes) self.old }
     {

@@ -29,7 +29,7 @@ use crate::number::claimed_number;
 use crate::order::is_of;
 use crate::peer::{answers_no_error, stop_of, wakes};
 use crate::prepared::{Prepared, prepared_for};
-use crate::process::next_release;
+use crate::process;
 use crate::transfer::Transfer;
 use apex_types::{
     Call, CallerOperation, CoreId, Message, PartId, Place, ProcId, ProcessOperation, Request, Woken,
@@ -159,7 +159,8 @@ impl ProcTable {
         Ok(())
     }
 
-    // What a service sets in the process that it names. STOP sets nothing here: `stop_peer` serves it.
+    // What a service sets in the process that it names: in none, where there is none. STOP sets nothing here: `stop_peer`
+    // serves it.
     fn serve_target(
         &mut self,
         given: i64,
@@ -172,18 +173,12 @@ impl ProcTable {
         ensures { self.new ≡ with_each
             (named given (λ found. set_in moment.now.place period (time_of moment.now.cores.now found.affinity) self.old.mode operation.now found)) self.old }
     {
-        match operation {
-            ProcessOperation::InitializeCoreAffinity { core } => {
-                self.set_affinity_named(given, CoreId::new(*core as u8));
-            }
-            ProcessOperation::Start => self.start_named(given, period, moment),
-            ProcessOperation::Stop => {}
-            ProcessOperation::Suspend => self.suspend_named(given),
-            ProcessOperation::Resume => self.resume_named(given, moment.place),
-            ProcessOperation::SetPriority { priority } => {
-                self.set_priority_named(given, moment.place, *priority as u8)
-            }
-        }
+        let mode = self.mode;
+        let (place, cores) = (moment.place, moment.cores);
+        self.change_named(given, |process| {
+            let now = time_at(cores, process.affinity);
+            process::serve(process, operation, place, period, now, mode);
+        });
     }
 
     // STOP of another process than the caller.
@@ -225,7 +220,7 @@ impl ProcTable {
         let _ = self.processes.len();
         match &call.request {
             Request::Caller(CallerOperation::PeriodicWait) => match self.proc(call.who.proc) {
-                Some(process) => next_release(process),
+                Some(process) => process::next_release(process),
                 None => 0,
             },
             _ => 0,

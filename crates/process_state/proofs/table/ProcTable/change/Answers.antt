@@ -1,20 +1,33 @@
 -- The one process of the number is changed in place, and its rank and its due time with it.
 use Rattle.std.proofs.Common.{refl, rules}
-use Rattle.process_state.proofs.Kept.{IsKept-written, due-stands, due_room_left, rank-stands, ready_room_left}
+use Rattle.process_state.specs.Ranks.{due_before, due_laws, due_time_of, rank_before, rank_laws, rank_of}
+use Rattle.process_state.proofs.Kept.{IsKept-written, found_there, room_left, stands}
 use Rattle.process_state.proofs.Tables.{processes-kept, processes-written}
 use Rattle.process_state.proofs.table.ProcTable.change.Goals as goal
 
 pub replace-requires-clause-stands : goal.replace-requires-clause-stands
-replace-requires-clause-stands g c = rw c.of-old_rank.ensures (rank-stands c.args.number c.in-Some.process.now _ _ _ _ c.self.invariant c.in-Some.ensures.value)
+replace-requires-clause-stands g c =
+    let entries = c.self.inside.processes.entries in
+    let found = found_there c.args.number c.in-Some.process.now entries c.in-Some.ensures.value in
+    rw c.of-old_rank.ensures (stands rank_before rank_laws rank_of c.args.number c.in-Some.process.now entries _ found c.self.invariant.ranks)
 
 pub replace-requires-clause-room : goal.replace-requires-clause-room
-replace-requires-clause-room g c = rw c.of-old_rank.ensures (ready_room_left c.args.number c.in-Some.process.now _ _ _ _ c.self.invariant c.in-Some.ensures.value)
+replace-requires-clause-room g c =
+    let entries = c.self.inside.processes.entries in
+    let found = found_there c.args.number c.in-Some.process.now entries c.in-Some.ensures.value in
+    rw c.of-old_rank.ensures (room_left rank_before rank_laws rank_of c.args.number c.in-Some.process.now entries _ _ found c.self.invariant.ranks c.self.invariant.ready_room)
 
 pub replace-requires-in-Some-clause-stands : goal.replace-requires-in-Some-clause-stands
-replace-requires-in-Some-clause-stands g c = rw c.of-old_due.ensures (due-stands c.args.number c.in-Some.process.now _ _ _ _ c.self.invariant c.in-Some.ensures.value)
+replace-requires-in-Some-clause-stands g c =
+    let entries = c.self.inside.processes.entries in
+    let found = found_there c.args.number c.in-Some.process.now entries c.in-Some.ensures.value in
+    rw c.of-old_due.ensures (stands due_before due_laws due_time_of c.args.number c.in-Some.process.now entries _ found c.self.invariant.due_times)
 
 pub replace-requires-in-Some-clause-room : goal.replace-requires-in-Some-clause-room
-replace-requires-in-Some-clause-room g c = rw c.of-old_due.ensures (due_room_left c.args.number c.in-Some.process.now _ _ _ _ c.self.invariant c.in-Some.ensures.value)
+replace-requires-in-Some-clause-room g c =
+    let entries = c.self.inside.processes.entries in
+    let found = found_there c.args.number c.in-Some.process.now entries c.in-Some.ensures.value in
+    rw c.of-old_due.ensures (room_left due_before due_laws due_time_of c.args.number c.in-Some.process.now entries _ _ found c.self.invariant.due_times c.self.invariant.due_room)
 
 pub invariant_of-self : goal.invariant_of-self
 invariant_of-self g c =

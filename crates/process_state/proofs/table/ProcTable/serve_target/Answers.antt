@@ -1,24 +1,17 @@
-use Rattle.std.proofs.Common.{◌≡◌, ap, true, ◌∙◌, rules, FitsSigned, w64}
+-- The service sets in the process of the number what it sets.
+use Rattle.std.proofs.Common.{rules}
 use Rattle.std.proofs.lemmas.Int.{to_z-of_z}
-use Rattle.apex_machine.specs.Arguments.{is_priority}
-use Rattle.process_state.specs.Changes.{named, reprioritised, with_each}
-use Rattle.process_state.proofs.Carried.{named-same, priority-natural}
+use Rattle.apex_machine.specs.declared.state.Mode.{Mode}
+use Rattle.apex_machine.specs.declared.state.Process.{Process}
+use Rattle.apex_machine.specs.Processes.{set_in}
+use Rattle.apex_machine.specs.State.{time_of}
 use Rattle.process_state.proofs.table.ProcTable.serve_target.Goals as goal
 
-pub returns-in-Start : goal.returns-in-Start
-returns-in-Start c =
+pub returns : goal.returns
+returns c =
+    let a = c.args in
+    let m = a.moment.now in
     let fits = c.ranges.given in
-    let started = simp to_z-of_z at c.start_named.ensures in
-    rw c.in-Start.is started
-
-pub returns-in-Stop : goal.returns-in-Stop
-returns-in-Stop c = rw c.in-Stop.is (named-same c.args.given c.args.self.now)
-
-pub returns-in-SetPriority : goal.returns-in-SetPriority
-returns-in-SetPriority c =
-    let fits = c.ranges.given in
-    let fits_too : FitsSigned w64 c.in-SetPriority.priority = search rules in
-    let within : is_priority c.in-SetPriority.priority ≡ true = rw c.in-SetPriority.is at c.requires.sound in
-    let changed = simp to_z-of_z at c.set_priority_named.ensures in
-    rw c.in-SetPriority.is
-    (changed ∙ ap (λ priority. with_each (named c.args.given (reprioritised c.args.moment.now.place priority)) c.args.self.now) (priority-natural c.in-SetPriority.priority within))
+    let change : Mode → Process → Process = λ mode found. set_in m.place a.period (time_of m.cores.now found.affinity) mode a.operation.now found in
+    let changed = simp to_z-of_z at (c.change_named.ensures (change c.self.inside.mode) (λ old new ran. search rules)) in
+    rw (← c.self.view_is) (rw (← c.self.view_is) at changed)

@@ -1,11 +1,9 @@
 -- Each peer that is named and not stopped gets one copy of the message.
-use Rattle.std.proofs.Common.{ap, sym, ◌∙◌, take, length, ◌<◌, arith}
-use Rattle.std.proofs.lemmas.List.{take_more}
+use Rattle.std.proofs.Common.{ap, sym, ◌∙◌, length, arith}
 use Rattle.apex_machine.specs.Processes.{message_handed_over, woken_by}
 use Rattle.process_state.specs.Peers.{wakes}
-use Rattle.process_state.proofs.HandedOver.{AreCopies-last, AreCopies-rest}
-use Rattle.process_state.proofs.Rising.{unnamed_before}
-use Rattle.process_state.proofs.Ticks.{let-more, let-none-yet, let-same}
+use Rattle.process_state.proofs.HandedOver.{handed-more, handed-same}
+use Rattle.process_state.proofs.Ticks.{let-none-yet}
 use Rattle.process_state.proofs.table.ProcTable.wake_peers.Goals as goal
 use Rattle.process_state.proofs.table.ProcTable.wake_peers.Goals.{then-wakes+in-Some, then-wakes+in_default, else-wakes}
 
@@ -19,31 +17,16 @@ loop-who-init c = record {
 pub loop-who-preserved : goal.loop-who-preserved
 loop-who-preserved c =
     let a = c.args in
-    let call = a.call.now in
-    let who = c.who-item.result in
     let woken = c.as_slice-woken.result.now in
-    let message = message_handed_over call.request in
-    let before = c.loop-who.invariant in
-    let within : c.loop-who.who-index < length woken = c.loop-who-test.true in
-    let more = take_more woken c.loop-who.who-index who within in
-    let named = take c.loop-who.who-index woken in
     elim c.if-wakes.branch [
-      | then-wakes+in-Some w ↦
-          let copies = rw w.in-Some.ensures.items at before.alike in
-          record {
-            named = rw (w.self-is, w.wake.ensures, AreCopies-last message _ _ copies, before.named, more, ← c.who-item.is)
-                (let-more call.who.part (wakes call) named who (woken_by a.place message) a.self.now (sym c.wakes.ensures ∙ w.if-wakes.true)
-                (unnamed_before woken c.loop-who.who-index who c.as_slice-woken.ensures.rising within c.who-item.is));
-            alike = rw w.messages-is (AreCopies-rest message _ _ copies);
-            enough = rw w.messages-is (omega (arith, w.in-Some.ensures.cases, before.enough));
-          }
+      | then-wakes+in-Some w ↦ rw (w.self-is, w.messages-is)
+          (handed-more a.call.now.who.part (wakes a.call.now) woken c.loop-who.who-index a.place _ w.in-Some.message _ _ _ _ c.who-item.result a.self.now c.loop-who.self _ c.loop-who.invariant
+          c.as_slice-woken.ensures.rising c.loop-who-test.true c.who-item.is (sym c.wakes.ensures ∙ w.if-wakes.true)
+          w.in-Some.ensures.items (omega (arith, w.in-Some.ensures.cases)) w.wake.ensures)
       | then-wakes+in_default w ↦
           let empty = rw w.in_default.is at w.pop.ensures.cases in
-          absurd (omega (arith, empty.0, before.enough, within))
-      | else-wakes w ↦ record {
-        named = rw (w.self-is, before.named, more, ← c.who-item.is)
-            (let-same call.who.part (wakes call) named who (woken_by a.place message) a.self.now (sym c.wakes.ensures ∙ w.if-wakes.false));
-        alike = rw w.messages-is before.alike;
-        enough = rw w.messages-is (omega (arith, before.enough));
-      }
+          absurd (omega (arith, empty.0, c.loop-who.invariant.enough, c.loop-who-test.true))
+      | else-wakes w ↦ rw (w.self-is, w.messages-is)
+          (handed-same a.call.now.who.part (wakes a.call.now) woken c.loop-who.who-index a.place _ _ _ c.who-item.result a.self.now c.loop-who.self c.loop-who.invariant
+          c.loop-who-test.true c.who-item.is (sym c.wakes.ensures ∙ w.if-wakes.false))
     ]

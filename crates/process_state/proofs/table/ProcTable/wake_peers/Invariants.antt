@@ -1,14 +1,8 @@
-use Rattle.std.proofs.Common.{◌≡◌, ◌≤◌, ◌+◌, length, take, vec_len}
-use Rattle.apex_machine.specs.Processes.{message_handed_over, woken_by}
-use Rattle.process_state.specs.Changes.{with_each}
+use Rattle.std.proofs.Common.{vec_len}
+use Rattle.apex_machine.specs.Processes.{message_handed_over}
 use Rattle.process_state.specs.Peers.{wakes}
-use Rattle.process_state.specs.HandedOver.{AreCopies}
-use Rattle.process_state.proofs.Ticks.{each_let}
+use Rattle.process_state.proofs.HandedOver.{IsHandingOut}
 use Rattle.process_state.proofs.table.ProcTable.wake_peers.Given as goal
 
 abbrev pub invariant-loop-who : goal.invariant-loop-who
-invariant-loop-who l = record {
-  named : l.self ≡ with_each (each_let l.call.who.part (wakes l.call) (take l.who-index l.woken) (woken_by l.place (message_handed_over l.call.request))) l.fn.self;
-  alike : AreCopies (message_handed_over l.call.request) l.messages.items;
-  enough : length l.woken ≤ vec_len l.messages + l.who-index;
-}
+invariant-loop-who l = IsHandingOut l.call.who.part (wakes l.call) l.woken l.who-index l.place (message_handed_over l.call.request) l.messages.items (vec_len l.messages) l.fn.self l.self
