@@ -1,6 +1,6 @@
 -- What the services of process management and time give is exactly what the sentences say.
-use Rattle.std.proofs.Common.{◌≡◌, ℕ, ℤ, pos, negsuc, [], ◌∷◌, Option, Some, None, Bool, true, false, cond, refl, sym, ap, ◌∙◌, arith, true≢false}
-use Rattle.std.proofs.lemmas.Bool.{eqb-true, leb-true}
+use Rattle.std.proofs.Common.{◌≡◌, ℕ, pos, [], ◌∷◌, Option, Some, None, Bool, true, false, cond, refl, sym, ap, ◌∙◌, arith, true≢false}
+use Rattle.std.proofs.lemmas.Bool.{leb-true}
 use Rattle.apex_types.specs.declared.record.Who.{Who}
 use Rattle.apex_types.specs.declared.operation.{CallerOperation.CallerOperation, ProcessOperation.ProcessOperation}
 use Rattle.apex_types.specs.declared.request.Request.TheVariants as request
@@ -15,6 +15,7 @@ use Rattle.apex_machine.specs.State.{created, item_at}
 use Rattle.apex_laws.specs.ProcessLaws.{AnswerIsTheSentence, CreationIsTheSentence}
 use Rattle.apex_laws.specs.ProcessSentences.{IsAtRelease, IsOverOrWaits, IsResuming}
 use Rattle.apex_laws.proofs.Booleans.{cannot_hold}
+use Rattle.apex_laws.proofs.ConditionTests.{over_tells}
 
 -- over at once, or waiting
 over_or_waits : (Over : Type 0) (test : Bool) (answer : Answer) → (test ≡ true → Over) → (Over → test ≡ true)
@@ -30,10 +31,6 @@ over_or_waits Over test answer is by = (
     back : IsOverOrWaits Over answer → answer ≡ cond test done waiting
     back (IsOverOrWaits.over over gives) = rw (by over) gives
     back (IsOverOrWaits.later later gives) = rw (cannot_hold test (λ over. later (is over))) gives
-
-over_is : (time_out : ℤ) → is_over time_out ≡ true → time_out ≡ pos 0
-over_is (pos n) over = ap pos (eqb-true n 0 over)
-over_is (negsuc n) over = absurd (true≢false (sym over))
 
 -- the next release
 release_is : (now : ℕ) (found : Option Process) → is_released now found ≡ true → IsAtRelease now found
@@ -66,8 +63,8 @@ resuming_by target found answer (IsResuming.was_marked process at not_suspended 
 resuming_by target found answer (IsResuming.nobody none gives) = gives ∙ sym (ap (resuming target) none)
 
 pub answer_is_the_sentence : AnswerIsTheSentence
-answer_is_the_sentence now who partition (request.Caller (CallerOperation.SuspendSelf time_out)) answer = over_or_waits (time_out ≡ pos 0) (is_over time_out) answer (over_is time_out) (λ is. ap is_over is)
-answer_is_the_sentence now who partition (request.Caller (CallerOperation.TimedWait ticks)) answer = over_or_waits (ticks ≡ pos 0) (is_over ticks) answer (over_is ticks) (λ is. ap is_over is)
+answer_is_the_sentence now who partition (request.Caller (CallerOperation.SuspendSelf time_out)) answer = over_or_waits (time_out ≡ pos 0) (is_over time_out) answer (over_tells time_out).0 (λ is. ap is_over is)
+answer_is_the_sentence now who partition (request.Caller (CallerOperation.TimedWait ticks)) answer = over_or_waits (ticks ≡ pos 0) (is_over ticks) answer (over_tells ticks).0 (λ is. ap is_over is)
 answer_is_the_sentence now who partition (request.Caller CallerOperation.PeriodicWait) answer =
     over_or_waits (IsAtRelease now (item_at partition.table who.proc)) (is_released now (item_at partition.table who.proc)) answer
     (release_is now (item_at partition.table who.proc)) (release_by now (item_at partition.table who.proc))

@@ -1,6 +1,6 @@
 -- Plain facts about tests, which the other lemmas take.
-use Rattle.std.proofs.Common.{◌≡◌, ℕ, Bool, true, false, ◌||◌, ◌&&◌, nat_eq, refl, sym, true≢false, cond}
-use Rattle.std.proofs.lemmas.Bool.{eq-eqb}
+use Rattle.std.proofs.Common.{◌≡◌, ℕ, Bool, true, false, ◌||◌, ◌&&◌, nat_eq, refl, sym, ◌∙◌, true≢false, cond}
+use Rattle.std.proofs.lemmas.Bool.{eq-eqb, eqb-true}
 
 -- a number is equal to itself
 pub is_itself : (number : ℕ) → nat_eq number number ≡ true
@@ -63,3 +63,7 @@ or_false false = refl
 pub same_if : {Value : Type 0} (test : Bool) (value : Value) → cond test value value ≡ value
 same_if true value = refl
 same_if false value = refl
+
+-- numbers that differ, the other way round
+pub differs_back : (one other : ℕ) → nat_eq one other ≡ false → nat_eq other one ≡ false
+differs_back one other differ = cannot_hold (nat_eq other one) (λ same. true≢false (sym (eq-eqb one other (sym (eqb-true other one same))) ∙ differ))

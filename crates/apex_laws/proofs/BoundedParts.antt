@@ -10,7 +10,7 @@ use Rattle.apex_types.specs.declared.record.Claim.{Claim}
 use Rattle.apex_types.specs.declared.record.Out.{Out}
 use Rattle.apex_types.specs.declared.record.Out.TheVariants as out
 use Rattle.apex_types.specs.declared.record.Who.{Who}
-use Rattle.apex_types.specs.declared.operation.{CallerOperation.CallerOperation, MutexOperation.MutexOperation, NewObject.NewObject, ProcessOperation.ProcessOperation, QueuingOperation.QueuingOperation, SamplingOperation.SamplingOperation}
+use Rattle.apex_types.specs.declared.operation.{CallerOperation.CallerOperation, MutexOperation.MutexOperation, NewObject.NewObject, ProcessOperation.ProcessOperation, SamplingOperation.SamplingOperation}
 use Rattle.apex_types.specs.declared.request.Request.{Request}
 use Rattle.apex_types.specs.declared.request.Request.TheVariants as request
 use Rattle.apex_machine.specs.declared.state.CoreState.{CoreState}
@@ -21,8 +21,7 @@ use Rattle.apex_machine.specs.declared.state.Process.{Process}
 use Rattle.apex_machine.specs.declared.state.Wait.{Wait}
 use Rattle.apex_machine.specs.declared.state.Wait.TheVariants as wait
 use Rattle.apex_machine.specs.declared.state.WaitingSet.{WaitingSet}
-use Rattle.apex_machine.specs.declared.state.WaitingSet.TheVariants as set
-use Rattle.apex_machine.specs.After.{adjusted, called, caller_after, caller_with, created_by, each_set, is_done, numbered, objects_by, own_partition, partition_by, returned, ticked, with_sets, woken_if_named}
+use Rattle.apex_machine.specs.After.{adjusted, called, caller_after, caller_with, created_by, each_set, is_done, numbered, objects_by, partition_by, returned, ticked, with_sets, woken_if_named}
 use Rattle.apex_machine.specs.Answer.{done, waiting}
 use Rattle.apex_machine.specs.Arguments.{is_number, natural_of, period_given}
 use Rattle.apex_machine.specs.Configuration.{Configuration, first_core, period_of}
@@ -30,18 +29,18 @@ use Rattle.apex_machine.specs.Demands.{AllHold, WakesHere, call_demands, outcome
 use Rattle.apex_machine.specs.DueTimes.{NamesThoseDue, due_by, entry_wait, falls_due, is_released, is_suspension, next_release, release_after, waits_for_normal}
 use Rattle.apex_machine.specs.Objects.{acquired, acquired_again, acquired_from, handed_on, is_owner, mutex_released, not_acquired, released_once}
 use Rattle.apex_machine.specs.Ports.{channel_of}
-use Rattle.apex_machine.specs.Processes.{by_mutex, message_handed_over, new_process, on_ownership, release_reached, release_taken, released, set_by, started, stopped, woken_by, set_in}
+use Rattle.apex_machine.specs.Processes.{by_mutex, message_handed_over, new_process, on_ownership, release_reached, release_taken, released, set_by, stopped, woken_by, set_in}
 use Rattle.apex_machine.specs.ServiceConditions.{condition_codes}
 use Rattle.apex_machine.specs.Services.{answer_of}
 use Rattle.apex_machine.specs.State.{Mutex, Partition, Table, change_at, cold_partition, each_item, first_processes, given_object, initialising_process, is_named, item_at, names_one_of, time_of}
-use Rattle.apex_machine.specs.Waiting.{first_waiter, is_in, is_no_error, restart_of, set_after, stops, waits_at}
+use Rattle.apex_machine.specs.Waiting.{first_waiter, is_in, is_no_error, set_after, stops, waits_at}
 use Rattle.apex_laws.specs.Laws.{entries_at}
 use Rattle.apex_laws.specs.PartBounds.{GivesPeriod, IsBoundedPart, PartStaysBounded, PeriodFits, ReleasesFit, period_limit, place_limit, word_limit}
 use Rattle.apex_laws.specs.PartLaws.{IsSoundPart}
 use Rattle.apex_laws.proofs.Codes.{AreErrors, are_errors, no_error_is_done, not_done}
 use Rattle.apex_laws.proofs.Keeps.{set_by_wait}
-use Rattle.apex_laws.proofs.Restarts.{own_case}
-use Rattle.apex_laws.proofs.SoundParts.{Stands, named_wait, own_holds}
+use Rattle.apex_laws.proofs.Restarts.{call_case, done_case, return_case}
+use Rattle.apex_laws.proofs.SoundParts.{Stands, named_across, own_holds}
 use Rattle.apex_laws.proofs.Tables.{at_each}
 use Rattle.apex_laws.proofs.Waiters.{all_weaker}
 use Rattle.apex_laws.proofs.Wakes.{answer_wakes, nobody}
@@ -158,23 +157,14 @@ counts_after configuration cores place core number (Disp who) partition all = co
 counts_after configuration cores place core number (Tick woken) partition all =
     sets_count (place + 1) (set_after place (Tick woken)) partition (counts_later place partition.mutexes all)
 counts_after configuration cores place core number (Ret ret) partition all =
-    elim (nat_eq ret.who.part number) as (λ own. AllFound (CountsTo (place + 1)) (cond own (record partition { table = each_item (returned ret.who.proc) partition.table }) partition).mutexes) [
-      | true ↦ counts_later place partition.mutexes all
-      | false ↦ counts_later place partition.mutexes all
-    ]
+    return_case (λ next. AllFound (CountsTo (place + 1)) next.mutexes) configuration cores place core number ret partition (counts_later place partition.mutexes all) (counts_later place partition.mutexes all)
 counts_after configuration cores place core number (Call call) partition all =
-    let foreign : ℕ → Process → Process = λ other process. woken_if_named place call (record { part = number; proc = other }) process in
-    elim (nat_eq call.who.part number) as (λ own. AllFound (CountsTo (place + 1)) (cond own
-    (own_partition (restart_of call) configuration cores place core call partition) (record partition { table = each_item foreign partition.table })).mutexes) [
-      | true ↦ own_case (λ next. AllFound (CountsTo (place + 1)) next.mutexes) configuration cores place core call partition
-          (λ none. sets_count (place + 1) (set_after place (Call call)) (cond (is_done call.claim.out) (objects_by configuration call.who call.claim.val call.request partition) partition)
-          (elim (is_done call.claim.out) as (λ done. AllFound (CountsTo (place + 1)) (cond done (objects_by configuration call.who call.claim.val call.request partition) partition).mutexes) [
-            | true ↦ used_counts configuration place call.who call.claim.val call.request partition all
-            | false ↦ counts_later place partition.mutexes all
-          ]))
-          (λ mode is object mutex at. (let no : ◌≡◌ {A = Option Mutex} None (Some mutex) = at in cc))
-      | false ↦ counts_later place partition.mutexes all
-    ]
+    call_case (λ next. AllFound (CountsTo (place + 1)) next.mutexes) configuration cores place core number call partition
+    (λ own none. sets_count (place + 1) (set_after place (Call call)) (cond (is_done call.claim.out) (objects_by configuration call.who call.claim.val call.request partition) partition)
+    (done_case (λ next. AllFound (CountsTo (place + 1)) next.mutexes) configuration call partition
+    (λ done. used_counts configuration place call.who call.claim.val call.request partition all) (counts_later place partition.mutexes all)))
+    (λ own mode is object mutex at. (let no : ◌≡◌ {A = Option Mutex} None (Some mutex) = at in cc))
+    (λ elsewhere. counts_later place partition.mutexes all)
 
 -- one process
 
@@ -393,11 +383,9 @@ created_bounded most core call _ fits = λ number item at. (let no : ◌≡◌ {
 -- whom it names here waits in a channel's set
 foreign_ends : (asked : Request) (chan : Option ℕ) (number : ℕ) (table : Table) (others : List Who) → WakesHere asked chan number table others → (who : Who) → who.part ≡ number
     → is_named who others ≡ true → (x : Process) → item_at table who.proc ≡ Some x → EndsNoRelease x.wait
-foreign_ends (request.QueuingPort port (QueuingOperation.Send length time_out message)) (Some channel) number table others wakes who here named x at =
-    waiter_ends table (set.ChannelReceivers channel) who.proc x (named_wait (set.ChannelReceivers channel) number table others wakes who here named) at
-foreign_ends (request.QueuingPort port (QueuingOperation.Receive time_out)) (Some channel) number table others wakes who here named x at =
-    waiter_ends table (set.ChannelSenders channel) who.proc x (named_wait (set.ChannelSenders channel) number table others wakes who here named) at
-foreign_ends _ chan number table others wakes who here named x at = absurd wakes
+foreign_ends asked chan number table others wakes who here named x at =
+    let across = named_across asked chan number table others wakes who here named in
+    waiter_ends table across.0 who.proc x across.2 at
 
 -- a tick
 
@@ -443,36 +431,31 @@ bounded_after configuration number cores partition place core (Tick woken) sound
     each_has (IsBounded (place + 1)) (ticked place number woken) partition.table
     (λ process x at. ticked_bounded place (time_of cores core) core number partition.table woken most hold.1.0 process x at (all process x at))
 bounded_after configuration number cores partition place core (Ret ret) sound most fits hold all =
-    let Fact = IsBounded (place + 1) in
-    elim (nat_eq ret.who.part number) as (λ own. AllFound Fact (cond own (record partition { table = each_item (returned ret.who.proc) partition.table }) partition).table) [
-      | true ↦ each_has Fact (returned ret.who.proc) partition.table
-          (λ process x at. bounded_kept (place + 1) x (returned ret.who.proc process x) (one_keeps (nat_eq process ret.who.proc) (record x { due = None }) x (refl, refl))
-          (bounded_later place x (all process x at)))
-      | false ↦ λ process x at. bounded_later place x (all process x at)
-    ]
+    return_case (λ next. AllFound (IsBounded (place + 1)) next.table) configuration cores place core number ret partition
+    (each_has (IsBounded (place + 1)) (returned ret.who.proc) partition.table
+    (λ process x at. bounded_kept (place + 1) x (returned ret.who.proc process x) (one_keeps (nat_eq process ret.who.proc) (record x { due = None }) x (refl, refl))
+    (bounded_later place x (all process x at))))
+    (λ process x at. bounded_later place x (all process x at))
 bounded_after configuration number cores partition place core (Call call) sound most fits hold all =
     let Fact = IsBounded (place + 1) in
     let now = time_of cores core in
     let period = period_of configuration call.who.part in
     let foreign : ℕ → Process → Process = λ other process. woken_if_named place call (record { part = number; proc = other }) process in
-    elim (nat_eq call.who.part number) as (λ own. nat_eq call.who.part number ≡ own → AllFound Fact (cond own
-    (own_partition (restart_of call) configuration cores place core call partition) (record partition { table = each_item foreign partition.table })).table) [
-      | true ↦ λ own.
-          let demands = own_holds configuration number core cores partition call own hold in
-          own_case (λ next. AllFound Fact next.table) configuration cores place core call partition
-          (λ none. joined_has Fact (each_item (called place now period cores partition call) partition.table) (created_by (first_core configuration call.who.part) call call.request)
-          (each_has Fact (called place now period cores partition call) partition.table
-          (λ process x at. called_bounded configuration number place now cores partition call sound (eqb-true call.who.part number own) most demands.1.1.1.1.1 period process x at (all process x at)))
-          (created_bounded (place + 1) (first_core configuration call.who.part) call call.request fits))
-          (λ mode is. start_bounded mode (first_core configuration call.who.part) place (place + 1))
-      | false ↦ λ elsewhere.
-          let demands = subst (λ one. AllHold (call_demands one configuration number cores partition core call)) elsewhere hold in
-          each_has Fact foreign partition.table
-          (λ process x at. bounded_later place (foreign process x) (bounded_kept place x (foreign process x)
-          (woken_if_named_keeps place call (record { part = number; proc = process }) x
-          (λ named. foreign_ends call.request call.claim.chan number partition.table call.claim.woken demands.1.0 (record { part = number; proc = process }) refl named x at))
-          (all process x at)))
-    ] refl
+    call_case (λ next. AllFound Fact next.table) configuration cores place core number call partition
+    (λ own none.
+    (let demands = own_holds configuration number core cores partition call own hold in
+    joined_has Fact (each_item (called place now period cores partition call) partition.table) (created_by (first_core configuration call.who.part) call call.request)
+    (each_has Fact (called place now period cores partition call) partition.table
+    (λ process x at. called_bounded configuration number place now cores partition call sound (eqb-true call.who.part number own) most demands.1.1.1.1.1 period process x at (all process x at)))
+    (created_bounded (place + 1) (first_core configuration call.who.part) call call.request fits)))
+    (λ own mode is. start_bounded mode (first_core configuration call.who.part) place (place + 1))
+    (λ elsewhere.
+    (let demands = subst (λ one. AllHold (call_demands one configuration number cores partition core call)) elsewhere hold in
+    each_has Fact foreign partition.table
+    (λ process x at. bounded_later place (foreign process x) (bounded_kept place x (foreign process x)
+    (woken_if_named_keeps place call (record { part = number; proc = process }) x
+    (λ named. foreign_ends call.request call.claim.chan number partition.table call.claim.woken demands.1.0 (record { part = number; proc = process }) refl named x at))
+    (all process x at)))))
 
 -- the whole partition
 

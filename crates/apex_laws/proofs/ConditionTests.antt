@@ -62,11 +62,6 @@ tells_either false other First Second first second = (
 pub tells_itself : (test : Bool) → Tells test (IsTrue test)
 tells_itself test = (λ holds. holds, λ holds. holds)
 
--- its failure
-pub tells_false : (test : Bool) → Tells (not test) (test ≡ false)
-tells_false true = (λ fails. sym fails, λ fails. sym fails)
-tells_false false = (λ fails. refl, λ fails. refl)
-
 -- numbers
 
 test_holds : (test : Bool) → test ≡ true → T test

@@ -1,58 +1,37 @@
 -- The cores with one of them changed.
-use Rattle.std.proofs.Common.{◌≡◌, ℕ, zero, suc, ◌<◌, List, [], ◌∷◌, length, Option, refl, ap, arith}
-use Rattle.apex_types.specs.declared.record.Who.{Who}
+use Rattle.std.proofs.Common.{◌≡◌, ◌∙◌, ℕ, zero, suc, ◌<◌, List, [], ◌∷◌, length, refl, sym, ap, arith}
 use Rattle.apex_machine.specs.declared.state.CoreState.{CoreState}
 use Rattle.apex_machine.specs.State.{at_core, occupant_of, time_of}
 
--- the time of the core itself
-pub time_changes : (change : CoreState → CoreState) (new : ℕ → ℕ) (core : ℕ) (cores : List CoreState) → core < length cores
-    → ((state : CoreState) → (change state).time ≡ new state.time) → time_of (at_core change core cores) core ≡ new (time_of cores core)
-time_changes change new core [] within by = absurd (omega arith)
-time_changes change new zero (state ∷ states) within by = by state
-time_changes change new (suc core) (state ∷ states) within by = time_changes change new core states (omega arith) by
+-- a walk to a core gives what its state has
+pub record GivesOfCore {Found : Type 0} (walk : List CoreState → ℕ → Found) (has : CoreState → Found) : Type 0 where
+  pub first : (state : CoreState) (states : List CoreState) → walk (state ∷ states) zero ≡ has state
+  pub rest : (state : CoreState) (states : List CoreState) (core : ℕ) → walk (state ∷ states) (suc core) ≡ walk states core
 
--- the times of the others
-pub other_times : (change : CoreState → CoreState) (core : ℕ) (cores : List CoreState) (other : ℕ) → (other ≡ core → ⊥)
-    → time_of (at_core change core cores) other ≡ time_of cores other
-other_times change core [] other differs = refl
-other_times change zero (state ∷ states) zero differs = absurd (differs refl)
-other_times change zero (state ∷ states) (suc other) differs = refl
-other_times change (suc core) (state ∷ states) zero differs = refl
-other_times change (suc core) (state ∷ states) (suc other) differs = other_times change core states other (λ same. differs (ap suc same))
+pub gives_time : GivesOfCore time_of (λ state. state.time)
+gives_time = record { first = λ state states. refl; rest = λ state states core. refl }
 
--- a change that leaves the time leaves all times
-pub times_stay : (change : CoreState → CoreState) → ((state : CoreState) → (change state).time ≡ state.time)
-    → (core : ℕ) (cores : List CoreState) (other : ℕ) → time_of (at_core change core cores) other ≡ time_of cores other
-times_stay change leaves core [] other = refl
-times_stay change leaves zero (state ∷ states) zero = leaves state
-times_stay change leaves zero (state ∷ states) (suc other) = refl
-times_stay change leaves (suc core) (state ∷ states) zero = refl
-times_stay change leaves (suc core) (state ∷ states) (suc other) = times_stay change leaves core states other
+pub gives_occupant : GivesOfCore occupant_of (λ state. state.occupant)
+gives_occupant = record { first = λ state states. refl; rest = λ state states core. refl }
 
--- the occupant of the core itself
-pub occupant_changes : (change : CoreState → CoreState) (who : Option Who) (core : ℕ) (cores : List CoreState) → core < length cores
-    → ((state : CoreState) → (change state).occupant ≡ who) → occupant_of (at_core change core cores) core ≡ who
-occupant_changes change who core [] within by = absurd (omega arith)
-occupant_changes change who zero (state ∷ states) within by = by state
-occupant_changes change who (suc core) (state ∷ states) within by = occupant_changes change who core states (omega arith) by
+module _ {Found : Type 0} {walk : List CoreState → ℕ → Found} {has : CoreState → Found} (gives : GivesOfCore walk has) (change : CoreState → CoreState) where
+  -- of the core itself
+  pub core_changes : (new : Found → Found) (core : ℕ) (cores : List CoreState) → core < length cores
+      → ((state : CoreState) → has (change state) ≡ new (has state)) → walk (at_core change core cores) core ≡ new (walk cores core)
+  core_changes new core [] within by = absurd (omega arith)
+  core_changes new zero (state ∷ states) within by = gives.first (change state) states ∙ by state ∙ ap new (sym (gives.first state states))
+  core_changes new (suc core) (state ∷ states) within by =
+      gives.rest state (at_core change core states) core ∙ core_changes new core states (omega arith) by ∙ ap new (sym (gives.rest state states core))
 
--- the occupants of the others
-pub other_occupants : (change : CoreState → CoreState) (core : ℕ) (cores : List CoreState) (other : ℕ) → (other ≡ core → ⊥)
-    → occupant_of (at_core change core cores) other ≡ occupant_of cores other
-other_occupants change core [] other differs = refl
-other_occupants change zero (state ∷ states) zero differs = absurd (differs refl)
-other_occupants change zero (state ∷ states) (suc other) differs = refl
-other_occupants change (suc core) (state ∷ states) zero differs = refl
-other_occupants change (suc core) (state ∷ states) (suc other) differs = other_occupants change core states other (λ same. differs (ap suc same))
-
--- a change that leaves the occupant leaves all occupants
-pub occupants_stay : (change : CoreState → CoreState) → ((state : CoreState) → (change state).occupant ≡ state.occupant)
-    → (core : ℕ) (cores : List CoreState) (other : ℕ) → occupant_of (at_core change core cores) other ≡ occupant_of cores other
-occupants_stay change leaves core [] other = refl
-occupants_stay change leaves zero (state ∷ states) zero = leaves state
-occupants_stay change leaves zero (state ∷ states) (suc other) = refl
-occupants_stay change leaves (suc core) (state ∷ states) zero = refl
-occupants_stay change leaves (suc core) (state ∷ states) (suc other) = occupants_stay change leaves core states other
+  -- of any core, where the change leaves it if that is the one
+  pub core_stays : (core : ℕ) (cores : List CoreState) (other : ℕ) → (other ≡ core → (state : CoreState) → has (change state) ≡ has state)
+      → walk (at_core change core cores) other ≡ walk cores other
+  core_stays core [] other leaves = refl
+  core_stays zero (state ∷ states) zero leaves = gives.first (change state) states ∙ leaves refl state ∙ sym (gives.first state states)
+  core_stays zero (state ∷ states) (suc other) leaves = gives.rest (change state) states other ∙ sym (gives.rest state states other)
+  core_stays (suc core) (state ∷ states) zero leaves = gives.first state (at_core change core states) ∙ sym (gives.first state states)
+  core_stays (suc core) (state ∷ states) (suc other) leaves =
+      gives.rest state (at_core change core states) other ∙ core_stays core states other (λ same. leaves (ap suc same)) ∙ sym (gives.rest state states other)
 
 -- there are as many cores
 pub count_stays : (change : CoreState → CoreState) (core : ℕ) (cores : List CoreState) → length (at_core change core cores) ≡ length cores

@@ -21,7 +21,7 @@ use Rattle.apex_machine.specs.Channels.{EndsAreApart, is_receiver, is_sender}
 use Rattle.apex_machine.specs.Configuration.{Configuration, has_partition}
 use Rattle.apex_machine.specs.Demands.{AllHold, AllWaitAt, InWindowOf, IsRunning, ReturnsValues, WakesHere, call_demands, channel_demands, demands, module_demands, outcome_demands, own_call_demands, partition_demands, stands_in, used_demands, window_now}
 use Rattle.apex_machine.specs.Pieces.{Module, OfChannel, OfPartition, Piece, is_configured, part, touched_by, touches}
-use Rattle.apex_machine.specs.Ports.{channel_of, suits_use, use_of}
+use Rattle.apex_machine.specs.Ports.{Ask, Read, Receive, Send, Write, channel_of, suits_use, use_of}
 use Rattle.apex_machine.specs.ServiceConditions.{condition_codes}
 use Rattle.apex_machine.specs.Services.{answer_of}
 use Rattle.apex_machine.specs.State.{Partition, State, is_named, names_one_of, occupant_of, item_at, time_of}
@@ -35,7 +35,7 @@ use Rattle.apex_laws.proofs.Ends.{StandsAtEnd, port_is_at_end}
 use Rattle.apex_laws.proofs.Outcomes.{channel_can, if_due, outcome_holds, through_claimed}
 use Rattle.apex_laws.proofs.Parts.{same_time}
 use Rattle.apex_laws.proofs.Waiters.{all_weaker, stands_not}
-use Rattle.apex_laws.proofs.Wakes.{ask_wakes, nobody, read_wakes_nobody, receive_wakes, send_wakes, write_wakes}
+use Rattle.apex_laws.proofs.Wakes.{use_wakes}
 use Rattle.apex_laws.proofs.WaitersOf.{same_itself, some_named}
 use Rattle.apex_laws.proofs.Woken.{found, woken}
 
@@ -68,17 +68,19 @@ WaitsAcross _ partitions configuration channel who = ⊥
 pub across : (configuration : Configuration) (state : State) (now channel partition : ℕ) (asked : Request) → AreTied configuration state → IsTrue (suits_use configuration channel partition (use_of asked) (state.channels channel))
     → (who : Who) → is_named who (channel_answer configuration now partition asked state.channels channel).woken ≡ true → WaitsAcross asked state.partitions configuration channel who
 across configuration state now channel partition (request.QueuingPort port (QueuingOperation.Send length time_out message)) tied suited who named =
-    send_wakes (WaitsAcross (request.QueuingPort port (QueuingOperation.Send length time_out message)) state.partitions configuration channel) configuration now channel partition message time_out (state.channels channel)
+    use_wakes (WaitsAcross (request.QueuingPort port (QueuingOperation.Send length time_out message)) state.partitions configuration channel) configuration now channel partition (Send message time_out)
+    (state.channels channel) (state.channels channel).content
     (all_weaker (IsTied (λ home. IsTrue (is_receiver configuration channel home)) (set.ChannelReceivers channel) state.partitions) _ (λ entry tied. tied) (state.channels channel).receivers (tied.receivers channel)) who named
 across configuration state now channel partition (request.QueuingPort port (QueuingOperation.Receive time_out)) tied suited who named =
-    receive_wakes (WaitsAcross (request.QueuingPort port (QueuingOperation.Receive time_out)) state.partitions configuration channel) configuration now channel partition time_out (state.channels channel)
+    use_wakes (WaitsAcross (request.QueuingPort port (QueuingOperation.Receive time_out)) state.partitions configuration channel) configuration now channel partition (Receive time_out)
+    (state.channels channel) (state.channels channel).content
     (all_weaker (IsTied (λ home. IsTrue (is_sender configuration channel home)) (set.ChannelSenders channel) state.partitions) _ (λ entry tied. tied) (state.channels channel).senders (tied.senders channel)) who named
 across configuration state now channel partition (request.SamplingPort port (SamplingOperation.Write length message)) tied suited who named =
-    nobody who (channel_answer configuration now partition (request.SamplingPort port (SamplingOperation.Write length message)) state.channels channel).woken (write_wakes configuration now channel partition message (state.channels channel)) named
+    use_wakes (λ one. ⊥) configuration now channel partition (Write message) (state.channels channel) (state.channels channel).content tt who named
 across configuration state now channel partition (request.SamplingPort port SamplingOperation.Read) tied suited who named =
-    nobody who (channel_answer configuration now partition (request.SamplingPort port SamplingOperation.Read) state.channels channel).woken (read_wakes_nobody configuration now channel partition (state.channels channel)) named
+    use_wakes (λ one. ⊥) configuration now channel partition Read (state.channels channel) (state.channels channel).content tt who named
 across configuration state now channel partition (request.GetStatus kind.QueuingPort port) tied suited who named =
-    nobody who (channel_answer configuration now partition (request.GetStatus kind.QueuingPort port) state.channels channel).woken (ask_wakes configuration now channel partition (state.channels channel)) named
+    use_wakes (λ one. ⊥) configuration now channel partition Ask (state.channels channel) (state.channels channel).content tt who named
 across configuration state now channel partition _ tied suited who named = absurd (true≢false (sym suited))
 
 -- the two ends of a channel are of two partitions
@@ -260,6 +262,11 @@ caller_stands_not configuration state core call tied law Home wanted entries all
     stands_not (λ who. Home who.part × IsTrue (waits_at wanted (found state.partitions who))) call.who
     (λ waits. ready_waits_not core (found state.partitions call.who) wanted ready waits.1) entries all
 
+-- the channel of a test that holds
+pub goes_to : (number : ℕ) (chan : Option ℕ) → is_channel number chan ≡ true → chan ≡ Some number
+goes_to number None goes = absurd (true≢false (sym goes))
+goes_to number (Some channel) goes = ap Some (eqb-true channel number goes)
+
 -- the channel that a call claims, and another
 used_demanded : (configuration : Configuration) (state : State) (core : ℕ) (call : CallRecord) → AreTied configuration state
     → IsLawfulCall configuration state core call → (number : ℕ) (goes : Bool) → is_channel number call.claim.chan ≡ goes
@@ -269,16 +276,12 @@ used_demanded configuration state core call tied law number true is =
     let through = through_claimed (condition_codes configuration call.who (state.partitions call.who.part) call.request)
     (channel_of (state.partitions call.who.part) call.request) (answer_of (time_of state.cores core) call.who (state.partitions call.who.part) call.request)
     (λ number. suits_use configuration number call.who.part (use_of call.request) (state.channels number))
-    (channel_answer configuration (time_of state.cores core) call.who.part call.request state.channels) call.claim number (goes_to call.claim.chan is) law.outcome in (
+    (channel_answer configuration (time_of state.cores core) call.who.part call.request state.channels) call.claim number (goes_to number call.claim.chan is) law.outcome in (
       neither (stands_in call.who (state.channels number).senders) (stands_in call.who (state.channels number).receivers)
           (caller_stands_not configuration state core call tied law (λ home. IsTrue (is_sender configuration number home)) (set.ChannelSenders number) (state.channels number).senders (tied.senders number))
           (caller_stands_not configuration state core call tied law (λ home. IsTrue (is_receiver configuration number home)) (set.ChannelReceivers number) (state.channels number).receivers (tied.receivers number)),
       (through.kind, (through.out, (through.values, (through.bytes, (through.woken, tt))))),
     )
-  where
-    goes_to : (chan : Option ℕ) → is_channel number chan ≡ true → chan ≡ Some number
-    goes_to None is = absurd (true≢false (sym is))
-    goes_to (Some channel) is = ap Some (eqb-true channel number is)
 
 -- a lawful record meets the demands of each channel
 channel_demanded : (configuration : Configuration) (state : State) (core : ℕ) (body : Body) → AreTied configuration state

@@ -12,7 +12,7 @@ use Rattle.apex_types.specs.declared.request.Request.{Request}
 use Rattle.apex_types.specs.declared.request.Request.TheVariants as request
 use Rattle.apex_machine.specs.declared.state.CoreState.{CoreState}
 use Rattle.apex_machine.specs.declared.state.Process.{Process}
-use Rattle.apex_machine.specs.After.{called, created_by, is_done, numbered, own_partition, partition_by, returned, woken_if_named, ticked}
+use Rattle.apex_machine.specs.After.{called, created_by, is_done, numbered, partition_by, returned, ticked}
 use Rattle.apex_machine.specs.Answer.{HasValue, is_new}
 use Rattle.apex_machine.specs.Configuration.{Configuration, first_core, period_of}
 use Rattle.apex_machine.specs.Ports.{channel_of, suits_use, use_of}
@@ -21,10 +21,9 @@ use Rattle.apex_machine.specs.ServiceConditions.{condition_codes}
 use Rattle.apex_machine.specs.Services.{Answer, answer_of}
 use Rattle.apex_machine.specs.State.{Partition, State, Table, each_item, is_free, item_at, time_of}
 use Rattle.apex_machine.specs.Step.{HasOutcome, IsAnswered, IsLawfulBody, IsLawfulCall, channel_answer}
-use Rattle.apex_machine.specs.Waiting.{restart_of}
 use Rattle.apex_laws.specs.Laws.{are_distinct}
 use Rattle.apex_laws.proofs.Codes.{are_errors, done_is_lawful}
-use Rattle.apex_laws.proofs.Restarts.{own_case, start_distinct}
+use Rattle.apex_laws.proofs.Restarts.{call_case, return_case, start_distinct}
 use Rattle.apex_laws.proofs.Tables.{distinct_each, distinct_push, some_at_each}
 
 -- a new number
@@ -96,20 +95,13 @@ pub distinct_by : (configuration : Configuration) (cores : List CoreState) (plac
 distinct_by configuration cores place core number (Disp who) partition claims distinct = distinct
 distinct_by configuration cores place core number (Tick woken) partition claims distinct = distinct_each (ticked place number woken) partition.table ∙ distinct
 distinct_by configuration cores place core number (Ret ret) partition claims distinct =
-    elim (nat_eq ret.who.part number) as (λ own. are_distinct (cond own (record partition { table = each_item (returned ret.who.proc) partition.table }) partition).table ≡ true) [
-      | true ↦ distinct_each (returned ret.who.proc) partition.table ∙ distinct
-      | false ↦ distinct
-    ]
+    return_case (λ next. are_distinct next.table ≡ true) configuration cores place core number ret partition (distinct_each (returned ret.who.proc) partition.table ∙ distinct) distinct
 distinct_by configuration cores place core number (Call call) partition claims distinct =
-    let foreign : ℕ → Process → Process = λ other process. woken_if_named place call (record { part = number; proc = other }) process in
-    elim (nat_eq call.who.part number) as (λ own. nat_eq call.who.part number ≡ own → are_distinct (cond own
-    (own_partition (restart_of call) configuration cores place core call partition) (record partition { table = each_item foreign partition.table })).table ≡ true) [
-      | true ↦ λ own. own_case (λ next. are_distinct next.table ≡ true) configuration cores place core call partition
-          (λ none. distinct_called partition (time_of cores core) (first_core configuration call.who.part) call call.request
-          (called place (time_of cores core) (period_of configuration call.who.part) cores partition call) (claims own) distinct)
-          (λ mode is. start_distinct mode (first_core configuration call.who.part) place)
-      | false ↦ λ elsewhere. distinct_each foreign partition.table ∙ distinct
-    ] refl
+    call_case (λ next. are_distinct next.table ≡ true) configuration cores place core number call partition
+    (λ own none. distinct_called partition (time_of cores core) (first_core configuration call.who.part) call call.request
+    (called place (time_of cores core) (period_of configuration call.who.part) cores partition call) (claims own) distinct)
+    (λ own mode is. start_distinct mode (first_core configuration call.who.part) place)
+    (λ elsewhere. distinct_each _ partition.table ∙ distinct)
 
 -- where no condition holds and no channel is used, the outcome is the service's
 answered : (codes : List Code) (channel : Option ℕ) (answer : Answer) (suited : ℕ → Bool) (through : ℕ → Answer) (claim : Claim) → codes ≡ [] → channel ≡ None

@@ -8,16 +8,15 @@ use Rattle.apex_types.specs.declared.record.Ordered.{Ordered}
 use Rattle.apex_types.specs.declared.record.Out.{Out}
 use Rattle.apex_types.specs.declared.record.Out.TheVariants as out
 use Rattle.apex_types.specs.declared.record.Who.{Who}
-use Rattle.apex_types.specs.declared.operation.{BlackboardOperation.BlackboardOperation, BufferOperation.BufferOperation, EventOperation.EventOperation, MutexOperation.MutexOperation, QueuingOperation.QueuingOperation, SemaphoreOperation.SemaphoreOperation}
+use Rattle.apex_types.specs.declared.operation.{BlackboardOperation.BlackboardOperation, BufferOperation.BufferOperation, EventOperation.EventOperation, MutexOperation.MutexOperation, SemaphoreOperation.SemaphoreOperation}
 use Rattle.apex_types.specs.declared.request.Request.{Request}
-use Rattle.apex_types.specs.declared.request.Request.TheVariants as request
 use Rattle.apex_machine.specs.declared.state.CoreState.{CoreState}
 use Rattle.apex_machine.specs.declared.state.Entry.{Entry}
+use Rattle.apex_machine.specs.declared.state.Mode.{Mode}
 use Rattle.apex_machine.specs.declared.state.Mode.TheVariants as mode
-use Rattle.apex_machine.specs.declared.state.Process.{Process}
 use Rattle.apex_machine.specs.declared.state.WaitingSet.{WaitingSet}
 use Rattle.apex_machine.specs.declared.state.WaitingSet.TheVariants as set
-use Rattle.apex_machine.specs.After.{after, each_set, is_done, objects_by, own_partition, partition_by, returned, woken_if_named, ticked}
+use Rattle.apex_machine.specs.After.{after, each_set, is_done, objects_by, partition_by, returned, ticked}
 use Rattle.apex_machine.specs.Arguments.{natural_of}
 use Rattle.apex_machine.specs.Configuration.{Configuration, first_core}
 use Rattle.apex_machine.specs.Demands.{stands_in}
@@ -25,20 +24,21 @@ use Rattle.apex_machine.specs.Objects.{blackboard_effect, buffer_effect, event_e
 use Rattle.apex_machine.specs.ServiceConditions.{condition_codes}
 use Rattle.apex_machine.specs.State.{Buffer, Partition, State, change_at, cold_state, each_item, given_object, is_named, is_same, item_at}
 use Rattle.apex_machine.specs.Step.{IsLawfulBody, Run, Step}
-use Rattle.apex_machine.specs.Waiting.{ends_wait, enters, entry_of, is_the_set, is_waiting, restart_of, set_after, set_of, waits_at, without}
+use Rattle.apex_machine.specs.Waiting.{ends_wait, enters, entry_of, is_the_set, is_waiting, set_after, set_of, waits_at, without}
 use Rattle.apex_laws.specs.PartLaws.{is_of_channel}
+use Rattle.apex_laws.specs.WaitLaws.{WaitsIn}
 use Rattle.apex_laws.specs.Laws.{AreTied, WaitersStand, WhoWaitsStands, entries_at, entries_in, entries_of}
 use Rattle.apex_laws.proofs.Booleans.{first_holds, is_itself, later_holds, other_holds}
 use Rattle.apex_laws.proofs.Keeps.{CallsReady, IsReadyCall, calls_ready, leaves}
 use Rattle.apex_laws.proofs.ObjectCalls.{message_there, mutex_there, object_there}
-use Rattle.apex_laws.proofs.Objects.{each_set_holds, objects_have, stands_at}
+use Rattle.apex_laws.proofs.Objects.{each_set_holds, stands_at}
 use Rattle.apex_laws.proofs.Tables.{at_each}
 use Rattle.apex_laws.proofs.Ends.{first_empty}
-use Rattle.apex_laws.proofs.Restarts.{not_restarted, start_waits_not, waiting_goes_on}
+use Rattle.apex_laws.proofs.Restarts.{call_case, not_restarted, return_case, start_waits_not, waiting_goes_on, woken_if_named_table}
 use Rattle.apex_laws.proofs.Standing.{Entering, who_waits}
-use Rattle.apex_laws.proofs.SetsAfter.{called_sets, same_sets}
+use Rattle.apex_laws.proofs.SetsAfter.{called_sets, same_sets, used_sets}
 use Rattle.apex_laws.proofs.Stays.{step_tied}
-use Rattle.apex_laws.proofs.WaitSets.{found_set}
+use Rattle.apex_laws.proofs.Waits.{entering_is_the_sentence}
 use Rattle.apex_laws.proofs.WaitersOf.{same_is, same_itself}
 use Rattle.apex_laws.proofs.Woken.{found}
 
@@ -102,28 +102,14 @@ there_if who entries_of (Some object) stands = refl
 
 -- the object of a set in which a process stands is created
 standing_there : (who : Who) (partition : Partition) (wanted : WaitingSet) → stands_in who (entries_at partition wanted) ≡ true → stands_at partition wanted ≡ true
-standing_there who partition (set.BufferSenders number) stands = there_if who (λ one. one.senders) (item_at partition.buffers number) stands
-standing_there who partition (set.BufferReceivers number) stands = there_if who (λ one. one.receivers) (item_at partition.buffers number) stands
-standing_there who partition (set.BlackboardReaders number) stands = there_if who (λ one. one.readers) (item_at partition.blackboards number) stands
-standing_there who partition (set.SemaphoreWaiters number) stands = there_if who (λ one. one.waiters) (item_at partition.semaphores number) stands
-standing_there who partition (set.EventWaiters number) stands = there_if who (λ one. one.waiters) (item_at partition.events number) stands
-standing_there who partition (set.MutexWaiters number) stands = there_if who (λ one. one.waiters) (item_at partition.mutexes number) stands
 standing_there who partition (set.ChannelSenders channel) stands = absurd (true≢false (sym stands))
 standing_there who partition (set.ChannelReceivers channel) stands = absurd (true≢false (sym stands))
+standing_there who partition _ stands = there_if who _ _ stands
 
 each_stands : (who : Who) (change : WaitingSet → List Entry → List Entry) (partition : Partition) (wanted : WaitingSet) → stands_at partition wanted ≡ true
     → stands_in who (change wanted (entries_at partition wanted)) ≡ true → stands_in who (entries_at (each_set change partition) wanted) ≡ true
 each_stands who change partition wanted there stands =
-    each_set_holds (λ entries. stands_in who entries ≡ true) change partition wanted (λ absent. absurd (true≢false (sym there ∙ absent))) stands
-
--- the objects that a call uses or creates keep who stands there
-used_stands : (who : Who) (configuration : Configuration) (call : CallRecord) (partition : Partition) (wanted : WaitingSet) → stands_in who (entries_at partition wanted) ≡ true
-    → stands_in who (entries_at (cond (is_done call.claim.out) (objects_by configuration call.who call.claim.val call.request partition) partition) wanted) ≡ true
-used_stands who configuration call partition wanted stands =
-    elim (is_done call.claim.out) as (λ done. stands_in who (entries_at (cond done (objects_by configuration call.who call.claim.val call.request partition) partition) wanted) ≡ true) [
-      | true ↦ objects_have (λ entries. stands_in who entries ≡ true) configuration call.who call.claim.val call.request partition wanted stands
-      | false ↦ stands
-    ]
+    each_set_holds (λ entries. stands_in who entries ≡ true) change partition wanted (λ absent empty. absurd (true≢false (sym there ∙ absent))) stands
 
 -- the object at which a caller waits is created
 
@@ -141,47 +127,27 @@ changed_there {Object} objects given found change at =
     ap is_some (at_each (λ other (object : Object). cond (nat_eq other (natural_of given)) (change object) object) objects (natural_of given))
     ∙ mapped (λ (object : Object). cond (nat_eq (natural_of given) (natural_of given)) (change object) object) (item_at objects (natural_of given)) (given_there objects given found at)
 
-waits_there : (configuration : Configuration) (who : Who) (claimed : Option ℤ) (asked : Request) (chan : Option ℕ) (partition : Partition) (wanted : WaitingSet)
-    → ((other : ℕ) → ¬ (wanted ≡ set.ChannelSenders other)) → ((other : ℕ) → ¬ (wanted ≡ set.ChannelReceivers other))
-    → set_of asked chan ≡ Some wanted → condition_codes configuration who partition asked ≡ [] → stands_at (objects_by configuration who claimed asked partition) wanted ≡ true
-waits_there configuration who claimed (request.Buffer buffer (BufferOperation.Send length time_out message)) chan partition wanted not_sending not_receiving is none =
-    let same : set.BufferSenders (natural_of buffer) ≡ wanted = cc in
-    let sized = message_there (λ (found : Buffer). found.size) (given_object partition.buffers buffer) length
-    (first_empty _ _ (first_empty _ _ none)) in
-    subst (λ one. stands_at (objects_by configuration who claimed (request.Buffer buffer (BufferOperation.Send length time_out message)) partition) one ≡ true) same
-    (changed_there partition.buffers buffer sized.0 (λ found. (buffer_effect (BufferOperation.Send length time_out message) found).next) sized.1)
-waits_there configuration who claimed (request.Buffer buffer (BufferOperation.Receive time_out)) chan partition wanted not_sending not_receiving is none =
-    let same : set.BufferReceivers (natural_of buffer) ≡ wanted = cc in
+waits_there : (configuration : Configuration) (who : Who) (claimed : Option ℤ) {asked : Request} {chan : Option ℕ} {wanted : WaitingSet} (partition : Partition) → WaitsIn asked chan wanted
+    → is_of_channel wanted ≡ false → condition_codes configuration who partition asked ≡ [] → stands_at (objects_by configuration who claimed asked partition) wanted ≡ true
+waits_there configuration who claimed partition (WaitsIn.sends_to_buffer {buffer = buffer} {length = length} {time_out = time_out} {message = message}) off none =
+    let there = message_there (λ (found : Buffer). found.size) (given_object partition.buffers buffer) length (first_empty _ _ (first_empty _ _ none)) in
+    changed_there partition.buffers buffer there.0 (λ found. (buffer_effect (BufferOperation.Send length time_out message) found).next) there.1
+waits_there configuration who claimed partition (WaitsIn.receives_from_buffer {buffer = buffer} {time_out = time_out}) off none =
     let there = object_there who partition (given_object partition.buffers buffer) time_out none in
-    subst (λ one. stands_at (objects_by configuration who claimed (request.Buffer buffer (BufferOperation.Receive time_out)) partition) one ≡ true) same
-    (changed_there partition.buffers buffer there.0 (λ found. (buffer_effect (BufferOperation.Receive time_out) found).next) there.1)
-waits_there configuration who claimed (request.Blackboard blackboard (BlackboardOperation.Read time_out)) chan partition wanted not_sending not_receiving is none =
-    let same : set.BlackboardReaders (natural_of blackboard) ≡ wanted = cc in
+    changed_there partition.buffers buffer there.0 (λ found. (buffer_effect (BufferOperation.Receive time_out) found).next) there.1
+waits_there configuration who claimed partition (WaitsIn.reads_blackboard {blackboard = blackboard} {time_out = time_out}) off none =
     let there = object_there who partition (given_object partition.blackboards blackboard) time_out none in
-    subst (λ one. stands_at (objects_by configuration who claimed (request.Blackboard blackboard (BlackboardOperation.Read time_out)) partition) one ≡ true) same
-    (changed_there partition.blackboards blackboard there.0 (λ found. (blackboard_effect (BlackboardOperation.Read time_out) found).next) there.1)
-waits_there configuration who claimed (request.Semaphore semaphore (SemaphoreOperation.Wait time_out)) chan partition wanted not_sending not_receiving is none =
-    let same : set.SemaphoreWaiters (natural_of semaphore) ≡ wanted = cc in
+    changed_there partition.blackboards blackboard there.0 (λ found. (blackboard_effect (BlackboardOperation.Read time_out) found).next) there.1
+waits_there configuration who claimed partition (WaitsIn.waits_for_semaphore {semaphore = semaphore} {time_out = time_out}) off none =
     let there = object_there who partition (given_object partition.semaphores semaphore) time_out none in
-    subst (λ one. stands_at (objects_by configuration who claimed (request.Semaphore semaphore (SemaphoreOperation.Wait time_out)) partition) one ≡ true) same
-    (changed_there partition.semaphores semaphore there.0 (λ found. (semaphore_effect (SemaphoreOperation.Wait time_out) found).next) there.1)
-waits_there configuration who claimed (request.Event event (EventOperation.Wait time_out)) chan partition wanted not_sending not_receiving is none =
-    let same : set.EventWaiters (natural_of event) ≡ wanted = cc in
+    changed_there partition.semaphores semaphore there.0 (λ found. (semaphore_effect (SemaphoreOperation.Wait time_out) found).next) there.1
+waits_there configuration who claimed partition (WaitsIn.waits_for_event {event = event} {time_out = time_out}) off none =
     let there = object_there who partition (given_object partition.events event) time_out none in
-    subst (λ one. stands_at (objects_by configuration who claimed (request.Event event (EventOperation.Wait time_out)) partition) one ≡ true) same
-    (changed_there partition.events event there.0 (λ found. (event_effect (EventOperation.Wait time_out) found).next) there.1)
-waits_there configuration who claimed (request.Mutex mutex (MutexOperation.Acquire time_out)) chan partition wanted not_sending not_receiving is none =
-    let same : set.MutexWaiters (natural_of mutex) ≡ wanted = cc in
+    changed_there partition.events event there.0 (λ found. (event_effect (EventOperation.Wait time_out) found).next) there.1
+waits_there configuration who claimed partition (WaitsIn.acquires_mutex {mutex = mutex} {time_out = time_out}) off none =
     let there = mutex_there who partition mutex time_out none in
-    subst (λ one. stands_at (objects_by configuration who claimed (request.Mutex mutex (MutexOperation.Acquire time_out)) partition) one ≡ true) same
-    (changed_there partition.mutexes mutex there.0 (λ found. (mutex_effect who.proc (MutexOperation.Acquire time_out) found).next) there.1)
-waits_there configuration who claimed (request.QueuingPort port (QueuingOperation.Send length time_out message)) (Some channel) partition wanted not_sending not_receiving is none =
-    let same : wanted ≡ set.ChannelSenders channel = cc in absurd (not_sending channel same)
-waits_there configuration who claimed (request.QueuingPort port (QueuingOperation.Send length time_out message)) None partition wanted not_sending not_receiving is none = cc
-waits_there configuration who claimed (request.QueuingPort port (QueuingOperation.Receive time_out)) (Some channel) partition wanted not_sending not_receiving is none =
-    let same : wanted ≡ set.ChannelReceivers channel = cc in absurd (not_receiving channel same)
-waits_there configuration who claimed (request.QueuingPort port (QueuingOperation.Receive time_out)) None partition wanted not_sending not_receiving is none = cc
-waits_there configuration who claimed _ chan partition wanted not_sending not_receiving is none = let no : ◌≡◌ {A = Option WaitingSet} None (Some wanted) = is in cc
+    changed_there partition.mutexes mutex there.0 (λ found. (mutex_effect who.proc (MutexOperation.Acquire time_out) found).next) there.1
+waits_there configuration who claimed partition _ off none = absurd (true≢false off)
 
 waiting_is_done : (given : Out) → is_waiting given ≡ true → is_done given ≡ true
 waiting_is_done out.Waits is = refl
@@ -190,40 +156,35 @@ waiting_is_done (out.Answer code) is = absurd (true≢false (sym is))
 
 -- a caller that enters a set of its partition
 own_takes : (configuration : Configuration) (cores : List CoreState) (place core : ℕ) (call : CallRecord) (partition : Partition) → IsReadyCall configuration partition core call → (wanted : WaitingSet)
-    → ((other : ℕ) → ¬ (wanted ≡ set.ChannelSenders other)) → ((other : ℕ) → ¬ (wanted ≡ set.ChannelReceivers other)) → enters call wanted ≡ true
+    → is_of_channel wanted ≡ false → enters call wanted ≡ true
     → stands_in call.who (entries_at (partition_by configuration cores place core call.who.part (Call call) partition) wanted) ≡ true
-own_takes configuration cores place core call partition ready wanted not_sending not_receiving here =
+own_takes configuration cores place core call partition ready wanted off here =
     let parts = and_parts (is_waiting call.claim.out) (is_the_set wanted (set_of call.request call.claim.chan)) here in
     let done = waiting_is_done call.claim.out parts.0 in
     let objects : Partition = cond (is_done call.claim.out) (objects_by configuration call.who call.claim.val call.request partition) partition in
     let there : stands_at objects wanted ≡ true = rw done
-    (waits_there configuration call.who call.claim.val call.request call.claim.chan partition wanted not_sending not_receiving
-    (found_set wanted (set_of call.request call.claim.chan) parts.1) (ready.none done)) in
+    (waits_there configuration call.who call.claim.val partition ((entering_is_the_sentence call wanted).0 here).1 off (ready.none done)) in
     rw (is_itself call.who.part, waiting_goes_on call parts.0) (subst (λ entries. stands_in call.who entries ≡ true) (sym (called_sets configuration cores place core call partition wanted))
     (each_stands call.who (set_after place (Call call)) objects wanted there (set_takes place call wanted (entries_at objects wanted) here)))
 
--- who waits in a set of a partition after a record stands there, if the record's own calls are of ready callers
-partition_stands : (configuration : Configuration) (cores : List CoreState) (place core : ℕ) (body : Body) (partition : Partition) (who : Who) (wanted : WaitingSet)
-    → CallsReady configuration core who.part body partition
-    → ((other : ℕ) → ¬ (wanted ≡ set.ChannelSenders other)) → ((other : ℕ) → ¬ (wanted ≡ set.ChannelReceivers other))
+-- who waits in a set of a partition's object after a record stands there, if the record's own calls are of ready callers
+pub object_stands : (configuration : Configuration) (cores : List CoreState) (place core : ℕ) (body : Body) (partition : Partition) (who : Who) (wanted : WaitingSet)
+    → CallsReady configuration core who.part body partition → is_of_channel wanted ≡ false
     → (waits_at wanted (item_at partition.table who.proc) ≡ true → stands_in who (entries_at partition wanted) ≡ true)
     → waits_at wanted (item_at (partition_by configuration cores place core who.part body partition).table who.proc) ≡ true
     → stands_in who (entries_at (partition_by configuration cores place core who.part body partition) wanted) ≡ true
-partition_stands configuration cores place core (Disp one) partition who wanted ready not_sending not_receiving before waits =
+object_stands configuration cores place core (Disp one) partition who wanted ready off before waits =
     elim (who_waits configuration cores place core (Disp one) partition who wanted ready waits) [
       | inl goes ↦ before goes.1
       | inr enters ↦ absurd enters
     ]
-partition_stands configuration cores place core (Ret ret) partition who wanted ready not_sending not_receiving before waits =
+object_stands configuration cores place core (Ret ret) partition who wanted ready off before waits =
     elim (who_waits configuration cores place core (Ret ret) partition who wanted ready waits) [
-      | inl goes ↦ elim (nat_eq ret.who.part who.part) as (λ own. stands_in who (entries_at (cond own
-          (record partition { table = each_item (returned ret.who.proc) partition.table }) partition) wanted) ≡ true) [
-            | true ↦ subst (λ entries. stands_in who entries ≡ true) (sym (same_sets partition (each_item (returned ret.who.proc) partition.table) wanted)) (before goes.1)
-            | false ↦ before goes.1
-          ]
+      | inl goes ↦ return_case (λ next. stands_in who (entries_at next wanted) ≡ true) configuration cores place core who.part ret partition
+          (subst (λ entries. stands_in who entries ≡ true) (sym (same_sets partition (each_item (returned ret.who.proc) partition.table) wanted)) (before goes.1)) (before goes.1)
       | inr enters ↦ absurd enters
     ]
-partition_stands configuration cores place core (Tick woken) partition who wanted ready not_sending not_receiving before waits =
+object_stands configuration cores place core (Tick woken) partition who wanted ready off before waits =
     elim (who_waits configuration cores place core (Tick woken) partition who wanted ready waits) [
       | inl goes ↦
           subst (λ entries. stands_in who entries ≡ true) (sym (same_sets (each_set (set_after place (Tick woken)) partition) (each_item (ticked place who.part woken) partition.table) wanted))
@@ -231,33 +192,21 @@ partition_stands configuration cores place core (Tick woken) partition who wante
           (set_keeps place (Tick woken) who wanted (entries_at partition wanted) goes.0 (before goes.1)))
       | inr enters ↦ absurd enters
     ]
-partition_stands configuration cores place core (Call call) partition who wanted ready not_sending not_receiving before waits =
+object_stands configuration cores place core (Call call) partition who wanted ready off before waits =
     elim (who_waits configuration cores place core (Call call) partition who wanted ready waits) [
       | inl goes ↦
           let objects : Partition = cond (is_done call.claim.out) (objects_by configuration call.who call.claim.val call.request partition) partition in
-          let used = used_stands who configuration call partition wanted (before goes.1) in
-          let foreign : ℕ → Process → Process = λ other process. woken_if_named place call (record { part = who.part; proc = other }) process in
-          elim (nat_eq call.who.part who.part) as (λ own. nat_eq call.who.part who.part ≡ own → stands_in who (entries_at (cond own
-          (own_partition (restart_of call) configuration cores place core call partition) (record partition { table = each_item foreign partition.table })) wanted) ≡ true) [
-            | true ↦ λ own. rw (not_restarted call who (sym (eqb-true call.who.part who.part own)) goes.0) (subst (λ entries. stands_in who entries ≡ true) (sym (called_sets configuration cores place core call partition wanted))
-                (each_stands who (set_after place (Call call)) objects wanted (standing_there who objects wanted used) (set_keeps place (Call call) who wanted (entries_at objects wanted) goes.0 used)))
-            | false ↦ λ elsewhere. subst (λ entries. stands_in who entries ≡ true) (sym (same_sets partition (each_item foreign partition.table) wanted)) (before goes.1)
-          ] refl
+          let used = used_sets (λ entries. stands_in who entries ≡ true) configuration call partition wanted (before goes.1) in
+          call_case (λ next. stands_in who (entries_at next wanted) ≡ true) configuration cores place core who.part call partition
+          (λ own none. subst (λ entries. stands_in who entries ≡ true) (sym (called_sets configuration cores place core call partition wanted))
+          (each_stands who (set_after place (Call call)) objects wanted (standing_there who objects wanted used) (set_keeps place (Call call) who wanted (entries_at objects wanted) goes.0 used)))
+          (λ own mode is. (let no : ◌≡◌ {A = Option Mode} None (Some mode) = sym (not_restarted call who (sym (eqb-true call.who.part who.part own)) goes.0) ∙ is in cc))
+          (λ elsewhere. subst (λ entries. stands_in who entries ≡ true) (sym (same_sets partition (woken_if_named_table place call who.part partition.table) wanted)) (before goes.1))
       | inr entering ↦
           let own : nat_eq call.who.part who.part ≡ true = eq-eqb call.who.part who.part (ap (λ one. one.part) (sym entering.0)) in
           subst (λ one. stands_in one (entries_at (partition_by configuration cores place core one.part (Call call) partition) wanted) ≡ true) (sym entering.0)
-          (own_takes configuration cores place core call partition (ready own) wanted not_sending not_receiving entering.1)
+          (own_takes configuration cores place core call partition (ready own) wanted off entering.1)
     ]
-
--- so it is where the set isn't a channel's
-pub object_stands : (configuration : Configuration) (cores : List CoreState) (place core : ℕ) (body : Body) (partition : Partition) (who : Who) (wanted : WaitingSet)
-    → CallsReady configuration core who.part body partition → is_of_channel wanted ≡ false
-    → (waits_at wanted (item_at partition.table who.proc) ≡ true → stands_in who (entries_at partition wanted) ≡ true)
-    → waits_at wanted (item_at (partition_by configuration cores place core who.part body partition).table who.proc) ≡ true
-    → stands_in who (entries_at (partition_by configuration cores place core who.part body partition) wanted) ≡ true
-object_stands configuration cores place core body partition who wanted ready off before waits =
-    partition_stands configuration cores place core body partition who wanted ready
-    (λ other is. true≢false (sym (ap is_of_channel is) ∙ off)) (λ other is. true≢false (sym (ap is_of_channel is) ∙ off)) before waits
 
 -- the whole state
 

@@ -35,7 +35,7 @@ use Rattle.apex_laws.proofs.Booleans.{cannot_hold, is_itself}
 use Rattle.apex_laws.proofs.Callers.{StandsReady, chosen_stands, ready_waits_not}
 use Rattle.apex_laws.proofs.Codes.{are_errors, done_is_lawful}
 use Rattle.apex_laws.proofs.Ends.{no_condition}
-use Rattle.apex_laws.proofs.Restarts.{not_named, not_restarted, not_stopped, waiting_goes_on}
+use Rattle.apex_laws.proofs.Restarts.{not_named, not_restarted, not_stopped, return_case, waiting_goes_on}
 use Rattle.apex_laws.proofs.Tables.{at_each}
 use Rattle.apex_laws.proofs.WaitersOf.{same_who}
 use Rattle.apex_laws.proofs.Woken.{found}
@@ -246,15 +246,12 @@ keeps_waiting configuration cores place core (Tick woken) partition who wanted r
     goes_on wanted (item_at (each_item (ticked place who.part woken) partition.table) who.proc) old.process (is ∙ ap Some same) old.alive old.waits
 keeps_waiting configuration cores place core (Ret ret) partition who wanted ready stays waits =
     let old = waits_stands wanted (item_at partition.table who.proc) waits in
-    let table = partition.table in
-    elim (nat_eq ret.who.part who.part) as (λ own. waits_at wanted (item_at (cond own (record partition { table = each_item (returned ret.who.proc) table }) partition).table who.proc) ≡ true) [
-      | true ↦
-          let is : item_at (each_item (returned ret.who.proc) table) who.proc ≡ Some (returned ret.who.proc who.proc old.process) =
-          at_each (returned ret.who.proc) table who.proc ∙ ap (option_map (returned ret.who.proc who.proc)) old.stands in
-          let new = returned_waits wanted (nat_eq who.proc ret.who.proc) old.process old.alive old.waits in
-          goes_on wanted (item_at (each_item (returned ret.who.proc) table) who.proc) (returned ret.who.proc who.proc old.process) is new.0 new.1
-      | false ↦ waits
-    ]
+    let table = each_item (returned ret.who.proc) partition.table in
+    let is : item_at table who.proc ≡ Some (returned ret.who.proc who.proc old.process) =
+    at_each (returned ret.who.proc) partition.table who.proc ∙ ap (option_map (returned ret.who.proc who.proc)) old.stands in
+    let new = returned_waits wanted (nat_eq who.proc ret.who.proc) old.process old.alive old.waits in
+    return_case (λ next. waits_at wanted (item_at next.table who.proc) ≡ true) configuration cores place core who.part ret partition
+    (goes_on wanted (item_at table who.proc) (returned ret.who.proc who.proc old.process) is new.0 new.1) waits
 keeps_waiting configuration cores place core (Call call) partition who wanted ready stays waits =
     let old = waits_stands wanted (item_at partition.table who.proc) waits in
     let table = partition.table in
@@ -282,23 +279,23 @@ keeps_waiting configuration cores place core (Call call) partition who wanted re
 
 -- a caller that waits
 
--- a caller that enters a set waits in it
-in_set : (wanted : WaitingSet) (set : Option WaitingSet) (due : Option ℕ) → is_the_set wanted set ≡ true → is_in wanted (wait_in set due) ≡ true
-in_set wanted None due is = absurd (true≢false (sym is))
-in_set wanted (Some set) due is = is
+-- the wait of a call is in a set exactly where that is the set of the call
+in_set : (wanted : WaitingSet) (set : Option WaitingSet) (due : Option ℕ) → is_in wanted (wait_in set due) ≡ is_the_set wanted set
+in_set wanted None due = refl
+in_set wanted (Some set) due = refl
 
-waits_in : (wanted : WaitingSet) (asked : Request) (chan : Option ℕ) (now : ℕ) (x : Process) → is_the_set wanted (set_of asked chan) ≡ true → is_in wanted (wait_of asked chan now x) ≡ true
-waits_in wanted (request.Caller (CallerOperation.TimedWait (pos delay))) chan now x is = absurd (true≢false (sym is))
-waits_in wanted (request.Caller (CallerOperation.TimedWait (negsuc n))) chan now x is = absurd (true≢false (sym is))
-waits_in wanted (request.Caller CallerOperation.PeriodicWait) chan now x is = absurd (true≢false (sym is))
-waits_in wanted (request.Caller (CallerOperation.SuspendSelf time_out)) chan now x is = absurd (true≢false (sym is))
-waits_in wanted asked chan now x is = in_set wanted (set_of asked chan) (due_of_call (time_out_of asked) now) is
+pub begun_in : (wanted : WaitingSet) (asked : Request) (chan : Option ℕ) (now : ℕ) (x : Process) → is_in wanted (wait_of asked chan now x) ≡ is_the_set wanted (set_of asked chan)
+begun_in wanted (request.Caller (CallerOperation.TimedWait (pos delay))) chan now x = refl
+begun_in wanted (request.Caller (CallerOperation.TimedWait (negsuc n))) chan now x = refl
+begun_in wanted (request.Caller CallerOperation.PeriodicWait) chan now x = refl
+begun_in wanted (request.Caller (CallerOperation.SuspendSelf time_out)) chan now x = refl
+begun_in wanted asked chan now x = in_set wanted (set_of asked chan) (due_of_call (time_out_of asked) now)
 
 -- the caller after a call that waits
 waiting_caller : (place now : ℕ) (call : CallRecord) (x : Process) (wanted : WaitingSet) (given : Out) → call.claim.out ≡ given → is_waiting given ≡ true → x.alive ≡ true
     → is_the_set wanted (set_of call.request call.claim.chan) ≡ true
     → ((caller_after place now call x).alive ≡ true) × (is_in wanted (caller_after place now call x).wait ≡ true)
-waiting_caller place now call x wanted out.Waits given waits alive is = rw given (alive, waits_in wanted call.request call.claim.chan now x is)
+waiting_caller place now call x wanted out.Waits given waits alive is = rw given (alive, begun_in wanted call.request call.claim.chan now x ∙ is)
 waiting_caller place now call x wanted _ given waits alive is = absurd (true≢false (sym waits))
 
 pub entered_waits : (configuration : Configuration) (cores : List CoreState) (place core : ℕ) (call : CallRecord) (partition : Partition) → IsReadyCall configuration partition core call

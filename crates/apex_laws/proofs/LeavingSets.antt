@@ -17,20 +17,20 @@ use Rattle.apex_machine.specs.declared.state.Wait.{Wait}
 use Rattle.apex_machine.specs.declared.state.Wait.TheVariants as wait
 use Rattle.apex_machine.specs.declared.state.WaitingSet.{WaitingSet}
 use Rattle.apex_machine.specs.declared.state.WaitingSet.TheVariants as set
-use Rattle.apex_machine.specs.After.{each_set, is_done, objects_by, partition_by, returned}
+use Rattle.apex_machine.specs.After.{each_set, is_done, objects_by, partition_by}
 use Rattle.apex_machine.specs.Answer.{done}
 use Rattle.apex_machine.specs.Arguments.{natural_of}
 use Rattle.apex_machine.specs.Demands.{AllHold, outcome_demands}
 use Rattle.apex_machine.specs.Ports.{channel_of}
 use Rattle.apex_machine.specs.ServiceConditions.{condition_codes}
 use Rattle.apex_machine.specs.Services.{answer_of, peer}
-use Rattle.apex_machine.specs.State.{Blackboard, Buffer, Event, Mutex, Partition, Semaphore, each_item, is_named, is_same, item_at, time_of}
+use Rattle.apex_machine.specs.State.{Blackboard, Buffer, Event, Mutex, Partition, Semaphore, is_named, is_same, item_at, time_of}
 use Rattle.apex_machine.specs.Waiting.{ends_wait, is_in, is_no_error, is_same_set, is_target, restart_by, restart_of, set_after, stop_of, waits_at}
 use Rattle.apex_laws.specs.Laws.{AllEntries, entries_at}
 use Rattle.apex_laws.specs.PartLaws.{DueLeave, ForeignCallsLeaveSets, HasDistinctObjects, OnlyProcessesChange, is_of_channel, is_set_used}
 use Rattle.apex_laws.specs.PartObjects.{StoppedLeaves, left_by, with_set, without_one}
 use Rattle.apex_laws.proofs.Booleans.{cannot_hold, neither_first, neither_later, same_if}
-use Rattle.apex_laws.proofs.Restarts.{restarts_none}
+use Rattle.apex_laws.proofs.Restarts.{restarts_none, return_case}
 use Rattle.apex_laws.proofs.OtherSets.{enters_no_other}
 use Rattle.apex_laws.proofs.EachSet.{Leaves, becomes_found, leaves_found, sets_stay}
 use Rattle.apex_laws.proofs.PartObjects.{one_of_kind_changes}
@@ -60,11 +60,7 @@ foreign_calls_leave_sets configuration cores place core number partition = (call
         rw off refl
 
     given_back : (ret : Return) → OnlyProcessesChange partition (partition_by configuration cores place core number (Ret ret) partition)
-    given_back ret =
-        elim (nat_eq ret.who.part number) as (λ own. OnlyProcessesChange partition (cond own (record partition { table = each_item (returned ret.who.proc) partition.table }) partition)) [
-          | true ↦ refl
-          | false ↦ refl
-        ]
+    given_back ret = return_case (OnlyProcessesChange partition) configuration cores place core number ret partition refl refl
 
 -- one set changes
 

@@ -1,5 +1,5 @@
 -- What each rule of an object or a channel computes is exactly what its sentences say.
-use Rattle.std.proofs.Common.{◌≡◌, ℕ, zero, suc, ◌-◌, ◌≤◌, ℤ, pos, negsuc, List, [], ◌∷◌, length, Option, Some, None, Bool, true, false, cond, ◌||◌, nat_eq, nat_le, nat_lt, IsTrue, refl, sym, ap, subst, ◌∙◌, inl, inr, arith, true≢false}
+use Rattle.std.proofs.Common.{◌≡◌, ℕ, zero, suc, ◌-◌, ◌≤◌, ℤ, pos, List, [], ◌∷◌, length, Option, Some, None, Bool, true, false, cond, ◌||◌, nat_eq, nat_le, nat_lt, IsTrue, refl, sym, ap, subst, ◌∙◌, inl, inr, arith, true≢false}
 use Rattle.std.proofs.lemmas.Bool.{cases_Bool, eqb-true, eq-eqb, eqb-false, ltb-true, leb-true}
 use Rattle.apex_types.specs.declared.code.Code.TheVariants as code
 use Rattle.apex_types.specs.declared.discipline.Discipline.{Discipline}
@@ -27,28 +27,23 @@ use Rattle.apex_laws.specs.ObjectSentences.IsReleasing.{freed, handed_on, not_la
 use Rattle.apex_laws.specs.ObjectSentences.IsSampling.{empty, too_old, valid}
 use Rattle.apex_laws.specs.ObjectSentences.IsUse.{asks_destination, asks_source, receives, samples, sends, writes}
 use Rattle.apex_laws.proofs.Firsts.{first_is, first_is_the_sentence}
+use Rattle.apex_laws.proofs.ConditionTests.{over_tells}
+use Rattle.apex_laws.proofs.Booleans.{cannot_hold}
 
--- the test of a time-out that is over
-over_is : (time_out : ℤ) → is_over time_out ≡ true → time_out ≡ pos 0
-over_is (pos n) over = ap pos (eqb-true n 0 over)
-over_is (negsuc n) over = absurd (true≢false (sym over))
-
-over_by : (time_out : ℤ) → time_out ≡ pos 0 → is_over time_out ≡ true
-over_by time_out is = ap is_over is
-
+-- a time-out that is not over
 not_over : (time_out : ℤ) → ¬ (time_out ≡ pos 0) → is_over time_out ≡ false
-not_over time_out differs = elim (cases_Bool (is_over time_out)) [ inl over ↦ absurd (differs (over_is time_out over)) | inr later ↦ later ]
+not_over time_out differs = cannot_hold (is_over time_out) (λ over. differs ((over_tells time_out).0 over))
 
 -- what cannot be had
 unmet_says : {Object : Type 0} (time_out : ℤ) (object : Object) (effect : Effect Object) → effect ≡ record { answer = unmet time_out; next = object } → IsUnmet time_out object effect
 unmet_says {Object} time_out object effect is =
     elim (is_over time_out) as (λ over. is_over time_out ≡ over → effect ≡ record { answer = cond over (answering code.NotAvailable) waiting; next = object } → IsUnmet time_out object effect) [
-      | true ↦ λ over is. at_once (over_is time_out over) is
-      | false ↦ λ later is. waits (λ over. true≢false (sym (over_by time_out over) ∙ later)) is
+      | true ↦ λ over is. at_once ((over_tells time_out).0 over) is
+      | false ↦ λ later is. waits (λ over. true≢false (sym ((over_tells time_out).1 over) ∙ later)) is
     ] refl is
 
 unmet_by : {Object : Type 0} (time_out : ℤ) (object : Object) (effect : Effect Object) → IsUnmet time_out object effect → effect ≡ record { answer = unmet time_out; next = object }
-unmet_by time_out object effect (at_once over is) = rw (over_by time_out over) is
+unmet_by time_out object effect (at_once over is) = rw ((over_tells time_out).1 over) is
 unmet_by time_out object effect (waits later is) = rw (not_over time_out later) is
 
 -- an empty set has no first

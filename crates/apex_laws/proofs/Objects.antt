@@ -14,18 +14,20 @@ use Rattle.apex_machine.specs.Configuration.{Configuration}
 use Rattle.apex_machine.specs.Objects.{acquired_again, acquired_from, blackboard_effect, buffer_effect, event_effect, handed_on, mutex_effect, mutex_released, not_acquired, released_once, semaphore_effect}
 use Rattle.apex_machine.specs.State.{Blackboard, Buffer, Event, Mutex, Partition, Semaphore, change_at, each_item, item_at}
 use Rattle.apex_machine.specs.Waiting.{first_waiter}
-use Rattle.apex_laws.specs.Laws.{entries_at, entries_in}
+use Rattle.apex_laws.specs.Laws.{AllEntries, entries_at, entries_in}
+use Rattle.apex_laws.specs.PartLaws.{is_of_channel}
 use Rattle.apex_laws.proofs.Tables.{at_each}
 
 -- a change of each object that changes its entries in one way
 changed_entries : {Object : Type 0} (Holds : List Entry → Type 0) (entries_of : Object → List Entry) (change : ℕ → Object → Object) (through : List Entry → List Entry) (number : ℕ)
-    → ((object : Object) → entries_of (change number object) ≡ through (entries_of object)) → (found : Option Object) → (is_some found ≡ false → Holds [])
+    → ((object : Object) → entries_of (change number object) ≡ through (entries_of object)) → (found : Option Object) → (is_some found ≡ false → entries_in entries_of found ≡ [] → Holds [])
     → Holds (through (entries_in entries_of found)) → Holds (entries_in entries_of (option_map (change number) found))
-changed_entries Holds entries_of change through number is None absent all = absent refl
+changed_entries Holds entries_of change through number is None absent all = absent refl refl
 changed_entries Holds entries_of change through number is (Some object) absent all = subst Holds (sym (is object)) all
 
 entries_of_each : {Object : Type 0} (Holds : List Entry → Type 0) (entries_of : Object → List Entry) (change : ℕ → Object → Object) (through : List Entry → List Entry) (number : ℕ)
-    → ((object : Object) → entries_of (change number object) ≡ through (entries_of object)) → (objects : List (ℕ × Object)) → (is_some (item_at objects number) ≡ false → Holds [])
+    → ((object : Object) → entries_of (change number object) ≡ through (entries_of object)) → (objects : List (ℕ × Object))
+    → (is_some (item_at objects number) ≡ false → entries_in entries_of (item_at objects number) ≡ [] → Holds [])
     → Holds (through (entries_in entries_of (item_at objects number))) → Holds (entries_in entries_of (item_at (each_item change objects) number))
 entries_of_each Holds entries_of change through number is objects absent all =
     subst (λ found. Holds (entries_in entries_of found)) (sym (at_each change objects number))
@@ -43,7 +45,8 @@ stands_at partition (set.ChannelSenders channel) = false
 stands_at partition (set.ChannelReceivers channel) = false
 
 -- the entries of a set, where each set of the partition is changed
-pub each_set_holds : (Holds : List Entry → Type 0) (change : WaitingSet → List Entry → List Entry) (partition : Partition) (wanted : WaitingSet) → (stands_at partition wanted ≡ false → Holds [])
+pub each_set_holds : (Holds : List Entry → Type 0) (change : WaitingSet → List Entry → List Entry) (partition : Partition) (wanted : WaitingSet)
+    → (stands_at partition wanted ≡ false → entries_at partition wanted ≡ [] → Holds [])
     → Holds (change wanted (entries_at partition wanted)) → Holds (entries_at (each_set change partition) wanted)
 each_set_holds Holds change partition (set.BufferSenders number) absent all =
     entries_of_each Holds (λ (one : Buffer). one.senders) (with_sets kind.Buffer change) (change (set.BufferSenders number)) number (λ one. refl) partition.buffers absent all
@@ -61,13 +64,20 @@ each_set_holds Holds change partition (set.EventWaiters number) absent all =
 each_set_holds Holds change partition (set.MutexWaiters number) absent all =
     entries_of_each Holds (λ (one : Mutex). one.waiters) (with_sets kind.Mutex change)
     (change (set.MutexWaiters number)) number (λ one. refl) partition.mutexes absent all
-each_set_holds Holds change partition (set.ChannelSenders channel) absent all = absent refl
-each_set_holds Holds change partition (set.ChannelReceivers channel) absent all = absent refl
+each_set_holds Holds change partition (set.ChannelSenders channel) absent all = absent refl refl
+each_set_holds Holds change partition (set.ChannelReceivers channel) absent all = absent refl refl
 
 -- where it holds of the empty set
 pub each_set_has : (Holds : List Entry → Type 0) (nobody : Holds []) (change : WaitingSet → List Entry → List Entry) (partition : Partition) (wanted : WaitingSet)
     → Holds (change wanted (entries_at partition wanted)) → Holds (entries_at (each_set change partition) wanted)
-each_set_has Holds nobody change partition wanted all = each_set_holds Holds change partition wanted (λ absent. nobody) all
+each_set_has Holds nobody change partition wanted all = each_set_holds Holds change partition wanted (λ absent empty. nobody) all
+
+-- what holds of each entry where a set isn't a channel's holds of each entry of a partition's set
+pub of_objects : (Fact : Entry → Type 0) (partition : Partition) (wanted : WaitingSet) → (is_of_channel wanted ≡ false → AllEntries Fact (entries_at partition wanted))
+    → AllEntries Fact (entries_at partition wanted)
+of_objects Fact partition (set.ChannelSenders channel) all = tt
+of_objects Fact partition (set.ChannelReceivers channel) all = tt
+of_objects Fact partition _ all = all refl
 
 -- an object's rule leaves its entries
 same_entries : {Object : Type 0} (Holds : List Entry → Type 0) (entries_of : Object → List Entry) (change : Object → Object) → ((object : Object) → entries_of (change object) ≡ entries_of object)

@@ -1,59 +1,45 @@
 -- An own call leaves the waiting sets that its request doesn't use.
 use Rattle.std.proofs.Common.{◌≡◌, ℕ, List, [], ◌∷◌, Bool, true, false, nat_eq, ℤ, Option, Some, None, is_some, refl, sym, ap, subst, ◌∙◌, true≢false, ◌&&◌}
-use Rattle.std.proofs.lemmas.Bool.{and_parts}
 use Rattle.apex_types.specs.declared.code.Code.{Code}
 use Rattle.apex_types.specs.declared.record.Call.{Call as CallRecord}
 use Rattle.apex_types.specs.declared.record.Claim.{Claim}
 use Rattle.apex_types.specs.declared.record.Who.{Who}
-use Rattle.apex_types.specs.declared.operation.{BlackboardOperation.BlackboardOperation, BufferOperation.BufferOperation, EventOperation.EventOperation, MutexOperation.MutexOperation, QueuingOperation.QueuingOperation, SemaphoreOperation.SemaphoreOperation}
 use Rattle.apex_types.specs.declared.request.Request.{Request}
-use Rattle.apex_types.specs.declared.request.Request.TheVariants as request
-use Rattle.apex_machine.specs.declared.state.Process.{Process}
 use Rattle.apex_machine.specs.declared.state.WaitingSet.{WaitingSet}
-use Rattle.apex_machine.specs.declared.state.WaitingSet.TheVariants as set
 use Rattle.apex_machine.specs.Arguments.{natural_of}
 use Rattle.apex_machine.specs.Demands.{AllHold, outcome_demands}
-use Rattle.apex_machine.specs.DueTimes.{is_suspension}
 use Rattle.apex_machine.specs.Ports.{channel_of}
 use Rattle.apex_machine.specs.ServiceConditions.{condition_codes}
 use Rattle.apex_machine.specs.Services.{answer_of}
-use Rattle.apex_machine.specs.State.{Partition, created, is_named, item_at, names_one_of, time_of}
+use Rattle.apex_machine.specs.State.{Partition, is_named, item_at, names_one_of, time_of}
 use Rattle.apex_machine.specs.Pieces.{stops_some}
-use Rattle.apex_machine.specs.Waiting.{enters, is_no_error, is_target, is_the_set, is_waiting, restart_of, restarts, set_of, stop_of, stops, waits_at}
+use Rattle.apex_machine.specs.Waiting.{enters, is_no_error, is_target, restart_of, restarts, stop_of, stops, waits_at}
 use Rattle.apex_laws.specs.Laws.{entries_at}
-use Rattle.apex_laws.specs.PartLaws.{IsSoundPart, OtherSetsStay, is_of_channel, is_set_used}
-use Rattle.apex_laws.proofs.Booleans.{cannot_hold, first_holds, later_holds, neither_first, neither_later, not_first, not_second}
+use Rattle.apex_laws.specs.PartLaws.{IsSoundPart, OtherSetsStay, is_set_used}
+use Rattle.apex_laws.specs.WaitLaws.{WaitsIn}
+use Rattle.apex_laws.proofs.Booleans.{cannot_hold, first_holds, is_itself, neither_first, neither_later, not_first, not_second}
 use Rattle.apex_laws.proofs.Restarts.{goes_on}
 use Rattle.apex_laws.proofs.SoundParts.{Stands}
 use Rattle.apex_laws.proofs.Untouched.{set_stays}
 use Rattle.apex_laws.proofs.Waiters.{all_weaker}
 use Rattle.apex_laws.proofs.Wakes.{answer_wakes, nobody}
-use Rattle.apex_laws.proofs.WaitSets.{one_set, same_set_is}
+use Rattle.apex_laws.proofs.Waits.{entering_is_the_sentence}
+use Rattle.apex_laws.proofs.WaitSets.{one_set}
 use Rattle.apex_laws.proofs.WaitersOf.{not_named}
-use Rattle.apex_laws.proofs.Woken.{created_is, suspended_waits_not}
+use Rattle.apex_laws.proofs.Woken.{suspended_elsewhere}
 
 -- who enters
 
 -- a caller enters only a set that its request uses
-entered_is_used : (asked : Request) (chan : Option ℕ) (wanted : WaitingSet) → is_the_set wanted (set_of asked chan) ≡ true → is_set_used asked wanted ≡ true
-entered_is_used (request.Buffer buffer (BufferOperation.Send length time_out message)) chan wanted is = first_holds _ _ is
-entered_is_used (request.Buffer buffer (BufferOperation.Receive time_out)) chan wanted is = later_holds _ _ is
-entered_is_used (request.Blackboard blackboard (BlackboardOperation.Read time_out)) chan wanted is = is
-entered_is_used (request.Semaphore semaphore (SemaphoreOperation.Wait time_out)) chan wanted is = is
-entered_is_used (request.Event event (EventOperation.Wait time_out)) chan wanted is = is
-entered_is_used (request.Mutex mutex (MutexOperation.Acquire time_out)) chan wanted is = is
-entered_is_used (request.QueuingPort port (QueuingOperation.Send length time_out message)) (Some channel) wanted is =
-    subst (λ one. is_of_channel one ≡ true) (same_set_is (set.ChannelSenders channel) wanted is) refl
-entered_is_used (request.QueuingPort port (QueuingOperation.Send length time_out message)) None wanted is = absurd (true≢false (sym is))
-entered_is_used (request.QueuingPort port (QueuingOperation.Receive time_out)) (Some channel) wanted is =
-    subst (λ one. is_of_channel one ≡ true) (same_set_is (set.ChannelReceivers channel) wanted is) refl
-entered_is_used (request.QueuingPort port (QueuingOperation.Receive time_out)) None wanted is = absurd (true≢false (sym is))
-entered_is_used _ chan wanted is = absurd (true≢false (sym is))
+entered_is_used : {asked : Request} {chan : Option ℕ} {wanted : WaitingSet} → WaitsIn asked chan wanted → is_set_used asked wanted ≡ true
+entered_is_used (WaitsIn.sends_to_buffer {buffer = buffer}) = first_holds (nat_eq (natural_of buffer) (natural_of buffer)) false (is_itself (natural_of buffer))
+entered_is_used WaitsIn.sends_through = refl
+entered_is_used WaitsIn.receives_through = refl
+entered_is_used _ = is_itself _
 
 pub enters_no_other : (call : CallRecord) (wanted : WaitingSet) → is_set_used call.request wanted ≡ false → enters call wanted ≡ false
 enters_no_other call wanted unused =
-    cannot_hold (enters call wanted) (λ here.
-    true≢false (sym (entered_is_used call.request call.claim.chan wanted (and_parts (is_waiting call.claim.out) (is_the_set wanted (set_of call.request call.claim.chan)) here).1) ∙ unused))
+    cannot_hold (enters call wanted) (λ here. true≢false (sym (entered_is_used ((entering_is_the_sentence call wanted).0 here).1) ∙ unused))
 
 -- who leaves
 
@@ -70,16 +56,6 @@ stops_nobody call who none = not_stopping (stop_of call.request) (is_no_error ca
 pub restarts_nobody : (call : CallRecord) (number : ℕ) → stops_some call ≡ false → restarts call number ≡ false
 restarts_nobody call number none = not_first (is_some (restart_of call)) (nat_eq number call.who.part) (neither_first _ _ none)
 
--- who suspended itself waits in no set
-suspended_elsewhere : (partition : Partition) (who : Who) (process : ℤ) (target : Process) (wanted : WaitingSet) → created partition.table process ≡ Some target → is_suspension target.wait ≡ true
-    → waits_at wanted (item_at partition.table (natural_of process)) ≡ true → ⊥
-suspended_elsewhere partition who process target wanted is suspends waits =
-    let at = created_is partition.table process target is in
-    let number : natural_of process ≡ at.0 = ap natural_of at.1 in
-    let here : waits_at wanted (Some target) ≡ true =
-    subst (λ one. waits_at wanted one ≡ true) at.2 (subst (λ one. waits_at wanted (item_at partition.table one) ≡ true) number waits) in
-    suspended_waits_not wanted target.wait suspends (and_parts target.alive _ here).1
-
 -- whom an own call names waits in no set that the request doesn't use
 named_uses : (number place now : ℕ) (partition : Partition) (caller : Who) (asked : Request) (claim : Claim) → IsSoundPart number place partition
     → (codes : List Code) (channel : Option ℕ) → AllHold (outcome_demands codes channel number asked (answer_of now caller partition asked) claim)
@@ -92,7 +68,7 @@ named_uses number place now partition caller asked claim sound [] None hold want
     (λ other used. all_weaker (Stands number other partition) (λ entry. waits_at wanted (item_at partition.table entry.who.proc) ≡ true → ⊥)
     (λ entry is also. true≢false (sym used ∙ ap (is_set_used asked) (one_set other wanted (item_at partition.table entry.who.proc) is.1 also) ∙ unused))
     (entries_at partition other) (sound.stands other))
-    (λ process target is suspends waits. suspended_elsewhere partition caller process target wanted is suspends waits)
+    (λ process target is suspends waits. suspended_elsewhere partition process target wanted is suspends waits)
     who (sym (hold.1.1.1.1.0 who) ∙ named) waits
 
 pub other_sets_stay : OtherSetsStay

@@ -1,6 +1,5 @@
 -- A call changes the one object that it names.
 use Rattle.std.proofs.Common.{◌≡◌, ℕ, List, [], ◌++◌, Bool, true, false, cond, nat_eq, ℤ, Option, Some, refl, sym, ap, ◌∙◌, true≢false}
-use Rattle.std.proofs.lemmas.Bool.{eq-eqb, eqb-true}
 use Rattle.apex_types.specs.declared.object_kind.ObjectKind.{ObjectKind}
 use Rattle.apex_types.specs.declared.object_kind.ObjectKind.TheVariants as kind
 use Rattle.apex_types.specs.declared.record.Body.TheVariants.{Call}
@@ -20,7 +19,7 @@ use Rattle.apex_machine.specs.State.{ObjectOf, Partition, Port, change_at, each_
 use Rattle.apex_machine.specs.Waiting.{is_same_set, set_after}
 use Rattle.apex_laws.specs.PartLaws.{HasDistinctObjects, is_of_buffer, is_set_used}
 use Rattle.apex_laws.specs.PartObjects.{OneObjectChanges, objects_changed}
-use Rattle.apex_laws.proofs.Booleans.{cannot_hold, neither, same_if}
+use Rattle.apex_laws.proofs.Booleans.{differs_back, neither, same_if}
 use Rattle.apex_laws.proofs.OtherSets.{enters_no_other, other_sets_stay}
 use Rattle.apex_laws.proofs.EachSet.{Leaves, OnSets, all_stay_with, each_itself, object_stays, objects_stay, on_sets, one_changes, put_if, sets_stay, weaker_on}
 
@@ -76,10 +75,6 @@ kind_alone kind.QueuingPort change partition done after new becomes stay =
     ap (each_set change) (put_if done (λ objects. with_objects kind.QueuingPort objects partition) after partition.queuing_ports partition refl)
     ∙ (λ i. record partition { buffers = stay kind.Buffer refl i; blackboards = stay kind.Blackboard refl i; semaphores = stay kind.Semaphore refl i; events = stay kind.Event refl i; mutexes = stay kind.Mutex refl i; queuing_ports = (sym (each_itself (cond done after partition.queuing_ports)) ∙ becomes) i })
 
--- another number is another number
-apart : (one other : ℕ) → nat_eq one other ≡ false → nat_eq other one ≡ false
-apart one other differs = cannot_hold (nat_eq other one) (λ same. true≢false (sym (eq-eqb one other (sym (eqb-true other one same))) ∙ differs))
-
 -- whether a set is one of the object of this kind and number
 abbrev pub is_set_of : ObjectKind → ℕ → WaitingSet → Bool
 is_set_of kind.Buffer number wanted = is_of_buffer number wanted
@@ -91,11 +86,11 @@ is_set_of _ number wanted = false
 
 -- the sets of an object of another number are not its
 of_another : (kind : ObjectKind) (number another : ℕ) → nat_eq another number ≡ false → OnSets kind another (λ wanted. is_set_of kind number wanted ≡ false)
-of_another kind.Buffer number another differs = (neither _ _ (apart another number differs) refl, apart another number differs)
-of_another kind.Blackboard number another differs = apart another number differs
-of_another kind.Semaphore number another differs = apart another number differs
-of_another kind.Event number another differs = apart another number differs
-of_another kind.Mutex number another differs = apart another number differs
+of_another kind.Buffer number another differs = (neither _ _ (differs_back another number differs) refl, differs_back another number differs)
+of_another kind.Blackboard number another differs = differs_back another number differs
+of_another kind.Semaphore number another differs = differs_back another number differs
+of_another kind.Event number another differs = differs_back another number differs
+of_another kind.Mutex number another differs = differs_back another number differs
 of_another _ number another differs = tt
 
 -- nor are those of an object of another kind

@@ -11,7 +11,6 @@ use Rattle.apex_types.specs.declared.operation.{CallerOperation.CallerOperation,
 use Rattle.apex_types.specs.declared.request.Request.{Request}
 use Rattle.apex_types.specs.declared.request.Request.TheVariants as request
 use Rattle.apex_machine.specs.declared.state.Mode.{Mode}
-use Rattle.apex_machine.specs.declared.state.Mode.TheVariants as mode
 use Rattle.apex_machine.specs.declared.state.Process.{Process}
 use Rattle.apex_machine.specs.declared.state.Wait.{Wait}
 use Rattle.apex_machine.specs.declared.state.Wait.TheVariants as wait
@@ -26,32 +25,26 @@ use Rattle.apex_machine.specs.Waiting.{first_waiter, is_waiting, set_of}
 use Rattle.apex_laws.specs.ProcessLaws.{CallerIsTheSentence, DueIsTheSentence, ReleaseIsTheSentence, SettingIsTheSentence, StoppingIsTheSentence, WakingIsTheSentence}
 use Rattle.apex_laws.specs.ProcessSentences.{HasDueTime, IsBegun, IsCaller, IsEntry, IsFirstRelease, IsMutexChange, IsNormalEntered, IsOwnerChange, IsReleased, IsStarted, IsWoken, OnTarget, Renews, WaitsForOther, taking}
 use Rattle.apex_laws.proofs.Booleans.{cannot_hold, same_if}
+use Rattle.apex_laws.proofs.ConditionTests.{normal_tells, number_tells, owner_tells}
 
 -- a target
 
-number_is : (process : ℤ) (number : ℕ) → is_number process number ≡ true → process ≡ pos number
-number_is (pos n) number is = ap pos (eqb-true n number is)
-number_is (negsuc n) number is = absurd (true≢false (sym is))
-
-number_by : (process : ℤ) (number : ℕ) → process ≡ pos number → is_number process number ≡ true
-number_by process number is = ap (λ one. is_number one number) is ∙ eq-eqb number number refl
-
 not_number : (process : ℤ) (number : ℕ) → ¬ (process ≡ pos number) → is_number process number ≡ false
-not_number process number differs = cannot_hold (is_number process number) (λ is. differs (number_is process number is))
+not_number process number differs = cannot_hold (is_number process number) (λ is. differs ((number_tells process number).0 is))
 
 -- a service that changes its target alone
 on_target : (process : ℤ) (number : ℕ) (Changed : Type 0) (changed old new : Process) → ((new ≡ changed) → Changed) → (Changed → new ≡ changed)
     → (new ≡ cond (is_number process number) changed old → OnTarget process number Changed old new) × (OnTarget process number Changed old new → new ≡ cond (is_number process number) changed old)
 on_target process number Changed changed old new says by = (
   λ is. elim (is_number process number) as (λ own. is_number process number ≡ own → new ≡ cond own changed old → OnTarget process number Changed old new) [
-    | true ↦ λ own is. inl (number_is process number own, says is)
-    | false ↦ λ other is. inr (λ own. true≢false (sym (number_by process number own) ∙ other), is)
+    | true ↦ λ own is. inl ((number_tells process number).0 own, says is)
+    | false ↦ λ other is. inr (λ own. true≢false (sym ((number_tells process number).1 own) ∙ other), is)
   ] refl is,
   back,
 )
   where
     back : OnTarget process number Changed old new → new ≡ cond (is_number process number) changed old
-    back (inl here) = rw (number_by process number here.0) (by here.1)
+    back (inl here) = rw ((number_tells process number).1 here.0) (by here.1)
     back (inr elsewhere) = rw (not_number process number elsewhere.0) elsewhere.1
 
 -- entry into NORMAL
@@ -101,18 +94,12 @@ entry_by period now own entry above (IsEntry.aperiodic none is) = is ∙ sym (ap
 entry_by period now own entry above (IsEntry.periodic of time some first is) =
     is ∙ ap wait.FirstRelease (one_release period now time (first_release period now) first (first_release_is period now above)) ∙ sym (ap (entry_wait period now) some)
 
--- the test of NORMAL
-normal_is : (current : Mode) → is_normal current ≡ true → current ≡ mode.Normal
-normal_is mode.Normal is = refl
-normal_is mode.Idle is = absurd (true≢false (sym is))
-normal_is _ is = absurd (true≢false (sym is))
-
 -- a process that is started
 started_says : (place period now : ℕ) (current : Mode) (old new : Process) → 0 < period → new ≡ started place period now current old → IsStarted place period now current old new
 started_says place period now current old new above is =
     elim (is_normal current) as (λ normal. is_normal current ≡ normal → new ≡ record old { current_priority = old.base_priority; alive = true; wait = cond normal (entry_wait period now old.period) wait.NormalMode; ready_position = place }
     → IsStarted place period now current old new) [
-      | true ↦ λ normal is. IsStarted.in_normal (entry_wait period now old.period) (normal_is current normal) (entry_says period now old.period above) is
+      | true ↦ λ normal is. IsStarted.in_normal (entry_wait period now old.period) ((normal_tells current).0 normal) (entry_says period now old.period above) is
       | false ↦ λ not_normal is. IsStarted.before_normal (λ normal. true≢false (sym (ap is_normal normal) ∙ not_normal)) is
     ] refl is
 
@@ -122,7 +109,7 @@ started_by place period now current old new above (IsStarted.in_normal entry nor
     (entry_by period now old.period entry above enters ∙ sym (ap (λ test. cond test (entry_wait period now old.period) wait.NormalMode) (ap is_normal normal)))
 started_by place period now current old new above (IsStarted.before_normal differs is) =
     is ∙ ap (λ one. record old { current_priority = old.base_priority; alive = true; wait = one; ready_position = place })
-    (sym (ap (λ test. cond test (entry_wait period now old.period) wait.NormalMode) (cannot_hold (is_normal current) (λ normal. differs (normal_is current normal)))))
+    (sym (ap (λ test. cond test (entry_wait period now old.period) wait.NormalMode) (cannot_hold (is_normal current) (λ normal. differs ((normal_tells current).0 normal)))))
 
 -- the wait for NORMAL
 for_normal_is : (one : Wait) → waits_for_normal one ≡ true → one ≡ wait.NormalMode
@@ -146,31 +133,24 @@ normal_by place period now old new above (IsNormalEntered.else_stays differs is)
 
 -- owners of mutexes
 
-owner_is : (owner : Option ℕ) (number : ℕ) → is_owner owner number ≡ true → owner ≡ Some number
-owner_is None number is = absurd (true≢false (sym is))
-owner_is (Some owner) number is = ap Some (eqb-true owner number is)
-
-owner_by : (owner : Option ℕ) (number : ℕ) → owner ≡ Some number → is_owner owner number ≡ true
-owner_by owner number is = ap (λ one. is_owner one number) is ∙ eq-eqb number number refl
-
 not_owner : (owner : Option ℕ) (number : ℕ) → ¬ (owner ≡ Some number) → is_owner owner number ≡ false
-not_owner owner number differs = cannot_hold (is_owner owner number) (λ is. differs (owner_is owner number is))
+not_owner owner number differs = cannot_hold (is_owner owner number) (λ is. differs ((owner_tells owner number).0 is))
 
 isnt_owner : (owner : Option ℕ) (number : ℕ) → is_owner owner number ≡ false → ¬ (owner ≡ Some number)
-isnt_owner owner number differs is = true≢false (sym (owner_by owner number is) ∙ differs)
+isnt_owner owner number differs is = true≢false (sym ((owner_tells owner number).1 is) ∙ differs)
 
 owner_says : (before after : Option ℕ) (priority number : ℕ) (old new : Process) (did does : Bool) → is_owner before number ≡ did → is_owner after number ≡ does
     → new ≡ on_ownership did does priority old → IsOwnerChange before after priority number old new
-owner_says before after priority number old new false true was is_now is = IsOwnerChange.becomes_owner (isnt_owner before number was) (owner_is after number is_now) is
-owner_says before after priority number old new true false was is_now is = IsOwnerChange.was_owner (owner_is before number was) (isnt_owner after number is_now) is
-owner_says before after priority number old new true true was is_now is = IsOwnerChange.stays_owner (owner_is before number was) (owner_is after number is_now) is
+owner_says before after priority number old new false true was is_now is = IsOwnerChange.becomes_owner (isnt_owner before number was) ((owner_tells after number).0 is_now) is
+owner_says before after priority number old new true false was is_now is = IsOwnerChange.was_owner ((owner_tells before number).0 was) (isnt_owner after number is_now) is
+owner_says before after priority number old new true true was is_now is = IsOwnerChange.stays_owner ((owner_tells before number).0 was) ((owner_tells after number).0 is_now) is
 owner_says before after priority number old new false false was is_now is = IsOwnerChange.never_owner (isnt_owner before number was) (isnt_owner after number is_now) is
 
 owner_change_by : (before after : Option ℕ) (priority number : ℕ) (old new : Process) → IsOwnerChange before after priority number old new
     → new ≡ on_ownership (is_owner before number) (is_owner after number) priority old
-owner_change_by before after priority number old new (IsOwnerChange.becomes_owner was is_now is) = rw (not_owner before number was, owner_by after number is_now) is
-owner_change_by before after priority number old new (IsOwnerChange.was_owner was is_now is) = rw (owner_by before number was, not_owner after number is_now) is
-owner_change_by before after priority number old new (IsOwnerChange.stays_owner was is_now is) = rw (owner_by before number was, owner_by after number is_now) is
+owner_change_by before after priority number old new (IsOwnerChange.becomes_owner was is_now is) = rw (not_owner before number was, (owner_tells after number).1 is_now) is
+owner_change_by before after priority number old new (IsOwnerChange.was_owner was is_now is) = rw ((owner_tells before number).1 was, not_owner after number is_now) is
+owner_change_by before after priority number old new (IsOwnerChange.stays_owner was is_now is) = rw ((owner_tells before number).1 was, (owner_tells after number).1 is_now) is
 owner_change_by before after priority number old new (IsOwnerChange.never_owner was is_now is) = rw (not_owner before number was, not_owner after number is_now) is
 
 mutex_change : (found : Option Mutex) (change : Mutex → Mutex) (number : ℕ) (old new : Process)
@@ -357,12 +337,7 @@ caller_says place now call old new (out.Answer code.NoError) at begins is =
       | false ↦ λ not_renewed is. IsCaller.is_answered at (λ renewed. true≢false (sym (renews_by call.request renewed) ∙ not_renewed))
           (is ∙ ap (λ release. record old { last_release = release; due = Some (outcome_of call code.NoError); called_at = now }) (takes_none call.request old (λ renewed. true≢false (sym (renews_by call.request renewed) ∙ not_renewed))))
     ] refl is
-caller_says place now call old new (out.Answer code.NoAction) at begins is = IsCaller.is_refused code.NoAction at (λ same. cc) (is ∙ kept_so place now call old code.NoAction)
-caller_says place now call old new (out.Answer code.NotAvailable) at begins is = IsCaller.is_refused code.NotAvailable at (λ same. cc) (is ∙ kept_so place now call old code.NotAvailable)
-caller_says place now call old new (out.Answer code.InvalidParam) at begins is = IsCaller.is_refused code.InvalidParam at (λ same. cc) (is ∙ kept_so place now call old code.InvalidParam)
-caller_says place now call old new (out.Answer code.InvalidConfig) at begins is = IsCaller.is_refused code.InvalidConfig at (λ same. cc) (is ∙ kept_so place now call old code.InvalidConfig)
-caller_says place now call old new (out.Answer code.InvalidMode) at begins is = IsCaller.is_refused code.InvalidMode at (λ same. cc) (is ∙ kept_so place now call old code.InvalidMode)
-caller_says place now call old new (out.Answer code.TimedOut) at begins is = IsCaller.is_refused code.TimedOut at (λ same. cc) (is ∙ kept_so place now call old code.TimedOut)
+caller_says place now call old new (out.Answer given) at begins is = IsCaller.is_refused given at (λ same. cc) (is ∙ kept_so place now call old given)
 
 caller_by : (place now : ℕ) (call : CallRecord) (old new : Process) → IsCaller place now call old new → new ≡ caller_after place now call old
 caller_by place now call old new (IsCaller.waits begun at begins is) =
@@ -385,12 +360,7 @@ caller_by place now call old new (IsCaller.is_refused given at differs is) =
     refused_so : (place now : ℕ) (call : CallRecord) (old : Process) (given : Code) → ¬ (given ≡ code.NoError)
         → record old { due = Some (outcome_of call given); called_at = now } ≡ record (caller_with place now call (out.Answer given) old) { called_at = now }
     refused_so place now call old code.NoError differs = absurd (differs refl)
-    refused_so place now call old code.NoAction differs = sym (kept_so place now call old code.NoAction)
-    refused_so place now call old code.NotAvailable differs = sym (kept_so place now call old code.NotAvailable)
-    refused_so place now call old code.InvalidParam differs = sym (kept_so place now call old code.InvalidParam)
-    refused_so place now call old code.InvalidConfig differs = sym (kept_so place now call old code.InvalidConfig)
-    refused_so place now call old code.InvalidMode differs = sym (kept_so place now call old code.InvalidMode)
-    refused_so place now call old code.TimedOut differs = sym (kept_so place now call old code.TimedOut)
+    refused_so place now call old given differs = sym (kept_so place now call old given)
 
 pub caller_is_the_sentence : CallerIsTheSentence
 caller_is_the_sentence place now call old new begins = (caller_says place now call old new call.claim.out refl begins, caller_by place now call old new)

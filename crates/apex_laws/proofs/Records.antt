@@ -1,33 +1,33 @@
 -- What dispatches, ticks, returns and refused calls do is what the sentences say.
 use Rattle.std.proofs.Common.{◌≡◌, ℕ, ◌+◌, List, [], ◌∷◌, length, true, false, cond, nat_eq, Option, Some, None, option_map, IsTrue, refl, sym, ap, subst, ◌∙◌, inl, inr, true≢false}
 use Rattle.std.proofs.lemmas.Bool.{cases_Bool, eqb-true}
-use Rattle.apex_types.specs.declared.object_kind.ObjectKind.TheVariants as kind
 use Rattle.apex_types.specs.declared.record.Body.TheVariants.{Ret, Disp, Tick}
 use Rattle.apex_types.specs.declared.record.Who.{Who}
 use Rattle.apex_machine.specs.declared.state.CoreState.{CoreState}
 use Rattle.apex_machine.specs.declared.state.Entry.{Entry}
 use Rattle.apex_machine.specs.declared.state.Process.{Process}
 use Rattle.apex_machine.specs.declared.state.WaitingSet.{WaitingSet}
-use Rattle.apex_machine.specs.declared.state.WaitingSet.TheVariants as set
-use Rattle.apex_machine.specs.After.{each_set, partition_by, returned, ticked, with_sets}
+use Rattle.apex_machine.specs.After.{each_set, partition_by, returned, ticked}
 use Rattle.apex_machine.specs.Configuration.{Configuration, has_partition}
 use Rattle.apex_machine.specs.Processes.{released}
-use Rattle.apex_machine.specs.State.{Blackboard, Buffer, Event, Mutex, Partition, Semaphore, State, Table, each_item, is_named, is_same, item_at, occupant_of, time_of}
+use Rattle.apex_machine.specs.State.{Partition, State, Table, each_item, is_named, is_same, item_at, occupant_of, time_of}
 use Rattle.apex_machine.specs.DueTimes.{falls_due}
 use Rattle.apex_machine.specs.Step.{AllConfigured, IsLawfulTick, outcome_returned}
 use Rattle.apex_machine.specs.Waiting.{set_after, without}
-use Rattle.apex_laws.specs.Laws.{entries_at, entries_in}
+use Rattle.apex_laws.specs.Laws.{entries_at}
 use Rattle.apex_laws.specs.RecordLaws.{DispatchIsTheSentence, ReturnIsTheSentence, TickIsTheSentence}
 use Rattle.apex_laws.specs.RecordSentences.{FallsDue, KeepsOnly, emptied, process_in}
 use Rattle.apex_laws.proofs.Booleans.{cannot_hold, is_itself, other_holds}
-use Rattle.apex_laws.proofs.Cores.{count_stays, occupant_changes, occupants_stay, other_occupants, other_times, time_changes, times_stay}
+use Rattle.apex_laws.proofs.Cores.{core_changes, core_stays, count_stays, gives_occupant, gives_time}
 use Rattle.apex_laws.proofs.Emptied.{emptied_same}
 use Rattle.apex_laws.proofs.Kept.{keeps_only}
+use Rattle.apex_laws.proofs.Objects.{each_set_holds}
 use Rattle.apex_laws.proofs.ProcessRules.{due_is_the_sentence, release_is_the_sentence}
 use Rattle.apex_laws.proofs.SetsAfter.{same_sets}
 use Rattle.apex_laws.proofs.Steps.{lawful_body, next_channel, next_cores, next_partition}
 use Rattle.apex_laws.proofs.Tables.{at_each}
 use Rattle.apex_laws.proofs.WaitersOf.{due_stands, same_is, same_who}
+use Rattle.apex_laws.proofs.Restarts.{return_case}
 
 -- dispatches
 
@@ -37,9 +37,9 @@ dispatch_is_the_sentence configuration state ordered who next step is within =
     let change : CoreState → CoreState = λ one. record one { occupant = who } in
     let cores = next_cores configuration state ordered next (Disp who) step is in
     record {
-      occupant = subst (λ one. occupant_of one core ≡ who) (sym cores) (occupant_changes change who core state.cores within (λ one. refl));
-      occupants = λ other differs. subst (λ one. occupant_of one other ≡ occupant_of state.cores other) (sym cores) (other_occupants change core state.cores other differs);
-      times = λ other. subst (λ one. time_of one other ≡ time_of state.cores other) (sym cores) (times_stay change (λ one. refl) core state.cores other);
+      occupant = subst (λ one. occupant_of one core ≡ who) (sym cores) (core_changes gives_occupant change (λ one. who) core state.cores within (λ one. refl));
+      occupants = λ other differs. subst (λ one. occupant_of one other ≡ occupant_of state.cores other) (sym cores) (core_stays gives_occupant change core state.cores other (λ same. absurd (differs same)));
+      times = λ other. subst (λ one. time_of one other ≡ time_of state.cores other) (sym cores) (core_stays gives_time change core state.cores other (λ same one. refl));
       count = subst (λ one. length one ≡ length state.cores) (sym cores) (count_stays change core state.cores);
       partitions = next_partition configuration state ordered next (Disp who) step is;
       channels = next_channel configuration state ordered next (Disp who) step is;
@@ -97,11 +97,8 @@ return_is_the_sentence configuration state ordered ret next step is =
   where
     by : (number : ℕ) → next.partitions number ≡ partition_by configuration state.cores ordered.pos ordered.core number (Ret ret) (state.partitions number)
         → next.partitions number ≡ record (state.partitions number) { table = (next.partitions number).table }
-    by number at = at ∙ elim (nat_eq ret.who.part number) as (λ own. cond own (record (state.partitions number) { table = each_item (returned ret.who.proc) (state.partitions number).table }) (state.partitions number)
-        ≡ record (state.partitions number) { table = (cond own (record (state.partitions number) { table = each_item (returned ret.who.proc) (state.partitions number).table }) (state.partitions number)).table }) [
-          | true ↦ refl
-          | false ↦ refl
-        ] ∙ ap (λ (one : Partition). let back : Partition = record (state.partitions number) { table = one.table } in back) (sym at)
+    by number at = at ∙ return_case (λ one. one ≡ record (state.partitions number) { table = one.table }) configuration state.cores ordered.pos ordered.core number ret (state.partitions number) refl refl
+        ∙ ap (λ (one : Partition). let back : Partition = record (state.partitions number) { table = one.table } in back) (sym at)
 
 -- ticks
 
@@ -135,36 +132,10 @@ due_named configuration state core woken law who falls =
     ∙ (due_is_the_sentence core (time_of state.cores core + 1) falls.process).1 falls.due
 
 -- the entries of a set of a partition whose sets changed
-entries_changed : {Object : Type 0} (entries_of : Object → List Entry) (change : ℕ → Object → Object) (through : List Entry → List Entry) (number : ℕ) → through [] ≡ []
-    → ((object : Object) → entries_of (change number object) ≡ through (entries_of object)) → (objects : List (ℕ × Object))
-    → entries_in entries_of (item_at (each_item change objects) number) ≡ through (entries_in entries_of (item_at objects number))
-entries_changed {Object} entries_of change through number none is objects =
-    ap (entries_in entries_of) (at_each change objects number) ∙ by (item_at objects number)
-  where
-    by : (found : Option Object) → entries_in entries_of (option_map (change number) found) ≡ through (entries_in entries_of found)
-    by None = sym none
-    by (Some object) = is object
-
 pub sets_changed : (change : WaitingSet → List Entry → List Entry) (partition : Partition) → ((wanted : WaitingSet) → change wanted [] ≡ []) → (wanted : WaitingSet)
     → entries_at (each_set change partition) wanted ≡ change wanted (entries_at partition wanted)
-sets_changed change partition none (set.BufferSenders number) =
-    entries_changed (λ (one : Buffer). one.senders) (with_sets kind.Buffer change) (change (set.BufferSenders number)) number (none (set.BufferSenders number)) (λ one. refl) partition.buffers
-sets_changed change partition none (set.BufferReceivers number) =
-    entries_changed (λ (one : Buffer). one.receivers) (with_sets kind.Buffer change) (change (set.BufferReceivers number)) number (none (set.BufferReceivers number)) (λ one. refl) partition.buffers
-sets_changed change partition none (set.BlackboardReaders number) =
-    entries_changed (λ (one : Blackboard). one.readers) (with_sets kind.Blackboard change)
-    (change (set.BlackboardReaders number)) number (none (set.BlackboardReaders number)) (λ one. refl) partition.blackboards
-sets_changed change partition none (set.SemaphoreWaiters number) =
-    entries_changed (λ (one : Semaphore). one.waiters) (with_sets kind.Semaphore change)
-    (change (set.SemaphoreWaiters number)) number (none (set.SemaphoreWaiters number)) (λ one. refl) partition.semaphores
-sets_changed change partition none (set.EventWaiters number) =
-    entries_changed (λ (one : Event). one.waiters) (with_sets kind.Event change)
-    (change (set.EventWaiters number)) number (none (set.EventWaiters number)) (λ one. refl) partition.events
-sets_changed change partition none (set.MutexWaiters number) =
-    entries_changed (λ (one : Mutex). one.waiters) (with_sets kind.Mutex change)
-    (change (set.MutexWaiters number)) number (none (set.MutexWaiters number)) (λ one. refl) partition.mutexes
-sets_changed change partition none (set.ChannelSenders channel) = sym (none (set.ChannelSenders channel))
-sets_changed change partition none (set.ChannelReceivers channel) = sym (none (set.ChannelReceivers channel))
+sets_changed change partition none wanted =
+    each_set_holds (λ entries. entries ≡ change wanted (entries_at partition wanted)) change partition wanted (λ absent empty. sym (ap (change wanted) empty ∙ none wanted)) refl
 
 -- a set of a partition after a tick
 ticked_set : (place number : ℕ) (woken : List Who) (state : State) (wanted : WaitingSet)
@@ -188,9 +159,9 @@ tick_is_the_sentence configuration state ordered woken next step is within =
     let remains : (who : Who) → is_named who woken ≡ false → ¬ Falls who = λ who not_named falls. true≢false (sym (due_named configuration state core woken law who falls) ∙ not_named) in
     record {
       cores = record {
-        time = subst (λ one. time_of one core ≡ time_of state.cores core + 1) (sym cores) (time_changes change (λ time. time + 1) core state.cores within (λ one. refl));
-        others = λ other differs. subst (λ one. time_of one other ≡ time_of state.cores other) (sym cores) (other_times change core state.cores other differs);
-        occupants = λ other. subst (λ one. occupant_of one other ≡ occupant_of state.cores other) (sym cores) (occupants_stay change (λ one. refl) core state.cores other);
+        time = subst (λ one. time_of one core ≡ time_of state.cores core + 1) (sym cores) (core_changes gives_time change (λ time. time + 1) core state.cores within (λ one. refl));
+        others = λ other differs. subst (λ one. time_of one other ≡ time_of state.cores other) (sym cores) (core_stays gives_time change core state.cores other (λ same. absurd (differs same)));
+        occupants = λ other. subst (λ one. occupant_of one other ≡ occupant_of state.cores other) (sym cores) (core_stays gives_occupant change core state.cores other (λ same one. refl));
         count = subst (λ one. length one ≡ length state.cores) (sym cores) (count_stays change core state.cores);
       };
       over = λ who falls. record {

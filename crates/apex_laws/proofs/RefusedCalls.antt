@@ -23,13 +23,13 @@ use Rattle.apex_machine.specs.Ports.{channel_effect, use_of}
 use Rattle.apex_machine.specs.Processes.{caller_after, caller_with, outcome_of, release_taken, renews}
 use Rattle.apex_machine.specs.ServiceConditions.{condition_codes}
 use Rattle.apex_machine.specs.Services.{Answer, HasNoValues}
-use Rattle.apex_machine.specs.State.{Partition, State, Table, each_item, is_named, item_at, time_of}
+use Rattle.apex_machine.specs.State.{Partition, State, each_item, is_named, item_at, time_of}
 use Rattle.apex_machine.specs.Step.{HasCode, HasOutcome, IsAmong, IsRefused}
 use Rattle.apex_machine.specs.Waiting.{ends_wait, is_no_error, is_waiting, restart_of, set_after, stops, without}
 use Rattle.apex_laws.specs.RecordLaws.{RefusalIsTheSentence}
 use Rattle.apex_laws.specs.RecordSentences.{process_in}
 use Rattle.apex_laws.proofs.Booleans.{cannot_hold, is_itself, not_first}
-use Rattle.apex_laws.proofs.Restarts.{goes_on, not_done_goes_on, restarts_none}
+use Rattle.apex_laws.proofs.Restarts.{goes_on, not_done_goes_on, restarts_none, woken_if_named_table}
 use Rattle.apex_laws.proofs.Codes.{are_errors, no_error_is_done, not_done}
 use Rattle.apex_laws.proofs.Emptied.{sets_same}
 use Rattle.apex_laws.proofs.Records.{stays_each, turns_each}
@@ -131,10 +131,6 @@ caller_is : (place now period : ℕ) (cores : List CoreState) (partition : Parti
 caller_is place now period cores partition call process not_so = rw (is_itself call.who.proc, not_so) refl
 
 -- another partition, where the call names nobody
-
--- its table, with those woken that the call names
-abbrev pub woken_if_named_table : ℕ → CallRecord → ℕ → Table → Table
-woken_if_named_table place call number table = each_item (λ other process. woken_if_named place call (record { part = number; proc = other }) process) table
 
 foreign_stays : (configuration : Configuration) (place core : ℕ) (call : CallRecord) → call.claim.woken ≡ [] → (state next : State) (other : Who)
     → next.partitions other.part ≡ cond (nat_eq call.who.part other.part) (own_partition (restart_of call) configuration state.cores place core call (state.partitions other.part))

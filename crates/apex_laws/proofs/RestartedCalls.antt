@@ -30,8 +30,7 @@ use Rattle.apex_laws.specs.RecordLaws.{RestartIsTheSentence}
 use Rattle.apex_laws.specs.RecordSentences.{IsInitialising, IsRestartOf, IsStart, KeepsOnly, Restarts}
 use Rattle.apex_laws.proofs.Booleans.{cannot_hold, is_itself, not_first}
 use Rattle.apex_laws.proofs.Kept.{keeps_only}
-use Rattle.apex_laws.proofs.RefusedCalls.{woken_if_named_table}
-use Rattle.apex_laws.proofs.Restarts.{goes_on, restart_ends, restarts_other}
+use Rattle.apex_laws.proofs.Restarts.{goes_on, restart_ends, restarts_other, woken_if_named_table}
 use Rattle.apex_laws.proofs.Steps.{lawful_body, next_channel, next_cores, next_partition}
 use Rattle.apex_laws.proofs.Untouched.{each_stays, not_woken_if_named}
 

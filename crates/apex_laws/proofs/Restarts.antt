@@ -1,7 +1,9 @@
 -- Calls that restart their caller's partition, and calls that don't.
 use Rattle.std.proofs.Common.{◌≡◌, ℕ, List, [], ◌∷◌, true, false, cond, nat_eq, Option, Some, None, is_some, refl, sym, ap, ◌∙◌, true≢false, ◌||◌}
 use Rattle.std.proofs.lemmas.Bool.{eq-eqb}
+use Rattle.apex_types.specs.declared.record.Body.TheVariants.{Call, Ret}
 use Rattle.apex_types.specs.declared.record.Call.{Call as CallRecord}
+use Rattle.apex_types.specs.declared.record.Return.{Return}
 use Rattle.apex_types.specs.declared.record.Out.{Out}
 use Rattle.apex_types.specs.declared.record.Out.TheVariants as out
 use Rattle.apex_types.specs.declared.record.Who.{Who}
@@ -12,9 +14,9 @@ use Rattle.apex_machine.specs.declared.state.Mode.{Mode}
 use Rattle.apex_machine.specs.declared.state.Mode.TheVariants as mode
 use Rattle.apex_machine.specs.declared.state.WaitingSet.{WaitingSet}
 use Rattle.apex_machine.specs.declared.state.WaitingSet.TheVariants as set
-use Rattle.apex_machine.specs.After.{is_done, own_partition, partition_called}
+use Rattle.apex_machine.specs.After.{is_done, objects_by, own_partition, partition_by, partition_called, returned, woken_if_named}
 use Rattle.apex_machine.specs.Configuration.{Configuration}
-use Rattle.apex_machine.specs.State.{Partition, first_processes, initialising_process, is_named, item_at, started_partition}
+use Rattle.apex_machine.specs.State.{Partition, Table, each_item, first_processes, initialising_process, is_named, item_at, started_partition}
 use Rattle.apex_machine.specs.Waiting.{ends_wait, is_no_error, is_waiting, restart_by, restart_of, restarts, stops, waits_at}
 use Rattle.apex_laws.specs.Laws.{are_distinct, entries_at}
 use Rattle.apex_laws.proofs.Booleans.{neither, neither_first, neither_later, not_first, not_second}
@@ -22,7 +24,7 @@ use Rattle.apex_laws.proofs.Booleans.{neither, neither_first, neither_later, not
 -- the caller's partition
 
 -- what holds of the caller's partition after a call: by whether the call restarts it
-pub own_case : (Holds : Partition → Type 0) (configuration : Configuration) (cores : List CoreState) (place core : ℕ) (call : CallRecord) (partition : Partition)
+own_case : (Holds : Partition → Type 0) (configuration : Configuration) (cores : List CoreState) (place core : ℕ) (call : CallRecord) (partition : Partition)
     → (restart_of call ≡ None → Holds (partition_called configuration cores place core call partition))
     → ((mode : Mode) → restart_of call ≡ Some mode → Holds (started_partition mode configuration call.who.part place))
     → Holds (own_partition (restart_of call) configuration cores place core call partition)
@@ -31,6 +33,39 @@ own_case Holds configuration cores place core call partition goes_on restarted =
     by : (one : Option Mode) → restart_of call ≡ one → Holds (own_partition one configuration cores place core call partition)
     by None none = goes_on none
     by (Some mode) is = restarted mode is
+
+-- what holds of the objects of the caller's partition that a call uses or creates, where it is done
+pub done_case : (Holds : Partition → Type 0) (configuration : Configuration) (call : CallRecord) (partition : Partition)
+    → (is_done call.claim.out ≡ true → Holds (objects_by configuration call.who call.claim.val call.request partition)) → Holds partition
+    → Holds (cond (is_done call.claim.out) (objects_by configuration call.who call.claim.val call.request partition) partition)
+done_case Holds configuration call partition used stays =
+    elim (is_done call.claim.out) as (λ done. is_done call.claim.out ≡ done → Holds (cond done (objects_by configuration call.who call.claim.val call.request partition) partition)) [
+      | true ↦ used
+      | false ↦ λ not_done. stays
+    ] refl
+
+-- the processes of another partition after a call, with those woken that the call names
+abbrev pub woken_if_named_table : ℕ → CallRecord → ℕ → Table → Table
+woken_if_named_table place call number table = each_item (λ other process. woken_if_named place call (record { part = number; proc = other }) process) table
+
+-- what holds of a partition after a call: by whether it is a call of one of its processes, and whether that restarts it
+pub call_case : (Holds : Partition → Type 0) (configuration : Configuration) (cores : List CoreState) (place core number : ℕ) (call : CallRecord) (partition : Partition)
+    → (nat_eq call.who.part number ≡ true → restart_of call ≡ None → Holds (partition_called configuration cores place core call partition))
+    → (nat_eq call.who.part number ≡ true → (mode : Mode) → restart_of call ≡ Some mode → Holds (started_partition mode configuration call.who.part place))
+    → (nat_eq call.who.part number ≡ false → Holds (record partition { table = woken_if_named_table place call number partition.table }))
+    → Holds (partition_by configuration cores place core number (Call call) partition)
+call_case Holds configuration cores place core number call partition goes_on restarted foreign =
+    elim (nat_eq call.who.part number) as (λ own. nat_eq call.who.part number ≡ own → Holds (cond own (own_partition (restart_of call) configuration cores place core call partition)
+    (record partition { table = woken_if_named_table place call number partition.table }))) [
+      | true ↦ λ own. own_case Holds configuration cores place core call partition (goes_on own) (restarted own)
+      | false ↦ foreign
+    ] refl
+
+-- what holds of a partition after a return
+pub return_case : (Holds : Partition → Type 0) (configuration : Configuration) (cores : List CoreState) (place core number : ℕ) (ret : Return) (partition : Partition)
+    → Holds (record partition { table = each_item (returned ret.who.proc) partition.table }) → Holds partition → Holds (partition_by configuration cores place core number (Ret ret) partition)
+return_case Holds configuration cores place core number ret partition back stays =
+    elim (nat_eq ret.who.part number) as (λ own. Holds (cond own (record partition { table = each_item (returned ret.who.proc) partition.table }) partition)) [ true ↦ back | false ↦ stays ]
 
 -- which calls restart no partition
 

@@ -5,17 +5,16 @@ use Rattle.apex_types.specs.declared.record.Body.TheVariants.{Call, Ret, Disp, T
 use Rattle.apex_types.specs.declared.record.Call.{Call as CallRecord}
 use Rattle.apex_machine.specs.declared.state.CoreState.{CoreState}
 use Rattle.apex_machine.specs.declared.state.Entry.{Entry}
-use Rattle.apex_machine.specs.declared.state.Process.{Process}
 use Rattle.apex_machine.specs.declared.state.WaitingSet.{WaitingSet}
 use Rattle.apex_machine.specs.declared.state.WaitingSet.TheVariants as set
-use Rattle.apex_machine.specs.After.{each_set, is_done, objects_by, objects_called, own_partition, partition_by, partition_called, returned, woken_if_named, ticked}
+use Rattle.apex_machine.specs.After.{each_set, is_done, objects_by, objects_called, partition_by, partition_called, returned, ticked}
 use Rattle.apex_machine.specs.Configuration.{Configuration}
 use Rattle.apex_machine.specs.State.{Partition, Table, each_item, is_named}
-use Rattle.apex_machine.specs.Waiting.{ends_wait, enters, entry_of, restart_of, set_after, without}
+use Rattle.apex_machine.specs.Waiting.{ends_wait, enters, entry_of, set_after, without}
 use Rattle.apex_laws.specs.Laws.{AllEntries, entries_at}
 use Rattle.apex_laws.proofs.Keeps.{leaves}
 use Rattle.apex_laws.proofs.Objects.{each_set_has, objects_have}
-use Rattle.apex_laws.proofs.Restarts.{own_case, start_set}
+use Rattle.apex_laws.proofs.Restarts.{call_case, done_case, return_case, start_set, woken_if_named_table}
 use Rattle.apex_laws.proofs.Waiters.{all_push, all_weaker, all_without}
 
 -- one set
@@ -54,10 +53,7 @@ called_sets configuration cores place core call partition _ = refl
 pub used_sets : (Holds : List Entry → Type 0) (configuration : Configuration) (call : CallRecord) (partition : Partition) (wanted : WaitingSet) → Holds (entries_at partition wanted)
     → Holds (entries_at (cond (is_done call.claim.out) (objects_by configuration call.who call.claim.val call.request partition) partition) wanted)
 used_sets Holds configuration call partition wanted has =
-    elim (is_done call.claim.out) as (λ done. Holds (entries_at (cond done (objects_by configuration call.who call.claim.val call.request partition) partition) wanted)) [
-      | true ↦ objects_have Holds configuration call.who call.claim.val call.request partition wanted has
-      | false ↦ has
-    ]
+    done_case (λ next. Holds (entries_at next wanted)) configuration call partition (λ done. objects_have Holds configuration call.who call.claim.val call.request partition wanted has) has
 
 -- a call of another partition
 abbrev pub IsElsewhere : ℕ → Body → Type 0
@@ -71,38 +67,17 @@ pub one_set_after : (Before After : List Entry → Type 0) (configuration : Conf
     → Before (entries_at partition wanted) → After (entries_at (partition_by configuration cores place core number body partition) wanted)
 one_set_after Before After configuration cores place core number (Disp who) partition wanted nobody change foreign before = change (λ none. none) (entries_at partition wanted) before
 one_set_after Before After configuration cores place core number (Ret ret) partition wanted nobody change foreign before =
-    let table = each_item (returned ret.who.proc) partition.table in
-    elim (nat_eq ret.who.part number) as (λ own. After (entries_at (cond own (record partition { table = table }) partition) wanted)) [
-      | true ↦ subst After (sym (same_sets partition table wanted)) (change (λ none. none) (entries_at partition wanted) before)
-      | false ↦ change (λ none. none) (entries_at partition wanted) before
-    ]
+    let after = change (λ none. none) (entries_at partition wanted) before in
+    return_case (λ next. After (entries_at next wanted)) configuration cores place core number ret partition
+    (subst After (sym (same_sets partition (each_item (returned ret.who.proc) partition.table) wanted)) after) after
 one_set_after Before After configuration cores place core number (Tick woken) partition wanted nobody change foreign before =
     subst After (sym (same_sets (each_set (set_after place (Tick woken)) partition) (each_item (ticked place number woken) partition.table) wanted))
     (each_set_has After nobody (set_after place (Tick woken)) partition wanted (change (λ none. none) (entries_at partition wanted) before))
 one_set_after Before After configuration cores place core number (Call call) partition wanted nobody change foreign before =
-    let woken_if_named_here : ℕ → Process → Process = λ other process. woken_if_named place call (record { part = number; proc = other }) process in
-    let table = each_item woken_if_named_here partition.table in
-    elim (nat_eq call.who.part number) as (λ own. nat_eq call.who.part number ≡ own → After (entries_at (cond own
-    (own_partition (restart_of call) configuration cores place core call partition) (record partition { table = table })) wanted)) [
-      | true ↦ λ own.
-          let objects : Partition = cond (is_done call.claim.out) (objects_by configuration call.who call.claim.val call.request partition) partition in
-          own_case (λ next. After (entries_at next wanted)) configuration cores place core call partition
-          (λ none. subst After (sym (called_sets configuration cores place core call partition wanted))
-          (each_set_has After nobody (set_after place (Call call)) objects wanted
-          (change (λ elsewhere. true≢false (sym own ∙ elsewhere)) (entries_at objects wanted) (used_sets Before configuration call partition wanted before))))
-          (λ mode is. subst After (sym (start_set mode configuration call.who.part place wanted)) nobody)
-      | false ↦ λ elsewhere. subst After (sym (same_sets partition table wanted)) (foreign elsewhere before)
-    ] refl
-
--- what holds where a set isn't a channel's holds of each entry of a partition's set
-pub of_objects : (Fact : Entry → Type 0) (partition : Partition) (wanted : WaitingSet)
-    → (((other : ℕ) → ¬ (wanted ≡ set.ChannelSenders other)) → ((other : ℕ) → ¬ (wanted ≡ set.ChannelReceivers other)) → AllEntries Fact (entries_at partition wanted))
-    → AllEntries Fact (entries_at partition wanted)
-of_objects Fact partition (set.BufferSenders number) all = all (λ other e. cc) (λ other e. cc)
-of_objects Fact partition (set.BufferReceivers number) all = all (λ other e. cc) (λ other e. cc)
-of_objects Fact partition (set.BlackboardReaders number) all = all (λ other e. cc) (λ other e. cc)
-of_objects Fact partition (set.SemaphoreWaiters number) all = all (λ other e. cc) (λ other e. cc)
-of_objects Fact partition (set.EventWaiters number) all = all (λ other e. cc) (λ other e. cc)
-of_objects Fact partition (set.MutexWaiters number) all = all (λ other e. cc) (λ other e. cc)
-of_objects Fact partition (set.ChannelSenders channel) all = tt
-of_objects Fact partition (set.ChannelReceivers channel) all = tt
+    let objects : Partition = cond (is_done call.claim.out) (objects_by configuration call.who call.claim.val call.request partition) partition in
+    call_case (λ next. After (entries_at next wanted)) configuration cores place core number call partition
+    (λ own none. subst After (sym (called_sets configuration cores place core call partition wanted))
+    (each_set_has After nobody (set_after place (Call call)) objects wanted
+    (change (λ elsewhere. true≢false (sym own ∙ elsewhere)) (entries_at objects wanted) (used_sets Before configuration call partition wanted before))))
+    (λ own mode is. subst After (sym (start_set mode configuration call.who.part place wanted)) nobody)
+    (λ elsewhere. subst After (sym (same_sets partition (woken_if_named_table place call number partition.table) wanted)) (foreign elsewhere before))

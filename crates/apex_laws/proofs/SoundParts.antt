@@ -16,34 +16,34 @@ use Rattle.apex_machine.specs.declared.state.CoreState.{CoreState}
 use Rattle.apex_machine.specs.declared.state.Entry.{Entry}
 use Rattle.apex_machine.specs.declared.state.Mode.{Mode}
 use Rattle.apex_machine.specs.declared.state.Mode.TheVariants as mode
-use Rattle.apex_machine.specs.declared.state.Process.{Process}
 use Rattle.apex_machine.specs.declared.state.WaitingSet.{WaitingSet}
 use Rattle.apex_machine.specs.declared.state.WaitingSet.TheVariants as set
-use Rattle.apex_machine.specs.After.{each_set, is_done, new_blackboard, new_buffer, new_event, new_mutex, new_queuing_port, new_sampling_port, new_semaphore, objects_by, objects_called, own_partition, partition_called, partition_by, returned, woken_if_named, ticked}
+use Rattle.apex_machine.specs.After.{each_set, is_done, new_blackboard, new_buffer, new_event, new_mutex, new_queuing_port, new_sampling_port, new_semaphore, numbered, objects_by, objects_called, partition_called, partition_by, returned, ticked}
 use Rattle.apex_machine.specs.Answer.{Answer, HasValue, is_new}
-use Rattle.apex_machine.specs.Channels.{QueuingPort, SamplingPort, queuing_port, sampling_port}
+use Rattle.apex_machine.specs.Channels.{queuing_port, sampling_port}
 use Rattle.apex_machine.specs.Configuration.{Configuration, first_core}
 use Rattle.apex_machine.specs.Demands.{AllHold, AllWaitAt, WakesHere, call_demands, outcome_demands, own_call_demands, partition_demands, stands_in}
 use Rattle.apex_machine.specs.Ports.{channel_of}
 use Rattle.apex_machine.specs.ServiceConditions.{condition_codes}
 use Rattle.apex_machine.specs.Services.{answer_of}
-use Rattle.apex_machine.specs.State.{Blackboard, Buffer, Event, Mutex, Partition, Port, Semaphore, Table, cold_partition, each_item, is_free, is_named, is_same, item_at, objects_of, started_partition, time_of}
-use Rattle.apex_machine.specs.Waiting.{ends_wait, restart_of, set_after, waits_at}
+use Rattle.apex_machine.specs.State.{Partition, Port, Table, cold_partition, each_item, is_free, is_named, is_same, item_at, objects_of, started_partition, time_of}
+use Rattle.apex_machine.specs.Waiting.{ends_wait, set_after, waits_at}
 use Rattle.apex_laws.specs.Laws.{AllEntries, IsInOrder, are_distinct, entries_at}
-use Rattle.apex_laws.specs.PartLaws.{HasDistinctObjects, IsSoundPart, PartStaysSound, RunningStandsNowhere}
-use Rattle.apex_laws.proofs.Booleans.{cannot_hold, holds_if, other_holds}
+use Rattle.apex_laws.specs.PartLaws.{HasDistinctObjects, IsSoundPart, PartStaysSound, RunningStandsNowhere, is_of_channel}
+use Rattle.apex_laws.proofs.Booleans.{cannot_hold, differs_back, holds_if, other_holds}
 use Rattle.apex_laws.proofs.Callers.{StandsReady, choice_stands, ready_waits_not}
 use Rattle.apex_laws.proofs.Codes.{AreErrors, are_errors, not_done}
 use Rattle.apex_laws.proofs.Distinct.{CallsClaimValues, distinct_by, distinct_new}
 use Rattle.apex_laws.proofs.Exact.{object_stands}
 use Rattle.apex_laws.proofs.InOrder.{EntersNew, none_in_order, set_stays_in_order}
 use Rattle.apex_laws.proofs.Keeps.{CallsReady, IsReadyCall, entered_waits, keeps_waiting, leaves}
-use Rattle.apex_laws.proofs.Restarts.{goes_on, own_case, restarts_other, start_set, start_waits_not}
-use Rattle.apex_laws.proofs.SetsAfter.{EntersWith, IsElsewhere, each_entry, of_objects, one_set_after}
-use Rattle.apex_laws.proofs.Standing.{not_stopped, other_partition}
+use Rattle.apex_laws.proofs.Restarts.{call_case, done_case, goes_on, restarts_other, return_case, start_set, start_waits_not, woken_if_named_table}
+use Rattle.apex_laws.proofs.Objects.{of_objects}
+use Rattle.apex_laws.proofs.SetsAfter.{EntersWith, IsElsewhere, each_entry, one_set_after}
+use Rattle.apex_laws.proofs.Standing.{not_stopped}
 use Rattle.apex_laws.proofs.Tables.{distinct_each}
 use Rattle.apex_laws.proofs.Waiters.{all_weaker, stands_not}
-use Rattle.apex_laws.proofs.WaitSets.{one_set}
+use Rattle.apex_laws.proofs.WaitSets.{off_channel}
 use Rattle.apex_laws.proofs.WaitersOf.{same_is}
 
 -- own calls, by their demands
@@ -107,100 +107,66 @@ named_wait wanted number table (other ∷ others) all who here named =
       | inr differs ↦ named_wait wanted number table others all.1 who here (other_holds _ _ named differs)
     ]
 
--- so none of those who wait in an object's set is named
-wakes_at_channel : (asked : Request) (chan : Option ℕ) (number : ℕ) (table : Table) (others : List Who) → WakesHere asked chan number table others → (who : Who) → who.part ≡ number
-    → is_named who others ≡ true → (wanted : WaitingSet) → waits_at wanted (item_at table who.proc) ≡ true
-    → ((other : ℕ) → ¬ (wanted ≡ set.ChannelSenders other)) → ((other : ℕ) → ¬ (wanted ≡ set.ChannelReceivers other)) → ⊥
-wakes_at_channel (request.QueuingPort port (QueuingOperation.Send length time_out message)) (Some channel) number table others wakes who here named wanted waits not_sending not_receiving =
-    not_receiving channel (one_set wanted (set.ChannelReceivers channel) (item_at table who.proc) waits (named_wait (set.ChannelReceivers channel) number table others wakes who here named))
-wakes_at_channel (request.QueuingPort port (QueuingOperation.Receive time_out)) (Some channel) number table others wakes who here named wanted waits not_sending not_receiving =
-    not_sending channel (one_set wanted (set.ChannelSenders channel) (item_at table who.proc) waits (named_wait (set.ChannelSenders channel) number table others wakes who here named))
-wakes_at_channel _ chan number table others wakes who here named wanted waits not_sending not_receiving = absurd wakes
+-- so whom such a call names here waits in a channel's set
+pub named_across : (asked : Request) (chan : Option ℕ) (number : ℕ) (table : Table) (others : List Who) → WakesHere asked chan number table others → (who : Who) → who.part ≡ number
+    → is_named who others ≡ true → (wanted : WaitingSet) × (is_of_channel wanted ≡ true) × (waits_at wanted (item_at table who.proc) ≡ true)
+named_across (request.QueuingPort port (QueuingOperation.Send length time_out message)) (Some channel) number table others wakes who here named =
+    (set.ChannelReceivers channel, refl, named_wait (set.ChannelReceivers channel) number table others wakes who here named)
+named_across (request.QueuingPort port (QueuingOperation.Receive time_out)) (Some channel) number table others wakes who here named =
+    (set.ChannelSenders channel, refl, named_wait (set.ChannelSenders channel) number table others wakes who here named)
+named_across _ chan number table others wakes who here named = absurd wakes
 
 -- so a call of another partition ends none of their waits
 foreign_stays : (configuration : Configuration) (number core : ℕ) (cores : List CoreState) (partition : Partition) (call : CallRecord) → nat_eq call.who.part number ≡ false
-    → AllHold (partition_demands configuration number cores partition core (Call call)) → (wanted : WaitingSet)
-    → ((other : ℕ) → ¬ (wanted ≡ set.ChannelSenders other)) → ((other : ℕ) → ¬ (wanted ≡ set.ChannelReceivers other))
+    → AllHold (partition_demands configuration number cores partition core (Call call)) → (wanted : WaitingSet) → is_of_channel wanted ≡ false
     → (who : Who) → who.part ≡ number → waits_at wanted (item_at partition.table who.proc) ≡ true → ends_wait call who ≡ false
-foreign_stays configuration number core cores partition call elsewhere hold wanted not_sending not_receiving who here waits =
+foreign_stays configuration number core cores partition call elsewhere hold wanted off who here waits =
     let foreign = subst (λ one. AllHold (call_demands one configuration number cores partition core call)) elsewhere hold in
     let there : nat_eq call.who.part who.part ≡ false = ap (nat_eq call.who.part) here ∙ elsewhere in
-    goes_on call who (restarts_other call who.part (other_partition call.who.part who.part there))
+    goes_on call who (restarts_other call who.part (differs_back call.who.part who.part there))
     (cannot_hold (is_named who call.claim.woken) (λ named.
-    wakes_at_channel call.request call.claim.chan number partition.table call.claim.woken foreign.1.0 who here named wanted waits not_sending not_receiving))
+    (let across = named_across call.request call.claim.chan number partition.table call.claim.woken foreign.1.0 who here named in
+    true≢false (sym across.1 ∙ off_channel wanted across.0 (item_at partition.table who.proc) off waits across.2))))
     (not_stopped call who there)
 
 -- numbers
 
--- a partition with other processes, another mode, or other objects of one kind
+-- a partition with other processes or another mode
 with_table : (partition : Partition) (mode : Mode) (table : Table) → HasDistinctObjects partition → HasDistinctObjects (record partition { mode = mode; table = table })
 with_table partition mode table has kind.Buffer = has kind.Buffer
 with_table partition mode table has other = has other
 
-with_buffers : (partition : Partition) (buffers : List (ℕ × Buffer)) → HasDistinctObjects partition → are_distinct buffers ≡ true → HasDistinctObjects (record partition { buffers = buffers })
-with_buffers partition buffers has distinct kind.Buffer = distinct
-with_buffers partition buffers has distinct other = has other
-
-with_blackboards : (partition : Partition) (blackboards : List (ℕ × Blackboard)) → HasDistinctObjects partition → are_distinct blackboards ≡ true → HasDistinctObjects (record partition { blackboards = blackboards })
-with_blackboards partition blackboards has distinct kind.Blackboard = distinct
-with_blackboards partition blackboards has distinct other = has other
-
-with_semaphores : (partition : Partition) (semaphores : List (ℕ × Semaphore)) → HasDistinctObjects partition → are_distinct semaphores ≡ true → HasDistinctObjects (record partition { semaphores = semaphores })
-with_semaphores partition semaphores has distinct kind.Semaphore = distinct
-with_semaphores partition semaphores has distinct other = has other
-
-with_events : (partition : Partition) (events : List (ℕ × Event)) → HasDistinctObjects partition → are_distinct events ≡ true → HasDistinctObjects (record partition { events = events })
-with_events partition events has distinct kind.Event = distinct
-with_events partition events has distinct other = has other
-
-with_mutexes : (partition : Partition) (mutexes : List (ℕ × Mutex)) → HasDistinctObjects partition → are_distinct mutexes ≡ true → HasDistinctObjects (record partition { mutexes = mutexes })
-with_mutexes partition mutexes has distinct kind.Mutex = distinct
-with_mutexes partition mutexes has distinct other = has other
-
-with_sampling_ports : (partition : Partition) (ports : List (ℕ × Port)) → HasDistinctObjects partition → are_distinct ports ≡ true → HasDistinctObjects (record partition { sampling_ports = ports })
-with_sampling_ports partition ports has distinct kind.SamplingPort = distinct
-with_sampling_ports partition ports has distinct other = has other
-
-with_queuing_ports : (partition : Partition) (ports : List (ℕ × Port)) → HasDistinctObjects partition → are_distinct ports ≡ true → HasDistinctObjects (record partition { queuing_ports = ports })
-with_queuing_ports partition ports has distinct kind.QueuingPort = distinct
-with_queuing_ports partition ports has distinct other = has other
-
 -- a created port has a new number
-sampling_port_new : (ports : List (ℕ × Port)) (name : List ℕ) (claimed : Option ℤ) (found : Option SamplingPort) → are_distinct ports ≡ true → is_new (is_free ports) claimed ≡ true
-    → are_distinct (ports ++ new_sampling_port name claimed found) ≡ true
-sampling_port_new ports name claimed None distinct new = ap are_distinct (append-nil ports) ∙ distinct
-sampling_port_new ports name claimed (Some port) distinct new = distinct_new ports claimed (record { name = name; size = port.size; direction = port.direction; channel = port.channel; valid = false }) distinct new
-
-queuing_port_new : (ports : List (ℕ × Port)) (name : List ℕ) (claimed : Option ℤ) (found : Option QueuingPort) → are_distinct ports ≡ true → is_new (is_free ports) claimed ≡ true
-    → are_distinct (ports ++ new_queuing_port name claimed found) ≡ true
-queuing_port_new ports name claimed None distinct new = ap are_distinct (append-nil ports) ∙ distinct
-queuing_port_new ports name claimed (Some port) distinct new = distinct_new ports claimed (record { name = name; size = port.size; direction = port.direction; channel = port.channel; valid = false }) distinct new
+port_new : {Found : Type 0} (ports : List (ℕ × Port)) (claimed : Option ℤ) (found : Option Found) (new : Option Found → List (ℕ × Port)) → are_distinct ports ≡ true → is_new (is_free ports) claimed ≡ true
+    → new None ≡ [] → ((one : Found) → (port : Port) × (new (Some one) ≡ numbered claimed port)) → are_distinct (ports ++ new found) ≡ true
+port_new ports claimed None new distinct fresh none some = ap (λ more. are_distinct (ports ++ more)) none ∙ ap are_distinct (append-nil ports) ∙ distinct
+port_new ports claimed (Some one) new distinct fresh none some = ap (λ more. are_distinct (ports ++ more)) (some one).1 ∙ distinct_new ports claimed (some one).0 distinct fresh
 
 -- what is created has a new number, and what is used keeps its own
 used_distinct : (configuration : Configuration) (now : ℕ) (who : Who) (claimed : Option ℤ) (asked : Request) (partition : Partition) → HasDistinctObjects partition
     → (channel_of partition asked ≡ None → HasValue (answer_of now who partition asked).val claimed) → HasDistinctObjects (objects_by configuration who claimed asked partition)
-used_distinct configuration now who claimed (request.Create name (NewObject.Buffer size capacity discipline)) partition has value =
-    with_buffers partition _ has (distinct_new partition.buffers claimed (new_buffer name size capacity discipline) (has kind.Buffer) (value refl))
-used_distinct configuration now who claimed (request.Create name (NewObject.Blackboard size)) partition has value =
-    with_blackboards partition _ has (distinct_new partition.blackboards claimed (new_blackboard name size) (has kind.Blackboard) (value refl))
-used_distinct configuration now who claimed (request.Create name (NewObject.Semaphore initial maximum discipline)) partition has value =
-    with_semaphores partition _ has (distinct_new partition.semaphores claimed (new_semaphore name initial maximum discipline) (has kind.Semaphore) (value refl))
-used_distinct configuration now who claimed (request.Create name NewObject.Event) partition has value =
-    with_events partition _ has (distinct_new partition.events claimed (new_event name) (has kind.Event) (value refl))
-used_distinct configuration now who claimed (request.Create name (NewObject.Mutex priority discipline)) partition has value =
-    with_mutexes partition _ has (distinct_new partition.mutexes claimed (new_mutex name priority discipline) (has kind.Mutex) (value refl))
-used_distinct configuration now who claimed (request.Create name (NewObject.SamplingPort size direction refresh)) partition has value =
-    with_sampling_ports partition _ has (sampling_port_new partition.sampling_ports name claimed (sampling_port configuration who.part name) (has kind.SamplingPort) (value refl))
-used_distinct configuration now who claimed (request.Create name (NewObject.QueuingPort size capacity direction discipline)) partition has value =
-    with_queuing_ports partition _ has (queuing_port_new partition.queuing_ports name claimed (queuing_port configuration who.part name) (has kind.QueuingPort) (value refl))
-used_distinct configuration now who claimed (request.Buffer buffer operation) partition has value = with_buffers partition _ has (distinct_each _ partition.buffers ∙ (has kind.Buffer))
-used_distinct configuration now who claimed (request.Blackboard blackboard operation) partition has value = with_blackboards partition _ has (distinct_each _ partition.blackboards ∙ (has kind.Blackboard))
-used_distinct configuration now who claimed (request.Semaphore semaphore operation) partition has value = with_semaphores partition _ has (distinct_each _ partition.semaphores ∙ (has kind.Semaphore))
-used_distinct configuration now who claimed (request.Event event operation) partition has value = with_events partition _ has (distinct_each _ partition.events ∙ (has kind.Event))
-used_distinct configuration now who claimed (request.Mutex mutex operation) partition has value = with_mutexes partition _ has (distinct_each _ partition.mutexes ∙ (has kind.Mutex))
-used_distinct configuration now who claimed (request.SamplingPort port SamplingOperation.Read) partition has value =
-    with_sampling_ports partition _ has (distinct_each _ partition.sampling_ports ∙ (has kind.SamplingPort))
-used_distinct configuration now who claimed _ partition has value = has
+used_distinct configuration now who claimed (request.Create name (NewObject.Buffer size capacity discipline)) partition has value kind.Buffer =
+    distinct_new partition.buffers claimed (new_buffer name size capacity discipline) (has kind.Buffer) (value refl)
+used_distinct configuration now who claimed (request.Create name (NewObject.Blackboard size)) partition has value kind.Blackboard =
+    distinct_new partition.blackboards claimed (new_blackboard name size) (has kind.Blackboard) (value refl)
+used_distinct configuration now who claimed (request.Create name (NewObject.Semaphore initial maximum discipline)) partition has value kind.Semaphore =
+    distinct_new partition.semaphores claimed (new_semaphore name initial maximum discipline) (has kind.Semaphore) (value refl)
+used_distinct configuration now who claimed (request.Create name NewObject.Event) partition has value kind.Event =
+    distinct_new partition.events claimed (new_event name) (has kind.Event) (value refl)
+used_distinct configuration now who claimed (request.Create name (NewObject.Mutex priority discipline)) partition has value kind.Mutex =
+    distinct_new partition.mutexes claimed (new_mutex name priority discipline) (has kind.Mutex) (value refl)
+used_distinct configuration now who claimed (request.Create name (NewObject.SamplingPort size direction refresh)) partition has value kind.SamplingPort =
+    port_new partition.sampling_ports claimed (sampling_port configuration who.part name) (new_sampling_port name claimed) (has kind.SamplingPort) (value refl) refl (λ one. (_, refl))
+used_distinct configuration now who claimed (request.Create name (NewObject.QueuingPort size capacity direction discipline)) partition has value kind.QueuingPort =
+    port_new partition.queuing_ports claimed (queuing_port configuration who.part name) (new_queuing_port name claimed) (has kind.QueuingPort) (value refl) refl (λ one. (_, refl))
+used_distinct configuration now who claimed (request.Buffer buffer operation) partition has value kind.Buffer = distinct_each _ partition.buffers ∙ has kind.Buffer
+used_distinct configuration now who claimed (request.Blackboard blackboard operation) partition has value kind.Blackboard = distinct_each _ partition.blackboards ∙ has kind.Blackboard
+used_distinct configuration now who claimed (request.Semaphore semaphore operation) partition has value kind.Semaphore = distinct_each _ partition.semaphores ∙ has kind.Semaphore
+used_distinct configuration now who claimed (request.Event event operation) partition has value kind.Event = distinct_each _ partition.events ∙ has kind.Event
+used_distinct configuration now who claimed (request.Mutex mutex operation) partition has value kind.Mutex = distinct_each _ partition.mutexes ∙ has kind.Mutex
+used_distinct configuration now who claimed (request.SamplingPort port SamplingOperation.Read) partition has value kind.SamplingPort =
+    distinct_each _ partition.sampling_ports ∙ has kind.SamplingPort
+used_distinct configuration now who claimed _ partition has value other = has other
 
 -- a change of each set leaves the numbers
 pub sets_distinct : (change : WaitingSet → List Entry → List Entry) (partition : Partition) → HasDistinctObjects partition → HasDistinctObjects (each_set change partition)
@@ -220,25 +186,15 @@ objects_distinct configuration cores place core number (Disp who) partition clai
 objects_distinct configuration cores place core number (Tick woken) partition claims has =
     with_table (each_set (set_after place (Tick woken)) partition) partition.mode (each_item (ticked place number woken) partition.table) (sets_distinct (set_after place (Tick woken)) partition has)
 objects_distinct configuration cores place core number (Ret ret) partition claims has =
-    elim (nat_eq ret.who.part number) as (λ own. HasDistinctObjects (cond own (record partition { table = each_item (returned ret.who.proc) partition.table }) partition)) [
-      | true ↦ with_table partition partition.mode (each_item (returned ret.who.proc) partition.table) has
-      | false ↦ has
-    ]
+    return_case HasDistinctObjects configuration cores place core number ret partition (with_table partition partition.mode (each_item (returned ret.who.proc) partition.table) has) has
 objects_distinct configuration cores place core number (Call call) partition claims has =
-    let foreign : ℕ → Process → Process = λ other process. woken_if_named place call (record { part = number; proc = other }) process in
-    let now = time_of cores core in
     let after : Partition = partition_called configuration cores place core call partition in
-    elim (nat_eq call.who.part number) as (λ own. nat_eq call.who.part number ≡ own → HasDistinctObjects (cond own
-    (own_partition (restart_of call) configuration cores place core call partition) (record partition { table = each_item foreign partition.table }))) [
-      | true ↦ λ own. own_case HasDistinctObjects configuration cores place core call partition (λ none. with_table (objects_called configuration place call partition) after.mode after.table (sets_distinct (set_after place (Call call))
-          (cond (is_done call.claim.out) (objects_by configuration call.who call.claim.val call.request partition) partition)
-          (elim (is_done call.claim.out) as (λ done. is_done call.claim.out ≡ done
-          → HasDistinctObjects (cond done (objects_by configuration call.who call.claim.val call.request partition) partition)) [
-            | true ↦ λ done. used_distinct configuration now call.who call.claim.val call.request partition has (claims own done)
-            | false ↦ λ not_done. has
-          ] refl))) (λ mode is. start_has_distinct mode configuration call.who.part place)
-      | false ↦ λ elsewhere. with_table partition partition.mode (each_item foreign partition.table) has
-    ] refl
+    call_case HasDistinctObjects configuration cores place core number call partition
+    (λ own none. with_table (objects_called configuration place call partition) after.mode after.table (sets_distinct (set_after place (Call call))
+    (cond (is_done call.claim.out) (objects_by configuration call.who call.claim.val call.request partition) partition)
+    (done_case HasDistinctObjects configuration call partition (λ done. used_distinct configuration (time_of cores core) call.who call.claim.val call.request partition has (claims own done)) has)))
+    (λ own mode is. start_has_distinct mode configuration call.who.part place)
+    (λ elsewhere. with_table partition partition.mode (woken_if_named_table place call number partition.table) has)
 
 -- the sets
 
@@ -276,9 +232,9 @@ foreign_standing : (configuration : Configuration) (cores : List CoreState) (pla
     → AllEntries (Stands number wanted (partition_by configuration cores place core number body partition)) (entries_at partition wanted)
 foreign_standing configuration cores place core number (Call call) partition wanted ready hold elsewhere all =
     let Then : Entry → Type 0 = Stands number wanted (partition_by configuration cores place core number (Call call) partition) in
-    of_objects Then partition wanted (λ not_sending not_receiving. all_weaker (Stands number wanted partition) Then
+    of_objects Then partition wanted (λ off. all_weaker (Stands number wanted partition) Then
     (λ entry is. stays_standing configuration cores place core number (Call call) partition wanted ready entry
-    (foreign_stays configuration number core cores partition call elsewhere hold wanted not_sending not_receiving entry.who is.0 is.1) is) (entries_at partition wanted) all)
+    (foreign_stays configuration number core cores partition call elsewhere hold wanted off entry.who is.0 is.1) is) (entries_at partition wanted) all)
 foreign_standing configuration cores place core number _ partition wanted ready hold elsewhere all = absurd elsewhere
 
 -- who is ready stands in no set

@@ -1,31 +1,31 @@
 -- Who waits in a set after a record: who waited there and whose wait the record doesn't end, or the caller that enters.
 use Rattle.std.proofs.Common.{◌≡◌, ◌⊎◌, ℕ, List, [], ◌++◌, Bool, true, false, cond, nat_eq, ℤ, pos, negsuc, Option, Some, None, option_map, refl, sym, ap, subst, ◌∙◌, inl, inr, true≢false, ◌&&◌}
-use Rattle.std.proofs.lemmas.Bool.{and_from, and_parts, cases_Bool, eq-eqb, eqb-true}
+use Rattle.std.proofs.lemmas.Bool.{and_from, and_parts, eqb-true}
 use Rattle.apex_types.specs.declared.record.Body.{Body}
 use Rattle.apex_types.specs.declared.record.Body.TheVariants.{Call, Ret, Disp, Tick}
 use Rattle.apex_types.specs.declared.record.Call.{Call as CallRecord}
 use Rattle.apex_types.specs.declared.record.Out.{Out}
 use Rattle.apex_types.specs.declared.record.Out.TheVariants as out
 use Rattle.apex_types.specs.declared.record.Who.{Who}
-use Rattle.apex_types.specs.declared.operation.{CallerOperation.CallerOperation, ProcessOperation.ProcessOperation}
+use Rattle.apex_types.specs.declared.operation.{ProcessOperation.ProcessOperation}
 use Rattle.apex_types.specs.declared.request.Request.{Request}
 use Rattle.apex_types.specs.declared.request.Request.TheVariants as request
 use Rattle.apex_machine.specs.declared.state.CoreState.{CoreState}
 use Rattle.apex_machine.specs.declared.state.Process.{Process}
 use Rattle.apex_machine.specs.declared.state.Wait.TheVariants as wait
 use Rattle.apex_machine.specs.declared.state.WaitingSet.{WaitingSet}
-use Rattle.apex_machine.specs.After.{adjusted, called, caller_after, created_by, is_done, numbered, own_partition, partition_by, returned, woken_if_named, ticked}
+use Rattle.apex_machine.specs.After.{adjusted, called, caller_after, created_by, is_done, numbered, partition_by, returned, woken_if_named, ticked}
 use Rattle.apex_machine.specs.Arguments.{is_number}
 use Rattle.apex_machine.specs.Conditions.{is_normal}
 use Rattle.apex_machine.specs.Configuration.{Configuration, first_core, period_of}
-use Rattle.apex_machine.specs.DueTimes.{due_of_call, entry_wait, time_out_of, wait_in, wait_of, waits_for_normal}
+use Rattle.apex_machine.specs.DueTimes.{entry_wait, wait_of, waits_for_normal}
 use Rattle.apex_machine.specs.Processes.{by_mutex, caller_with, message_handed_over, new_process, released, set_by, started, stopped, woken_by, set_in}
 use Rattle.apex_machine.specs.State.{Mutex, Partition, Table, each_item, given_object, is_named, item_at, time_of}
 use Rattle.apex_machine.specs.Waiting.{ends_wait, enters, is_in, is_no_error, is_target, is_the_set, is_waiting, restart_of, set_of, stop_of, stops, waits_at}
-use Rattle.apex_laws.proofs.Booleans.{cannot_hold, not_first, not_second}
+use Rattle.apex_laws.proofs.Booleans.{differs_back, not_first, not_second}
 use Rattle.apex_laws.proofs.Callers.{ready_waits_not}
-use Rattle.apex_laws.proofs.Keeps.{CallsReady, found_changed, leaves, mutex_alive, mutex_wait}
-use Rattle.apex_laws.proofs.Restarts.{goes_on, own_case, restarts_none, restarts_other, start_waits_not}
+use Rattle.apex_laws.proofs.Keeps.{CallsReady, begun_in, found_changed, leaves, mutex_alive, mutex_wait}
+use Rattle.apex_laws.proofs.Restarts.{call_case, goes_on, restarts_none, restarts_other, return_case, start_waits_not}
 use Rattle.apex_laws.proofs.Tables.{at_each}
 use Rattle.apex_laws.proofs.WholeCalls.{found_behind}
 use Rattle.apex_laws.proofs.WaitersOf.{same_who}
@@ -95,21 +95,10 @@ ticked_back place part woken number x wanted waits =
 
 -- the caller
 
-in_back : (wanted : WaitingSet) (set : Option WaitingSet) (due : Option ℕ) → is_in wanted (wait_in set due) ≡ true → is_the_set wanted set ≡ true
-in_back wanted None due is = absurd (true≢false (sym is))
-in_back wanted (Some set) due is = is
-
-begun_back : (wanted : WaitingSet) (asked : Request) (chan : Option ℕ) (now : ℕ) (x : Process) → is_in wanted (wait_of asked chan now x) ≡ true → is_the_set wanted (set_of asked chan) ≡ true
-begun_back wanted (request.Caller (CallerOperation.TimedWait (pos delay))) chan now x is = absurd (true≢false (sym is))
-begun_back wanted (request.Caller (CallerOperation.TimedWait (negsuc n))) chan now x is = absurd (true≢false (sym is))
-begun_back wanted (request.Caller CallerOperation.PeriodicWait) chan now x is = absurd (true≢false (sym is))
-begun_back wanted (request.Caller (CallerOperation.SuspendSelf time_out)) chan now x is = absurd (true≢false (sym is))
-begun_back wanted asked chan now x is = in_back wanted (set_of asked chan) (due_of_call (time_out_of asked) now) is
-
 caller_back : (place now : ℕ) (call : CallRecord) (x : Process) (wanted : WaitingSet) (given : Out) → (waits_at wanted (Some x) ≡ true → ⊥)
     → waits_at wanted (Some (record (caller_with place now call given x) { called_at = now })) ≡ true → (is_waiting given ≡ true) × (is_the_set wanted (set_of call.request call.claim.chan) ≡ true)
 caller_back place now call x wanted out.Waits not waits =
-    (refl, begun_back wanted call.request call.claim.chan now x (and_parts x.alive (is_in wanted (wait_of call.request call.claim.chan now x)) waits).1)
+    (refl, sym (begun_in wanted call.request call.claim.chan now x) ∙ (and_parts x.alive (is_in wanted (wait_of call.request call.claim.chan now x)) waits).1)
 caller_back place now call x wanted out.Never not waits = absurd (true≢false (sym waits))
 caller_back place now call x wanted (out.Answer code) not waits = absurd (not waits)
 
@@ -176,15 +165,11 @@ longer_back Fact change table more number wanted fact added waits = by (item_at 
         (found_behind (each_item change table) more number (at_each change table number ∙ ap (option_map (change number)) at)) waits))
     by (Some x) at = fact x at (subst (λ one. waits_at wanted one ≡ true) (found_changed change table more number x at) waits)
 
--- numbers that differ, the other way round
-pub other_partition : (one other : ℕ) → nat_eq one other ≡ false → nat_eq other one ≡ false
-other_partition one other differ = cannot_hold (nat_eq other one) (λ same. true≢false (sym (eq-eqb one other (sym (eqb-true other one same))) ∙ differ))
-
 -- a call stops nobody of another partition
 pub not_stopped : (call : CallRecord) (who : Who) → nat_eq call.who.part who.part ≡ false → stops call who ≡ false
 not_stopped call who elsewhere =
     not_second (is_no_error call.claim.out) (nat_eq who.part call.who.part && is_target (stop_of call.request) who.proc)
-    (not_first (nat_eq who.part call.who.part) (is_target (stop_of call.request) who.proc) (other_partition call.who.part who.part elsewhere))
+    (not_first (nat_eq who.part call.who.part) (is_target (stop_of call.request) who.proc) (differs_back call.who.part who.part elsewhere))
 
 -- a caller that enters a set
 abbrev pub Entering : Body → Who → WaitingSet → Type 0
@@ -202,44 +187,33 @@ who_waits configuration cores place core (Tick woken) partition who wanted ready
     (λ x at waits. (let back = ticked_back place who.part woken who.proc x wanted waits in inl (back.0, subst (λ one. waits_at wanted one ≡ true) (sym at) back.1))) waits
 who_waits configuration cores place core (Ret ret) partition who wanted ready waits =
     let Fact : Type 0 = ((false ≡ false) × (waits_at wanted (item_at partition.table who.proc) ≡ true)) ⊎ ⊥ in
-    elim (nat_eq ret.who.part who.part) as (λ own. waits_at wanted (item_at (cond own (record partition { table = each_item (returned ret.who.proc) partition.table }) partition).table who.proc) ≡ true
-    → Fact) [
-      | true ↦ λ waits. each_back Fact (returned ret.who.proc) partition.table who.proc wanted
-          (λ x at waits. inl (refl, subst (λ one. waits_at wanted one ≡ true) (sym at) (one_back wanted (nat_eq who.proc ret.who.proc) (record x { due = None }) x (λ waits. waits) waits))) waits
-      | false ↦ λ waits. inl (refl, waits)
-    ] waits
+    return_case (λ next. waits_at wanted (item_at next.table who.proc) ≡ true → Fact) configuration cores place core who.part ret partition
+    (λ waits. each_back Fact (returned ret.who.proc) partition.table who.proc wanted
+    (λ x at waits. inl (refl, subst (λ one. waits_at wanted one ≡ true) (sym at) (one_back wanted (nat_eq who.proc ret.who.proc) (record x { due = None }) x (λ waits. waits) waits))) waits)
+    (λ waits. inl (refl, waits)) waits
 who_waits configuration cores place core (Call call) partition who wanted ready waits =
     let Fact : Type 0 = ((ends_wait call who ≡ false) × (waits_at wanted (item_at partition.table who.proc) ≡ true)) ⊎ ((who ≡ call.who) × (enters call wanted ≡ true)) in
     let table = partition.table in
     let now = time_of cores core in
     let period = period_of configuration call.who.part in
     let added = created_by (first_core configuration call.who.part) call call.request in
-    let foreign : ℕ → Process → Process = λ number process. woken_if_named place call (record { part = who.part; proc = number }) process in
-    let after : Bool → Table = λ own. (cond own (own_partition (restart_of call) configuration cores place core call partition) (record partition { table = each_item foreign table })).table in
-    elim (cases_Bool (nat_eq call.who.part who.part)) [
-      | inl own ↦
-          let here : call.who.part ≡ who.part = eqb-true call.who.part who.part own in
-          let same : record { part = call.who.part; proc = who.proc } ≡ who = same_who (record { part = call.who.part; proc = who.proc }) who here refl in
-          let change = called place now period cores partition call in
-          let caller_ready = (ready own).ready in
-          own_case (λ next. waits_at wanted (item_at next.table who.proc) ≡ true → Fact) configuration cores place core call partition
-          (λ none in_table. longer_back Fact change table added who.proc wanted
-          (λ x at waits. elim (called_back place now period cores partition call who.proc x wanted none waits) [
-            | inl caller ↦
-                let number : who.proc ≡ call.who.proc = eqb-true who.proc call.who.proc caller.0 in
-                let begun = caller_back place now call (adjusted place period cores partition call who.proc x) wanted call.claim.out
-                (λ waits. ready_waits_not core (item_at table call.who.proc) wanted caller_ready
-                (subst (λ one. waits_at wanted one ≡ true) (sym at ∙ ap (item_at table) number) (adjusted_back place period cores partition call who.proc x wanted waits))) caller.1 in
-                inr (same_who who call.who (sym here) number, and_from _ _ begun.0 begun.1)
-            | inr other ↦ inl (subst (λ one. ends_wait call one ≡ false) same other.0, subst (λ one. waits_at wanted one ≡ true) (sym at) other.1)
-          ])
-          (λ new. created_not (first_core configuration call.who.part) call call.request who.proc wanted new) in_table)
-          (λ mode is in_table. absurd (start_waits_not mode (first_core configuration call.who.part) place who.proc wanted in_table))
-          (subst (λ test. waits_at wanted (item_at (after test) who.proc) ≡ true) own waits)
-      | inr elsewhere ↦
-          let in_table : waits_at wanted (item_at (each_item foreign table) who.proc) ≡ true = subst (λ test. waits_at wanted (item_at (after test) who.proc) ≡ true) elsewhere waits in
-          each_back Fact foreign table who.proc wanted
-          (λ x at waits. (let back = woken_if_named_back place call who x wanted waits in
-          let stays : stops call who ≡ false = not_stopped call who elsewhere in
-          inl (goes_on call who (restarts_other call who.part (other_partition call.who.part who.part elsewhere)) back.0 stays, subst (λ one. waits_at wanted one ≡ true) (sym at) back.1))) in_table
-    ]
+    call_case (λ next. waits_at wanted (item_at next.table who.proc) ≡ true → Fact) configuration cores place core who.part call partition
+    (λ own none in_table.
+    (let here : call.who.part ≡ who.part = eqb-true call.who.part who.part own in
+    let same : record { part = call.who.part; proc = who.proc } ≡ who = same_who (record { part = call.who.part; proc = who.proc }) who here refl in
+    longer_back Fact (called place now period cores partition call) table added who.proc wanted
+    (λ x at waits. elim (called_back place now period cores partition call who.proc x wanted none waits) [
+      | inl caller ↦
+          let number : who.proc ≡ call.who.proc = eqb-true who.proc call.who.proc caller.0 in
+          let begun = caller_back place now call (adjusted place period cores partition call who.proc x) wanted call.claim.out
+          (λ waits. ready_waits_not core (item_at table call.who.proc) wanted (ready own).ready
+          (subst (λ one. waits_at wanted one ≡ true) (sym at ∙ ap (item_at table) number) (adjusted_back place period cores partition call who.proc x wanted waits))) caller.1 in
+          inr (same_who who call.who (sym here) number, and_from _ _ begun.0 begun.1)
+      | inr other ↦ inl (subst (λ one. ends_wait call one ≡ false) same other.0, subst (λ one. waits_at wanted one ≡ true) (sym at) other.1)
+    ])
+    (λ new. created_not (first_core configuration call.who.part) call call.request who.proc wanted new) in_table))
+    (λ own mode is in_table. absurd (start_waits_not mode (first_core configuration call.who.part) place who.proc wanted in_table))
+    (λ elsewhere in_table. each_back Fact _ table who.proc wanted
+    (λ x at waits. (let back = woken_if_named_back place call who x wanted waits in
+    let stays : stops call who ≡ false = not_stopped call who elsewhere in
+    inl (goes_on call who (restarts_other call who.part (differs_back call.who.part who.part elsewhere)) back.0 stays, subst (λ one. waits_at wanted one ≡ true) (sym at) back.1))) in_table) waits

@@ -1,40 +1,42 @@
 -- A step keeps a state tied, and so does a run.
-use Rattle.std.proofs.Common.{◌≡◌, ℕ, List, [], ◌∷◌, true, false, cond, nat_eq, Option, Some, None, IsTrue, refl, sym, subst, ◌∙◌, true≢false, ◌&&◌}
-use Rattle.std.proofs.lemmas.Bool.{and_parts, eqb-true, eq-eqb}
+use Rattle.std.proofs.Common.{◌≡◌, ℕ, List, [], ◌∷◌, true, false, nat_eq, Option, Some, None, IsTrue, refl, sym, subst, ◌∙◌, true≢false, ◌&&◌}
+use Rattle.std.proofs.lemmas.Bool.{eqb-true, eq-eqb}
 use Rattle.apex_types.specs.declared.code.Code.{Code}
 use Rattle.apex_types.specs.declared.record.Body.{Body}
 use Rattle.apex_types.specs.declared.record.Body.TheVariants.{Call, Ret, Disp, Tick}
 use Rattle.apex_types.specs.declared.record.Call.{Call as CallRecord}
 use Rattle.apex_types.specs.declared.record.Ordered.{Ordered}
 use Rattle.apex_types.specs.declared.record.Who.{Who}
-use Rattle.apex_types.specs.declared.operation.{BlackboardOperation.BlackboardOperation, BufferOperation.BufferOperation, EventOperation.EventOperation, MutexOperation.MutexOperation, QueuingOperation.QueuingOperation, SemaphoreOperation.SemaphoreOperation}
+use Rattle.apex_types.specs.declared.operation.{QueuingOperation.QueuingOperation}
 use Rattle.apex_types.specs.declared.request.Request.{Request}
 use Rattle.apex_types.specs.declared.request.Request.TheVariants as request
 use Rattle.apex_machine.specs.declared.state.Entry.{Entry}
-use Rattle.apex_machine.specs.declared.state.Process.{Process}
 use Rattle.apex_machine.specs.declared.state.WaitingSet.{WaitingSet}
 use Rattle.apex_machine.specs.declared.state.WaitingSet.TheVariants as set
-use Rattle.apex_machine.specs.After.{is_done, objects_by, own_partition, partition_by, partition_called, returned, woken_if_named}
-use Rattle.apex_machine.specs.Arguments.{natural_of}
+use Rattle.apex_machine.specs.After.{objects_by, partition_by, partition_called}
 use Rattle.apex_machine.specs.Channels.{is_receiver, is_sender}
 use Rattle.apex_machine.specs.Configuration.{Configuration}
 use Rattle.apex_machine.specs.Ports.{channel_of, suits_use, use_of}
 use Rattle.apex_machine.specs.ServiceConditions.{condition_codes}
 use Rattle.apex_machine.specs.Services.{answer_of}
-use Rattle.apex_machine.specs.State.{Partition, State, cold_state, each_item, is_named, time_of}
+use Rattle.apex_machine.specs.State.{Partition, State, cold_state, is_named, time_of}
 use Rattle.apex_machine.specs.Step.{HasOutcome, IsLawfulBody, IsLawfulCall, Run, Step, channel_answer}
-use Rattle.apex_machine.specs.Waiting.{ends_wait, enters, is_no_error, is_target, is_the_set, is_waiting, restart_of, set_after, set_of, stop_of, waits_at}
+use Rattle.apex_machine.specs.Waiting.{ends_wait, enters, is_no_error, is_target, set_after, stop_of, waits_at}
 use Rattle.apex_laws.specs.Laws.{AllEntries, AllPorts, AreTied, IsAtEnd, IsTied, StaysTied, entries_at}
+use Rattle.apex_laws.specs.PartLaws.{is_of_channel}
+use Rattle.apex_laws.specs.WaitLaws.{WaitsIn}
 use Rattle.apex_laws.proofs.Booleans.{cannot_hold, holds_if, not_first, not_second}
 use Rattle.apex_laws.proofs.Demanded.{WaitsAcross, across}
 use Rattle.apex_laws.proofs.Distinct.{distinct_by, lawful_values}
 use Rattle.apex_laws.proofs.Ends.{StandsAtEnd, port_is_at_end}
 use Rattle.apex_laws.proofs.Keeps.{calls_ready, entered_waits, keeps_waiting, leaves, ready_call}
 use Rattle.apex_laws.proofs.PortEnds.{ports_after}
-use Rattle.apex_laws.proofs.Restarts.{goes_on, own_case, restarts_other}
-use Rattle.apex_laws.proofs.SetsAfter.{EntersWith, IsElsewhere, each_entry, of_objects, one_set_after}
+use Rattle.apex_laws.proofs.Restarts.{call_case, done_case, goes_on, restarts_other, return_case}
+use Rattle.apex_laws.proofs.Objects.{of_objects}
+use Rattle.apex_laws.proofs.SetsAfter.{EntersWith, IsElsewhere, each_entry, one_set_after}
 use Rattle.apex_laws.proofs.Waiters.{all_weaker}
-use Rattle.apex_laws.proofs.WaitSets.{found_set, one_set}
+use Rattle.apex_laws.proofs.WaitSets.{off_channel}
+use Rattle.apex_laws.proofs.Waits.{entering_is_the_sentence}
 use Rattle.apex_laws.proofs.Wakes.{nobody}
 use Rattle.apex_laws.proofs.Woken.{found, woken}
 
@@ -79,42 +81,41 @@ set_tied configuration state place core body tied law Home wanted home entries a
 -- a call of another partition ends no wait in a set of this one
 
 -- who is woken through a channel waits in a set of it
-not_across : (asked : Request) (partitions : ℕ → Partition) (configuration : Configuration) (channel : ℕ) (wanted : WaitingSet) (who : Who)
-    → ((other : ℕ) → ¬ (wanted ≡ set.ChannelSenders other)) → ((other : ℕ) → ¬ (wanted ≡ set.ChannelReceivers other))
+not_across : (asked : Request) (partitions : ℕ → Partition) (configuration : Configuration) (channel : ℕ) (wanted : WaitingSet) (who : Who) → is_of_channel wanted ≡ false
     → waits_at wanted (found partitions who) ≡ true → WaitsAcross asked partitions configuration channel who → ⊥
-not_across (request.QueuingPort port (QueuingOperation.Send length time_out message)) partitions configuration channel wanted who not_sending not_receiving waits across =
-    not_receiving channel (one_set wanted (set.ChannelReceivers channel) (found partitions who) waits across.1)
-not_across (request.QueuingPort port (QueuingOperation.Receive time_out)) partitions configuration channel wanted who not_sending not_receiving waits across =
-    not_sending channel (one_set wanted (set.ChannelSenders channel) (found partitions who) waits across.1)
-not_across _ partitions configuration channel wanted who not_sending not_receiving waits across = across
+not_across (request.QueuingPort port (QueuingOperation.Send length time_out message)) partitions configuration channel wanted who off waits across =
+    true≢false (off_channel wanted (set.ChannelReceivers channel) (found partitions who) off waits across.1)
+not_across (request.QueuingPort port (QueuingOperation.Receive time_out)) partitions configuration channel wanted who off waits across =
+    true≢false (off_channel wanted (set.ChannelSenders channel) (found partitions who) off waits across.1)
+not_across _ partitions configuration channel wanted who off waits across = across
 
 -- so who waits in a set of this partition isn't named
 not_named_here : (configuration : Configuration) (state : State) (now : ℕ) (call : CallRecord) (number : ℕ) → AreTied configuration state → nat_eq call.who.part number ≡ false
     → (codes : List Code) (channel : Option ℕ) → HasOutcome codes channel (answer_of now call.who (state.partitions call.who.part) call.request)
     (λ number. suits_use configuration number call.who.part (use_of call.request) (state.channels number)) (channel_answer configuration now call.who.part call.request state.channels) call.claim
-    → (wanted : WaitingSet) → ((other : ℕ) → ¬ (wanted ≡ set.ChannelSenders other)) → ((other : ℕ) → ¬ (wanted ≡ set.ChannelReceivers other))
+    → (wanted : WaitingSet) → is_of_channel wanted ≡ false
     → (who : Who) → who.part ≡ number → waits_at wanted (found state.partitions who) ≡ true → is_named who call.claim.woken ≡ true → ⊥
-not_named_here configuration state now call number tied elsewhere (code ∷ codes) channel has wanted not_sending not_receiving who here waits named = nobody who call.claim.woken has.woken named
-not_named_here configuration state now call number tied elsewhere [] None has wanted not_sending not_receiving who here waits named =
+not_named_here configuration state now call number tied elsewhere (code ∷ codes) channel has wanted off who here waits named = nobody who call.claim.woken has.woken named
+not_named_here configuration state now call number tied elsewhere [] None has wanted off who here waits named =
     let by = woken configuration state now call.who call.request call.claim tied [] None has who named in
     true≢false (sym (eq-eqb call.who.part number (sym (by.own has.chan) ∙ here)) ∙ elsewhere)
-not_named_here configuration state now call number tied elsewhere [] (Some channel) has wanted not_sending not_receiving who here waits named =
-    not_across call.request state.partitions configuration channel wanted who not_sending not_receiving waits
+not_named_here configuration state now call number tied elsewhere [] (Some channel) has wanted off who here waits named =
+    not_across call.request state.partitions configuration channel wanted who off waits
     (across configuration state now channel call.who.part call.request tied has.kind who (sym (has.woken who) ∙ named))
 
 -- an entry of a set of this partition stays
 stays_here : (configuration : Configuration) (state : State) (core : ℕ) (call : CallRecord) → AreTied configuration state
     → IsLawfulCall configuration state core call → (number : ℕ) → nat_eq call.who.part number ≡ false
-    → (wanted : WaitingSet) → ((other : ℕ) → ¬ (wanted ≡ set.ChannelSenders other)) → ((other : ℕ) → ¬ (wanted ≡ set.ChannelReceivers other))
+    → (wanted : WaitingSet) → is_of_channel wanted ≡ false
     → (entry : Entry) → IsTied (λ home. home ≡ number) wanted state.partitions entry → ends_wait call entry.who ≡ false
-stays_here configuration state core call tied law number elsewhere wanted not_sending not_receiving entry is =
+stays_here configuration state core call tied law number elsewhere wanted off entry is =
     let there : nat_eq entry.who.part call.who.part ≡ false = cannot_hold (nat_eq entry.who.part call.who.part) (λ same.
     true≢false (sym (eq-eqb call.who.part number (sym (eqb-true entry.who.part call.who.part same) ∙ is.0)) ∙ elsewhere)) in
     goes_on call entry.who (restarts_other call entry.who.part there)
     (cannot_hold (is_named entry.who call.claim.woken) (λ named.
     not_named_here configuration state (time_of state.cores core) call number tied elsewhere
     (condition_codes configuration call.who (state.partitions call.who.part) call.request) (channel_of (state.partitions call.who.part) call.request) law.outcome
-    wanted not_sending not_receiving entry.who is.0 is.1 named))
+    wanted off entry.who is.0 is.1 named))
     (not_second (is_no_error call.claim.out) (nat_eq entry.who.part call.who.part && is_target (stop_of call.request) entry.who.proc)
     (not_first (nat_eq entry.who.part call.who.part) (is_target (stop_of call.request) entry.who.proc) there))
 
@@ -124,10 +125,10 @@ foreign_set : (configuration : Configuration) (state : State) (place core : ℕ)
     → AllEntries (IsTied (λ home. home ≡ number) wanted (Next configuration state place core body)) (entries_at (state.partitions number) wanted)
 foreign_set configuration state place core (Call call) tied law number elsewhere wanted all =
     let Then : Entry → Type 0 = IsTied (λ home. home ≡ number) wanted (Next configuration state place core (Call call)) in
-    of_objects Then (state.partitions number) wanted (λ not_sending not_receiving.
+    of_objects Then (state.partitions number) wanted (λ off.
     all_weaker (IsTied (λ home. home ≡ number) wanted state.partitions) Then
     (λ entry is. tied_after configuration state place core (Call call) tied law (λ home. home ≡ number) wanted entry
-    (stays_here configuration state core call tied law number elsewhere wanted not_sending not_receiving entry is) is) (entries_at (state.partitions number) wanted) all)
+    (stays_here configuration state core call tied law number elsewhere wanted off entry is) is) (entries_at (state.partitions number) wanted) all)
 foreign_set configuration state place core _ tied law number elsewhere wanted all = absurd elsewhere
 
 -- a caller that enters a set of its partition is at home there
@@ -163,60 +164,24 @@ home_of configuration state core call tied law channel is =
     by [] none (Some other) at has =
         port_is_at_end configuration call.who (state.partitions call.who.part) call.request channel (tied.ports call.who.part) (at ∙ sym has.chan ∙ is) none
 
+-- where a caller is at home that enters a set: at the channel's end, if it is a channel's
+abbrev IsHomeOf : Configuration → WaitingSet → ℕ → Type 0
+IsHomeOf configuration (set.ChannelSenders number) partition = IsTrue (is_sender configuration number partition)
+IsHomeOf configuration (set.ChannelReceivers number) partition = IsTrue (is_receiver configuration number partition)
+IsHomeOf configuration _ partition = Unit {0}
+
 -- who enters a channel's set does so by its service, through that channel
-sending_call : (asked : Request) (chan : Option ℕ) (number : ℕ) (configuration : Configuration) (partition : ℕ) → set_of asked chan ≡ Some (set.ChannelSenders number)
-    → ((channel : ℕ) → chan ≡ Some channel → StandsAtEnd asked configuration channel partition) → IsTrue (is_sender configuration number partition)
-sending_call (request.QueuingPort port (QueuingOperation.Send length time_out message)) (Some channel) number configuration partition is stands =
-    let both : set.ChannelSenders channel ≡ set.ChannelSenders number = cc in
-    let same : channel ≡ number = cc in
-    subst (λ one. IsTrue (is_sender configuration one partition)) same (stands channel refl)
-sending_call (request.QueuingPort port (QueuingOperation.Send length time_out message)) None number configuration partition is stands = cc
-sending_call (request.QueuingPort port (QueuingOperation.Receive time_out)) (Some channel) number configuration partition is stands =
-    let both : set.ChannelReceivers channel ≡ set.ChannelSenders number = cc in cc
-sending_call (request.QueuingPort port (QueuingOperation.Receive time_out)) None number configuration partition is stands = cc
-sending_call (request.Buffer buffer (BufferOperation.Send length time_out message)) chan number configuration partition is stands = let both : set.BufferSenders (natural_of buffer) ≡ set.ChannelSenders number = cc in cc
-sending_call (request.Buffer buffer (BufferOperation.Receive time_out)) chan number configuration partition is stands = let both : set.BufferReceivers (natural_of buffer) ≡ set.ChannelSenders number = cc in cc
-sending_call (request.Blackboard blackboard (BlackboardOperation.Read time_out)) chan number configuration partition is stands = let both : set.BlackboardReaders (natural_of blackboard) ≡ set.ChannelSenders number = cc in cc
-sending_call (request.Semaphore semaphore (SemaphoreOperation.Wait time_out)) chan number configuration partition is stands = let both : set.SemaphoreWaiters (natural_of semaphore) ≡ set.ChannelSenders number = cc in cc
-sending_call (request.Event event (EventOperation.Wait time_out)) chan number configuration partition is stands = let both : set.EventWaiters (natural_of event) ≡ set.ChannelSenders number = cc in cc
-sending_call (request.Mutex mutex (MutexOperation.Acquire time_out)) chan number configuration partition is stands = let both : set.MutexWaiters (natural_of mutex) ≡ set.ChannelSenders number = cc in cc
-sending_call _ chan number configuration partition is stands = let none : ◌≡◌ {A = Option WaitingSet} None (Some (set.ChannelSenders number)) = is in cc
+home_by : {asked : Request} {chan : Option ℕ} {wanted : WaitingSet} → WaitsIn asked chan wanted → (configuration : Configuration) (partition : ℕ)
+    → ((channel : ℕ) → chan ≡ Some channel → StandsAtEnd asked configuration channel partition) → IsHomeOf configuration wanted partition
+home_by (WaitsIn.sends_through {channel = channel}) configuration partition stands = stands channel refl
+home_by (WaitsIn.receives_through {channel = channel}) configuration partition stands = stands channel refl
+home_by _ configuration partition stands = tt
 
-receiving_call : (asked : Request) (chan : Option ℕ) (number : ℕ) (configuration : Configuration) (partition : ℕ) → set_of asked chan ≡ Some (set.ChannelReceivers number)
-    → ((channel : ℕ) → chan ≡ Some channel → StandsAtEnd asked configuration channel partition) → IsTrue (is_receiver configuration number partition)
-receiving_call (request.QueuingPort port (QueuingOperation.Receive time_out)) (Some channel) number configuration partition is stands =
-    let both : set.ChannelReceivers channel ≡ set.ChannelReceivers number = cc in
-    let same : channel ≡ number = cc in
-    subst (λ one. IsTrue (is_receiver configuration one partition)) same (stands channel refl)
-receiving_call (request.QueuingPort port (QueuingOperation.Receive time_out)) None number configuration partition is stands = cc
-receiving_call (request.QueuingPort port (QueuingOperation.Send length time_out message)) (Some channel) number configuration partition is stands =
-    let both : set.ChannelSenders channel ≡ set.ChannelReceivers number = cc in cc
-receiving_call (request.QueuingPort port (QueuingOperation.Send length time_out message)) None number configuration partition is stands = cc
-receiving_call (request.Buffer buffer (BufferOperation.Send length time_out message)) chan number configuration partition is stands = let both : set.BufferSenders (natural_of buffer) ≡ set.ChannelReceivers number = cc in cc
-receiving_call (request.Buffer buffer (BufferOperation.Receive time_out)) chan number configuration partition is stands = let both : set.BufferReceivers (natural_of buffer) ≡ set.ChannelReceivers number = cc in cc
-receiving_call (request.Blackboard blackboard (BlackboardOperation.Read time_out)) chan number configuration partition is stands = let both : set.BlackboardReaders (natural_of blackboard) ≡ set.ChannelReceivers number = cc in cc
-receiving_call (request.Semaphore semaphore (SemaphoreOperation.Wait time_out)) chan number configuration partition is stands = let both : set.SemaphoreWaiters (natural_of semaphore) ≡ set.ChannelReceivers number = cc in cc
-receiving_call (request.Event event (EventOperation.Wait time_out)) chan number configuration partition is stands = let both : set.EventWaiters (natural_of event) ≡ set.ChannelReceivers number = cc in cc
-receiving_call (request.Mutex mutex (MutexOperation.Acquire time_out)) chan number configuration partition is stands = let both : set.MutexWaiters (natural_of mutex) ≡ set.ChannelReceivers number = cc in cc
-receiving_call _ chan number configuration partition is stands = let none : ◌≡◌ {A = Option WaitingSet} None (Some (set.ChannelReceivers number)) = is in cc
-
-enters_at_source : (configuration : Configuration) (state : State) (core : ℕ) (body : Body) → AreTied configuration state → IsLawfulBody configuration state core body
-    → (number : ℕ) → EntersAtHome body (λ home. IsTrue (is_sender configuration number home)) (set.ChannelSenders number)
-enters_at_source configuration state core (Call call) tied law number = λ here.
-    sending_call call.request call.claim.chan number configuration call.who.part
-    (found_set (set.ChannelSenders number) (set_of call.request call.claim.chan) (and_parts (is_waiting call.claim.out) (is_the_set (set.ChannelSenders number) (set_of call.request call.claim.chan)) here).1)
-    (λ channel is. home_of configuration state core call tied law channel is)
-enters_at_source configuration state core (Disp who) tied law number = tt
-enters_at_source configuration state core _ tied law number = tt
-
-enters_at_destination : (configuration : Configuration) (state : State) (core : ℕ) (body : Body) → AreTied configuration state → IsLawfulBody configuration state core body
-    → (number : ℕ) → EntersAtHome body (λ home. IsTrue (is_receiver configuration number home)) (set.ChannelReceivers number)
-enters_at_destination configuration state core (Call call) tied law number = λ here.
-    receiving_call call.request call.claim.chan number configuration call.who.part
-    (found_set (set.ChannelReceivers number) (set_of call.request call.claim.chan) (and_parts (is_waiting call.claim.out) (is_the_set (set.ChannelReceivers number) (set_of call.request call.claim.chan)) here).1)
-    (λ channel is. home_of configuration state core call tied law channel is)
-enters_at_destination configuration state core (Disp who) tied law number = tt
-enters_at_destination configuration state core _ tied law number = tt
+enters_at_end : (configuration : Configuration) (state : State) (core : ℕ) (body : Body) → AreTied configuration state → IsLawfulBody configuration state core body
+    → (wanted : WaitingSet) → EntersAtHome body (IsHomeOf configuration wanted) wanted
+enters_at_end configuration state core (Call call) tied law wanted = λ here.
+    home_by ((entering_is_the_sentence call wanted).0 here).1 configuration call.who.part (λ channel is. home_of configuration state core call tied law channel is)
+enters_at_end configuration state core _ tied law wanted = tt
 
 -- the ports
 
@@ -224,13 +189,10 @@ called_ports : (configuration : Configuration) (state : State) (place core : ℕ
     → AllPorts (λ port. IsAtEnd configuration number port.direction port.channel) (state.partitions number).queuing_ports
     → AllPorts (λ port. IsAtEnd configuration number port.direction port.channel) (partition_called configuration state.cores place core call (state.partitions number)).queuing_ports
 called_ports configuration state place core call number here all =
-    elim (is_done call.claim.out) as (λ done. AllPorts (λ port. IsAtEnd configuration number port.direction port.channel)
-    (cond done (objects_by configuration call.who call.claim.val call.request (state.partitions number)) (state.partitions number)).queuing_ports) [
-      | true ↦ subst (λ one. AllPorts (λ port. IsAtEnd configuration one port.direction port.channel) (objects_by configuration call.who call.claim.val call.request (state.partitions number)).queuing_ports) here
-          (ports_after configuration call.who call.claim.val call.request (state.partitions number)
-          (subst (λ one. AllPorts (λ port. IsAtEnd configuration one port.direction port.channel) (state.partitions number).queuing_ports) (sym here) all))
-      | false ↦ all
-    ]
+    done_case (λ next. AllPorts (λ port. IsAtEnd configuration number port.direction port.channel) next.queuing_ports) configuration call (state.partitions number)
+    (λ done. subst (λ one. AllPorts (λ port. IsAtEnd configuration one port.direction port.channel) (objects_by configuration call.who call.claim.val call.request (state.partitions number)).queuing_ports) here
+    (ports_after configuration call.who call.claim.val call.request (state.partitions number)
+    (subst (λ one. AllPorts (λ port. IsAtEnd configuration one port.direction port.channel) (state.partitions number).queuing_ports) (sym here) all))) all
 
 ports_by : (configuration : Configuration) (state : State) (place core : ℕ) (body : Body) (number : ℕ)
     → AllPorts (λ port. IsAtEnd configuration number port.direction port.channel) (state.partitions number).queuing_ports
@@ -238,18 +200,10 @@ ports_by : (configuration : Configuration) (state : State) (place core : ℕ) (b
 ports_by configuration state place core (Disp who) number all = all
 ports_by configuration state place core (Tick woken) number all = all
 ports_by configuration state place core (Ret ret) number all =
-    elim (nat_eq ret.who.part number) as (λ own. AllPorts (λ port. IsAtEnd configuration number port.direction port.channel) (cond own
-    (record (state.partitions number) { table = each_item (returned ret.who.proc) (state.partitions number).table }) (state.partitions number)).queuing_ports) [ true ↦ all | false ↦ all ]
+    return_case (λ next. AllPorts (λ port. IsAtEnd configuration number port.direction port.channel) next.queuing_ports) configuration state.cores place core number ret (state.partitions number) all all
 ports_by configuration state place core (Call call) number all =
-    let foreign : ℕ → Process → Process = λ other process. woken_if_named place call (record { part = number; proc = other }) process in
-    elim (nat_eq call.who.part number) as (λ own. nat_eq call.who.part number ≡ own → AllPorts (λ port. IsAtEnd configuration number port.direction port.channel) (cond own
-    (own_partition (restart_of call) configuration state.cores place core call (state.partitions number))
-    (record (state.partitions number) { table = each_item foreign (state.partitions number).table })).queuing_ports) [
-      | true ↦ λ own. own_case (λ next. AllPorts (λ port. IsAtEnd configuration number port.direction port.channel) next.queuing_ports)
-          configuration state.cores place core call (state.partitions number)
-          (λ none. called_ports configuration state place core call number (eqb-true call.who.part number own) all) (λ mode is. tt)
-      | false ↦ λ elsewhere. all
-    ] refl
+    call_case (λ next. AllPorts (λ port. IsAtEnd configuration number port.direction port.channel) next.queuing_ports) configuration state.cores place core number call (state.partitions number)
+    (λ own none. called_ports configuration state place core call number (eqb-true call.who.part number own) all) (λ own mode is. tt) (λ elsewhere. all)
 
 -- the whole state
 
@@ -265,9 +219,9 @@ step_tied configuration state ordered next tied step =
       distinct = λ number. distinct_by configuration state.cores place core number body (state.partitions number) (lawful_values configuration state core body law number) (tied.distinct number);
       objects = λ number wanted. own_set configuration state place core body tied law number wanted;
       senders = λ number. set_tied configuration state place core body tied law (λ home. IsTrue (is_sender configuration number home)) (set.ChannelSenders number)
-          (enters_at_source configuration state core body tied law number) (state.channels number).senders (tied.senders number);
+          (enters_at_end configuration state core body tied law (set.ChannelSenders number)) (state.channels number).senders (tied.senders number);
       receivers = λ number. set_tied configuration state place core body tied law (λ home. IsTrue (is_receiver configuration number home)) (set.ChannelReceivers number)
-          (enters_at_destination configuration state core body tied law number) (state.channels number).receivers (tied.receivers number);
+          (enters_at_end configuration state core body tied law (set.ChannelReceivers number)) (state.channels number).receivers (tied.receivers number);
       ports = λ number. ports_by configuration state place core body number (tied.ports number);
     })
 

@@ -1,14 +1,12 @@
 -- A piece that a lawful record doesn't touch keeps its part.
-use Rattle.std.proofs.Common.{◌≡◌, ℕ, List, [], ◌∷◌, Bool, true, false, nat_eq, ℤ, Option, Some, None, is_some, IsTrue, IsFalse, refl, sym, ap, subst, ◌∙◌, inl, inr, true≢false, ◌||◌, ◌&&◌}
-use Rattle.std.proofs.lemmas.Bool.{cases_Bool, eqb-true}
+use Rattle.std.proofs.Common.{◌≡◌, ℕ, List, [], ◌∷◌, Bool, true, false, nat_eq, ℤ, Option, Some, None, is_some, IsTrue, IsFalse, refl, sym, ap, subst, ◌∙◌, true≢false, ◌||◌, ◌&&◌}
+use Rattle.std.proofs.lemmas.Bool.{eqb-true}
 use Rattle.apex_types.specs.declared.record.Body.{Body}
 use Rattle.apex_types.specs.declared.record.Body.TheVariants.{Call, Ret, Disp, Tick}
 use Rattle.apex_types.specs.declared.record.Call.{Call as CallRecord}
 use Rattle.apex_types.specs.declared.record.Ordered.{Ordered}
 use Rattle.apex_types.specs.declared.record.Who.{Who}
-use Rattle.apex_types.specs.declared.operation.{BlackboardOperation.BlackboardOperation, BufferOperation.BufferOperation, EventOperation.EventOperation, MutexOperation.MutexOperation, QueuingOperation.QueuingOperation, SemaphoreOperation.SemaphoreOperation}
 use Rattle.apex_types.specs.declared.request.Request.{Request}
-use Rattle.apex_types.specs.declared.request.Request.TheVariants as request
 use Rattle.apex_machine.specs.declared.state.CoreState.{CoreState}
 use Rattle.apex_machine.specs.declared.state.Entry.{Entry}
 use Rattle.apex_machine.specs.declared.state.Process.{Process}
@@ -22,13 +20,15 @@ use Rattle.apex_machine.specs.ServiceConditions.{condition_codes}
 use Rattle.apex_machine.specs.Ports.{channel_of}
 use Rattle.apex_machine.specs.State.{Partition, State, Table, each_item, is_named, time_of}
 use Rattle.apex_machine.specs.Step.{IsLawful, IsLawfulBody, IsLawfulCall}
-use Rattle.apex_machine.specs.Waiting.{ends_wait, enters, is_no_error, is_target, is_the_set, is_waiting, restart_of, set_after, set_of, stop_of}
+use Rattle.apex_machine.specs.Waiting.{ends_wait, enters, is_no_error, is_target, restart_of, set_after, stop_of}
 use Rattle.apex_laws.specs.Laws.{AllEntries, AreTied, IsTied}
-use Rattle.apex_laws.proofs.Booleans.{is_itself, neither_first, neither_later, not_second}
+use Rattle.apex_laws.specs.WaitLaws.{WaitsIn}
+use Rattle.apex_laws.proofs.Booleans.{cannot_hold, is_itself, neither_first, neither_later, not_second}
 use Rattle.apex_laws.proofs.Parts.{times_after}
 use Rattle.apex_laws.proofs.Restarts.{goes_on}
 use Rattle.apex_laws.proofs.Waiters.{none_leaves}
 use Rattle.apex_laws.proofs.WaitersOf.{not_named}
+use Rattle.apex_laws.proofs.Waits.{entering_is_the_sentence}
 use Rattle.apex_laws.proofs.Woken.{IsWokenBy, woken}
 
 -- partitions
@@ -57,31 +57,16 @@ partition_untouched configuration cores place core number (Call call) partition 
 
 -- channels
 
--- a caller enters the senders of a channel only by a call through it
-not_sending : (number : ℕ) (asked : Request) (chan : Option ℕ) → is_channel number chan ≡ false → is_the_set (set.ChannelSenders number) (set_of asked chan) ≡ false
-not_sending number (request.QueuingPort port (QueuingOperation.Send length time_out message)) (Some channel) off = off
-not_sending number (request.QueuingPort port (QueuingOperation.Send length time_out message)) None off = refl
-not_sending number (request.QueuingPort port (QueuingOperation.Receive time_out)) (Some channel) off = refl
-not_sending number (request.QueuingPort port (QueuingOperation.Receive time_out)) None off = refl
-not_sending number (request.Buffer buffer (BufferOperation.Receive time_out)) chan off = refl
-not_sending number (request.Blackboard blackboard (BlackboardOperation.Read time_out)) chan off = refl
-not_sending number (request.Semaphore semaphore (SemaphoreOperation.Wait time_out)) chan off = refl
-not_sending number (request.Event event (EventOperation.Wait time_out)) chan off = refl
-not_sending number (request.Mutex mutex (MutexOperation.Acquire time_out)) chan off = refl
-not_sending number _ chan off = refl
+-- a caller enters a set of a channel only by a call through it
+abbrev GoesThrough : WaitingSet → Option ℕ → Type 0
+GoesThrough (set.ChannelSenders number) chan = is_channel number chan ≡ true
+GoesThrough (set.ChannelReceivers number) chan = is_channel number chan ≡ true
+GoesThrough _ chan = Unit {0}
 
--- a caller enters the receivers of a channel only by a call through it
-not_receiving : (number : ℕ) (asked : Request) (chan : Option ℕ) → is_channel number chan ≡ false → is_the_set (set.ChannelReceivers number) (set_of asked chan) ≡ false
-not_receiving number (request.QueuingPort port (QueuingOperation.Send length time_out message)) (Some channel) off = refl
-not_receiving number (request.QueuingPort port (QueuingOperation.Send length time_out message)) None off = refl
-not_receiving number (request.QueuingPort port (QueuingOperation.Receive time_out)) (Some channel) off = off
-not_receiving number (request.QueuingPort port (QueuingOperation.Receive time_out)) None off = refl
-not_receiving number (request.Buffer buffer (BufferOperation.Receive time_out)) chan off = refl
-not_receiving number (request.Blackboard blackboard (BlackboardOperation.Read time_out)) chan off = refl
-not_receiving number (request.Semaphore semaphore (SemaphoreOperation.Wait time_out)) chan off = refl
-not_receiving number (request.Event event (EventOperation.Wait time_out)) chan off = refl
-not_receiving number (request.Mutex mutex (MutexOperation.Acquire time_out)) chan off = refl
-not_receiving number _ chan off = refl
+goes_through : {asked : Request} {chan : Option ℕ} {wanted : WaitingSet} → WaitsIn asked chan wanted → GoesThrough wanted chan
+goes_through (WaitsIn.sends_through {channel = channel}) = is_itself channel
+goes_through (WaitsIn.receives_through {channel = channel}) = is_itself channel
+goes_through _ = tt
 
 -- a call that doesn't stop anybody at an end of a channel, but comes from there, restarts nobody
 not_restarted_at : (restarted stopping end here : Bool) → (here ≡ true → end ≡ true) → ((restarted || stopping) && end) ≡ false → (restarted && here) ≡ false
@@ -129,13 +114,10 @@ not_woken : (configuration : Configuration) (state : State) (core : ℕ) (call :
     → IsLawfulCall configuration state core call → (number : ℕ) → is_channel number call.claim.chan ≡ false → (who : Who)
     → (IsWokenBy state.partitions call.who.part call.claim.chan who → call.claim.chan ≡ Some number) → is_named who call.claim.woken ≡ false
 not_woken configuration state core call tied law number off who through =
-    elim (cases_Bool (is_named who call.claim.woken)) [
-      | inl named ↦
-          let by = woken configuration state (time_of state.cores core) call.who call.request call.claim tied
-          (condition_codes configuration call.who (state.partitions call.who.part) call.request) (channel_of (state.partitions call.who.part) call.request) law.outcome who named in
-          absurd (true≢false (sym (ap (is_channel number) (through by) ∙ is_itself number) ∙ off))
-      | inr not_named ↦ not_named
-    ]
+    cannot_hold (is_named who call.claim.woken) (λ named.
+    (let by = woken configuration state (time_of state.cores core) call.who call.request call.claim tied
+    (condition_codes configuration call.who (state.partitions call.who.part) call.request) (channel_of (state.partitions call.who.part) call.request) law.outcome who named in
+    true≢false (sym (ap (is_channel number) (through by) ∙ is_itself number) ∙ off)))
 
 -- a set that a call doesn't enter and nobody of which it ends stays
 pub set_stays : (Fact : Entry → Type 0) (place : ℕ) (call : CallRecord) (wanted : WaitingSet) (entries : List Entry) → AllEntries Fact entries
@@ -154,12 +136,12 @@ channel_untouched configuration state place core call tied law number off =
       rw away refl,
       set_stays (IsTied (λ home. IsTrue (is_sender configuration number home)) (set.ChannelSenders number) state.partitions) place call (set.ChannelSenders number)
           (state.channels number).senders (tied.senders number)
-          (not_second (is_waiting call.claim.out) _ (not_sending number call.request call.claim.chan away))
+          (cannot_hold (enters call (set.ChannelSenders number)) (λ here. true≢false (sym (goes_through ((entering_is_the_sentence call (set.ChannelSenders number)).0 here).1) ∙ away)))
           (λ entry there. stays_there configuration call number entry.who (sender_at_end configuration number entry.who.part there.0) unstopped
           (not_woken configuration state core call tied law number away entry.who (λ by. by.sending number there.1))),
       set_stays (IsTied (λ home. IsTrue (is_receiver configuration number home)) (set.ChannelReceivers number) state.partitions) place call (set.ChannelReceivers number)
           (state.channels number).receivers (tied.receivers number)
-          (not_second (is_waiting call.claim.out) _ (not_receiving number call.request call.claim.chan away))
+          (cannot_hold (enters call (set.ChannelReceivers number)) (λ here. true≢false (sym (goes_through ((entering_is_the_sentence call (set.ChannelReceivers number)).0 here).1) ∙ away)))
           (λ entry there. stays_there configuration call number entry.who (receiver_at_end configuration number entry.who.part there.0) unstopped
           (not_woken configuration state core call tied law number away entry.who (λ by. by.receiving number there.1))),
     )

@@ -8,6 +8,7 @@ use Rattle.apex_machine.specs.declared.state.WaitingSet.{WaitingSet}
 use Rattle.apex_machine.specs.declared.state.WaitingSet.TheVariants as set
 use Rattle.apex_machine.specs.Choice.{waits_for_nothing}
 use Rattle.apex_machine.specs.Waiting.{is_in, is_same_set, is_the_set, waits_at}
+use Rattle.apex_laws.specs.PartLaws.{is_of_channel}
 use Rattle.apex_laws.proofs.Booleans.{is_itself}
 
 -- the test says that these are one set
@@ -25,13 +26,7 @@ same_set_is _ _ same = absurd (true≢false (sym same))
 -- a set is the same as itself
 pub set_itself : (wanted : WaitingSet) → is_same_set wanted wanted ≡ true
 set_itself (set.BufferSenders number) = is_itself number
-set_itself (set.BufferReceivers number) = is_itself number
-set_itself (set.BlackboardReaders number) = is_itself number
-set_itself (set.SemaphoreWaiters number) = is_itself number
-set_itself (set.EventWaiters number) = is_itself number
-set_itself (set.MutexWaiters number) = is_itself number
-set_itself (set.ChannelSenders number) = is_itself number
-set_itself (set.ChannelReceivers number) = is_itself number
+set_itself _ = is_itself _
 
 -- the set that is found is the one that is wanted
 pub found_set : (wanted : WaitingSet) (found : Option WaitingSet) → is_the_set wanted found ≡ true → found ≡ Some wanted
@@ -53,3 +48,7 @@ pub one_set : (one other : WaitingSet) (found : Option Process) → waits_at one
 one_set one other None here also = absurd (true≢false (sym here))
 one_set one other (Some process) here also =
     one_wait one other process.wait (and_parts process.alive _ here).1 (and_parts process.alive _ also).1
+
+-- so who waits in a set of an object waits in no channel's
+pub off_channel : (wanted other : WaitingSet) (found : Option Process) → is_of_channel wanted ≡ false → waits_at wanted found ≡ true → waits_at other found ≡ true → is_of_channel other ≡ false
+off_channel wanted other found off waits also = ap is_of_channel (one_set other wanted found also waits) ∙ off

@@ -1,5 +1,5 @@
 -- At which waiting set a call waits, and how a wait with a time-out ends.
-use Rattle.std.proofs.Common.{◌≡◌, ℕ, ◌+◌, ◌≤◌, ℤ, pos, negsuc, [], Option, Some, None, Bool, true, false, ◌&&◌, nat_eq, nat_le, refl, sym, ap, subst, ◌∙◌, true≢false}
+use Rattle.std.proofs.Common.{◌≡◌, ℕ, ◌+◌, ◌≤◌, ℤ, pos, negsuc, [], Option, Some, None, Bool, false, ◌&&◌, nat_eq, nat_le, refl, sym, ap, subst, ◌∙◌, true≢false}
 use Rattle.apex_types.specs.declared.code.Code.TheVariants as code
 use Rattle.apex_types.specs.declared.record.Call.{Call as CallRecord}
 use Rattle.apex_types.specs.declared.record.Out.{Out}
@@ -13,15 +13,14 @@ use Rattle.apex_machine.specs.declared.state.Process.{Process}
 use Rattle.apex_machine.specs.declared.state.Wait.{Wait}
 use Rattle.apex_machine.specs.declared.state.Wait.TheVariants as wait
 use Rattle.apex_machine.specs.declared.state.WaitingSet.{WaitingSet}
-use Rattle.apex_machine.specs.declared.state.WaitingSet.TheVariants as set
 use Rattle.apex_machine.specs.DueTimes.{due_by, due_of_call, due_time, falls_due, time_out_of, wait_of}
 use Rattle.apex_machine.specs.Processes.{caller_after, caller_with, code_when_due, owed, service_of_wait}
 use Rattle.apex_machine.specs.Waiting.{is_the_set, is_waiting, service_at, set_of}
 use Rattle.apex_laws.specs.ConditionSentences.{HasTimeOut}
 use Rattle.apex_laws.specs.WaitLaws.{EnteringIsTheSentence, TimeOutIsTheSentence, WaitsIn}
-use Rattle.apex_laws.proofs.Booleans.{is_itself, not_second}
+use Rattle.apex_laws.proofs.Booleans.{not_second}
 use Rattle.apex_laws.proofs.ConditionTests.{Tells, absent, at_most_tells, equal_tells, tells_both}
-use Rattle.apex_laws.proofs.WaitSets.{found_set}
+use Rattle.apex_laws.proofs.WaitSets.{found_set, set_itself}
 
 -- the set of a service
 
@@ -46,24 +45,13 @@ set_is (request.QueuingPort port (QueuingOperation.Receive time_out)) (Some chan
 set_is _ chan wanted is = absurd (absent wanted is)
 
 -- a call that waits
-waiting_tells : (given : Out) → Tells (is_waiting given) (given ≡ out.Waits)
+pub waiting_tells : (given : Out) → Tells (is_waiting given) (given ≡ out.Waits)
 waiting_tells out.Waits = (λ holds. refl, λ fact. refl)
 waiting_tells out.Never = (λ holds. absurd (true≢false (sym holds)), λ fact. ap is_waiting fact)
 waiting_tells (out.Answer one) = (λ holds. absurd (true≢false (sym holds)), λ fact. ap is_waiting fact)
 
--- a set is itself
-same_set : (one : WaitingSet) → is_the_set one (Some one) ≡ true
-same_set (set.BufferSenders number) = is_itself number
-same_set (set.BufferReceivers number) = is_itself number
-same_set (set.BlackboardReaders number) = is_itself number
-same_set (set.SemaphoreWaiters number) = is_itself number
-same_set (set.EventWaiters number) = is_itself number
-same_set (set.MutexWaiters number) = is_itself number
-same_set (set.ChannelSenders channel) = is_itself channel
-same_set (set.ChannelReceivers channel) = is_itself channel
-
 set_tells : (asked : Request) (chan : Option ℕ) (wanted : WaitingSet) → Tells (is_the_set wanted (set_of asked chan)) (WaitsIn asked chan wanted)
-set_tells asked chan wanted = (λ holds. set_is asked chan wanted (found_set wanted (set_of asked chan) holds), λ fact. ap (is_the_set wanted) (set_by fact) ∙ same_set wanted)
+set_tells asked chan wanted = (λ holds. set_is asked chan wanted (found_set wanted (set_of asked chan) holds), λ fact. ap (is_the_set wanted) (set_by fact) ∙ set_itself wanted)
 
 pub entering_is_the_sentence : EnteringIsTheSentence
 entering_is_the_sentence call wanted =

@@ -192,20 +192,27 @@ read_wakes : (now refresh : ℕ) (last : Option Stamped) → (reading_of now ref
 read_wakes now refresh None = refl
 read_wakes now refresh (Some last) = refl
 
+-- the waiting set of a channel whose first a use can wake: a send the first of those who receive, a receive of those who send
+abbrev pub woken_from : Use → Channel → List Entry
+woken_from (Send message time_out) channel = channel.receivers
+woken_from (Receive time_out) channel = channel.senders
+woken_from _ channel = []
+
 -- what each use of a channel wakes
-use_wakes : (Fact : Who → Type 0) (configuration : Configuration) (now number partition : ℕ) (how : Use) (channel : Channel) (content : Content)
-    → ((entry : Entry) → first_waiter (receiving_discipline configuration number) channel.receivers ≡ Some entry → Fact entry.who)
-    → ((entry : Entry) → first_waiter (sending_discipline configuration number) channel.senders ≡ Some entry → Fact entry.who)
+pub use_wakes : (Fact : Who → Type 0) (configuration : Configuration) (now number partition : ℕ) (how : Use) (channel : Channel) (content : Content)
+    → AllEntries (λ entry. Fact entry.who) (woken_from how channel)
     → (one : Who) → is_named one (used configuration now number partition how channel content).answer.woken ≡ true → Fact one
-use_wakes Fact configuration now number partition (Write message) channel (Sampled last) receivers senders one named = nobody one [] refl named
-use_wakes Fact configuration now number partition Read channel (Sampled last) receivers senders one named =
+use_wakes Fact configuration now number partition Read channel (Sampled last) all one named =
     nobody one (reading_of now (refresh_of configuration number) last).woken (read_wakes now (refresh_of configuration number) last) named
-use_wakes Fact configuration now number partition (Send message time_out) channel (Queued messages) receivers senders one named =
-    sent_wakes Fact (capacity_of configuration number) message time_out (first_waiter (receiving_discipline configuration number) channel.receivers) messages receivers one named
-use_wakes Fact configuration now number partition (Receive time_out) channel (Queued messages) receivers senders one named =
-    received_wakes Fact time_out (first_waiter (sending_discipline configuration number) channel.senders) messages senders one named
-use_wakes Fact configuration now number partition Ask channel (Queued messages) receivers senders one named = nobody one [] refl named
-use_wakes Fact configuration now number partition _ channel _ receivers senders one named = nobody one [] refl named
+use_wakes Fact configuration now number partition (Send message time_out) channel (Queued messages) all one named =
+    sent_wakes Fact (capacity_of configuration number) message time_out (first_waiter (receiving_discipline configuration number) channel.receivers) messages
+    (λ entry first. first_has (λ entry. Fact entry.who) (receiving_discipline configuration number) channel.receivers entry all first) one named
+use_wakes Fact configuration now number partition (Receive time_out) channel (Queued messages) all one named =
+    received_wakes Fact time_out (first_waiter (sending_discipline configuration number) channel.senders) messages
+    (λ entry first. first_has (λ entry. Fact entry.who) (sending_discipline configuration number) channel.senders entry all first) one named
+use_wakes Fact configuration now number partition (Write message) channel (Sampled last) all one named = nobody one [] refl named
+use_wakes Fact configuration now number partition Ask channel (Queued messages) all one named = nobody one [] refl named
+use_wakes Fact configuration now number partition _ channel _ all one named = nobody one [] refl named
 
 -- a call through a channel wakes those who stand in its waiting sets
 pub channel_wakes : (Fact : Who → Type 0) (configuration : Configuration) (now number partition : ℕ) (how : Option Use) (channel : Channel)
@@ -213,53 +220,9 @@ pub channel_wakes : (Fact : Who → Type 0) (configuration : Configuration) (now
     → (one : Who) → is_named one (channel_effect configuration now number partition how channel).answer.woken ≡ true → Fact one
 channel_wakes Fact configuration now number partition None channel receivers senders one named = nobody one [] refl named
 channel_wakes Fact configuration now number partition (Some how) channel receivers senders one named =
-    use_wakes Fact configuration now number partition how channel channel.content
-    (λ entry first. first_has (λ entry. Fact entry.who) (receiving_discipline configuration number) channel.receivers entry receivers first)
-    (λ entry first. first_has (λ entry. Fact entry.who) (sending_discipline configuration number) channel.senders entry senders first) one named
-
--- a send wakes those who wait to receive, a receive those who wait to send, and nothing else wakes anybody
-pub send_wakes : (Fact : Who → Type 0) (configuration : Configuration) (now number partition : ℕ) (message : List ℕ) (time_out : ℤ) (channel : Channel)
-    → AllEntries (λ entry. Fact entry.who) channel.receivers
-    → (one : Who) → is_named one (channel_effect configuration now number partition (Some (Send message time_out)) channel).answer.woken ≡ true → Fact one
-send_wakes Fact configuration now number partition message time_out channel receivers one named = by channel.content named
+    use_wakes Fact configuration now number partition how channel channel.content (by how) one named
   where
-    by : (content : Content) → is_named one (used configuration now number partition (Send message time_out) channel content).answer.woken ≡ true → Fact one
-    by (Queued messages) named =
-        sent_wakes Fact (capacity_of configuration number) message time_out (first_waiter (receiving_discipline configuration number) channel.receivers) messages
-        (λ entry first. first_has (λ entry. Fact entry.who) (receiving_discipline configuration number) channel.receivers entry receivers first) one named
-    by (Sampled last) named = nobody one [] refl named
-
-pub receive_wakes : (Fact : Who → Type 0) (configuration : Configuration) (now number partition : ℕ) (time_out : ℤ) (channel : Channel)
-    → AllEntries (λ entry. Fact entry.who) channel.senders
-    → (one : Who) → is_named one (channel_effect configuration now number partition (Some (Receive time_out)) channel).answer.woken ≡ true → Fact one
-receive_wakes Fact configuration now number partition time_out channel senders one named = by channel.content named
-  where
-    by : (content : Content) → is_named one (used configuration now number partition (Receive time_out) channel content).answer.woken ≡ true → Fact one
-    by (Queued messages) named =
-        received_wakes Fact time_out (first_waiter (sending_discipline configuration number) channel.senders) messages
-        (λ entry first. first_has (λ entry. Fact entry.who) (sending_discipline configuration number) channel.senders entry senders first) one named
-    by (Sampled last) named = nobody one [] refl named
-
-pub write_wakes : (configuration : Configuration) (now number partition : ℕ) (message : List ℕ) (channel : Channel)
-    → (channel_effect configuration now number partition (Some (Write message)) channel).answer.woken ≡ []
-write_wakes configuration now number partition message channel = by channel.content
-  where
-    by : (content : Content) → (used configuration now number partition (Write message) channel content).answer.woken ≡ []
-    by (Sampled last) = refl
-    by (Queued messages) = refl
-
-pub ask_wakes : (configuration : Configuration) (now number partition : ℕ) (channel : Channel)
-    → (channel_effect configuration now number partition (Some Ask) channel).answer.woken ≡ []
-ask_wakes configuration now number partition channel = by channel.content
-  where
-    by : (content : Content) → (used configuration now number partition Ask channel content).answer.woken ≡ []
-    by (Sampled last) = refl
-    by (Queued messages) = refl
-
-pub read_wakes_nobody : (configuration : Configuration) (now number partition : ℕ) (channel : Channel)
-    → (channel_effect configuration now number partition (Some Read) channel).answer.woken ≡ []
-read_wakes_nobody configuration now number partition channel = by channel.content
-  where
-    by : (content : Content) → (used configuration now number partition Read channel content).answer.woken ≡ []
-    by (Sampled last) = read_wakes now (refresh_of configuration number) last
-    by (Queued messages) = refl
+    by : (how : Use) → AllEntries (λ entry. Fact entry.who) (woken_from how channel)
+    by (Send message time_out) = receivers
+    by (Receive time_out) = senders
+    by _ = tt

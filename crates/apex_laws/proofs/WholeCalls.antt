@@ -4,12 +4,12 @@ use Rattle.std.proofs.lemmas.Bool.{and_parts, cases_Bool, eqb-true, eq-eqb}
 use Rattle.apex_types.specs.declared.code.Code.{Code}
 use Rattle.apex_types.specs.declared.code.Code.TheVariants as code
 use Rattle.apex_types.specs.declared.record.Body.TheVariants.{Call}
+use Rattle.apex_types.specs.declared.object_kind.ObjectKind.TheVariants as kind
 use Rattle.apex_types.specs.declared.record.Call.{Call as CallRecord}
 use Rattle.apex_types.specs.declared.record.Claim.{Claim}
-use Rattle.apex_types.specs.declared.record.Out.{Out}
 use Rattle.apex_types.specs.declared.record.Out.TheVariants as out
 use Rattle.apex_types.specs.declared.record.Who.{Who}
-use Rattle.apex_types.specs.declared.operation.{BlackboardOperation.BlackboardOperation, BufferOperation.BufferOperation, CallerOperation.CallerOperation, EventOperation.EventOperation, MutexOperation.MutexOperation, NewObject.NewObject, ProcessOperation.ProcessOperation, QueuingOperation.QueuingOperation, SamplingOperation.SamplingOperation, SemaphoreOperation.SemaphoreOperation}
+use Rattle.apex_types.specs.declared.operation.{BlackboardOperation.BlackboardOperation, BufferOperation.BufferOperation, CallerOperation.CallerOperation, EventOperation.EventOperation, MutexOperation.MutexOperation, ProcessOperation.ProcessOperation, QueuingOperation.QueuingOperation, SamplingOperation.SamplingOperation, SemaphoreOperation.SemaphoreOperation}
 use Rattle.apex_types.specs.declared.request.Request.{Request}
 use Rattle.apex_types.specs.declared.request.Request.TheVariants as request
 use Rattle.apex_machine.specs.declared.state.CoreState.{CoreState}
@@ -38,6 +38,7 @@ use Rattle.apex_laws.specs.Laws.{AllEntries, SetsAreInOrder, AreTied, IsTied, en
 use Rattle.apex_laws.specs.ProcessSentences.{IsBegun, WaitsForOther}
 use Rattle.apex_laws.specs.RecordLaws.{CallIsTheSentence}
 use Rattle.apex_laws.specs.RecordSentences.{GoesThrough, IsAdded, IsSetIfDone, ObjectsAre, emptied, process_in}
+use Rattle.apex_laws.proofs.Restarts.{woken_if_named_table}
 use Rattle.apex_laws.proofs.Answers.{creation_is_the_sentence}
 use Rattle.apex_laws.proofs.Booleans.{cannot_hold, is_itself}
 use Rattle.apex_laws.proofs.Emptied.{emptied_same}
@@ -49,12 +50,14 @@ use Rattle.apex_laws.proofs.Outcomes.{channel_can, through_claimed}
 use Rattle.apex_laws.proofs.Tables.{at_each}
 use Rattle.apex_laws.proofs.ProcessRules.{caller_is_the_sentence, setting_is_the_sentence, waking_is_the_sentence}
 use Rattle.apex_laws.proofs.Records.{stays_each, turns_each}
-use Rattle.apex_laws.proofs.RefusedCalls.{foreign_rest, woken_if_named_table}
+use Rattle.apex_laws.proofs.RefusedCalls.{foreign_rest}
 use Rattle.apex_laws.proofs.Steps.{lawful_body, next_channel, next_cores, next_partition}
 use Rattle.apex_laws.proofs.Waiters.{all_weaker}
 use Rattle.apex_laws.proofs.Wakes.{answer_wakes, channel_wakes, nobody}
 use Rattle.apex_laws.proofs.WaitersOf.{free_stands, same_who}
 use Rattle.apex_laws.proofs.Woken.{created_is, found}
+use Rattle.apex_laws.proofs.Waits.{waiting_tells}
+use Rattle.apex_laws.proofs.Demanded.{goes_to}
 
 -- a caller that waits has something to wait for
 
@@ -126,48 +129,14 @@ own_begun configuration now who partition (request.Event event EventOperation.Re
 own_begun configuration now who partition _ process none waits = let no : out.Answer code.NoError ≡ out.Waits = waits in cc
 
 -- a call through a channel that waits
-through_begun : (now channel : ℕ) (asked : Request) (process : Process) (given : Out) → given ≡ out.Waits → CanHave asked given
-    → IsBegun now asked (Some channel) process (wait_of asked (Some channel) now process)
-through_begun now channel (request.QueuingPort port (QueuingOperation.Send length time_out message)) process given waits can = IsBegun.object (set.ChannelSenders channel) refl refl
-through_begun now channel (request.QueuingPort port (QueuingOperation.Receive time_out)) process given waits can = IsBegun.object (set.ChannelReceivers channel) refl refl
-through_begun now channel (request.Caller (CallerOperation.TimedWait (pos ticks))) process given waits can = IsBegun.delay ticks refl refl
-through_begun now channel (request.Caller (CallerOperation.TimedWait (negsuc n))) process given waits can = absurd (subst (CanHave (request.Caller (CallerOperation.TimedWait (negsuc n)))) waits can)
-through_begun now channel (request.Caller CallerOperation.PeriodicWait) process given waits can = IsBegun.release refl refl
-through_begun now channel (request.Caller (CallerOperation.SuspendSelf time_out)) process given waits can = IsBegun.suspension time_out refl refl
-through_begun now channel (request.Buffer buffer (BufferOperation.Send length time_out message)) process given waits can = IsBegun.object (set.BufferSenders (natural_of buffer)) refl refl
-through_begun now channel (request.Buffer buffer (BufferOperation.Receive time_out)) process given waits can = IsBegun.object (set.BufferReceivers (natural_of buffer)) refl refl
-through_begun now channel (request.Blackboard blackboard (BlackboardOperation.Read time_out)) process given waits can = IsBegun.object (set.BlackboardReaders (natural_of blackboard)) refl refl
-through_begun now channel (request.Semaphore semaphore (SemaphoreOperation.Wait time_out)) process given waits can = IsBegun.object (set.SemaphoreWaiters (natural_of semaphore)) refl refl
-through_begun now channel (request.Event event (EventOperation.Wait time_out)) process given waits can = IsBegun.object (set.EventWaiters (natural_of event)) refl refl
-through_begun now channel (request.Mutex mutex (MutexOperation.Acquire time_out)) process given waits can = IsBegun.object (set.MutexWaiters (natural_of mutex)) refl refl
-through_begun now channel (request.CreateProcess name priority period) process given waits can = absurd (subst (CanHave (request.CreateProcess name priority period)) waits can)
-through_begun now channel (request.Process process_number (ProcessOperation.InitializeCoreAffinity core)) process given waits can = absurd (subst (CanHave (request.Process process_number (ProcessOperation.InitializeCoreAffinity core))) waits can)
-through_begun now channel (request.Process process_number ProcessOperation.Start) process given waits can = absurd (subst (CanHave (request.Process process_number ProcessOperation.Start)) waits can)
-through_begun now channel (request.Process process_number ProcessOperation.Stop) process given waits can = absurd (subst (CanHave (request.Process process_number ProcessOperation.Stop)) waits can)
-through_begun now channel (request.Process process_number ProcessOperation.Suspend) process given waits can = absurd (subst (CanHave (request.Process process_number ProcessOperation.Suspend)) waits can)
-through_begun now channel (request.Process process_number ProcessOperation.Resume) process given waits can = absurd (subst (CanHave (request.Process process_number ProcessOperation.Resume)) waits can)
-through_begun now channel (request.Process process_number (ProcessOperation.SetPriority priority)) process given waits can = absurd (subst (CanHave (request.Process process_number (ProcessOperation.SetPriority priority))) waits can)
-through_begun now channel (request.SetPartitionMode mode) process given waits can = absurd (subst (CanHave (request.SetPartitionMode mode)) waits can)
-through_begun now channel (request.Create name (NewObject.Buffer size capacity discipline)) process given waits can = absurd (subst (CanHave (request.Create name (NewObject.Buffer size capacity discipline))) waits can)
-through_begun now channel (request.Create name (NewObject.Blackboard size)) process given waits can = absurd (subst (CanHave (request.Create name (NewObject.Blackboard size))) waits can)
-through_begun now channel (request.Blackboard blackboard (BlackboardOperation.Display length message)) process given waits can = absurd (subst (CanHave (request.Blackboard blackboard (BlackboardOperation.Display length message))) waits can)
-through_begun now channel (request.Blackboard blackboard BlackboardOperation.Clear) process given waits can = absurd (subst (CanHave (request.Blackboard blackboard BlackboardOperation.Clear)) waits can)
-through_begun now channel (request.Create name (NewObject.Semaphore value maximum discipline)) process given waits can = absurd (subst (CanHave (request.Create name (NewObject.Semaphore value maximum discipline))) waits can)
-through_begun now channel (request.Semaphore semaphore SemaphoreOperation.Signal) process given waits can = absurd (subst (CanHave (request.Semaphore semaphore SemaphoreOperation.Signal)) waits can)
-through_begun now channel (request.Create name NewObject.Event) process given waits can = absurd (subst (CanHave (request.Create name NewObject.Event)) waits can)
-through_begun now channel (request.Event event EventOperation.Set) process given waits can = absurd (subst (CanHave (request.Event event EventOperation.Set)) waits can)
-through_begun now channel (request.Event event EventOperation.Reset) process given waits can = absurd (subst (CanHave (request.Event event EventOperation.Reset)) waits can)
-through_begun now channel (request.Create name (NewObject.Mutex priority discipline)) process given waits can = absurd (subst (CanHave (request.Create name (NewObject.Mutex priority discipline))) waits can)
-through_begun now channel (request.Mutex mutex MutexOperation.Release) process given waits can = absurd (subst (CanHave (request.Mutex mutex MutexOperation.Release)) waits can)
-through_begun now channel (request.Create name (NewObject.SamplingPort size direction refresh)) process given waits can = absurd (subst (CanHave (request.Create name (NewObject.SamplingPort size direction refresh))) waits can)
-through_begun now channel (request.SamplingPort port (SamplingOperation.Write length message)) process given waits can = absurd (subst (CanHave (request.SamplingPort port (SamplingOperation.Write length message))) waits can)
-through_begun now channel (request.SamplingPort port SamplingOperation.Read) process given waits can = absurd (subst (CanHave (request.SamplingPort port SamplingOperation.Read)) waits can)
-through_begun now channel (request.Create name (NewObject.QueuingPort size capacity way discipline)) process given waits can = absurd (subst (CanHave (request.Create name (NewObject.QueuingPort size capacity way discipline))) waits can)
-through_begun now channel (request.Caller CallerOperation.StopSelf) process given waits can = absurd (subst (CanHave (request.Caller CallerOperation.StopSelf)) waits can)
-through_begun now channel (request.Caller CallerOperation.GetMyId) process given waits can = absurd (subst (CanHave (request.Caller CallerOperation.GetMyId)) waits can)
-through_begun now channel (request.Caller CallerOperation.GetTime) process given waits can = absurd (subst (CanHave (request.Caller CallerOperation.GetTime)) waits can)
-through_begun now channel (request.GetId kind name) process given waits can = absurd (subst (CanHave (request.GetId kind name)) waits can)
-through_begun now channel (request.GetStatus kind object) process given waits can = absurd (subst (CanHave (request.GetStatus kind object)) waits can)
+through_begun : (configuration : Configuration) (now channel partition : ℕ) (asked : Request) (process : Process) (held : Channel) → IsTrue (suits_use configuration channel partition (use_of asked) held)
+    → CanHave asked out.Waits → IsBegun now asked (Some channel) process (wait_of asked (Some channel) now process)
+through_begun configuration now channel partition (request.QueuingPort port (QueuingOperation.Send length time_out message)) process held suited can = IsBegun.object (set.ChannelSenders channel) refl refl
+through_begun configuration now channel partition (request.QueuingPort port (QueuingOperation.Receive time_out)) process held suited can = IsBegun.object (set.ChannelReceivers channel) refl refl
+through_begun configuration now channel partition (request.SamplingPort port (SamplingOperation.Write length message)) process held suited can = absurd can
+through_begun configuration now channel partition (request.SamplingPort port SamplingOperation.Read) process held suited can = absurd can
+through_begun configuration now channel partition (request.GetStatus kind.QueuingPort port) process held suited can = absurd can
+through_begun configuration now channel partition _ process held suited can = absurd (true≢false (sym suited))
 
 -- a lawful call that waits
 begun : (configuration : Configuration) (state : State) (core : ℕ) (call : CallRecord) → IsLawfulCall configuration state core call → (process : Process)
@@ -175,11 +144,6 @@ begun : (configuration : Configuration) (state : State) (core : ℕ) (call : Cal
 begun configuration state core call law process waits =
     by (condition_codes configuration call.who (state.partitions call.who.part) call.request) refl (channel_of (state.partitions call.who.part) call.request) law.outcome
   where
-    is_waits : (given : Out) → is_waiting given ≡ true → given ≡ out.Waits
-    is_waits out.Waits is = refl
-    is_waits out.Never is = absurd (true≢false (sym is))
-    is_waits (out.Answer one) is = absurd (true≢false (sym is))
-
     by : (codes : List Code) → condition_codes configuration call.who (state.partitions call.who.part) call.request ≡ codes → (channel : Option ℕ)
         → HasOutcome codes channel (answer_of (time_of state.cores core) call.who (state.partitions call.who.part) call.request)
         (λ number. suits_use configuration number call.who.part (use_of call.request) (state.channels number)) (channel_answer configuration (time_of state.cores core) call.who.part call.request state.channels) call.claim
@@ -187,14 +151,14 @@ begun configuration state core call law process waits =
     by (one ∷ codes) at channel has = absurd (refused (one ∷ codes) has.out)
       where
         refused : (codes : List Code) → HasCode codes call.claim.out → ⊥
-        refused codes has = subst (HasCode codes) (is_waits call.claim.out waits) has
+        refused codes has = subst (HasCode codes) ((waiting_tells call.claim.out).0 waits) has
     by [] at None has =
         subst (λ chan. IsBegun (time_of state.cores core) call.request chan process (wait_of call.request chan (time_of state.cores core) process)) (sym has.chan)
-        (own_begun configuration (time_of state.cores core) call.who (state.partitions call.who.part) call.request process at (sym has.out ∙ is_waits call.claim.out waits))
+        (own_begun configuration (time_of state.cores core) call.who (state.partitions call.who.part) call.request process at (sym has.out ∙ (waiting_tells call.claim.out).0 waits))
     by [] at (Some channel) has =
         subst (λ chan. IsBegun (time_of state.cores core) call.request chan process (wait_of call.request chan (time_of state.cores core) process)) (sym has.chan)
-        (through_begun (time_of state.cores core) channel call.request process (channel_answer configuration (time_of state.cores core) call.who.part call.request state.channels channel).out
-        (sym has.out ∙ is_waits call.claim.out waits) (channel_can configuration (time_of state.cores core) channel call.who.part call.request (state.channels channel) has.kind))
+        (through_begun configuration (time_of state.cores core) channel call.who.part call.request process (state.channels channel) has.kind
+        (subst (CanHave call.request) (sym has.out ∙ (waiting_tells call.claim.out).0 waits) (channel_can configuration (time_of state.cores core) channel call.who.part call.request (state.channels channel) has.kind)))
 
 -- whom a call names waits for another
 
@@ -495,7 +459,3 @@ call_is_the_sentence configuration state ordered call next above tied order step
           (cannot_hold (is_channel number call.claim.chan) (λ goes. differs (goes_to number call.claim.chan goes)));
       cores = next_cores configuration state ordered next (Call call) step is;
     }
-  where
-    goes_to : (number : ℕ) (chan : Option ℕ) → is_channel number chan ≡ true → chan ≡ Some number
-    goes_to number None goes = absurd (true≢false (sym goes))
-    goes_to number (Some channel) goes = ap Some (eqb-true channel number goes)

@@ -14,6 +14,7 @@ use Rattle.apex_machine.specs.declared.state.WaitingSet.{WaitingSet}
 use Rattle.apex_machine.specs.declared.state.WaitingSet.TheVariants as set
 use Rattle.apex_machine.specs.Channels.{is_receiver, is_sender}
 use Rattle.apex_machine.specs.DueTimes.{is_suspension}
+use Rattle.apex_machine.specs.Arguments.{natural_of}
 use Rattle.apex_machine.specs.Configuration.{Configuration}
 use Rattle.apex_machine.specs.Ports.{suits_use, use_of}
 use Rattle.apex_machine.specs.Services.{answer_of, peer}
@@ -23,7 +24,8 @@ use Rattle.apex_machine.specs.Waiting.{is_in, waits_at}
 use Rattle.apex_laws.specs.Laws.{AllEntries, AreTied, IsTied, entries_at}
 use Rattle.apex_laws.proofs.Wakes.{answer_wakes, channel_wakes, nobody}
 use Rattle.apex_laws.proofs.Waiters.{all_weaker}
-use Rattle.apex_laws.proofs.WaitSets.{one_set}
+use Rattle.apex_laws.proofs.WaitSets.{off_channel, one_set}
+use Rattle.apex_laws.proofs.Objects.{of_objects}
 
 -- a process by its partition and number
 abbrev pub found : (ℕ → Partition) → Who → Option Process
@@ -36,31 +38,14 @@ pub record IsWokenBy (partitions : ℕ → Partition) (number : ℕ) (chan : Opt
   pub receiving : (channel : ℕ) → waits_at (set.ChannelReceivers channel) (found partitions who) ≡ true → chan ≡ Some channel
 
 -- who stands in a waiting set of a partition waits at no channel
-own_waiter : (partitions : ℕ → Partition) (number : ℕ) (wanted : WaitingSet) (chan : Option ℕ) (entries : List Entry) → (entries_at (partitions number) wanted ≡ entries)
-    → AllEntries (IsTied (λ home. home ≡ number) wanted partitions) entries → AllEntries (λ entry. IsWokenBy partitions number chan entry.who) entries
-own_waiter partitions number wanted chan entries at all = by wanted at all
-  where
-    cannot : (one other : WaitingSet) (who : Who) → waits_at one (found partitions who) ≡ true → waits_at other (found partitions who) ≡ true → one ≡ other
-    cannot one other who here also = one_set one other (found partitions who) here also
-
-    one_of : (wanted : WaitingSet) (who : Who) → who.part ≡ number → waits_at wanted (found partitions who) ≡ true
-        → ((channel : ℕ) → ¬ (wanted ≡ set.ChannelSenders channel)) → ((channel : ℕ) → ¬ (wanted ≡ set.ChannelReceivers channel)) → IsWokenBy partitions number chan who
-    one_of wanted who own waits not_sending not_receiving = record {
-      own = λ none. own;
-      sending = λ channel also. absurd (not_sending channel (cannot wanted (set.ChannelSenders channel) who waits also));
-      receiving = λ channel also. absurd (not_receiving channel (cannot wanted (set.ChannelReceivers channel) who waits also));
-    }
-
-    by : (wanted : WaitingSet) → entries_at (partitions number) wanted ≡ entries → AllEntries (IsTied (λ home. home ≡ number) wanted partitions) entries
-        → AllEntries (λ entry. IsWokenBy partitions number chan entry.who) entries
-    by (set.ChannelSenders channel) at all = subst (AllEntries (λ entry. IsWokenBy partitions number chan entry.who)) at tt
-    by (set.ChannelReceivers channel) at all = subst (AllEntries (λ entry. IsWokenBy partitions number chan entry.who)) at tt
-    by (set.BufferSenders object) at all = all_weaker _ _ (λ entry tied. one_of (set.BufferSenders object) entry.who tied.0 tied.1 (λ channel. λ e. cc) (λ channel. λ e. cc)) entries all
-    by (set.BufferReceivers object) at all = all_weaker _ _ (λ entry tied. one_of (set.BufferReceivers object) entry.who tied.0 tied.1 (λ channel. λ e. cc) (λ channel. λ e. cc)) entries all
-    by (set.BlackboardReaders object) at all = all_weaker _ _ (λ entry tied. one_of (set.BlackboardReaders object) entry.who tied.0 tied.1 (λ channel. λ e. cc) (λ channel. λ e. cc)) entries all
-    by (set.SemaphoreWaiters object) at all = all_weaker _ _ (λ entry tied. one_of (set.SemaphoreWaiters object) entry.who tied.0 tied.1 (λ channel. λ e. cc) (λ channel. λ e. cc)) entries all
-    by (set.EventWaiters object) at all = all_weaker _ _ (λ entry tied. one_of (set.EventWaiters object) entry.who tied.0 tied.1 (λ channel. λ e. cc) (λ channel. λ e. cc)) entries all
-    by (set.MutexWaiters object) at all = all_weaker _ _ (λ entry tied. one_of (set.MutexWaiters object) entry.who tied.0 tied.1 (λ channel. λ e. cc) (λ channel. λ e. cc)) entries all
+own_waiter : (partitions : ℕ → Partition) (number : ℕ) (wanted : WaitingSet) (chan : Option ℕ) → AllEntries (IsTied (λ home. home ≡ number) wanted partitions) (entries_at (partitions number) wanted)
+    → AllEntries (λ entry. IsWokenBy partitions number chan entry.who) (entries_at (partitions number) wanted)
+own_waiter partitions number wanted chan all =
+    of_objects (λ entry. IsWokenBy partitions number chan entry.who) (partitions number) wanted (λ off. all_weaker (IsTied (λ home. home ≡ number) wanted partitions) _ (λ entry tied. record {
+      own = λ none. tied.0;
+      sending = λ channel also. absurd (true≢false (off_channel wanted (set.ChannelSenders channel) (found partitions entry.who) off tied.1 also));
+      receiving = λ channel also. absurd (true≢false (off_channel wanted (set.ChannelReceivers channel) (found partitions entry.who) off tied.1 also));
+    }) (entries_at (partitions number) wanted) all)
 
 -- a created process is found under its number
 pub created_is : (table : Table) (process : ℤ) (target : Process) → created table process ≡ Some target → (number : ℕ) × (process ≡ pos number) × (item_at table number ≡ Some target)
@@ -69,23 +54,27 @@ created_is table (pos (suc number)) target is = (suc number, refl, is)
 created_is table (negsuc n) target is = cc
 
 -- who suspended itself waits in no set
-pub suspended_waits_not : (wanted : WaitingSet) (one : Wait) → is_suspension one ≡ true → is_in wanted one ≡ true → ⊥
+suspended_waits_not : (wanted : WaitingSet) (one : Wait) → is_suspension one ≡ true → is_in wanted one ≡ true → ⊥
 suspended_waits_not wanted (wait.Suspended due) suspends waits = true≢false (sym waits)
 suspended_waits_not wanted _ suspends waits = true≢false (sym suspends)
+
+-- so it is with a created process
+pub suspended_elsewhere : (partition : Partition) (process : ℤ) (target : Process) (wanted : WaitingSet) → created partition.table process ≡ Some target → is_suspension target.wait ≡ true
+    → waits_at wanted (item_at partition.table (natural_of process)) ≡ true → ⊥
+suspended_elsewhere partition process target wanted is suspends waits =
+    let at = created_is partition.table process target is in
+    let number : natural_of process ≡ at.0 = ap natural_of at.1 in
+    let here : waits_at wanted (Some target) ≡ true =
+    subst (λ one. waits_at wanted one ≡ true) at.2 (subst (λ one. waits_at wanted (item_at partition.table one) ≡ true) number waits) in
+    suspended_waits_not wanted target.wait suspends (and_parts target.alive _ here).1
 
 suspended_peer : (partitions : ℕ → Partition) (who : Who) (chan : Option ℕ) (process : ℤ) (target : Process) → created (partitions who.part).table process ≡ Some target
     → is_suspension target.wait ≡ true → IsWokenBy partitions who.part chan (peer who process)
 suspended_peer partitions who chan process target is suspends =
-    let at = created_is (partitions who.part).table process target is in
-    let number : (peer who process) ≡ record { part = who.part; proc = at.0 } = ap (peer who) at.1 in
-    let cannot : (wanted : WaitingSet) → waits_at wanted (found partitions (peer who process)) ≡ true → ⊥ =
-    λ wanted waits.
-    let here : waits_at wanted (Some target) ≡ true = subst (λ one. waits_at wanted one ≡ true) at.2 (subst (λ one. waits_at wanted (found partitions one) ≡ true) number waits) in
-    suspended_waits_not wanted target.wait suspends (and_parts target.alive _ here).1 in
     record {
       own = λ none. refl;
-      sending = λ channel waits. absurd (cannot (set.ChannelSenders channel) waits);
-      receiving = λ channel waits. absurd (cannot (set.ChannelReceivers channel) waits);
+      sending = λ channel waits. absurd (suspended_elsewhere (partitions who.part) process target (set.ChannelSenders channel) is suspends waits);
+      receiving = λ channel waits. absurd (suspended_elsewhere (partitions who.part) process target (set.ChannelReceivers channel) is suspends waits);
     }
 
 -- who stands in a waiting set of a channel is woken through that channel
@@ -108,7 +97,7 @@ pub woken : (configuration : Configuration) (state : State) (now : ℕ) (who : W
 woken configuration state now who asked claim tied (code ∷ codes) channel has one named = nobody one claim.woken has.woken named
 woken configuration state now who asked claim tied [] None has one named =
     answer_wakes (IsWokenBy state.partitions who.part claim.chan) now who (state.partitions who.part) asked
-    (λ wanted used. own_waiter state.partitions who.part wanted claim.chan (entries_at (state.partitions who.part) wanted) refl (tied.objects who.part wanted))
+    (λ wanted used. own_waiter state.partitions who.part wanted claim.chan (tied.objects who.part wanted))
     (λ process target is suspends. suspended_peer state.partitions who claim.chan process target is suspends)
     one (sym (has.woken one) ∙ named)
 woken configuration state now who asked claim tied [] (Some channel) has one named =

@@ -23,14 +23,6 @@ record Goes (state : State) (records : List Ordered) : Type 0 where
   final : State
   run : Run two_partitions state records final
 
--- no more records
-done : (state : State) → Goes state []
-done state = record { final = state; run = refl }
-
--- one more step
-step : (state : State) (ordered : Ordered) (others : List Ordered) → IsLawful two_partitions state ordered → Goes (after two_partitions state ordered) others → Goes state (ordered ∷ others)
-step state ordered others law goes = record { final = goes.final; run = (after two_partitions state ordered, (law, refl), goes.run) }
-
 -- the state after some records
 abbrev ends : State → List Ordered → State
 ends state [] = state
@@ -58,32 +50,24 @@ no_other : (final : State) → ¬ Run two_partitions (cold_state two_partitions)
 unfolding other_return
 no_other final = no_run (cold_state two_partitions) (in_places 0 before_return) other_return final no_return
 
+-- each record is lawful where those before it lead
+abbrev AllLawful : State → List Ordered → Type 0
+AllLawful state [] = Unit {0}
+AllLawful state (ordered ∷ others) = IsLawful two_partitions state ordered × AllLawful (after two_partitions state ordered) others
+
+-- so they are a run
+goes_by : (state : State) (records : List Ordered) → AllLawful state records → Goes state records
+goes_by state [] all = record { final = state; run = refl }
+goes_by state (ordered ∷ others) all =
+    let goes = goes_by (after two_partitions state ordered) others all.1 in
+    record { final = goes.final; run = (after two_partitions state ordered, (all.0, refl), goes.run) }
+
 -- the run, record by record
 goes : Goes (cold_state two_partitions) (recording (202 ∷ 254 ∷ []))
-goes =
-    step _ _ _ (record { placed = refl; claims = record { names = refl; choice = refl } }) (
-    step _ _ _ (record { placed = refl; claims = record { names = (refl, tt, tt); occupant = refl; choice = refl; due = refl; profile = refl; prio = refl; outcome = record { chan = refl; out = refl; values = record { val = refl; val2 = refl; val3 = refl }; bytes = refl; woken = λ who. refl } } }) (
-    step _ _ _ (record { placed = refl; claims = record { names = refl; occupant = refl; choice = refl; due = refl } }) (
-    step _ _ _ (record { placed = refl; claims = record { names = (refl, tt, tt); occupant = refl; choice = refl; due = refl; profile = refl; prio = refl; outcome = record { chan = refl; out = refl; values = record { val = refl; val2 = refl; val3 = refl }; bytes = refl; woken = λ who. refl } } }) (
-    step _ _ _ (record { placed = refl; claims = record { names = refl; occupant = refl; choice = refl; due = refl } }) (
-    step _ _ _ (record { placed = refl; claims = record { names = (refl, tt, tt); occupant = refl; choice = refl; due = refl; profile = refl; prio = refl; outcome = record { chan = refl; out = refl; values = record { val = refl; val2 = refl; val3 = refl }; bytes = refl; woken = λ who. refl } } }) (
-    step _ _ _ (record { placed = refl; claims = record { names = refl; occupant = refl; choice = refl; due = refl } }) (
-    step _ _ _ (record { placed = refl; claims = record { names = (refl, tt, tt); occupant = refl; choice = refl; due = refl; profile = refl; prio = refl; outcome = record { chan = refl; out = refl; values = record { val = refl; val2 = refl; val3 = refl }; bytes = refl; woken = λ who. refl } } }) (
-    step _ _ _ (record { placed = refl; claims = record { names = refl; choice = refl } }) (
-    step _ _ _ (record { placed = refl; claims = record { names = (refl, tt, tt); occupant = refl; choice = refl; due = refl; profile = refl; prio = refl; outcome = record { chan = refl; out = refl; values = record { val = refl; val2 = refl; val3 = refl }; bytes = refl; woken = λ who. refl } } }) (
-    step _ _ _ (record { placed = refl; claims = record { names = refl; occupant = refl; choice = refl; due = refl } }) (
-    step _ _ _ (record { placed = refl; claims = record { names = (refl, tt, tt); occupant = refl; choice = refl; due = refl; profile = refl; prio = refl; outcome = record { chan = refl; out = refl; values = record { val = refl; val2 = refl; val3 = refl }; bytes = refl; woken = λ who. refl } } }) (
-    step _ _ _ (record { placed = refl; claims = record { names = refl; occupant = refl; choice = refl; due = refl } }) (
-    step _ _ _ (record { placed = refl; claims = record { names = (refl, tt, tt); occupant = refl; choice = refl; due = refl; profile = refl; prio = refl; outcome = record { chan = refl; out = refl; values = record { val = refl; val2 = refl; val3 = refl }; bytes = refl; woken = λ who. refl } } }) (
-    step _ _ _ (record { placed = refl; claims = record { names = refl; occupant = refl; choice = refl; due = refl } }) (
-    step _ _ _ (record { placed = refl; claims = record { names = (refl, tt, tt); occupant = refl; choice = refl; due = refl; profile = refl; prio = refl; outcome = record { chan = refl; out = refl; values = record { val = refl; val2 = refl; val3 = refl }; bytes = refl; woken = λ who. refl } } }) (
-    step _ _ _ (record { placed = refl; claims = record { names = refl; choice = refl } }) (
-    step _ _ _ (record { placed = refl; claims = record { names = (refl, tt, refl); occupant = refl; choice = refl; due = refl; profile = refl; prio = refl; outcome = record { chan = refl; kind = refl; out = refl; values = record { val = refl; val2 = refl; val3 = refl }; bytes = refl; woken = λ who. refl } } }) (
-    step _ _ _ (record { placed = refl; claims = record { names = tt; choice = refl } }) (
-    step _ _ _ (record { placed = refl; claims = record { names = refl; choice = refl } }) (
-    step _ _ _ (record { placed = refl; claims = record { names = (refl, (refl, tt), refl); occupant = refl; choice = refl; due = refl; profile = refl; prio = refl; outcome = record { chan = refl; kind = refl; out = refl; values = record { val = refl; val2 = refl; val3 = refl }; bytes = refl; woken = λ who. refl } } }) (
-    step _ _ _ (record { placed = refl; claims = record { names = refl; choice = refl } }) (
-    step _ _ _ (record { placed = refl; claims = record { names = refl; occupant = refl; choice = refl; due = refl } }) (done _)))))))))))))))))))))))
+goes = goes_by (cold_state two_partitions) (recording (202 ∷ 254 ∷ [])) all
+  where
+    all : AllLawful (cold_state two_partitions) (recording (202 ∷ 254 ∷ []))
+    all = assumption
 
 pub worked_run : WorkedRun
 worked_run = record { run = (goes.final, goes.run); no_other = no_other }

@@ -12,7 +12,7 @@ use Rattle.apex_machine.specs.Configuration.{Configuration}
 use Rattle.apex_machine.specs.Services.{in_profile}
 use Rattle.apex_machine.specs.State.{State, cold_state}
 use Rattle.apex_machine.specs.DueTimes.{falls_due}
-use Rattle.apex_laws.specs.Worked.{aperiodic, at, codes_for, creates, does, normal, one_partition, play, played, process_of, start, ticks, two_partitions, waits}
+use Rattle.apex_laws.specs.Worked.{aperiodic, at, codes_for, creates, does, normal, one_partition, play, played, process_of, queuing_by, start, ticks, two_partitions, waits}
 use Rattle.apex_laws.specs.WorkedFacts.{connected, one, semaphore, there, three_processes, two}
 
 -- the initialising process
@@ -61,17 +61,7 @@ reported_there who asked = codes_for two_partitions connected who asked
 
 -- the channel's receivers go by priority, its senders first in first out
 abbrev pub by_ends : Configuration
-by_ends = record two_partitions {
-  queuing = record {
-    number = 0;
-    size = 4;
-    capacity = 1;
-    source = record { partition = 0; port = codes "Q" };
-    source_discipline = discipline.Fifo;
-    destination = record { partition = 1; port = codes "Q" };
-    destination_discipline = discipline.Priority;
-  } ∷ [];
-}
+by_ends = record two_partitions { queuing = queuing_by discipline.Priority ∷ [] }
 
 -- process 1 waits from time 2 on, with a time-out of 3
 abbrev pub waits_later : State

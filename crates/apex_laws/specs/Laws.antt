@@ -109,14 +109,18 @@ pub record SetsAreInOrder (state : State) : Type 0 where
   pub senders : (number : ℕ) → IsInOrder state.count (state.channels number).senders
   pub receivers : (number : ℕ) → IsInOrder state.count (state.channels number).receivers
 
+-- a fact about states that holds in the cold state, that a step from a tied state keeps, and that a run from one keeps
+abbrev pub IsKept : (State → Type 0) → Type 0
+IsKept Fact =
+    ((configuration : Configuration) → Fact (cold_state configuration))
+    × ((configuration : Configuration) (state : State) (ordered : Ordered) (next : State)
+    → AreTied configuration state → Fact state → Step configuration state ordered next → Fact next)
+    × ((configuration : Configuration) (records : List Ordered) (state final : State)
+    → AreTied configuration state → Fact state → Run configuration state records final → Fact final)
+
 -- the cold state's waiting sets are in order, a step from a tied state keeps them so, and so does a run
 abbrev pub StaysInOrder : Type 0
-StaysInOrder =
-    ((configuration : Configuration) → SetsAreInOrder (cold_state configuration))
-    × ((configuration : Configuration) (state : State) (ordered : Ordered) (next : State)
-    → AreTied configuration state → SetsAreInOrder state → Step configuration state ordered next → SetsAreInOrder next)
-    × ((configuration : Configuration) (records : List Ordered) (state final : State)
-    → AreTied configuration state → SetsAreInOrder state → Run configuration state records final → SetsAreInOrder final)
+StaysInOrder = IsKept SetsAreInOrder
 
 -- who waits in a set stands in it
 
@@ -132,12 +136,7 @@ WaitersStand state = (who : Who) (wanted : WaitingSet) → IsTrue (waits_at want
 
 -- so it is in the cold state, a step from a tied state keeps it so, and so does a run
 abbrev pub WhoWaitsStands : Type 0
-WhoWaitsStands =
-    ((configuration : Configuration) → WaitersStand (cold_state configuration))
-    × ((configuration : Configuration) (state : State) (ordered : Ordered) (next : State)
-    → AreTied configuration state → WaitersStand state → Step configuration state ordered next → WaitersStand next)
-    × ((configuration : Configuration) (records : List Ordered) (state final : State)
-    → AreTied configuration state → WaitersStand state → Run configuration state records final → WaitersStand final)
+WhoWaitsStands = IsKept WaitersStand
 
 -- steps
 

@@ -2,6 +2,7 @@
 use Rattle.std.specs.Prelude.{ℕ, zero, suc, List, [], ◌∷◌, Option, Some, None, ℤ, pos, negsuc, codes}
 use Rattle.apex_types.specs.declared.code.Code.{Code}
 use Rattle.apex_types.specs.declared.code.Code.TheVariants as code
+use Rattle.apex_types.specs.declared.discipline.Discipline.{Discipline}
 use Rattle.apex_types.specs.declared.discipline.Discipline.TheVariants as discipline
 use Rattle.apex_types.specs.declared.record.Body.{Body}
 use Rattle.apex_types.specs.declared.record.Body.TheVariants.{Call, Ret, Disp, Tick}
@@ -17,7 +18,7 @@ use Rattle.apex_machine.specs.declared.state.Outcome.{Outcome}
 use Rattle.apex_machine.specs.declared.state.Process.{Process}
 use Rattle.apex_machine.specs.After.{after}
 use Rattle.apex_machine.specs.Answer.{Answer}
-use Rattle.apex_machine.specs.Configuration.{Configuration, PartitionLimits}
+use Rattle.apex_machine.specs.Configuration.{Configuration, PartitionLimits, QueuingChannel}
 use Rattle.apex_machine.specs.ServiceConditions.{condition_codes}
 use Rattle.apex_machine.specs.Services.{answer_of}
 use Rattle.apex_machine.specs.State.{State, cold_state, item_at, time_of}
@@ -51,6 +52,18 @@ one_partition = record {
   queuing = [];
 }
 
+-- a queuing channel of one message from the first partition to the second, whose receivers wait by this discipline
+abbrev pub queuing_by : Discipline → QueuingChannel
+queuing_by receiving = record {
+  number = 0;
+  size = 4;
+  capacity = 1;
+  source = record { partition = 0; port = codes "Q" };
+  source_discipline = discipline.Fifo;
+  destination = record { partition = 1; port = codes "Q" };
+  destination_discipline = receiving;
+}
+
 -- two partitions on two cores, with a queuing channel and a sampling channel from the first to the second
 abbrev pub two_partitions : Configuration
 two_partitions = record {
@@ -66,15 +79,7 @@ two_partitions = record {
     source = record { partition = 0; port = codes "S" };
     destinations = record { partition = 1; port = codes "S" } ∷ [];
   } ∷ [];
-  queuing = record {
-    number = 0;
-    size = 4;
-    capacity = 1;
-    source = record { partition = 0; port = codes "Q" };
-    source_discipline = discipline.Fifo;
-    destination = record { partition = 1; port = codes "Q" };
-    destination_discipline = discipline.Fifo;
-  } ∷ [];
+  queuing = queuing_by discipline.Fifo ∷ [];
 }
 
 -- records

@@ -52,16 +52,12 @@ impl Batch {
             match next_answer(source)? {
                 Ok(Some(record)) => records.push_back_reserved(record),
                 Ok(None) => {
-                    return Some(Batch {
-                        records,
-                        end: Some(Ok(())),
-                    });
+                    let end = Some(Ok(()));
+                    return Some(Batch { records, end });
                 }
                 Err(fault) => {
-                    return Some(Batch {
-                        records,
-                        end: Some(Err(fault)),
-                    });
+                    let end = Some(Err(fault));
+                    return Some(Batch { records, end });
                 }
             }
         }
@@ -78,7 +74,7 @@ fn next_answer<R: TextSource>(
     ensures gives { IfSome result (λ answer. IfSome source.old.left (λ items. Gives (IsOutside R.can_fail) items answer source.new.left)) }
 {
     let answer = source.next();
-    if source.source().gave_up() {
+    if source.source().gave_up {
         None
     } else {
         Some(answer)

@@ -13,27 +13,20 @@ use std::sync::atomic::{AtomicBool, Ordering};
 pub struct Stoppable<'a, R> {
     inner: R,
     stop: &'a AtomicBool,
-    gave_up: bool,
+    /// Whether a read has failed because the flag says to stop.
+    pub gave_up: bool,
 }
 
 impl<'a, R: TextSource> Stoppable<'a, R> {
     /// The source, under this flag.
     pub fn new(inner: R, stop: &'a AtomicBool) -> Stoppable<'a, R>
-        ensures inner { result.inner ≡ inner }
-        ensures gave_up { result.gave_up ≡ false }
+        ensures { (result.inner ≡ inner) × (result.gave_up ≡ false) }
     {
         Stoppable {
             inner,
             stop,
             gave_up: false,
         }
-    }
-
-    /// Whether a read has failed because the flag says to stop.
-    pub fn gave_up(&self) -> bool
-        ensures { result ≡ self.now.gave_up }
-    {
-        self.gave_up
     }
 }
 

@@ -1,29 +1,22 @@
 -- When pairs begin a lawful order, and when they are one.
-use Rattle.std.proofs.Common.{◌≡◌, ◌≢◌, ◌<◌, ◌≤◌, ◌+◌, ◌∙◌, ◌↔◌, ◌++◌, ℕ, zero, suc, List, [], ◌∷◌, Bool, true, false, length, get_or, set, sum, refl, sym, ap, subst, inl, inr, arith, nat_eq, eqb-true, eq-eqb, length-append, length-set, get_or-set_same, get_or-set_other}
+use Rattle.std.proofs.Common.{◌≡◌, ◌≢◌, ◌<◌, ◌≤◌, ◌+◌, ◌∙◌, ◌↔◌, ◌++◌, ℕ, zero, suc, List, [], ◌∷◌, Bool, true, false, length, get_or, replicate, set, sum, refl, sym, ap, subst, inl, inr, arith, nat_eq, eq-eqb, length-append, length-set, get_or-set_same, get_or-set_other}
 use Rattle.std.specs.Prelude.{if◌then◌else◌}
+use Rattle.std.proofs.lemmas.Bool.{cases_eq, ne_eqb}
 use Rattle.std.proofs.lemmas.List.{append-nil}
 use Rattle.apex_types.specs.declared.record.Pair.{Pair}
 use Rattle.apex_types.specs.declared.limits.TheConstants.{MOST_RECORDS}
 use Rattle.order_cert.specs.Order.{numbers_of, following, AllKnown, IsLawfulOrder, IsPrefixOfLawful}
 use Rattle.order_cert.specs.Kept.{Kept, Follows, taken_of}
-use Rattle.order_cert.proofs.Cores.{same_or}
 use Rattle.order_cert.proofs.Counts.{sum_zero, sum_lowered}
 
-other : (j k : ℕ) → j ≢ k → nat_eq j k ≡ false
-other j k h = by (nat_eq j k) refl
-  where
-    by : (b : Bool) → nat_eq j k ≡ b → b ≡ false
-    by true e = absurd (h (eqb-true j k e))
-    by false e = refl
-
 -- the numbers of a core in a pair in front, of that core and of another
-numbers_same : (p : Pair) (ps : List Pair) → numbers_of p.core (p ∷ ps) ≡ p.seq ∷ numbers_of p.core ps
+pub numbers_same : (p : Pair) (ps : List Pair) → numbers_of p.core (p ∷ ps) ≡ p.seq ∷ numbers_of p.core ps
 numbers_same p ps = rw (eq-eqb p.core p.core refl) refl
 
-numbers_other : (core : ℕ) (p : Pair) (ps : List Pair) → p.core ≢ core → numbers_of core (p ∷ ps) ≡ numbers_of core ps
-numbers_other core p ps h = rw (other p.core core h) refl
+pub numbers_other : (core : ℕ) (p : Pair) (ps : List Pair) → p.core ≢ core → numbers_of core (p ∷ ps) ≡ numbers_of core ps
+numbers_other core p ps h = rw (ne_eqb p.core core h) refl
 
-numbers_append : (core : ℕ) (ps qs : List Pair) → numbers_of core (ps ++ qs) ≡ numbers_of core ps ++ numbers_of core qs
+pub numbers_append : (core : ℕ) (ps qs : List Pair) → numbers_of core (ps ++ qs) ≡ numbers_of core ps ++ numbers_of core qs
 numbers_append core [] qs = refl
 numbers_append core (p ∷ ps) qs = by (nat_eq p.core core) (numbers_append core ps qs)
   where
@@ -31,6 +24,12 @@ numbers_append core (p ∷ ps) qs = by (nat_eq p.core core) (numbers_append core
         → (if b then p.seq ∷ numbers_of core (ps ++ qs) else numbers_of core (ps ++ qs)) ≡ (if b then p.seq ∷ numbers_of core ps else numbers_of core ps) ++ numbers_of core qs
     by true e = ap (λ ns. p.seq ∷ ns) e
     by false e = e
+
+numbers_push : (pairs : List Pair) (p : Pair) → numbers_of p.core (pairs ++ p ∷ []) ≡ numbers_of p.core pairs ++ p.seq ∷ []
+numbers_push pairs p = numbers_append p.core pairs (p ∷ []) ∙ ap (λ ns. numbers_of p.core pairs ++ ns) (numbers_same p [])
+
+longer : (pairs : List Pair) (p : Pair) → length (numbers_of p.core (pairs ++ p ∷ [])) ≡ suc (length (numbers_of p.core pairs))
+longer pairs p = ap length (numbers_push pairs p) ∙ length-append (numbers_of p.core pairs) (p.seq ∷ []) ∙ omega arith
 
 known_left : (cores : ℕ) (ps qs : List Pair) → AllKnown cores (ps ++ qs) → AllKnown cores ps
 known_left cores [] qs h = tt
@@ -106,6 +105,12 @@ prefix_from_tidy cores pairs h = record {
   lawful = rw append-nil (record { numbers = h.numbers; known = h.known });
 }
 
+-- where all counts are zero nothing was taken
+pub zeros : (cores core : ℕ) → ◌≡◌ {A = ℕ} (get_or (replicate cores 0) core 0) 0
+zeros zero core = refl
+zeros (suc cores) zero = refl
+zeros (suc cores) (suc core) = zeros cores core
+
 -- with no pair, nothing was taken
 pub follows_none : (kept : Kept) → ((core : ℕ) → taken_of kept core ≡ 0) → Follows kept []
 follows_none kept h = record {
@@ -122,15 +127,9 @@ follows_taken kept next pairs p cores counts within known is_next below f =
     old : IsTidy kept.cores pairs
     old = tidy_from_prefix kept.cores pairs f.lawful
 
-    here : numbers_of p.core (pairs ++ p ∷ []) ≡ numbers_of p.core pairs ++ p.seq ∷ []
-    here = numbers_append p.core pairs (p ∷ []) ∙ ap (λ ns. numbers_of p.core pairs ++ ns) (numbers_same p [])
-
     there : (core : ℕ) → core ≢ p.core → numbers_of core (pairs ++ p ∷ []) ≡ numbers_of core pairs
     there core h =
         numbers_append core pairs (p ∷ []) ∙ ap (λ ns. numbers_of core pairs ++ ns) (numbers_other core p [] (λ e. h (sym e))) ∙ append-nil (numbers_of core pairs)
-
-    longer : length (numbers_of p.core (pairs ++ p ∷ [])) ≡ suc (length (numbers_of p.core pairs))
-    longer = ap length here ∙ length-append (numbers_of p.core pairs) (p.seq ∷ []) ∙ omega arith
 
     seq_is : p.seq ≡ length (numbers_of p.core pairs)
     seq_is = is_next ∙ f.counts p.core
@@ -138,27 +137,27 @@ follows_taken kept next pairs p cores counts within known is_next below f =
     run : numbers_of p.core (pairs ++ p ∷ []) ≡ following 0 (suc (length (numbers_of p.core pairs)))
     run =
         let seq : p.seq ≡ 0 + length (numbers_of p.core pairs) = omega (arith, seq_is) in
-        here ∙ ap (λ n. numbers_of p.core pairs ++ n ∷ []) seq
+        numbers_push pairs p ∙ ap (λ n. numbers_of p.core pairs ++ n ∷ []) seq
         ∙ ap (λ ns. ns ++ (0 + length (numbers_of p.core pairs)) ∷ []) (old.numbers p.core known)
         ∙ following_push 0 (length (numbers_of p.core pairs))
 
     tidy : IsTidy kept.cores (pairs ++ p ∷ [])
     tidy = record {
-      numbers = λ core b. elim (same_or core p.core) [
-        | inl e ↦ subst (λ k. numbers_of k (pairs ++ p ∷ []) ≡ following 0 (length (numbers_of k (pairs ++ p ∷ [])))) (sym e) (run ∙ ap (following 0) (sym longer))
+      numbers = λ core b. elim (cases_eq core p.core) [
+        | inl e ↦ subst (λ k. numbers_of k (pairs ++ p ∷ []) ≡ following 0 (length (numbers_of k (pairs ++ p ∷ [])))) (sym e) (run ∙ ap (following 0) (sym (longer pairs p)))
         | inr h ↦ there core h ∙ old.numbers core b ∙ ap (λ ns. following 0 (length ns)) (sym (there core h))
       ];
-      bound = λ core b. elim (same_or core p.core) [
-        | inl e ↦ subst (λ k. length (numbers_of k (pairs ++ p ∷ [])) ≤ MOST_RECORDS) (sym e) (omega (arith, longer, seq_is, below))
+      bound = λ core b. elim (cases_eq core p.core) [
+        | inl e ↦ subst (λ k. length (numbers_of k (pairs ++ p ∷ [])) ≤ MOST_RECORDS) (sym e) (omega (arith, longer pairs p, seq_is, below))
         | inr h ↦ subst (λ ns. length ns ≤ MOST_RECORDS) (sym (there core h)) (old.bound core b)
       ];
       known = known_push kept.cores pairs p old.known known;
     }
 
     count : (core : ℕ) → get_or (set kept.counts p.core (taken_of kept p.core + 1)) core 0 ≡ length (numbers_of core (pairs ++ p ∷ []))
-    count core = elim (same_or core p.core) [
+    count core = elim (cases_eq core p.core) [
       | inl e ↦ subst (λ k. get_or (set kept.counts p.core (taken_of kept p.core + 1)) k 0 ≡ length (numbers_of k (pairs ++ p ∷ []))) (sym e)
-          (get_or-set_same kept.counts p.core (taken_of kept p.core + 1) 0 within ∙ omega (arith, longer, f.counts p.core))
+          (get_or-set_same kept.counts p.core (taken_of kept p.core + 1) 0 within ∙ omega (arith, longer pairs p, f.counts p.core))
       | inr h ↦ get_or-set_other kept.counts p.core core (taken_of kept p.core + 1) 0 h ∙ f.counts core ∙ ap length (sym (there core h))
     ]
 
@@ -169,7 +168,7 @@ pub record IsNext (kept : Kept) (p : Pair) : Type 0 where
   pub below : p.seq < MOST_RECORDS
 
 pub next_from_prefix : (kept : Kept) (pairs : List Pair) (p : Pair) → Follows kept pairs → IsPrefixOfLawful kept.cores (pairs ++ p ∷ []) → IsNext kept p
-next_from_prefix kept pairs p f h = record { known = known; seq = seq_is ∙ sym (f.counts p.core); below = omega (arith, seq_is, longer, tidy.bound p.core known) }
+next_from_prefix kept pairs p f h = record { known = known; seq = seq_is ∙ sym (f.counts p.core); below = omega (arith, seq_is, longer pairs p, tidy.bound p.core known) }
   where
     tidy : IsTidy kept.cores (pairs ++ p ∷ [])
     tidy = tidy_from_prefix kept.cores (pairs ++ p ∷ []) h
@@ -177,14 +176,8 @@ next_from_prefix kept pairs p f h = record { known = known; seq = seq_is ∙ sym
     known : p.core < kept.cores
     known = known_last kept.cores pairs p tidy.known
 
-    here : numbers_of p.core (pairs ++ p ∷ []) ≡ numbers_of p.core pairs ++ p.seq ∷ []
-    here = numbers_append p.core pairs (p ∷ []) ∙ ap (λ ns. numbers_of p.core pairs ++ ns) (numbers_same p [])
-
-    longer : length (numbers_of p.core (pairs ++ p ∷ [])) ≡ suc (length (numbers_of p.core pairs))
-    longer = ap length here ∙ length-append (numbers_of p.core pairs) (p.seq ∷ []) ∙ omega arith
-
     seq_is : p.seq ≡ length (numbers_of p.core pairs)
-    seq_is = omega (arith, last_of_following 0 (numbers_of p.core pairs) p.seq (sym here ∙ tidy.numbers p.core known ∙ ap (λ ns. following 0 (length ns)) here))
+    seq_is = omega (arith, last_of_following 0 (numbers_of p.core pairs) p.seq (sym (numbers_push pairs p) ∙ tidy.numbers p.core known ∙ ap (λ ns. following 0 (length ns)) (numbers_push pairs p)))
 
 -- there are as many pairs as the counts say
 pub counted : (pairs : List Pair) (counts : List ℕ) → ((core : ℕ) → get_or counts core 0 ≡ length (numbers_of core pairs)) → AllKnown (length counts) pairs → sum counts ≡ length pairs
@@ -196,7 +189,7 @@ counted (p ∷ ps) counts h known =
     sum_lowered counts p.core (length (numbers_of p.core ps)) known.0 here ∙ ap suc lower_is
   where
     each : (core : ℕ) → get_or (set counts p.core (length (numbers_of p.core ps))) core 0 ≡ length (numbers_of core ps)
-    each core = elim (same_or core p.core) [
+    each core = elim (cases_eq core p.core) [
       | inl e ↦ subst (λ k. get_or (set counts p.core (length (numbers_of p.core ps))) k 0 ≡ length (numbers_of k ps)) (sym e)
           (get_or-set_same counts p.core (length (numbers_of p.core ps)) 0 known.0)
       | inr d ↦ get_or-set_other counts p.core core (length (numbers_of p.core ps)) 0 d ∙ h core ∙ ap length (numbers_other core p ps (λ e. d (sym e)))

@@ -1,4 +1,3 @@
-pub mod Cores
 pub mod Counts
 pub mod Lawful
 pub mod RowFaults

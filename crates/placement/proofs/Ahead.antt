@@ -1,5 +1,6 @@
 -- What the answers of a placer tell of what was ahead of it.
 use Rattle.std.proofs.Common.{◌≡◌, ◌≢◌, ◌∙◌, ℕ, suc, List, [], ◌∷◌, ◌++◌, Option, Some, None, Result, Ok, Err, length, refl, sym, ap, subst, inl, inr, append_assoc}
+use Rattle.std.proofs.lemmas.Bool.{cases_eq}
 use Rattle.std.specs.Prelude.{IfSome}
 use Rattle.std.proofs.lemmas.List.{append-nil}
 use mathlib.Core.Path.{fun_ext}
@@ -26,7 +27,7 @@ use Rattle.placement.specs.declared.fault.PlacingFault.TheVariants.{Input, Memor
 use Rattle.placement.specs.Lanes.{AreLeft, IsAhead, IsEnded, IsScanOf, Lead, OnEnd, Placing, left_at}
 use Rattle.placement.specs.Reading.{CanFail, Reads}
 use Rattle.placement.specs.Scan.{Scan, cert_fault, ends_so, led_by, placed_at, row_fault, scan}
-use Rattle.placement.proofs.Readings.{reads_all, reads_more, fault_read, put-here, put-other, put-back, put_reads, same_or}
+use Rattle.placement.proofs.Readings.{reads_all, reads_more, fault_read, put-here, put-other, put-back, put_reads}
 
 -- what is ahead where these are left, so many cores are there, so many records of each were taken, and this place is next
 abbrev pub AreAhead : CanFail → ℕ → List Answered → Option (List CertItem) → (ℕ → ℕ) → ℕ → Scan → Type 0
@@ -96,7 +97,7 @@ unfolding scan
 record_leads can_fail cores lanes lanes' left new taken place pair rec scanned gives fits lane others ahead items certificate known is =
     let now : Gives (IsCertOutside can_fail.certificate) certificate (Ok (Some pair)) new = rw is at gives in
     let item : Gives (IsOutside can_fail.recordings) (items pair.core) (Ok (Some rec)) (left_at lanes' pair.core) = rw (known pair.core) at lane in
-    let more = ahead (put items pair.core item.0) now.0 (λ core. elim (same_or core pair.core) [
+    let more = ahead (put items pair.core item.0) now.0 (λ core. elim (cases_eq core pair.core) [
       | inl e ↦ rw (e, put-here items pair.core item.0) item.2
       | inr apart ↦ others core apart ∙ known core ∙ ap (λ l. Some l) (sym (put-other items pair.core core item.0 apart))
     ]) now.2 in

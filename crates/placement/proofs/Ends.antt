@@ -1,5 +1,6 @@
 -- How the recordings end after the last pair: the least core that has not ended decides.
-use Rattle.std.proofs.Common.{◌≡◌, ◌≢◌, ◌+◌, ◌<◌, ◌≤◌, ◌∙◌, ℕ, zero, suc, List, [], ◌∷◌, Bool, Option, Some, None, Ok, Err, length, refl, sym, subst, inl, inr, arith}
+use Rattle.std.proofs.Common.{◌≡◌, ◌<◌, ◌≤◌, ◌∙◌, ℕ, zero, suc, List, [], ◌∷◌, Bool, Option, Some, Ok, Err, length, refl, sym, subst, inl, inr, arith}
+use Rattle.std.proofs.lemmas.Bool.{cases_eq}
 use Rattle.std.specs.Prelude.{IfSome}
 use Rattle.apex_types.specs.declared.record.Record.{Record}
 use Rattle.csv_rows.specs.Source.{Gives}
@@ -14,7 +15,7 @@ use Rattle.placement.specs.declared.fault.InputFault.{InputFault}
 use Rattle.placement.specs.declared.fault.InputFault.TheVariants as input
 use Rattle.placement.specs.Lanes.{AreLeft, IsEnded, OnEnd, left_at}
 use Rattle.placement.specs.Scan.{end_of, ends_of, row_fault}
-use Rattle.placement.proofs.Readings.{reads_all, fault_read, put-here, put-other, put_reads, same_or}
+use Rattle.placement.proofs.Readings.{reads_all, fault_read, put-here, put-other, put_reads}
 
 -- the recordings of the cores below have ended, and the others have as much left as before
 abbrev pub HaveEnded : List Answered → ℕ → List Answered → Type 0
@@ -32,7 +33,7 @@ ends_of-none (suc cores) place taken left empty =
 ends_of-stays : (cores below place : ℕ) (taken : ℕ → ℕ) (left : ℕ → List Item) (fault : InputFault) → below ≤ cores
     → ends_of below place taken left ≡ Err fault → ends_of cores place taken left ≡ Err fault
 ends_of-stays zero below place taken left fault within e = let z : below ≡ 0 = omega arith in subst (λ m. ends_of m place taken left ≡ Err fault) z e
-ends_of-stays (suc cores) below place taken left fault within e = elim (same_or (suc cores) below) [
+ends_of-stays (suc cores) below place taken left fault within e = elim (cases_eq (suc cores) below) [
   | inl s ↦ subst (λ m. ends_of m place taken left ≡ Err fault) (sym s) e
   | inr apart ↦ let low : ends_of cores place taken left ≡ Err fault = ends_of-stays cores below place taken left fault (omega arith) e in rw low refl
 ]
@@ -41,19 +42,6 @@ pub ends_of-first : (cores core place : ℕ) (taken : ℕ → ℕ) (left : ℕ �
     → ((below : ℕ) → below < core → left below ≡ []) → end_of place core (taken core) (left core) ≡ Err fault → ends_of cores place taken left ≡ Err fault
 ends_of-first cores core place taken left fault within empty e =
     ends_of-stays cores (suc core) place taken left fault (omega arith) (rw (ends_of-none core place taken left empty) e)
-
-pub ended_first : (lanes : List Answered) → HaveEnded lanes 0 lanes
-ended_first lanes items known = ((λ below within. absurd (omega arith)), λ above within. known above)
-
-pub ended_more : (can_fail : Bool) (lanes0 lanes lanes' : List Answered) (core : ℕ) → HaveEnded lanes0 core lanes
-    → IfSome (left_at lanes core) (λ items. Gives (IsOutside can_fail) items (Ok None) (left_at lanes' core))
-    → ((other : ℕ) → other ≢ core → left_at lanes' other ≡ left_at lanes other) → HaveEnded lanes0 (core + 1) lanes'
-ended_more can_fail lanes0 lanes lanes' core ended gives others items known =
-    let h = ended items known in
-    let item : Gives (IsOutside can_fail) (items core) (Ok None) (left_at lanes' core) = rw (h.1 core (omega arith)) at gives in (
-      (λ below within. elim (same_or below core) [ inl e ↦ rw e item.0 | inr apart ↦ h.0 below (omega arith) ]),
-      λ above within. others above (λ e. absurd (omega arith)) ∙ h.1 above (omega arith),
-    )
 
 pub end_fault : (can_fail : Bool) (lanes0 lanes : List Answered) (core place : ℕ) (taken : ℕ → ℕ) (fault : RowFault) (more : Option (List Item)) → core < length lanes0
     → HaveEnded lanes0 core lanes → IfSome (left_at lanes core) (λ items. Gives (IsOutside can_fail) items (Err fault) more)

@@ -1,5 +1,6 @@
 -- Readings of a text's items, and functions of the core that change at one core.
-use Rattle.std.proofs.Common.{◌≡◌, ◌≢◌, ◌⊎◌, ◌∙◌, ℕ, List, [], ◌∷◌, Bool, true, false, Option, Result, Ok, Err, refl, sym, ap, inl, inr, nat_eq, eqb-true, eq-eqb, true≢false}
+use Rattle.std.proofs.Common.{◌≡◌, ◌≢◌, ◌⊎◌, ◌∙◌, ℕ, List, [], ◌∷◌, Bool, true, Option, Result, Ok, Err, refl, sym, ap, inl, inr, eq-eqb}
+use Rattle.std.proofs.lemmas.Bool.{cases_eq, ne_eqb}
 use mathlib.Core.Path.{fun_ext}
 use Rattle.csv_rows.specs.Source.{Gives}
 use Rattle.order_cert.specs.Kept.{put}
@@ -32,21 +33,13 @@ pub put-here : {A : Type 0} (f : ℕ → A) (core : ℕ) (x : A) → put f core 
 put-here f core x = rw (eq-eqb core core refl) refl
 
 pub same_or : (a b : ℕ) → (a ≡ b) ⊎ (a ≢ b)
-same_or a b = by (nat_eq a b) refl
-  where
-    by : (t : Bool) → nat_eq a b ≡ t → (a ≡ b) ⊎ (a ≢ b)
-    by true e = inl (eqb-true a b e)
-    by false e = inr (λ f. true≢false (sym (eq-eqb a b f) ∙ e))
+same_or = cases_eq
 
 pub put-other : {A : Type 0} (f : ℕ → A) (core other : ℕ) (x : A) → other ≢ core → put f core x other ≡ f other
-put-other f core other x apart = by (nat_eq other core) refl
-  where
-    by : (t : Bool) → nat_eq other core ≡ t → put f core x other ≡ f other
-    by true e = absurd (apart (eqb-true other core e))
-    by false e = rw e refl
+put-other f core other x apart = rw (ne_eqb other core apart) refl
 
 pub put-back : {A : Type 0} (f : ℕ → A) (core : ℕ) (x : A) → put (put f core x) core (f core) ≡ f
-put-back f core x = fun_ext (λ other. elim (same_or other core) [
+put-back f core x = fun_ext (λ other. elim (cases_eq other core) [
   | inl e ↦ rw e (put-here (put f core x) core (f core))
   | inr apart ↦ put-other (put f core x) core other (f core) apart ∙ put-other f core other x apart
 ])
@@ -54,7 +47,7 @@ put-back f core x = fun_ext (λ other. elim (same_or other core) [
 pub put_reads : {Value Fault : Type 0} (can_fail : Bool) (failure : Fault) (items left : ℕ → List (Result Value Fault)) (core : ℕ) (given : List (Result Value Fault))
     → ((other : ℕ) → other ≢ core → Reads can_fail failure (items other) (left other)) → Reads can_fail failure (items core) given
     → (other : ℕ) → Reads can_fail failure (items other) (put left core given other)
-put_reads can_fail failure items left core given others here other = elim (same_or other core) [
+put_reads can_fail failure items left core given others here other = elim (cases_eq other core) [
   | inl e ↦ rw (e, put-here left core given) here
   | inr apart ↦ rw (put-other left core other given apart) (others other apart)
 ]

@@ -1,8 +1,9 @@
 -- A scan that ends with a fault: all before its place is good, and the fault is there; and the converse.
-use Rattle.std.proofs.Common.{◌≡◌, ◌≢◌, ◌<◌, ◌≤◌, ◌+◌, ◌∙◌, ◌||◌, ◌⊎◌, ℕ, zero, suc, List, [], ◌∷◌, ◌++◌, Bool, true, false, Option, Some, None, Result, Ok, Err, length, map, take, get_or, set, refl, sym, ap, subst, inl, inr, arith, nat_eq, nat_lt, nat_le, eq-eqb, append_assoc, length-append, length-set}
+use Rattle.std.proofs.Common.{◌≡◌, ◌≢◌, ◌<◌, ◌≤◌, ◌+◌, ◌∙◌, ◌||◌, ◌⊎◌, ℕ, zero, suc, List, [], ◌∷◌, ◌++◌, Bool, true, false, Option, Some, None, Result, Ok, Err, length, map, take, replicate, set, refl, sym, ap, subst, inl, inr, arith, nat_lt, nat_le, append_assoc, length-append, length-set}
+use Rattle.std.proofs.lemmas.Bool.{cases_eq}
 use Rattle.std.specs.Prelude.{if◌then◌else◌, slice_get}
 use Rattle.std.proofs.lemmas.Bool.Decides.{nat_tests}
-use Rattle.std.proofs.lemmas.List.{append-nil}
+use Rattle.std.proofs.lemmas.List.{append-nil, length-replicate}
 use mathlib.Core.Path.{fun_ext}
 use Rattle.apex_types.specs.declared.limits.TheConstants.{MOST_RECORDS}
 use Rattle.apex_types.specs.declared.record.Pair.{Pair}
@@ -12,14 +13,14 @@ use Rattle.order_cert.specs.declared.fault.OrderFault.TheVariants.{Absent, Missi
 use Rattle.order_cert.specs.Kept.{Follows, Kept, put, taken_of}
 use Rattle.order_cert.specs.Order.{IsLawfulOrder, IsPrefixOfLawful, misplaced, numbers_of, pair_of}
 use Rattle.order_cert.specs.Row.{Item as CertItem}
-use Rattle.order_cert.proofs.Lawful.{follows_none, follows_taken, next_from_prefix}
+use Rattle.order_cert.proofs.Lawful.{follows_none, follows_taken, next_from_prefix, numbers_append, numbers_other, numbers_same, zeros}
 use Rattle.record_read.specs.Row.{Item}
 use Rattle.placement.specs.declared.fault.InputFault.{InputFault}
 use Rattle.placement.specs.declared.fault.InputFault.TheVariants as input
 use Rattle.placement.specs.Refusal.{AreTaken, FirstFaultIsRefused, IsFirstFault, IsLeastLeft, IsOrderFault, MayStand, RefusedAtTheFirstFault, next_item, next_row, taken_by}
 use Rattle.placement.specs.Scan.{Scan, and_then, end_of, ends_of, ends_so, keeping, led_by, placed_at, scan, taking}
 use Rattle.placement.proofs.Ends.{ends_of-first}
-use Rattle.placement.proofs.Readings.{put-here, put-other, same_or}
+use Rattle.placement.proofs.Readings.{put-here, put-other}
 
 -- values without a fault, and the items after them
 
@@ -69,24 +70,17 @@ none_of (first ∷ later) e = cc
 -- what pairs take
 
 taken_append : (core : ℕ) (ps qs : List Pair) → taken_by (ps ++ qs) core ≡ taken_by ps core + taken_by qs core
-taken_append core [] qs = omega arith
-taken_append core (p ∷ ps) qs = by (nat_eq p.core core) (taken_append core ps qs)
-  where
-    by : (b : Bool) → taken_by (ps ++ qs) core ≡ taken_by ps core + taken_by qs core
-        → length (if b then p.seq ∷ numbers_of core (ps ++ qs) else numbers_of core (ps ++ qs))
-        ≡ length (if b then p.seq ∷ numbers_of core ps else numbers_of core ps) + taken_by qs core
-    by true e = omega (arith, e)
-    by false e = e
+taken_append core ps qs = ap length (numbers_append core ps qs) ∙ length-append (numbers_of core ps) (numbers_of core qs)
 
 taken_first : (pair : Pair) (more : List Pair) → taken_by (pair ∷ more) pair.core ≡ suc (taken_by more pair.core)
-taken_first pair more = rw (eq-eqb pair.core pair.core refl) refl
+taken_first pair more = ap length (numbers_same pair more)
 
 taken_apart : (core : ℕ) (pair : Pair) → core ≢ pair.core → taken_by (pair ∷ []) core ≡ 0
-taken_apart core pair apart = let other : nat_eq pair.core core ≡ false = grind (arith, nat_tests) in rw other refl
+taken_apart core pair apart = ap length (numbers_other core pair [] (λ same. apart (sym same)))
 
 taken_on : (pairs : List Pair) (pair : Pair) (core : ℕ)
     → put (taken_by pairs) pair.core (suc (taken_by pairs pair.core)) core ≡ taken_by (pairs ++ pair ∷ []) core
-taken_on pairs pair core = elim (same_or core pair.core) [
+taken_on pairs pair core = elim (cases_eq core pair.core) [
   | inl s ↦ rw (s, put-here (taken_by pairs) pair.core (suc (taken_by pairs pair.core)))
       (omega (arith, taken_append pair.core pairs (pair ∷ []), taken_first pair []))
   | inr apart ↦ put-other (taken_by pairs) pair.core core (suc (taken_by pairs pair.core)) apart
@@ -163,7 +157,7 @@ ends_decide (suc cores) place taken left = by (ends_of cores place taken left) (
     by : (low : Result (Unit {0}) InputFault) (items : List Item) → left cores ≡ items → Decides cores place taken left low
         → Decides (suc cores) place taken left (and_then low (end_of place cores (taken cores) items))
     by (Err fault) items e (core, within, ended, is) = (core, omega arith, ended, is)
-    by (Ok u) [] e ended = λ core within. elim (same_or core cores) [ inl s ↦ rw s e | inr apart ↦ ended core (omega arith) ]
+    by (Ok u) [] e ended = λ core within. elim (cases_eq core cores) [ inl s ↦ rw s e | inr apart ↦ ended core (omega arith) ]
     by (Ok u) (Ok rec ∷ more) e ended = (cores, omega arith, ended, ap (end_of place cores (taken cores)) e)
     by (Ok u) (Err fault ∷ more) e ended = (cores, omega arith, ended, ap (end_of place cores (taken cores)) e)
 
@@ -280,7 +274,7 @@ module _ {cores : ℕ} {whole : ℕ → List Item} {certificate : List CertItem}
     follows = follows_next;
     rows = t.rows ∙ one_on pairs pair rest;
     recordings = put t.recordings pair.core longer;
-    counts = λ core within. elim (same_or core pair.core) [
+    counts = λ core within. elim (cases_eq core pair.core) [
       | inl s ↦ rw (s, put-here t.recordings pair.core longer) (omega (
         arith,
         length-append (t.recordings pair.core) (rec ∷ []),
@@ -291,7 +285,7 @@ module _ {cores : ℕ} {whole : ℕ → List Item} {certificate : List CertItem}
       | inr d ↦ rw (put-other t.recordings pair.core core longer d)
           (t.counts core within ∙ sym (put-other (taken_by pairs) pair.core core (suc (taken_by pairs pair.core)) d) ∙ taken_on pairs pair core)
     ];
-    recorded = λ core within. elim (same_or core pair.core) [
+    recorded = λ core within. elim (cases_eq core pair.core) [
       | inl s ↦ rw (s, put-here t.recordings pair.core longer, put-here left pair.core more)
           (t.recorded pair.core fits.known ∙ ap (λ l. map Ok (t.recordings pair.core) ++ l) here ∙ one_on (t.recordings pair.core) rec more)
       | inr d ↦ rw (put-other t.recordings pair.core core longer d, put-other left pair.core core more d) (t.recorded core within)
@@ -342,28 +336,12 @@ scan_refused cores whole certificate pairs left (Ok pair ∷ rest) t =
         stopped t (input.Row pair.core pair.seq fault) (inl (may_stand pair t fits, item_is t pair.core fits.known ∙ ap (λ l. slice_get l 0) e))
     step None fits (Ok rec ∷ more) e on = refused_more cores whole certificate pairs pair rec (later more) (on more (one_more pair t fits rec more e))
 
--- none were taken yet
-zeros : ℕ → List ℕ
-zeros zero = []
-zeros (suc cores) = 0 ∷ zeros cores
-
-zeros_are : (cores core : ℕ) → get_or (zeros cores) core 0 ≡ 0
-unfolding zeros
-zeros_are zero core = refl
-zeros_are (suc cores) zero = refl
-zeros_are (suc cores) (suc core) = zeros_are cores core
-
-zeros_long : (cores : ℕ) → cores ≤ length (zeros cores)
-unfolding zeros
-zeros_long zero = omega arith
-zeros_long (suc cores) = omega (arith, zeros_long cores)
-
 at_start : (cores : ℕ) (left : ℕ → List Item) (certificate : List CertItem) → Taken cores left certificate [] left certificate
 at_start cores left certificate = record {
-  kept = record { cores = cores; counts = zeros cores };
+  kept = record { cores = cores; counts = replicate cores 0 };
   cores_are = refl;
-  long = zeros_long cores;
-  follows = follows_none (record { cores = cores; counts = zeros cores }) (zeros_are cores);
+  long = omega (arith, length-replicate {A = ℕ} cores 0);
+  follows = follows_none (record { cores = cores; counts = replicate cores 0 }) (zeros cores);
   rows = refl;
   recordings = λ core. [];
   counts = λ core within. refl;

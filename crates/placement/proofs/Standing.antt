@@ -1,5 +1,6 @@
 -- What the recordings have left, after a call of one of them.
 use Rattle.std.proofs.Common.{◌≡◌, ◌≢◌, ◌<◌, ◌∙◌, ℕ, zero, suc, List, [], ◌∷◌, ◌++◌, Bool, true, false, true≢false, Option, Some, None, Ok, Err, length, get_or, set, refl, sym, ap, subst, inl, inr, arith}
+use Rattle.std.proofs.lemmas.Bool.{cases_eq}
 use Rattle.std.specs.Prelude.{IfSome, drop}
 use Rattle.std.proofs.lemmas.List.{get_or-set_same, get_or-set_other, get_or_default, length-set}
 use Rattle.csv_rows.specs.Source.{Gives}
@@ -8,7 +9,6 @@ use Rattle.record_read.specs.Steps.{IsOutside}
 use Rattle.core_intake.specs.Answered.{Answer, AreAnswers, IsHonest, Answered, after, has_ended, answered, answered_at}
 use Rattle.core_intake.proofs.Chains.{first_answers}
 use Rattle.placement.specs.Lanes.{AreHonest, left_at, left_behind, standing}
-use Rattle.placement.proofs.Readings.{same_or}
 
 none_behind : (given : List Answer) → left_behind None given ≡ None
 none_behind [] = refl
@@ -70,7 +70,7 @@ honest_before : (can_fail : Bool) (lanes : List Answered) (core : ℕ) (answer :
 honest_before can_fail lanes core answer within honest other default below =
     let now : Answered = answered_at lanes core in
     let new : Answered = after now answer in
-    elim (same_or other core) [
+    elim (cases_eq other core) [
       | inl e ↦
           let first : IsHonest can_fail now = first_answers can_fail now.items now.given (answer ∷ []) (honest_there can_fail lanes core new within honest) in
           subst (λ n. IsHonest can_fail (get_or lanes n default)) (sym e) (subst (IsHonest can_fail) (get_or_default lanes core (answered None []) default within) first)

@@ -16,16 +16,16 @@ use Rattle.record_read.specs.declared.fault.RowFault.TheVariants.{BadHex, BadKin
 use Rattle.apex_types.specs.declared.format.Format.{Format}
 use Rattle.record_read.specs.declared.kind.Kind.{Kind}
 use Rattle.record_read.specs.declared.kind.Kind.TheVariants as kind
-use Rattle.apex_types.specs.Services.{arguments_of, is_in}
-use Rattle.record_read.specs.Field.{all_empty, argument, bytes_at, empty, maybe_number, maybe_signed, number, signed, text_at}
+use Rattle.apex_types.specs.Services.{arguments_of}
+use Rattle.record_read.specs.Field.{all_empty, argument, bytes_at, empty, filled, maybe, maybe_number, maybe_signed, number, signed, text_at}
 use Rattle.record_read.specs.FirstFault.{ArgumentFault, CallFault, ClaimFault, DispatchFault, DispatchedFault, FaultOf, HoldsCode, HoldsKind, HoldsNone, HoldsService, IsFirstFault, MessageFault, MustBeBytes, MustBeEmpty, MustBeMessageIf, MustHold, MustHoldIf, NameFault, OtherNumber, ProcessFault, RequestFault, ReturnFault, SentFault, TickFault, ◌or_else◌}
 use Rattle.apex_types.specs.Format.{field_count}
 use Rattle.record_read.specs.Grammar.{GoesWith, HoldsName, HoldsNumber, HoldsOutcome, HoldsProcesses, HoldsSigned, MayHold, columns_of}
 use Rattle.record_read.specs.GrammarLaws.{FirstFaultsDecide}
-use Rattle.record_read.specs.Named.{code_named, code_of, kind_named, kind_of, out_named, out_of, service_named, service_of}
+use Rattle.record_read.specs.Named.{code_named, code_of, kind_named, kind_of, out_named, out_of, service_in, service_of}
 use Rattle.record_read.specs.Payload.{from_hex, goes_with, maybe_message, message_in, message_of, name_in, name_of}
 use Rattle.record_read.specs.Row.{body_in, call_in, claim_in, dispatch_in, fields_read, proc_of, record_of, request_in, return_in, seq_in, tick_in, who_in}
-use Rattle.record_read.specs.Steps.{◌>>=◌}
+use Rattle.record_read.specs.Steps.{◌>>=◌, IsOfRow}
 use Rattle.record_read.specs.Woken.{woken_of}
 use Rattle.record_read.proofs.GrammarFields.{argument_holds, holds_argument, holds_maybe_number, holds_maybe_signed, holds_number, holds_signed, maybe_number_holds, maybe_signed_holds, number_holds, same_ok, signed_holds, no_fault}
 use Rattle.record_read.proofs.GrammarLists.{hold_processes, processes_hold}
@@ -33,14 +33,19 @@ use Rattle.record_read.proofs.GrammarNames.{code_is, is_code, is_kind, is_outcom
 use Rattle.record_read.proofs.GrammarRows.{all_are_empty, are_all_empty, texts_from}
 use Rattle.record_read.proofs.GrammarTexts.{holds_name, length_decides, name_holds}
 
--- a step has a fault exactly where a relation says so
+-- a step has a fault exactly where a relation says so, and one that the text of a row can have
 pub record FailsAs {A : Type 0} (read : Result A RowFault) (Fault : RowFault → Type 0) : Type 0 where
   pub to : (e : RowFault) → read ≡ Err e → Fault e
   pub from : (e : RowFault) → Fault e → read ≡ Err e
+  pub own : (e : RowFault) → read ≡ Err e → IsOfRow e
 
 -- one fault is given
 same_err : {A : Type 0} (e f : RowFault) → ◌≡◌ {A = Result A RowFault} (Err e) (Err f) → e ≡ f
 same_err e f same = cc
+
+-- so where one fault is given that the text of a row can have, each is one
+one_own : {A : Type 0} (bad e : RowFault) → IsOfRow bad → ◌≡◌ {A = Result A RowFault} (Err bad) (Err e) → IsOfRow e
+one_own bad e own same = subst IsOfRow (same_err bad e same) own
 
 -- a value is no fault
 no_value : {A : Type 0} {Goal : Type 0} (x : A) (e : RowFault) → ◌≡◌ {A = Result A RowFault} (Ok x) (Err e) → Goal
@@ -52,6 +57,7 @@ step : {A B : Type 0} (read : Result A RowFault) (more : A → Result B RowFault
 step {A = A} {B = B} (Ok x) more First Others first others = record {
   to = λ e same. inr ((λ other fault. no_value x other (first.from other fault)), (others x refl).to e same);
   from = λ e fault. by e fault;
+  own = (others x refl).own;
 }
   where
     by : (e : RowFault) → (First or_else Others) e → more x ≡ Err e
@@ -60,6 +66,7 @@ step {A = A} {B = B} (Ok x) more First Others first others = record {
 step {A = A} {B = B} (Err f) more First Others first others = record {
   to = λ e same. inl (first.to e (ap Err (same_err f e same)));
   from = λ e fault. by e fault;
+  own = λ e same. first.own e (ap Err (same_err f e same));
 }
   where
     by : (e : RowFault) → (First or_else Others) e → ◌≡◌ {A = Result B RowFault} (Err f) (Err e)
@@ -68,41 +75,45 @@ step {A = A} {B = B} (Err f) more First Others first others = record {
 
 -- the last step
 last_step : {A B : Type 0} (read : Result A RowFault) (made : A → B) (First : RowFault → Type 0) → FailsAs read First → FailsAs (read >>= (λ x. Ok (made x))) First
-last_step (Ok x) made First first = record { to = λ e same. no_value (made x) e same; from = λ e fault. no_value x e (first.from e fault) }
-last_step (Err f) made First first = record { to = λ e same. first.to e (ap Err (same_err f e same)); from = λ e fault. ap Err (same_err f e (first.from e fault)) }
+last_step (Ok x) made First first = record { to = λ e same. no_value (made x) e same; from = λ e fault. no_value x e (first.from e fault); own = λ e same. no_value (made x) e same }
+last_step (Err f) made First first = record { to = λ e same. first.to e (ap Err (same_err f e same)); from = λ e fault. ap Err (same_err f e (first.from e fault)); own = λ e same. first.own e (ap Err (same_err f e same)) }
 
 -- a step of which every fault is the same one, and which gives what the field holds
-none_held : {A : Type 0} (read : Result A RowFault) (bad : RowFault) (Holds : List ℕ → A → Type 0) (text : List ℕ)
+none_held : {A : Type 0} (read : Result A RowFault) (bad : RowFault) (Holds : List ℕ → A → Type 0) (text : List ℕ) → IsOfRow bad
     → ((e : RowFault) → read ≡ Err e → e ≡ bad) → ((x : A) → read ≡ Ok x → Holds text x) → ((x : A) → Holds text x → read ≡ Ok x)
     → FailsAs read (HoldsNone bad Holds text)
-none_held (Ok x) bad Holds text only holds held = record {
+none_held (Ok x) bad Holds text own only holds held = record {
   to = λ e same. no_value x e same;
   from = λ e fault. absurd (fault.0 x (holds x refl));
+  own = λ e same. no_value x e same;
 }
-none_held (Err f) bad Holds text only holds held = record {
+none_held (Err f) bad Holds text own only holds held = record {
   to = λ e same. ((λ x h. no_fault f x (held x h)), only e same);
   from = λ e fault. ap Err (only f refl ∙ sym fault.1);
+  own = λ e same. subst IsOfRow (sym (only e same)) own;
 }
 
 -- the same where an empty field has a fault of its own
-must_hold : {A : Type 0} (read : List ℕ → Result A RowFault) (bad : RowFault) (Holds : List ℕ → A → Type 0) (text : List ℕ) → read [] ≡ Err FieldNotForKind
+must_hold : {A : Type 0} (read : List ℕ → Result A RowFault) (bad : RowFault) (Holds : List ℕ → A → Type 0) (text : List ℕ) → IsOfRow bad → read [] ≡ Err FieldNotForKind
     → ((b : ℕ) (bs : List ℕ) (e : RowFault) → read (b ∷ bs) ≡ Err e → e ≡ bad) → ((x : A) → read text ≡ Ok x → Holds text x) → ((x : A) → Holds text x → read text ≡ Ok x)
     → FailsAs (read text) (MustHold bad Holds text)
-must_hold read bad Holds [] none only holds held = record {
+must_hold read bad Holds [] own none only holds held = record {
   to = λ e same. inl (refl, same_err e FieldNotForKind (sym same ∙ none));
   from = λ e fault. by e fault;
+  own = λ e same. one_own FieldNotForKind e tt (sym none ∙ same);
 }
   where
     by : (e : RowFault) → MustHold bad Holds [] e → read [] ≡ Err e
     by e (inl fault) = none ∙ ap Err (sym fault.1)
     by e (inr fault) = absurd (fault.0 refl)
-must_hold read bad Holds (b ∷ bs) none only holds held = record {
+must_hold read bad Holds (b ∷ bs) own none only holds held = record {
   to = λ e same. inr ((λ empty. cc), (some.to e same));
   from = λ e fault. by e fault;
+  own = some.own;
 }
   where
     some : FailsAs (read (b ∷ bs)) (HoldsNone bad Holds (b ∷ bs))
-    some = none_held (read (b ∷ bs)) bad Holds (b ∷ bs) (only b bs) holds held
+    some = none_held (read (b ∷ bs)) bad Holds (b ∷ bs) own (only b bs) holds held
 
     by : (e : RowFault) → MustHold bad Holds (b ∷ bs) e → read (b ∷ bs) ≡ Err e
     by e (inl fault) = absurd (let f : b ∷ bs ≡ [] = fault.0 in cc)
@@ -124,20 +135,20 @@ test_bad true x bad e same = no_value x e same
 test_bad false x bad e same = sym (same_err bad e same)
 
 number_fails : (greatest : ℕ) (text : List ℕ) → greatest < 2 ^ 64 → FailsAs (number greatest text) (MustHold BadNumber (HoldsNumber greatest) text)
-unfolding number
+unfolding number filled
 number_fails greatest text room =
-    must_hold (number greatest) BadNumber (HoldsNumber greatest) text refl (λ b bs e same. or_bad (decimal greatest (b ∷ bs)) BadNumber e same)
+    must_hold (number greatest) BadNumber (HoldsNumber greatest) text tt refl (λ b bs e same. or_bad (decimal greatest (b ∷ bs)) BadNumber e same)
     (λ n. number_holds greatest text n room) (λ n. holds_number greatest text n room)
 
 signed_fails : (text : List ℕ) → FailsAs (signed text) (MustHold BadNumber HoldsSigned text)
-unfolding signed
+unfolding signed filled
 signed_fails text =
-    must_hold signed BadNumber HoldsSigned text refl (λ b bs e same. or_bad (signed_decimal (b ∷ bs)) BadNumber e same) (signed_holds text) (holds_signed text)
+    must_hold signed BadNumber HoldsSigned text tt refl (λ b bs e same. or_bad (signed_decimal (b ∷ bs)) BadNumber e same) (signed_holds text) (holds_signed text)
 
 maybe_number_fails : (greatest : ℕ) (text : List ℕ) → greatest < 2 ^ 64 → FailsAs (maybe_number greatest text) (HoldsNone BadNumber (MayHold (HoldsNumber greatest)) text)
-unfolding maybe_number number
+unfolding maybe_number number maybe filled
 maybe_number_fails greatest text room =
-    none_held (maybe_number greatest text) BadNumber (MayHold (HoldsNumber greatest)) text (only text)
+    none_held (maybe_number greatest text) BadNumber (MayHold (HoldsNumber greatest)) text tt (only text)
     (λ o. maybe_number_holds greatest text o room) (λ o. holds_maybe_number greatest text o room)
   where
     only : (text : List ℕ) (e : RowFault) → maybe_number greatest text ≡ Err e → e ≡ BadNumber
@@ -145,9 +156,9 @@ maybe_number_fails greatest text room =
     only (b ∷ bs) e same = made_bad (number greatest (b ∷ bs)) Some BadNumber e (λ f is. or_bad (decimal greatest (b ∷ bs)) BadNumber f is) same
 
 maybe_signed_fails : (text : List ℕ) → FailsAs (maybe_signed text) (HoldsNone BadNumber (MayHold HoldsSigned) text)
-unfolding maybe_signed signed
+unfolding maybe_signed signed maybe filled
 maybe_signed_fails text =
-    none_held (maybe_signed text) BadNumber (MayHold HoldsSigned) text (only text) (maybe_signed_holds text) (holds_maybe_signed text)
+    none_held (maybe_signed text) BadNumber (MayHold HoldsSigned) text tt (only text) (maybe_signed_holds text) (holds_maybe_signed text)
   where
     only : (text : List ℕ) (e : RowFault) → maybe_signed text ≡ Err e → e ≡ BadNumber
     only [] e same = no_value None e same
@@ -174,18 +185,21 @@ all_empty_fail fields place count = by (all_empty fields place count) refl
     by (Ok u) is = record {
       to = λ e same. no_value u e same;
       from = λ e fault. absurd (fault.0 (all_are_empty fields place count is));
+      own = λ e same. no_value u e same;
     }
     by (Err f) is = record {
       to = λ e same. ((λ empties. no_fault f tt (sym is ∙ are_all_empty fields place count empties)), sym (same_err f e same) ∙ all_empty_bad fields place count f is);
       from = λ e fault. ap Err (all_empty_bad fields place count f is ∙ sym fault.1);
+      own = λ e same. one_own f e (subst IsOfRow (sym (all_empty_bad fields place count f is)) tt) same;
     }
 
 -- one field that must be empty, for which a value stands
 unused_fails : {A : Type 0} (text : List ℕ) (unused : A) → FailsAs (empty text >>= (λ u. Ok unused)) (MustBeEmpty (text ∷ []))
-unused_fails [] unused = record { to = λ e same. no_value unused e same; from = λ e fault. absurd (fault.0 (refl, tt)) }
+unused_fails [] unused = record { to = λ e same. no_value unused e same; from = λ e fault. absurd (fault.0 (refl, tt)); own = λ e same. no_value unused e same }
 unused_fails (b ∷ bs) unused = record {
   to = λ e same. ((λ empties. let f : b ∷ bs ≡ [] = empties.0 in cc), sym (same_err FieldNotForKind e same));
   from = λ e fault. ap Err (sym fault.1);
+  own = λ e same. one_own FieldNotForKind e tt same;
 }
 
 argument_fails : (taken : Bool) (text : List ℕ) → FailsAs (argument taken text) (MustHoldIf taken BadNumber HoldsSigned text)
@@ -196,7 +210,7 @@ argument_fails false text = unused_fails text (pos 0)
 name_fails : (taken : Bool) (text : List ℕ) → FailsAs (name_in taken text) (MustHoldIf taken BadName HoldsName text)
 unfolding name_in name_of
 name_fails true text =
-    must_hold (name_in true) BadName HoldsName text refl (λ b bs e same. test_bad _ (b ∷ bs) BadName e same) (name_holds true text) (holds_name true text)
+    must_hold (name_in true) BadName HoldsName text tt refl (λ b bs e same. test_bad _ (b ∷ bs) BadName e same) (name_holds true text) (holds_name true text)
 name_fails false text = unused_fails text []
 
 -- bytes in hexadecimal, of which a test takes some
@@ -206,6 +220,7 @@ bytes_fail : (decoded : Result (List ℕ) FromHexError) (test : ℕ → Bool) (M
 bytes_fail (Err error) test MayBe text is may fits = record {
   to = λ e same. inl ((λ bytes found. let f : ◌≡◌ {A = Result (List ℕ) FromHexError} (Err error) (Ok bytes) = sym is ∙ found in cc), sym (same_err BadHex e same));
   from = λ e fault. by e fault;
+  own = λ e same. one_own BadHex e tt same;
 }
   where
     by : (e : RowFault) → MustBeBytes MayBe text e → ◌≡◌ {A = Result (List ℕ) RowFault} (Err BadHex) (Err e)
@@ -225,10 +240,11 @@ bytes_fail (Ok bytes) test MayBe text is may fits = by (test (length bytes)) ref
     bad e (inr fault) = sym fault.3
 
     by : (fit : Bool) → test (length bytes) ≡ fit → FailsAs (if fit then Ok bytes else Err BadLength) (MustBeBytes MayBe text)
-    by true held = record { to = λ e same. no_value bytes e same; from = λ e fault. absurd (good e held fault) }
+    by true held = record { to = λ e same. no_value bytes e same; from = λ e fault. absurd (good e held fault); own = λ e same. no_value bytes e same }
     by false missed = record {
       to = λ e same. inr (bytes, is, (λ may_be. let f : true ≡ false = sym (fits (length bytes) may_be) ∙ missed in cc), sym (same_err BadLength e same));
       from = λ e fault. ap Err (bad e fault);
+      own = λ e same. one_own BadLength e tt same;
     }
 
 data_fails : (text : List ℕ) → FailsAs (maybe_message text) (MustBeBytes (λ count. count ≤ LONGEST_MESSAGE) text)
@@ -262,30 +278,26 @@ kind_holds text kind.Disp h = is_kind text kind.Disp h
 kind_holds text kind.Tick h = is_kind text kind.Tick h
 
 kind_fails : (text : List ℕ) → FailsAs (kind_of text) (MustHold BadKind HoldsKind text)
-unfolding kind_of
-kind_fails text = must_hold kind_of BadKind HoldsKind text refl (λ b bs e same. or_bad (kind_named (b ∷ bs)) BadKind e same) (kind_held text) (kind_holds text)
+unfolding kind_of filled
+kind_fails text = must_hold kind_of BadKind HoldsKind text tt refl (λ b bs e same. or_bad (kind_named (b ∷ bs)) BadKind e same) (kind_held text) (kind_holds text)
 
 service_fails : (format : Format) (text : List ℕ) → FailsAs (service_of format text) (MustHold BadService (HoldsService format) text)
-unfolding service_of
+unfolding service_of service_in filled
 service_fails format text =
-    must_hold (service_of format) BadService (HoldsService format) text refl (λ b bs e same. only (service_named (b ∷ bs)) e same)
+    must_hold (service_of format) BadService (HoldsService format) text tt refl (λ b bs e same. or_bad (service_in format (b ∷ bs)) BadService e same)
     (λ s is. let given = service_is format text s is in record { named = given.0; stands = given.1 }) (λ s h. is_service format text s h.named h.stands)
-  where
-    only : (found : Option Service) (e : RowFault) → (ok_or found BadService >>= (λ s. if is_in format s then Ok s else Err BadService)) ≡ Err e → e ≡ BadService
-    only (Some s) e same = test_bad (is_in format s) s BadService e same
-    only None e same = sym (same_err BadService e same)
 
 code_fails : (text : List ℕ) → FailsAs (code_of text) (MustHold BadOut HoldsCode text)
-unfolding code_of
-code_fails text = must_hold code_of BadOut HoldsCode text refl (λ b bs e same. or_bad (code_named (b ∷ bs)) BadOut e same) (code_is text) (is_code text)
+unfolding code_of filled
+code_fails text = must_hold code_of BadOut HoldsCode text tt refl (λ b bs e same. or_bad (code_named (b ∷ bs)) BadOut e same) (code_is text) (is_code text)
 
 out_fails : (text : List ℕ) → FailsAs (out_of text) (MustHold BadOut HoldsOutcome text)
-unfolding out_of
-out_fails text = must_hold out_of BadOut HoldsOutcome text refl (λ b bs e same. or_bad (out_named (b ∷ bs)) BadOut e same) (outcome_is text) (is_outcome text)
+unfolding out_of filled
+out_fails text = must_hold out_of BadOut HoldsOutcome text tt refl (λ b bs e same. or_bad (out_named (b ∷ bs)) BadOut e same) (outcome_is text) (is_outcome text)
 
 woken_fails : (text : List ℕ) → FailsAs (woken_of text) (HoldsNone BadWoken HoldsProcesses text)
 unfolding woken_of
-woken_fails text = none_held (woken_of text) BadWoken HoldsProcesses text (only text) (processes_hold text) (hold_processes text)
+woken_fails text = none_held (woken_of text) BadWoken HoldsProcesses text tt (only text) (processes_hold text) (hold_processes text)
   where
     only : (text : List ℕ) (e : RowFault) → woken_of text ≡ Err e → e ≡ BadWoken
     only [] e same = no_value _ e same
@@ -297,6 +309,7 @@ by_service : {A : Type 0} (format : Format) (text : List ℕ) (s : Service) (rea
 by_service format text s read Fault is fails = record {
   to = λ e same. let given = service_is format text s is in (s, record { named = given.0; stands = given.1 }, fails.to e same);
   from = λ e fault. fails.from e (subst (λ other. Fault other e) (same_ok fault.0 s (sym (is_service format text fault.0 fault.1.named fault.1.stands) ∙ is)) fault.2);
+  own = fails.own;
 }
 
 request_fails : (format : Format) (fields : Fields) → FailsAs (request_in format fields) (RequestFault format (columns_of fields))
@@ -328,6 +341,7 @@ request_fails format fields =
           to = λ e same. (n2, argument_holds (nat_le 2 (arguments_of s).numbers) (text_at fields column.SecondNumber) n2 is2, message.to e same);
           from = λ e fault. message.from e (subst (λ len. MustBeMessageIf (arguments_of s).message len (text_at fields column.Message) e)
               (same_ok fault.0 n2 (sym (holds_argument (nat_le 2 (arguments_of s).numbers) (text_at fields column.SecondNumber) fault.0 fault.1) ∙ is2)) fault.2);
+          own = message.own;
         })
       where
         message : FailsAs (message_in (arguments_of s).message n2 (text_at fields column.Message)) (MustBeMessageIf (arguments_of s).message n2 (text_at fields column.Message))
@@ -370,13 +384,14 @@ return_fails format fields =
 
 -- the process of a dispatch, by what its partition's field holds
 proc_fails : (fields : Fields) (part : Option ℕ) → maybe_number GREATEST_PARTITION (text_at fields column.Partition) ≡ Ok part → FailsAs (proc_of part (text_at fields column.Process)) (DispatchedFault (columns_of fields))
-unfolding proc_of number
+unfolding proc_of number filled
 proc_fails fields part is = by part (maybe_number_holds GREATEST_PARTITION (text_at fields column.Partition) part (omega arith) is)
   where
     by : (part : Option ℕ) → MayHold (HoldsNumber GREATEST_PARTITION) (text_at fields column.Partition) part → FailsAs (proc_of part (text_at fields column.Process)) (DispatchedFault (columns_of fields))
     by None left_out = record {
       to = λ e same. inl (left_out, unused.to e same);
       from = λ e fault. from e fault;
+      own = unused.own;
     }
       where
         unused : FailsAs {A = Option Who} (empty (text_at fields column.Process) >>= (λ u. Ok None)) (MustBeEmpty (text_at fields column.Process ∷ []))
@@ -388,6 +403,7 @@ proc_fails fields part is = by part (maybe_number_holds GREATEST_PARTITION (text
     by (Some n) held = record {
       to = λ e same. inr (filled, given.to e same);
       from = λ e fault. from e fault;
+      own = given.own;
     }
       where
         filled : text_at fields column.Partition ≢ []
@@ -434,10 +450,12 @@ seq_fails next given fields is = by (nat_eq given next) refl
       from = λ e fault.
           let one : fault.0 ≡ given = same_ok fault.0 given (sym (holds_number (MOST_RECORDS - 1) (text_at fields column.Sequence) fault.0 (omega arith) fault.1) ∙ is) in
           absurd (fault.2 (one ∙ eqb-true given next same));
+      own = λ e read. no_value given e read;
     }
     by false other = record {
       to = λ e read. (given, number_holds (MOST_RECORDS - 1) (text_at fields column.Sequence) given (omega arith) is, eqb-false given next other, sym (same_err SeqGap e read));
       from = λ e fault. ap Err (sym fault.3);
+      own = λ e read. one_own SeqGap e tt read;
     }
 
 fields_fail : (format : Format) (next : ℕ) (fields : Fields)
@@ -459,34 +477,37 @@ fields_fail format next fields =
       to = λ e same. (which, kind_held (text_at fields column.Kind) which named, (body_fails format which fields).to e same);
       from = λ e fault. (body_fails format which fields).from e (subst (λ k. FaultOf k format (columns_of fields) e)
           (same_ok fault.0 which (sym (kind_holds (text_at fields column.Kind) fault.0 fault.1) ∙ named)) fault.2);
+      own = (body_fails format which fields).own;
     }
 
 -- a test before the steps
 tested : {A : Type 0} (test : Bool) (read : Result A RowFault) (bad : RowFault) (Missed : Type 0) (Others : RowFault → Type 0)
-    → (test ≡ true → ¬ Missed) → (test ≡ false → Missed) → FailsAs read Others
+    → IsOfRow bad → (test ≡ true → ¬ Missed) → (test ≡ false → Missed) → FailsAs read Others
     → FailsAs (if test then read else Err bad) ((λ fault. Missed × (fault ≡ bad)) or_else Others)
-tested true read bad Missed Others hit missed others = record {
+tested true read bad Missed Others own hit missed others = record {
   to = λ e same. inr ((λ other fault. hit refl fault.0), others.to e same);
   from = λ e fault. by e fault;
+  own = others.own;
 }
   where
     by : (e : RowFault) → ((λ fault. Missed × (fault ≡ bad)) or_else Others) e → read ≡ Err e
     by e (inl fault) = absurd (hit refl fault.0)
     by e (inr fault) = others.from e fault.1
-tested {A = A} false read bad Missed Others hit missed others = record {
+tested {A = A} false read bad Missed Others own hit missed others = record {
   to = λ e same. inl (missed refl, sym (same_err bad e same));
   from = λ e fault. by e fault;
+  own = λ e same. one_own bad e own same;
 }
   where
     by : (e : RowFault) → ((λ fault. Missed × (fault ≡ bad)) or_else Others) e → ◌≡◌ {A = Result A RowFault} (Err bad) (Err e)
     by e (inl fault) = ap Err (sym fault.1)
     by e (inr fault) = absurd (fault.0 bad (missed refl, refl))
 
-row_fails : (format : Format) (next : ℕ) (fields : Fields) → FailsAs (record_of format next fields) (IsFirstFault format next fields)
+pub row_fails : (format : Format) (next : ℕ) (fields : Fields) → FailsAs (record_of format next fields) (IsFirstFault format next fields)
 unfolding record_of
 row_fails format next fields =
-    tested (nat_lt next MOST_RECORDS) _ TooMany (MOST_RECORDS ≤ next) _ fits full
-    (tested (length fields == field_count format) _ FieldCount (length fields ≢ field_count format) _ counted other
+    tested (nat_lt next MOST_RECORDS) _ TooMany (MOST_RECORDS ≤ next) _ tt fits full
+    (tested (length fields == field_count format) _ FieldCount (length fields ≢ field_count format) _ tt counted other
     (fields_fail format next fields))
   where
     fits : nat_lt next MOST_RECORDS ≡ true → ¬ (MOST_RECORDS ≤ next)

@@ -5,7 +5,7 @@ use Rattle.std.proofs.lemmas.Option.{none-some}
 use Rattle.csv_rows.specs.Decimal.{decimal, signed_decimal}
 use Rattle.record_read.specs.declared.fault.RowFault.{RowFault}
 use Rattle.record_read.specs.declared.fault.RowFault.TheVariants.{BadNumber, FieldNotForKind}
-use Rattle.record_read.specs.Field.{argument, empty, maybe_number, maybe_signed, number, signed}
+use Rattle.record_read.specs.Field.{argument, empty, filled, maybe, maybe_number, maybe_signed, number, signed}
 use Rattle.record_read.specs.Grammar.{HoldsIf, HoldsNumber, HoldsSigned, MayHold}
 use Rattle.record_read.specs.Steps.{◌>>=◌}
 use Rattle.record_read.proofs.GrammarNumbers.{number_read, number_written, signed_read_back, signed_written}
@@ -35,7 +35,7 @@ test_ok false fault x y e = no_fault fault y e
 
 -- a number that is read is what the field holds
 pub number_holds : (greatest : ℕ) (text : List ℕ) (n : ℕ) → greatest < 2 ^ 64 → number greatest text ≡ Ok n → HoldsNumber greatest text n
-unfolding number
+unfolding number filled
 number_holds greatest [] n room e = no_fault FieldNotForKind n e
 number_holds greatest (b ∷ bs) n room e =
     let w = number_written greatest (b ∷ bs) n room (ok_some (decimal greatest (b ∷ bs)) BadNumber n e) in
@@ -43,25 +43,25 @@ number_holds greatest (b ∷ bs) n room e =
 
 -- a number that the field holds is read
 pub holds_number : (greatest : ℕ) (text : List ℕ) (n : ℕ) → greatest < 2 ^ 64 → HoldsNumber greatest text n → number greatest text ≡ Ok n
-unfolding number decimal
+unfolding number decimal filled
 holds_number greatest [] n room h = absurd (none-some n (number_read greatest n [] room h.bound h.written))
 holds_number greatest (b ∷ bs) n room h = ap (λ o. ok_or o BadNumber) (number_read greatest n (b ∷ bs) room h.bound h.written)
 
 -- a number with a sign that is read is what the field holds
 pub signed_holds : (text : List ℕ) (n : ℤ) → signed text ≡ Ok n → HoldsSigned text n
-unfolding signed
+unfolding signed filled
 signed_holds [] n e = no_fault FieldNotForKind n e
 signed_holds (b ∷ bs) n e = let w = signed_written (b ∷ bs) n (ok_some (signed_decimal (b ∷ bs)) BadNumber n e) in record { written = w.0; bound = w.1 }
 
 -- a number with a sign that the field holds is read
 pub holds_signed : (text : List ℕ) (n : ℤ) → HoldsSigned text n → signed text ≡ Ok n
-unfolding signed signed_decimal
+unfolding signed signed_decimal filled
 holds_signed [] n h = absurd (none-some n (signed_read_back [] n h.written h.bound))
 holds_signed (b ∷ bs) n h = ap (λ o. ok_or o BadNumber) (signed_read_back (b ∷ bs) n h.written h.bound)
 
 -- a number that may be left out and is read, or is none, is what the field may hold
 pub maybe_number_holds : (greatest : ℕ) (text : List ℕ) (o : Option ℕ) → greatest < 2 ^ 64 → maybe_number greatest text ≡ Ok o → MayHold (HoldsNumber greatest) text o
-unfolding maybe_number
+unfolding maybe_number maybe
 maybe_number_holds greatest [] o room e = subst (MayHold (HoldsNumber greatest) []) (same_ok None o e) refl
 maybe_number_holds greatest (b ∷ bs) o room e =
     let s = step_ok _ _ o e in
@@ -69,14 +69,14 @@ maybe_number_holds greatest (b ∷ bs) o room e =
 
 -- what the field may hold is read
 pub holds_maybe_number : (greatest : ℕ) (text : List ℕ) (o : Option ℕ) → greatest < 2 ^ 64 → MayHold (HoldsNumber greatest) text o → maybe_number greatest text ≡ Ok o
-unfolding maybe_number number
+unfolding maybe_number number maybe filled
 holds_maybe_number greatest text None room h = rw h refl
 holds_maybe_number greatest [] (Some n) room h = absurd (let e = holds_number greatest [] n room h in no_fault FieldNotForKind n e)
 holds_maybe_number greatest (b ∷ bs) (Some n) room h = rw (holds_number greatest (b ∷ bs) n room h) refl
 
 -- the same of a number with a sign that may be left out
 pub maybe_signed_holds : (text : List ℕ) (o : Option ℤ) → maybe_signed text ≡ Ok o → MayHold HoldsSigned text o
-unfolding maybe_signed
+unfolding maybe_signed maybe
 maybe_signed_holds [] o e = subst (MayHold HoldsSigned []) (same_ok None o e) refl
 maybe_signed_holds (b ∷ bs) o e =
     let s = step_ok _ _ o e in
@@ -84,7 +84,7 @@ maybe_signed_holds (b ∷ bs) o e =
 
 -- the same of a number with a sign, the other way round
 pub holds_maybe_signed : (text : List ℕ) (o : Option ℤ) → MayHold HoldsSigned text o → maybe_signed text ≡ Ok o
-unfolding maybe_signed signed
+unfolding maybe_signed signed maybe filled
 holds_maybe_signed text None h = rw h refl
 holds_maybe_signed [] (Some n) h = absurd (let e = holds_signed [] n h in no_fault FieldNotForKind n e)
 holds_maybe_signed (b ∷ bs) (Some n) h = rw (holds_signed (b ∷ bs) n h) refl

@@ -1,6 +1,6 @@
 -- What is given by its name: a step of the reader gives it exactly where the field is its name.
 use Rattle.std.proofs.Common.{◌≡◌, ◌∙◌, ℕ, List, [], ◌∷◌, Bool, true, false, Option, Some, None, Ok, refl, sym, ap, subst, if◌then◌else◌}
-use Rattle.std.specs.Prelude.{IsTrue, codes, option_map}
+use Rattle.std.specs.Prelude.{IsTrue, codes, option_and_then, option_map}
 use Rattle.std.specs.List.{list_all}
 use Rattle.std.specs.Str.{bytes_eq}
 use Rattle.std.proofs.lemmas.Bool.{and_parts}
@@ -20,9 +20,10 @@ use Rattle.apex_types.specs.declared.format.Format.{Format}
 use Rattle.record_read.specs.declared.kind.Kind.{Kind}
 use Rattle.record_read.specs.declared.kind.Kind.TheVariants as kind
 use Rattle.apex_types.specs.Services.{is_in}
+use Rattle.record_read.specs.Field.{filled}
 use Rattle.record_read.specs.Grammar.{HoldsOutcome}
-use Rattle.record_read.specs.Named.{all_codes, code_among, code_named, code_of, kind_named, kind_of, out_named, out_of, service_among, service_named, service_of}
-use Rattle.record_read.proofs.GrammarFields.{no_fault, ok_some, step_ok, test_ok}
+use Rattle.record_read.specs.Named.{all_codes, code_among, code_named, code_of, kind_named, kind_of, out_named, out_of, service_among, service_in, service_named, service_of}
+use Rattle.record_read.proofs.GrammarFields.{no_fault, ok_some}
 
 -- the first of two finds: the text has the first name and this is what it names, or the second find gives it
 first_is : {A : Type 0} (name text : List ℕ) (named : A) (others : Option A) (found : A) (Holds : A → Type 0) → (name ≡ text → Holds named)
@@ -52,13 +53,13 @@ kind_named_is text k e =
 
 -- a field that is read as a kind is its name
 pub kind_is : (text : List ℕ) (k : Kind) → kind_of text ≡ Ok k → text ≡ kind_name k
-unfolding kind_of
+unfolding kind_of filled
 kind_is [] k e = no_fault FieldNotForKind k e
 kind_is (b ∷ bs) k e = kind_named_is (b ∷ bs) k (ok_some (kind_named (b ∷ bs)) BadKind k e)
 
 -- the name of a kind names it
 of_kind_name : (k : Kind) → kind_of (kind_name k) ≡ Ok k
-unfolding kind_of kind_named
+unfolding kind_of kind_named filled
 of_kind_name kind.Call = refl
 of_kind_name _ = refl
 
@@ -83,18 +84,26 @@ service_named_is text s e = service_among_is SERVICES text s refl e
 
 -- a field that is read as a service is its name, and the service stands in the format
 pub service_is : (format : Format) (text : List ℕ) (s : Service) → service_of format text ≡ Ok s → (text ≡ Services.name_of s) × IsTrue (is_in format s)
-unfolding service_of
+unfolding service_of service_in filled
 service_is format [] s e = no_fault FieldNotForKind s e
 service_is format (b ∷ bs) s e =
-    let found = step_ok _ _ s e in
-    let test = test_ok (is_in format found.0) BadService found.0 s found.2 in (
-      service_named_is (b ∷ bs) s (ok_some (service_named (b ∷ bs)) BadService s (found.1 ∙ ap Ok test.1)),
-      subst (λ given. IsTrue (is_in format given)) test.1 test.0,
-    )
+    by (service_named (b ∷ bs)) refl (ok_some (service_in format (b ∷ bs)) BadService s e)
+  where
+    of_test : (test : Bool) (found : Service) → is_in format found ≡ test → service_named (b ∷ bs) ≡ Some found → (if test then Some found else None) ≡ Some s
+        → (b ∷ bs ≡ Services.name_of s) × IsTrue (is_in format s)
+    of_test true found stands is e =
+        let same = same_Some found s e in
+        (service_named_is (b ∷ bs) s (is ∙ ap Some same), subst (λ given. IsTrue (is_in format given)) same stands)
+    of_test false found stands is e = absurd (none-some s e)
+
+    by : (o : Option Service) → service_named (b ∷ bs) ≡ o → option_and_then (λ found. if is_in format found then Some found else None) o ≡ Some s
+        → (b ∷ bs ≡ Services.name_of s) × IsTrue (is_in format s)
+    by None is e = absurd (none-some s e)
+    by (Some found) is e = of_test (is_in format found) found refl is e
 
 -- the name of a service that stands in the format names it, and no service before it
 of_service_name : (format : Format) (s : Service) → IsTrue (is_in format s) → service_of format (Services.name_of s) ≡ Ok s
-unfolding service_of service_named service_among Services.row_of
+unfolding service_of service_named service_among Services.row_of service_in filled
 of_service_name format service.CreateProcess stands = rw stands refl
 of_service_name format _ stands = rw stands refl
 
@@ -111,13 +120,13 @@ code_among_is (first ∷ others) text c e =
 
 -- a field that is read as a code is its name
 pub code_is : (text : List ℕ) (c : Code) → code_of text ≡ Ok c → text ≡ CodeName.name_of c
-unfolding code_of
+unfolding code_of filled
 code_is [] c e = no_fault FieldNotForKind c e
 code_is (b ∷ bs) c e = code_among_is all_codes (b ∷ bs) c (ok_some (code_named (b ∷ bs)) BadOut c e)
 
 -- the name of a code names it, and no code before it
 of_code_name : (c : Code) → code_of (CodeName.name_of c) ≡ Ok c
-unfolding code_of code_among
+unfolding code_of code_among filled
 of_code_name code.NoError = refl
 of_code_name _ = refl
 
@@ -140,24 +149,24 @@ out_named_is text o e =
 
 -- a field that is read as an outcome holds it
 pub outcome_is : (text : List ℕ) (o : Out) → out_of text ≡ Ok o → HoldsOutcome text o
-unfolding out_of
+unfolding out_of filled
 outcome_is [] o e = no_fault FieldNotForKind o e
 outcome_is (b ∷ bs) o e = out_named_is (b ∷ bs) o (ok_some (out_named (b ∷ bs)) BadOut o e)
 
 -- the name of a code is the outcome with that code
 of_code_outcome : (c : Code) → out_of (CodeName.name_of c) ≡ Ok (out.Answer c)
-unfolding out_of out_named code_among
+unfolding out_of out_named code_among filled
 of_code_outcome code.NoError = refl
 of_code_outcome _ = refl
 
 -- `wait` is the outcome of a caller that waits
 waits_is : out_of (codes "wait") ≡ Ok out.Waits
-unfolding out_of out_named
+unfolding out_of out_named filled
 waits_is = refl
 
 -- `none` is the outcome of a call that does not return
 never_is : out_of (codes "none") ≡ Ok out.Never
-unfolding out_of out_named
+unfolding out_of out_named filled
 never_is = refl
 
 -- a field that holds an outcome is read as it

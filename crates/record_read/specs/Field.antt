@@ -31,25 +31,31 @@ all_empty fields place (suc n) = empty (bytes_at fields place) >>= (λ u. all_em
 abbrev pub empty_between : List (List ℕ) → Column → Column → Result (Unit {0}) RowFault
 empty_between fields first last = all_empty fields (place_of first) (place_of last + 1 - place_of first)
 
+-- a field that must be filled: what is found in its text, or else this fault
+unfoldable pub filled : {A : Type 0} → RowFault → Option A → List ℕ → Result A RowFault
+filled bad found [] = Err FieldNotForKind
+filled bad found (b ∷ bs) = ok_or found bad
+
+-- a field that may be left out: none where it is empty, and else what is read from its text
+unfoldable pub maybe : {A : Type 0} → Result A RowFault → List ℕ → Result (Option A) RowFault
+maybe read [] = Ok None
+maybe read (b ∷ bs) = read >>= (λ value. Ok (Some value))
+
 -- a number from 0 to max, which must be filled
 unfoldable pub number : ℕ → List ℕ → Result ℕ RowFault
-number max [] = Err FieldNotForKind
-number max (b ∷ bs) = ok_or (decimal max (b ∷ bs)) BadNumber
+number max text = filled BadNumber (decimal max text) text
 
 -- a number from 0 to max, which may be left out
 unfoldable pub maybe_number : ℕ → List ℕ → Result (Option ℕ) RowFault
-maybe_number max [] = Ok None
-maybe_number max (b ∷ bs) = number max (b ∷ bs) >>= (λ n. Ok (Some n))
+maybe_number max text = maybe (number max text) text
 
 -- a number of 64 bits with a sign, which must be filled
 unfoldable pub signed : List ℕ → Result ℤ RowFault
-signed [] = Err FieldNotForKind
-signed (b ∷ bs) = ok_or (signed_decimal (b ∷ bs)) BadNumber
+signed text = filled BadNumber (signed_decimal text) text
 
 -- a number of 64 bits with a sign, which may be left out
 unfoldable pub maybe_signed : List ℕ → Result (Option ℤ) RowFault
-maybe_signed [] = Ok None
-maybe_signed (b ∷ bs) = signed (b ∷ bs) >>= (λ n. Ok (Some n))
+maybe_signed text = maybe (signed text) text
 
 -- an argument: filled where the service takes it, and else empty, for which 0 stands
 unfoldable pub argument : Bool → List ℕ → Result ℤ RowFault

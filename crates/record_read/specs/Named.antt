@@ -1,6 +1,5 @@
 -- What is given by its name: kinds of rows, services, codes and outcomes.
-use Rattle.std.specs.Prelude.{ℕ, List, [], ◌∷◌, Option, Some, None, Result, Ok, Err, codes, length, map, option_map, if◌then◌else◌}
-use Rattle.std.specs.Option.{ok_or}
+use Rattle.std.specs.Prelude.{ℕ, List, [], ◌∷◌, Option, Some, None, Result, codes, length, map, option_and_then, option_map, if◌then◌else◌}
 use Rattle.std.specs.Str.{bytes_eq}
 use Rattle.apex_types.specs.declared.code.Code.{Code}
 use Rattle.apex_types.specs.declared.code.Code.TheVariants as code
@@ -14,9 +13,9 @@ use Rattle.apex_types.specs.declared.format.Format.{Format}
 use Rattle.record_read.specs.declared.kind.Kind.{Kind}
 use Rattle.record_read.specs.declared.kind.Kind.TheVariants as kind
 use Rattle.record_read.specs.declared.fault.RowFault.{RowFault}
-use Rattle.record_read.specs.declared.fault.RowFault.TheVariants.{FieldNotForKind, BadKind, BadService, BadOut}
+use Rattle.record_read.specs.declared.fault.RowFault.TheVariants.{BadKind, BadService, BadOut}
 use Rattle.apex_types.specs.Services.{is_in}
-use Rattle.record_read.specs.Steps.{◌>>=◌}
+use Rattle.record_read.specs.Field.{filled}
 
 -- the kinds of rows are `call`, `ret`, `disp` and `tick`
 unfoldable pub kind_named : List ℕ → Option Kind
@@ -55,20 +54,19 @@ name_lengths = map (λ row. length row.name.now) SERVICES
 
 -- a kind, which must be filled
 unfoldable pub kind_of : List ℕ → Result Kind RowFault
-kind_of [] = Err FieldNotForKind
-kind_of (b ∷ bs) = ok_or (kind_named (b ∷ bs)) BadKind
+kind_of text = filled BadKind (kind_named text) text
+
+-- the service of this name, where the format has it
+unfoldable pub service_in : Format → List ℕ → Option Service
+service_in format text = option_and_then (λ service. if is_in format service then Some service else None) (service_named text)
 
 -- a service of the format, which must be filled
 unfoldable pub service_of : Format → List ℕ → Result Service RowFault
-service_of format [] = Err FieldNotForKind
-service_of format (b ∷ bs) = do
-  service ← ok_or (service_named (b ∷ bs)) BadService
-  if is_in format service then Ok service else Err BadService
+service_of format text = filled BadService (service_in format text) text
 
 -- a code, which must be filled
 unfoldable pub code_of : List ℕ → Result Code RowFault
-code_of [] = Err FieldNotForKind
-code_of (b ∷ bs) = ok_or (code_named (b ∷ bs)) BadOut
+code_of text = filled BadOut (code_named text) text
 
 -- `wait`, `none` or the name of a code
 unfoldable pub out_named : List ℕ → Option Out
@@ -79,5 +77,4 @@ out_named text =
 
 -- an outcome, which must be filled
 unfoldable pub out_of : List ℕ → Result Out RowFault
-out_of [] = Err FieldNotForKind
-out_of (b ∷ bs) = ok_or (out_named (b ∷ bs)) BadOut
+out_of text = filled BadOut (out_named text) text

@@ -1,9 +1,9 @@
 // Fields of a row: filled or empty, and numbers.
 
-ghost use Rattle.std.specs.Prelude.{◌≡◌, ◌≤◌, ◌+◌, ◌<◌, ℕ, IfOk, IfErr, IfSome};
+ghost use Rattle.std.specs.Prelude.{◌≡◌, ◌≤◌, ◌+◌, ◌<◌, ℕ, IfOk, IfErr, IfSome, Some};
 ghost use Rattle.csv.specs.Records.{fields_of};
 ghost use Rattle.record_read.specs.Column.{place_of};
-ghost use Rattle.record_read.specs.Field.{all_empty, argument, bytes_at, empty, empty_between, maybe_number, maybe_signed, number, signed, text_at};
+ghost use Rattle.record_read.specs.Field.{all_empty, argument, bytes_at, empty, empty_between, filled, maybe_number, maybe_signed, number, signed, text_at};
 ghost use Rattle.record_read.specs.Steps.{IsOfRow};
 
 use crate::column::Column;
@@ -65,6 +65,20 @@ fn expect_all_empty(fields: &ByteRecord, place: usize, count: usize) -> Result<(
     Ok(())
 }
 
+/// What was found in a field that must be filled, or else this fault.
+#[tactic(auto, unfolding(crate::specs::Field::filled))]
+pub fn required<T: Copy>(text: &[u8], found: Option<T>, bad: RowFault) -> Result<T, RowFault>
+    requires { IsOfRow bad }
+    ensures value { result ≡ filled bad found text.now }
+    ensures found { IfOk result (λ value. found ≡ Some value) }
+    ensures own { IfErr result (λ fault. IsOfRow fault) }
+{
+    match text {
+        [] => Err(RowFault::FieldNotForKind),
+        _ => found.ok_or(bad),
+    }
+}
+
 /// The number from 0 to `max` in a field that must be filled.
 #[tactic(auto, unfolding(crate::specs::Field::number))]
 pub fn required_number(text: &[u8], max: u64) -> Result<u64, RowFault>
@@ -72,17 +86,11 @@ pub fn required_number(text: &[u8], max: u64) -> Result<u64, RowFault>
     ensures bound { IfOk result (λ n. n ≤ max) }
     ensures own { IfErr result (λ fault. IsOfRow fault) }
 {
-    match text {
-        [] => Err(RowFault::FieldNotForKind),
-        _ => match read_decimal(text, max) {
-            Some(number) => Ok(number),
-            None => Err(RowFault::BadNumber),
-        },
-    }
+    required(text, read_decimal(text, max), RowFault::BadNumber)
 }
 
 /// The number from 0 to `max` in a field, if it is filled.
-#[tactic(auto, unfolding(crate::specs::Field::maybe_number))]
+#[tactic(auto, unfolding(crate::specs::Field::maybe_number, crate::specs::Field::maybe))]
 pub fn optional_number(text: &[u8], max: u64) -> Result<Option<u64>, RowFault>
     ensures value { result ≡ maybe_number max text.now }
     ensures bound { IfOk result (λ o. IfSome o (λ n. n ≤ max)) }
@@ -100,17 +108,11 @@ pub fn required_signed(text: &[u8]) -> Result<i64, RowFault>
     ensures value { result ≡ signed text.now }
     ensures own { IfErr result (λ fault. IsOfRow fault) }
 {
-    match text {
-        [] => Err(RowFault::FieldNotForKind),
-        _ => match read_signed(text) {
-            Some(number) => Ok(number),
-            None => Err(RowFault::BadNumber),
-        },
-    }
+    required(text, read_signed(text), RowFault::BadNumber)
 }
 
 /// The signed number in a field, if it is filled.
-#[tactic(auto, unfolding(crate::specs::Field::maybe_signed))]
+#[tactic(auto, unfolding(crate::specs::Field::maybe_signed, crate::specs::Field::maybe))]
 pub fn optional_signed(text: &[u8]) -> Result<Option<i64>, RowFault>
     ensures value { result ≡ maybe_signed text.now }
     ensures own { IfErr result (λ fault. IsOfRow fault) }

@@ -5,6 +5,7 @@ ghost use Rattle.record_read.specs.Named.{kind_named, kind_of};
 ghost use Rattle.record_read.specs.Steps.{IsOfRow};
 
 use crate::fault::RowFault;
+use crate::field::required;
 
 /// What a row records.
 #[derive(Clone, Copy, Debug, PartialEq, Eq)]
@@ -25,13 +26,7 @@ pub fn read_kind(text: &[u8]) -> Result<Kind, RowFault>
     ensures value { result ≡ kind_of text.now }
     ensures own { IfErr result (λ fault. IsOfRow fault) }
 {
-    match text {
-        [] => Err(RowFault::FieldNotForKind),
-        _ => match find_kind(text) {
-            Some(kind) => Ok(kind),
-            None => Err(RowFault::BadKind),
-        },
-    }
+    required(text, find_kind(text), RowFault::BadKind)
 }
 
 /// The kind that rows give by this name, if there is one. Takes no memory.

@@ -3,10 +3,11 @@
 ghost use Rattle.std.specs.Prelude.{◌≡◌, ◌≤◌, ◌==◌, IfErr, IsTrue, drop, length, not, take};
 ghost use Rattle.std.specs.List.{list_all};
 ghost use Rattle.std.specs.Str.{bytes_eq};
-ghost use Rattle.record_read.specs.Named.{code_among, code_named, code_of, name_lengths, out_named, out_of, service_among, service_named, service_of};
+ghost use Rattle.record_read.specs.Named.{code_among, code_named, code_of, name_lengths, out_named, out_of, service_among, service_in, service_named, service_of};
 ghost use Rattle.record_read.specs.Steps.{IsOfRow};
 
 use crate::fault::RowFault;
+use crate::field::required;
 use apex_types::{Code, Format, Out, SERVICES, Service, ServiceRow};
 
 // All codes, the most frequent one first.
@@ -26,12 +27,19 @@ pub fn read_service(format: Format, text: &[u8]) -> Result<Service, RowFault>
     ensures value { result ≡ service_of format text.now }
     ensures own { IfErr result (λ fault. IsOfRow fault) }
 {
-    match text {
-        [] => Err(RowFault::FieldNotForKind),
-        _ => match find_service(text) {
-            Some(service) if format.names(service) => Ok(service),
-            _ => Err(RowFault::BadService),
-        },
+    required(text, find_service_in(format, text), RowFault::BadService)
+}
+
+// The service of this name, where the format has it.
+#[tactic(auto, unfolding(crate::specs::Named::service_in))]
+fn find_service_in(format: Format, text: &[u8]) -> Option<Service>
+    ensures { result ≡ service_in format text.now }
+{
+    let service = find_service(text)?;
+    if format.names(service) {
+        Some(service)
+    } else {
+        None
     }
 }
 
@@ -41,13 +49,7 @@ pub fn read_code(text: &[u8]) -> Result<Code, RowFault>
     ensures value { result ≡ code_of text.now }
     ensures own { IfErr result (λ fault. IsOfRow fault) }
 {
-    match text {
-        [] => Err(RowFault::FieldNotForKind),
-        _ => match find_code(text) {
-            Some(code) => Ok(code),
-            None => Err(RowFault::BadOut),
-        },
-    }
+    required(text, find_code(text), RowFault::BadOut)
 }
 
 /// The outcome in a field that must be filled.
@@ -56,13 +58,7 @@ pub fn read_out(text: &[u8]) -> Result<Out, RowFault>
     ensures value { result ≡ out_of text.now }
     ensures own { IfErr result (λ fault. IsOfRow fault) }
 {
-    match text {
-        [] => Err(RowFault::FieldNotForKind),
-        _ => match find_out(text) {
-            Some(out) => Ok(out),
-            None => Err(RowFault::BadOut),
-        },
-    }
+    required(text, find_out(text), RowFault::BadOut)
 }
 
 /// The outcome that rows give by this name, if there is one. Takes no memory.

@@ -15,9 +15,10 @@ use crate::field::{read_argument, text};
 use crate::named::read_service;
 use crate::payload::{copy_message, copy_name, judge_message, judge_name};
 use apex_types::{
-    BlackboardOperation, BufferOperation, CallerOperation, EventOperation, Format, Message,
-    MutexOperation, Name, NewObject, ObjectKind, ProcessOperation, QueuingOperation, Request,
-    SamplingOperation, SemaphoreOperation, Service,
+    BlackboardOperation as Blackboard, BufferOperation as Buffer, CallerOperation as Caller,
+    EventOperation as Event, Format, Message, MutexOperation as Mutex, Name, NewObject, ObjectKind,
+    ProcessOperation as Process, QueuingOperation as Queuing, Request,
+    SamplingOperation as Sampling, SemaphoreOperation as Semaphore, Service,
 };
 use csv::ByteRecord;
 use std::alloc::{AllocError, Global};
@@ -91,69 +92,63 @@ fn fill_request(
         },
         Service::InitializeProcessCoreAffinity => Request::Process(
             n1,
-            ProcessOperation::InitializeCoreAffinity { core: n2 },
+            Process::InitializeCoreAffinity { core: n2 },
         ),
-        Service::Start => Request::Process(n1, ProcessOperation::Start),
-        Service::Stop => Request::Process(n1, ProcessOperation::Stop),
-        Service::StopSelf => Request::Caller(CallerOperation::StopSelf),
-        Service::Suspend => Request::Process(n1, ProcessOperation::Suspend),
-        Service::SuspendSelf => Request::Caller(CallerOperation::SuspendSelf { time_out: n1 }),
-        Service::Resume => Request::Process(n1, ProcessOperation::Resume),
-        Service::SetPriority => Request::Process(
-            n1,
-            ProcessOperation::SetPriority { priority: n2 },
-        ),
-        Service::GetMyId => Request::Caller(CallerOperation::GetMyId),
-        Service::TimedWait => Request::Caller(CallerOperation::TimedWait { delay: n1 }),
-        Service::PeriodicWait => Request::Caller(CallerOperation::PeriodicWait),
-        Service::GetTime => Request::Caller(CallerOperation::GetTime),
+        Service::Start => Request::Process(n1, Process::Start),
+        Service::Stop => Request::Process(n1, Process::Stop),
+        Service::StopSelf => Request::Caller(Caller::StopSelf),
+        Service::Suspend => Request::Process(n1, Process::Suspend),
+        Service::SuspendSelf => Request::Caller(Caller::SuspendSelf { time_out: n1 }),
+        Service::Resume => Request::Process(n1, Process::Resume),
+        Service::SetPriority => Request::Process(n1, Process::SetPriority { priority: n2 }),
+        Service::GetMyId => Request::Caller(Caller::GetMyId),
+        Service::TimedWait => Request::Caller(Caller::TimedWait { delay: n1 }),
+        Service::PeriodicWait => Request::Caller(Caller::PeriodicWait),
+        Service::GetTime => Request::Caller(Caller::GetTime),
         Service::SetPartitionMode => Request::SetPartitionMode(n1),
         Service::CreateBuffer => create(ObjectKind::Buffer, name, n1, n2, n3),
         Service::SendBuffer => Request::Buffer(
             n1,
-            BufferOperation::Send {
+            Buffer::Send {
                 length: n2,
                 time_out: n3,
                 message,
             },
         ),
-        Service::ReceiveBuffer => Request::Buffer(n1, BufferOperation::Receive { time_out: n2 }),
+        Service::ReceiveBuffer => Request::Buffer(n1, Buffer::Receive { time_out: n2 }),
         Service::CreateBlackboard => create(ObjectKind::Blackboard, name, n1, n2, n3),
         Service::DisplayBlackboard => Request::Blackboard(
             n1,
-            BlackboardOperation::Display {
+            Blackboard::Display {
                 length: n2,
                 message,
             },
         ),
-        Service::ReadBlackboard => Request::Blackboard(
-            n1,
-            BlackboardOperation::Read { time_out: n2 },
-        ),
-        Service::ClearBlackboard => Request::Blackboard(n1, BlackboardOperation::Clear),
+        Service::ReadBlackboard => Request::Blackboard(n1, Blackboard::Read { time_out: n2 }),
+        Service::ClearBlackboard => Request::Blackboard(n1, Blackboard::Clear),
         Service::CreateSemaphore => create(ObjectKind::Semaphore, name, n1, n2, n3),
-        Service::WaitSemaphore => Request::Semaphore(n1, SemaphoreOperation::Wait { time_out: n2 }),
-        Service::SignalSemaphore => Request::Semaphore(n1, SemaphoreOperation::Signal),
+        Service::WaitSemaphore => Request::Semaphore(n1, Semaphore::Wait { time_out: n2 }),
+        Service::SignalSemaphore => Request::Semaphore(n1, Semaphore::Signal),
         Service::CreateEvent => create(ObjectKind::Event, name, n1, n2, n3),
-        Service::SetEvent => Request::Event(n1, EventOperation::Set),
-        Service::ResetEvent => Request::Event(n1, EventOperation::Reset),
-        Service::WaitEvent => Request::Event(n1, EventOperation::Wait { time_out: n2 }),
+        Service::SetEvent => Request::Event(n1, Event::Set),
+        Service::ResetEvent => Request::Event(n1, Event::Reset),
+        Service::WaitEvent => Request::Event(n1, Event::Wait { time_out: n2 }),
         Service::CreateMutex => create(ObjectKind::Mutex, name, n1, n2, n3),
-        Service::AcquireMutex => Request::Mutex(n1, MutexOperation::Acquire { time_out: n2 }),
-        Service::ReleaseMutex => Request::Mutex(n1, MutexOperation::Release),
+        Service::AcquireMutex => Request::Mutex(n1, Mutex::Acquire { time_out: n2 }),
+        Service::ReleaseMutex => Request::Mutex(n1, Mutex::Release),
         Service::CreateSamplingPort => create(ObjectKind::SamplingPort, name, n1, n2, n3),
         Service::WriteSamplingMessage => Request::SamplingPort(
             n1,
-            SamplingOperation::Write {
+            Sampling::Write {
                 length: n2,
                 message,
             },
         ),
-        Service::ReadSamplingMessage => Request::SamplingPort(n1, SamplingOperation::Read),
+        Service::ReadSamplingMessage => Request::SamplingPort(n1, Sampling::Read),
         Service::CreateQueuingPort => create(ObjectKind::QueuingPort, name, n1, n2, n3),
         Service::SendQueuingMessage => Request::QueuingPort(
             n1,
-            QueuingOperation::Send {
+            Queuing::Send {
                 length: n2,
                 time_out: n3,
                 message,
@@ -161,7 +156,7 @@ fn fill_request(
         ),
         Service::ReceiveQueuingMessage => Request::QueuingPort(
             n1,
-            QueuingOperation::Receive { time_out: n2 },
+            Queuing::Receive { time_out: n2 },
         ),
         Service::GetBufferId => Request::GetId(ObjectKind::Buffer, name),
         Service::GetBufferStatus => Request::GetStatus(ObjectKind::Buffer, n1),

@@ -2,10 +2,11 @@
 use Rattle.std.proofs.Common.{◌≡◌, ◌≢◌, ◌<◌, ◌≤◌, ◌∙◌, if◌then◌else◌, ℕ, List, [], ◌∷◌, ◌++◌, Bool, true, false, Option, Some, None, get_or, length, set, take, nat_lt, refl, sym, ap, subst, inl, inr, arith}
 use Rattle.std.specs.List.{All}
 use Rattle.std.specs.Prelude.{Contains}
+use Rattle.std.proofs.lemmas.Bool.{cases_eq}
 use Rattle.std.proofs.lemmas.Bool.Decides.{nat_tests}
 use Rattle.std.proofs.lemmas.List.{get_or-set_other, get_or-set_same, get_or-take, length-set, length-take-le}
 use Rattle.std.proofs.lemmas.List.Elements.{Contains-append_cases, Contains-append_left, Contains-append_right}
-use Rattle.std.proofs.lemmas.Option.{slice_get-get_or}
+use Rattle.std.proofs.lemmas.Option.{same_Some, slice_get-get_or}
 use Rattle.apex_types.specs.declared.record.Ordered.{Ordered}
 use Rattle.apex_types.specs.declared.view.View.{View}
 use Rattle.apex_machine.specs.Configuration.{Configuration}
@@ -23,7 +24,6 @@ use Rattle.verdict_merge.specs.Views.{AreSeen, IsFirstBreach, AreViews, IsViewOf
 use Rattle.verdict_merge.proofs.Among.{contains_cases, contains_here, contains_none}
 use Rattle.verdict_merge.proofs.Giving.{HaveRun}
 use Rattle.verdict_merge.proofs.Slotted.{HaveSlots, put_in, put_in_from, slot_at, views_in}
-use Rattle.verdict_merge.proofs.Splits.{same_or}
 use Rattle.verdict_merge.proofs.Viewing.{AreSound, Gives, seen_have_slots, view_there}
 use Rattle.verdict_merge.proofs.Watching.{held_at, length_held, views_are_wanted, wanted_within}
 
@@ -199,18 +199,18 @@ module _ (configuration : Configuration) (parts : ℕ → Part) (relations : Lis
       let same : slot_at there at ≡ Some breach.seen.view = get_or-set_same slots at (Some breach.seen.view) None within in
       let other : (index : ℕ) → index ≢ at → slot_at there index ≡ slot_at slots index = λ index apart. get_or-set_other slots at index (Some breach.seen.view) None apart in
       let sound_there : AreSound configuration parts records there =
-      λ view before ordered after split held. elim (same_or (length before) at) [
+      λ view before ordered after split held. elim (cases_eq (length before) at) [
         | inl here ↦
-            subst (IsViewOf configuration parts before ordered) (some_is breach.seen.view view (sym same ∙ ap (slot_at there) (sym here) ∙ held)) (is.sound before ordered after split (sym here))
+            subst (IsViewOf configuration parts before ordered) (same_Some breach.seen.view view (sym same ∙ ap (slot_at there) (sym here) ∙ held)) (is.sound before ordered after split (sym here))
         | inr apart ↦ sound view before ordered after split (sym (other (length before) apart) ∙ held)
       ] in
       let filled_there : (index : ℕ) → index < wanted → (view : View) × (slot_at there index ≡ Some view) =
-      λ index below. elim (same_or index at) [
+      λ index below. elim (cases_eq index at) [
         | inl here ↦ (breach.seen.view, ap (slot_at there) here ∙ same)
         | inr apart ↦ let view = filled index below in (view.0, other index apart ∙ view.1)
       ] in
       let are = views_of there (length-set slots at (Some breach.seen.view) ∙ whole) sound_there filled_there in
-      let view : get_or are.0 at breach.seen.view ≡ breach.seen.view = some_is (get_or are.0 at breach.seen.view) breach.seen.view (sym (are.3 at breach.seen.view less) ∙ same) in
+      let view : get_or are.0 at breach.seen.view ≡ breach.seen.view = same_Some (get_or are.0 at breach.seen.view) breach.seen.view (sym (are.3 at breach.seen.view less) ∙ same) in
       let before : All (MeetsAll relations) (take at are.0) =
       all_first (MeetsAll relations) are.0 at (omega (arith, less, are.2))
       (λ index one smaller. is.before index (get_or are.0 index one) smaller
@@ -223,9 +223,6 @@ module _ (configuration : Configuration) (parts : ℕ → Part) (relations : Lis
         reported = slice_get-get_or are.0 at breach.seen.view (omega (arith, less, are.2)) ∙ ap (λ one. Some one) view;
       }
     where
-      some_is : (one other : View) → ◌≡◌ {A = Option View} (Some one) (Some other) → one ≡ other
-      some_is one other e = cc
-
       apart_by : (index : ℕ) → index < breach.seen.index → index ≢ breach.seen.index
       apart_by index smaller same = omega (arith, smaller, same)
 

@@ -112,21 +112,21 @@ pub record Stands (configuration : Configuration) (number first : ℕ) (records 
   pub core : ordered.core < configuration.cores
 
 -- the next index of a list is that of a record
-pub next_within : (configuration : Configuration) (number : ℕ) (records : List Ordered) (outcome : List ℕ) (index : ℕ) (left : List ℕ)
-    → touching configuration (piece_at configuration number) 0 records ≡ outcome ++ index ∷ left
+pub next_within : (configuration : Configuration) (number : ℕ) (records : List Ordered) (outcome : List ℕ) {left next : List ℕ} {index : ℕ}
+    → touching configuration (piece_at configuration number) 0 records ≡ outcome ++ left → left ≡ index ∷ next
     → (length outcome < length (touching configuration (piece_at configuration number) 0 records)) × (index ≡ reached configuration (piece_at configuration number) records (length outcome))
-next_within configuration number records outcome index left split =
-    let list = outcome ++ index ∷ left in
-    let one : length outcome < length list = omega (arith, length-append outcome (index ∷ left)) in
-    let at = reached_at configuration (piece_at configuration number) records list (length outcome) (sym split) one in
-    (at.0, sym (get_or-append_seam outcome index left 0) ∙ at.1)
+next_within configuration number records outcome {left} {next} {index} listed steps =
+    let split = listed ∙ ap (λ list. outcome ++ list) steps in
+    let one : length outcome < length (outcome ++ index ∷ next) = omega (arith, length-append outcome (index ∷ next)) in
+    let at = reached_at configuration (piece_at configuration number) records (outcome ++ index ∷ next) (length outcome) (sym split) one in
+    (at.0, sym (get_or-append_seam outcome index next 0) ∙ at.1)
 
-pub stands : (configuration : Configuration) (number first : ℕ) (records : List Ordered) (outcome : List ℕ) (index : ℕ) (left : List ℕ) (ordered : Ordered)
-    → touching configuration (piece_at configuration number) 0 records ≡ outcome ++ index ∷ left → ordered ≡ get_or records index ordered
+pub stands : (configuration : Configuration) (number first : ℕ) (records : List Ordered) (outcome : List ℕ) {left next : List ℕ} {index : ℕ} {ordered : Ordered}
+    → touching configuration (piece_at configuration number) 0 records ≡ outcome ++ left → left ≡ index ∷ next → ordered ≡ get_or records index ordered
     → ArePlaced first records → AreOfCores configuration.cores records → Stands configuration number first records (length outcome) index ordered
-stands configuration number first records outcome index left ordered split is placed cores =
+stands configuration number first records outcome {left} {next} {index} {ordered} listed steps is placed cores =
     let piece = piece_at configuration number in
-    let at = next_within configuration number records outcome index left split in
+    let at = next_within configuration number records outcome listed steps in
     let place = reached configuration piece records (length outcome) in
     let here : ordered ≡ get_or records place ordered = is ∙ ap (λ n. get_or records n ordered) at.1 in
     let found = reached_is_touched configuration piece records (length outcome) ordered at.0 in

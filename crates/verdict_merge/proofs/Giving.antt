@@ -1,7 +1,6 @@
 -- What a piece gives over its run: it is the same piece all the time, and the views of the records that it judges are its.
-use Rattle.std.proofs.Common.{◌≡◌, ◌<◌, ◌≤◌, ◌-◌, ◌∙◌, ℕ, zero, suc, List, [], ◌∷◌, ◌++◌, Bool, true, false, Option, Some, None, length, refl, sym, ap, subst, arith, append_assoc}
+use Rattle.std.proofs.Common.{◌≡◌, ◌<◌, ◌≤◌, ◌∙◌, ℕ, zero, suc, List, [], ◌∷◌, ◌++◌, Bool, true, false, Option, Some, None, length, refl, sym, ap, subst, arith}
 use Rattle.std.specs.Prelude.{IsTrue}
-use Rattle.std.proofs.lemmas.List.{length-append}
 use Rattle.apex_types.specs.declared.record.Body.{Body}
 use Rattle.apex_types.specs.declared.record.Body.TheVariants.{Call, Ret, Disp, Tick}
 use Rattle.apex_types.specs.declared.record.Ordered.{Ordered}
@@ -19,11 +18,11 @@ use Rattle.verdict_merge.specs.declared.finding.Refused.{Refused}
 use Rattle.verdict_merge.specs.Rounds.{IsNo, Runs}
 use Rattle.verdict_merge.specs.Views.{up_to}
 use Rattle.verdict_merge.proofs.Rounds.{runs_front}
-use Rattle.verdict_merge.proofs.Silence.{is_one, numbered}
+use Rattle.verdict_merge.proofs.Silence.{numbered}
 use Rattle.verdict_merge.proofs.Slotted.{slot_at}
 use Rattle.verdict_merge.proofs.Splits.{begins_with}
-use Rattle.verdict_merge.proofs.Verdicts.{no_at, runs_up_to}
-use Rattle.verdict_merge.proofs.Viewing.{Gives, HasFilled, before_of}
+use Rattle.verdict_merge.proofs.Verdicts.{runs_up_to}
+use Rattle.verdict_merge.proofs.Viewing.{Gives, HasFilled, before_of, up_to_front}
 
 part_of_next : (touched : Bool) (configuration : Configuration) (piece : Piece) (old next : Part) (ordered : Ordered) → IsPartOf piece old
     → Goes touched configuration old ordered next → IsPartOf piece next
@@ -69,7 +68,7 @@ judged_by configuration parts before ordered whose (final, run) =
     let cores = module_part parted.0 (part_of_run configuration Module (parts 0) parted.0 before whose parted.1) in
     let goes : Goes true configuration parted.0 ordered parted.2.0 = parted.2.1 in
     let hold = subst (λ part. Goes true configuration part ordered parted.2.0) cores.1 goes in
-    numbered (judge ordered) (pieces configuration) (is_one configuration (judge ordered) (names_judge configuration cores.0 ordered.core ordered.rec.body hold.0))
+    numbered configuration (judge ordered) (names_judge configuration cores.0 ordered.core ordered.rec.body hold.0)
 
 -- the record of an index
 split_at : (records : List Ordered) (index : ℕ) → index < length records
@@ -85,28 +84,20 @@ abbrev pub HaveRun : Configuration → (ℕ → Part) → List Ordered → Optio
 HaveRun configuration parts records None = (number : ℕ) → number < length (pieces configuration) → Runs configuration parts number records
 HaveRun configuration parts records (Some found) = IsNo configuration parts records found
 
--- how many records stand before the one that is refused
-pub length-up_to : (configuration : Configuration) (parts : ℕ → Part) (first : ℕ) (records : List Ordered) (found : Refused) → ArePlaced first records
-    → IsNo configuration parts records found → (length (up_to (Some found) records) ≡ found.pos - first) × (found.pos - first ≤ length records)
-length-up_to configuration parts first records found placed stands =
-    let at = no_at configuration parts first records found placed stands in
-    let same : up_to (Some found) records ≡ stands.before =
-    ap (up_to (Some found)) stands.split ∙ before_of first stands.before stands.ordered stands.after found.pos (subst (ArePlaced first) stands.split placed) stands.place in
-    (ap length same ∙ omega (arith, at), omega (arith, at, ap length stands.split, length-append stands.before (stands.ordered ∷ stands.after)))
+-- the records before the one that is refused are those before the No
+pub up_to_no : (configuration : Configuration) (parts : ℕ → Part) (first : ℕ) (records : List Ordered) (found : Refused) → ArePlaced first records
+    → (stands : IsNo configuration parts records found) → up_to (Some found) records ≡ stands.before
+up_to_no configuration parts first records found placed stands =
+    ap (up_to (Some found)) stands.split ∙ before_of first stands.before stands.ordered stands.after found.pos (subst (ArePlaced first) stands.split placed) stands.place
 
--- all pieces run through each record before the one that is refused
-runs_through : (configuration : Configuration) (parts : ℕ → Part) (first : ℕ) (records : List Ordered) (found : Option Refused) → ArePlaced first records → HaveRun configuration parts records found
-    → (before : List Ordered) (ordered : Ordered) (after : List Ordered) → records ≡ before ++ ordered ∷ after → length before < length (up_to found records)
-    → (number : ℕ) → number < length (pieces configuration) → Runs configuration parts number (before ++ ordered ∷ [])
-runs_through configuration parts first records None placed outcome before ordered after split less number within =
-    runs_front configuration parts number (before ++ ordered ∷ []) after
-    (subst (Runs configuration parts number) (split ∙ sym (append_assoc before (ordered ∷ []) after)) (outcome number within))
-runs_through configuration parts first records (Some found) placed stands before ordered after split less number within =
-    let at = no_at configuration parts first records found placed stands in
-    let shorter : length before < length stands.before = omega (arith, less, at, (length-up_to configuration parts first records found placed stands).0) in
-    let middle = begins_with before ordered after stands.before (stands.ordered ∷ stands.after) (sym split ∙ stands.split) shorter in
-    runs_front configuration parts number (before ++ ordered ∷ []) middle.0
-    (subst (Runs configuration parts number) middle.1 (runs_up_to configuration parts records found stands number within))
+-- all pieces run over the front of what is before a refusal
+pub run_up_to : (configuration : Configuration) (parts : ℕ → Part) (first : ℕ) (records : List Ordered) (found : Option Refused) → ArePlaced first records → HaveRun configuration parts records found
+    → (number : ℕ) → number < length (pieces configuration) → (front back : List Ordered) → up_to found records ≡ front ++ back → Runs configuration parts number front
+run_up_to configuration parts first records None placed outcome number within front back split =
+    runs_front configuration parts number front back (subst (Runs configuration parts number) split (outcome number within))
+run_up_to configuration parts first records (Some found) placed stands number within front back split =
+    runs_front configuration parts number front back
+    (subst (Runs configuration parts number) (sym (up_to_no configuration parts first records found placed stands) ∙ split) (runs_up_to configuration parts records found stands number within))
 
 -- each record before the one that is refused has its view in its slot
 pub all_filled : (configuration : Configuration) (parts : ℕ → Part) (first : ℕ) (records : List Ordered) (found : Option Refused) (slots : List (Option View)) → ArePlaced first records
@@ -117,7 +108,10 @@ pub all_filled : (configuration : Configuration) (parts : ℕ → Part) (first :
 all_filled configuration parts first records found slots placed whose some outcome filled most index within =
     let split = split_at records index (omega (arith, within, most)) in
     let less : length split.0 < length (up_to found records) = omega (arith, within, split.4) in
-    let runs = runs_through configuration parts first records found placed outcome split.0 split.1 split.2 split.3 less in
+    let front = up_to_front records found in
+    let middle = begins_with split.0 split.1 split.2 (up_to found records) front.0 (sym split.3 ∙ front.1) less in
+    let runs : (number : ℕ) → number < length (pieces configuration) → Runs configuration parts number (split.0 ++ split.1 ∷ []) = λ number inside.
+    run_up_to configuration parts first records found placed outcome number inside (split.0 ++ split.1 ∷ []) middle.0 middle.1 in
     let by = judged_by configuration parts split.0 split.1 whose (runs 0 some) in
     let there = filled by.0 by.1 split.0 split.1 split.2 split.3 by.2 (runs by.0 by.1) in
     (there.0, ap (slot_at slots) (sym split.4) ∙ there.1)

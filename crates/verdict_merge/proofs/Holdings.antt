@@ -1,6 +1,5 @@
--- Pieces by their numbers, after a change of one of them.
-use Rattle.std.proofs.Common.{◌≡◌, ◌≢◌, ◌<◌, ℕ, zero, suc, List, [], ◌∷◌, ◌++◌, length, get_or, set, refl, sym, ap, subst, ◌∙◌, arith, Result, Ok, Err}
-use Rattle.std.specs.Prelude.{OnErr}
+-- Pieces by their numbers.
+use Rattle.std.proofs.Common.{◌≡◌, ◌<◌, ℕ, zero, suc, List, [], ◌∷◌, ◌++◌, length, get_or, refl, sym, ap, arith}
 use Rattle.piece_check.specs.Parts.{Holding}
 use Rattle.verdict_merge.specs.declared.judged.Judged.{Judged}
 use Rattle.verdict_merge.specs.Rounds.{holding_at, pieces_in}
@@ -9,18 +8,6 @@ pub holding_at-get : (holdings : List Holding) (number : ℕ) (default : Holding
 holding_at-get [] number default within = absurd (omega arith)
 holding_at-get (holding ∷ others) zero default within = refl
 holding_at-get (holding ∷ others) (suc number) default within = holding_at-get others number default (omega arith)
-
-pub holding_at-set : (holdings : List Holding) (number : ℕ) (new : Holding) → number < length holdings → holding_at (set holdings number new) number ≡ new
-holding_at-set [] number new within = absurd (omega arith)
-holding_at-set (holding ∷ others) zero new within = refl
-holding_at-set (holding ∷ others) (suc number) new within = holding_at-set others number new (omega arith)
-
-pub holding_at-other : (holdings : List Holding) (number : ℕ) (new : Holding) (other : ℕ) → other ≢ number → holding_at (set holdings number new) other ≡ holding_at holdings other
-holding_at-other [] number new other apart = refl
-holding_at-other (holding ∷ others) zero new zero apart = absurd (apart refl)
-holding_at-other (holding ∷ others) zero new (suc other) apart = refl
-holding_at-other (holding ∷ others) (suc number) new zero apart = refl
-holding_at-other (holding ∷ others) (suc number) new (suc other) apart = holding_at-other others number new other (λ e. apart (ap suc e))
 
 -- after the end of a list that grows by one
 pub holding_at-last : (holdings : List Holding) (new : Holding) → holding_at (holdings ++ new ∷ []) (length holdings) ≡ new
@@ -31,18 +18,6 @@ pub holding_at-front : (holdings : List Holding) (new : Holding) (number : ℕ) 
 holding_at-front [] new number within = absurd (omega arith)
 holding_at-front (holding ∷ others) new zero within = refl
 holding_at-front (holding ∷ others) new (suc number) within = holding_at-front others new number (omega arith)
-
--- a fact about a piece before and after it is changed
-pub holding_moves : (Fact : Holding → Holding → Type 0) (holdings : List Holding) (number : ℕ) (old new : Holding) → number < length holdings → old ≡ get_or holdings number old
-    → Fact old new → Fact (holding_at holdings number) (holding_at (set holdings number new) number)
-holding_moves Fact holdings number old new within is fact =
-    subst (λ holding. Fact holding (holding_at (set holdings number new) number)) (is ∙ sym (holding_at-get holdings number old within))
-    (subst (λ holding. Fact old holding) (sym (holding_at-set holdings number new within)) fact)
-
--- what follows where an error is answered
-pub on_err : {Value Fault : Type 0} (result : Result Value Fault) (Given Wanted : Type 0) → (Given → Wanted) → OnErr result Given → OnErr result Wanted
-on_err (Ok value) Given Wanted tells given = tt
-on_err (Err fault) Given Wanted tells given = tells given
 
 -- a piece as it was left, by its number
 pub holding_left : (judged : List Judged) (number : ℕ) (one : Judged) → number < length judged → one ≡ get_or judged number one

@@ -1,6 +1,7 @@
 -- The least finding of a list that grows by one.
-use Rattle.std.proofs.Common.{◌∙◌, List, [], ◌∷◌, ◌++◌, Option, Some, None, arith, inl, inr, sym, subst}
+use Rattle.std.proofs.Common.{◌<◌, ◌≤◌, ◌∙◌, List, [], ◌∷◌, ◌++◌, Option, Some, None, arith, inl, inr, sym, subst}
 use Rattle.std.specs.Prelude.{Contains}
+use Rattle.std.proofs.lemmas.Bool.{cases_lt}
 use Rattle.std.proofs.lemmas.List.Elements.{Contains-append_left, Contains-push, Contains-push_cases}
 use Rattle.verdict_merge.specs.declared.finding.Finding.{Finding}
 use Rattle.verdict_merge.specs.declared.finding.Finding.TheVariants as finding
@@ -10,6 +11,14 @@ use Rattle.verdict_merge.specs.Findings.{ComesBefore, Precedes, IsLeast, IsLesse
 pub not_itself : (finding : Refused) → ¬ Precedes finding finding
 not_itself finding (inl sooner) = absurd (omega arith)
 not_itself finding (inr (same, less)) = absurd (omega arith)
+
+-- what does not precede another is at no smaller place
+pub no_smaller : (one other : Refused) → ¬ Precedes one other → other.pos ≤ one.pos
+no_smaller one other not = elim (cases_lt one.pos other.pos) [ inl sooner ↦ absurd (not (inl sooner)) | inr most ↦ most ]
+
+-- and at a greater one if its piece has the smaller number
+pub greater : (one other : Refused) → ¬ Precedes one other → one.piece < other.piece → other.pos < one.pos
+greater one other not less = elim (cases_lt other.pos one.pos) [ inl later ↦ later | inr most ↦ absurd (not (inr (omega (arith, most, no_smaller one other not), less))) ]
 
 pub through : (a b c : Refused) → Precedes a b → Precedes b c → Precedes a c
 through a b c (inl x) (inl y) = inl (omega arith)

@@ -1,6 +1,7 @@
 -- What a No and a broken rule mean: up to there all pieces run, so the machine does.
 use Rattle.std.proofs.Common.{◌≡◌, ◌<◌, ◌≤◌, ◌-◌, ◌∙◌, ℕ, zero, suc, List, [], ◌∷◌, ◌++◌, true, false, Some, IsTrue, get_or, length, map, nat_eq, eq-eqb, refl, sym, ap, subst, inl, inr, arith}
 use Rattle.std.specs.Prelude.{if◌then◌else◌, is_some}
+use Rattle.std.proofs.lemmas.Bool.{cases_lt}
 use Rattle.apex_types.specs.declared.record.Ordered.{Ordered}
 use Rattle.apex_machine.specs.Channels.{EndsAreApart, channel_numbers}
 use Rattle.apex_machine.specs.Configuration.{Configuration, PartitionLimits, WindowsAreConfigured, limits_among}
@@ -26,7 +27,7 @@ use Rattle.verdict_merge.specs.Verdicts.{IsBroken, IsVerdict, ViewsMeet}
 use Rattle.verdict_merge.proofs.Ruled.{run_meets, run_where_yes}
 use Rattle.verdict_merge.proofs.Silence.{machine_runs}
 use Rattle.verdict_merge.proofs.Splits.{placed_front}
-use Rattle.verdict_merge.proofs.Verdicts.{no_at, order_of, runs_and_refuses, runs_up_to}
+use Rattle.verdict_merge.proofs.Verdicts.{no_at, runs_and_refuses, runs_up_to}
 use Rattle.verdict_merge.proofs.ViewedRun.{views_are_of_the_run}
 
 -- each piece that has a number is configured
@@ -51,12 +52,11 @@ channel_at configuration index within past =
 
 configured_at : (configuration : Configuration) (number : ℕ) → number < length (pieces configuration) → IsTrue (is_configured configuration (piece_at configuration number))
 configured_at configuration zero within = refl
-configured_at configuration (suc index) within = elim (order_of index (length configuration.partitions)) [
+configured_at configuration (suc index) within = elim (cases_lt index (length configuration.partitions)) [
   | inl below ↦
       rw (piece_at_partition configuration (suc index) (omega arith) (omega (arith, below)))
       (partition_there configuration.partitions (suc index - 1) (omega (arith, below)))
-  | inr (inl same) ↦ channel_at configuration index within (omega (arith, same))
-  | inr (inr more) ↦ channel_at configuration index within (omega (arith, more))
+  | inr past ↦ channel_at configuration index within past
 ]
 
 -- a No

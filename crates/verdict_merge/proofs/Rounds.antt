@@ -1,16 +1,17 @@
 -- One round after another, and a No whatever comes after it.
-use Rattle.std.proofs.Common.{◌≡◌, ◌⊎◌, ◌<◌, ◌≤◌, ◌+◌, ◌∙◌, ℕ, List, [], ◌∷◌, ◌++◌, Option, Some, None, length, refl, sym, ap, subst, arith, append_assoc, inl, inr}
+use Rattle.std.proofs.Common.{below_more, ◌≡◌, ◌⊎◌, ◌<◌, ◌≤◌, ◌+◌, ◌∙◌, ℕ, List, [], ◌∷◌, ◌++◌, Option, Some, None, length, refl, sym, ap, subst, arith, append_assoc, inl, inr}
+use Rattle.std.proofs.lemmas.List.{length-append}
 use Rattle.apex_types.specs.declared.record.Ordered.{Ordered}
 use Rattle.apex_machine.specs.Configuration.{Configuration}
 use Rattle.apex_machine.specs.Pieces.{Part, pieces}
-use Rattle.apex_machine.specs.Runs.{ArePlaced, PieceRun, Refuses}
+use Rattle.apex_machine.specs.Runs.{ArePlaced, PieceRun}
 use Rattle.apex_laws.proofs.Joins.{runs_join}
 use Rattle.piece_check.specs.Parts.{piece_at}
 use Rattle.verdict_merge.specs.declared.finding.Refused.{Refused}
 use Rattle.verdict_merge.specs.Findings.{IsLeastWith, IsLesser, Precedes}
 use Rattle.verdict_merge.specs.Rounds.{AllRun, HasRunOver, IsNo, RefusesAmong, Runs}
-use Rattle.verdict_merge.proofs.Least.{IsNoSooner, no_sooner_next, no_sooner_stays}
-use Rattle.verdict_merge.proofs.Splits.{begins, begins_with, place_behind, up_to}
+use Rattle.verdict_merge.proofs.Least.{IsNoSooner, greater, no_smaller, no_sooner_next, no_sooner_stays}
+use Rattle.verdict_merge.proofs.Splits.{begins, place_behind}
 
 -- runs
 
@@ -71,29 +72,6 @@ no_behind configuration parts records more found stands = record {
   larger = stands.larger;
 }
 
--- a No from parts that are the same
-abbrev pub no_from : (configuration : Configuration) (one other : ℕ → Part) (records : List Ordered) (found : Refused)
-    → ((number : ℕ) → number < length (pieces configuration) → one number ≡ other number) → IsNo configuration one records found → IsNo configuration other records found
-no_from configuration one other records found same stands = record {
-  before = stands.before;
-  ordered = stands.ordered;
-  after = stands.after;
-  split = stands.split;
-  place = stands.place;
-  piece = stands.piece;
-  refused = subst (λ part. Refuses configuration (piece_at configuration found.piece) part stands.before stands.ordered found.cause) (same found.piece stands.piece) stands.refused;
-  smaller = λ number less. moved number (omega (arith, less, stands.piece)) (stands.before ++ stands.ordered ∷ []) (stands.smaller number less);
-  larger = λ number more within. moved number within stands.before (stands.larger number more within);
-}
-  where
-    moved : (number : ℕ) → number < length (pieces configuration) → (list : List Ordered) → Runs configuration one number list → Runs configuration other number list
-    moved number within list (final, run) = (final, subst (λ part. PieceRun configuration (piece_at configuration number) part list final) (same number within) run)
-
-pub all_run_from : (configuration : Configuration) (one other : ℕ → Part) (records : List Ordered) (final : ℕ → Part)
-    → ((number : ℕ) → number < length (pieces configuration) → one number ≡ other number) → AllRun configuration one records final → AllRun configuration other records final
-all_run_from configuration one other records final same all = λ number within.
-    subst (λ part. PieceRun configuration (piece_at configuration number) part records (final number)) (same number within) (all number within)
-
 -- the least of what the pieces found
 
 -- what became of a piece, by the least finding so far: it ran over the records, or found what is no sooner
@@ -102,56 +80,39 @@ HasBeen configuration old records new least number =
     PieceRun configuration (piece_at configuration number) (old number) records (new number)
     ⊎ ((other : Refused) × HasRunOver configuration number (old number) records (Some other) (new number) × IsNoSooner least other)
 
--- a piece that found something later, or the same later, runs through the least finding's record
-runs_before : (configuration : Configuration) (old new : ℕ → Part) (records : List Ordered) (first : ℕ) (found : Refused) (number : ℕ)
-    → ArePlaced first records → (before : List Ordered) (ordered : Ordered) (after : List Ordered) → records ≡ before ++ ordered ∷ after → found.pos ≡ ordered.pos
-    → HasBeen configuration old records new (Some found) number → Runs configuration old number before
-runs_before configuration old new records first found number placed before ordered after split place (inl run) =
-    runs_front configuration old number before (ordered ∷ after) (subst (Runs configuration old number) split (new number, run))
-runs_before configuration old new records first found number placed before ordered after split place (inr (other, (of, (before', ordered', after', split', place', refused)), later)) =
-    let here : ordered.pos ≡ first + length before = place_behind first before ordered after (subst (ArePlaced first) split placed) in
-    let there : ordered'.pos ≡ first + length before' = place_behind first before' ordered' after' (subst (ArePlaced first) split' placed) in
-    let less : length before ≤ length before' = no_less (length before) (length before') (λ sooner. later (inl (omega (arith, sooner, here, there, place, place')))) in
-    let long = begins before (ordered ∷ after) before' (ordered' ∷ after') (sym split ∙ split') less in
-    runs_front configuration old number before long.0 (subst (Runs configuration old number) long.1 (refused.0, refused.1))
-  where
-    no_less : (a b : ℕ) → ¬ (b < a) → a ≤ b
-    no_less a b not = omega (arith, not)
-
-runs_through : (configuration : Configuration) (old new : ℕ → Part) (records : List Ordered) (first : ℕ) (found : Refused) (number : ℕ) → number < found.piece
-    → ArePlaced first records → (before : List Ordered) (ordered : Ordered) (after : List Ordered) → records ≡ before ++ ordered ∷ after → found.pos ≡ ordered.pos
-    → HasBeen configuration old records new (Some found) number → Runs configuration old number (before ++ ordered ∷ [])
-runs_through configuration old new records first found number smaller placed before ordered after split place (inl run) =
-    runs_front configuration old number (before ++ ordered ∷ []) after
-    (subst (Runs configuration old number) (split ∙ sym (append_assoc before (ordered ∷ []) after)) (new number, run))
-runs_through configuration old new records first found number smaller placed before ordered after split place (inr (other, (of, (before', ordered', after', split', place', refused)), later)) =
-    let here : ordered.pos ≡ first + length before = place_behind first before ordered after (subst (ArePlaced first) split placed) in
-    let there : ordered'.pos ≡ first + length before' = place_behind first before' ordered' after' (subst (ArePlaced first) split' placed) in
-    let less : length before < length before' = less_than (length before) (length before')
-    (λ sooner. later (inl (omega (arith, sooner, here, there, place, place'))))
-    (λ same. later (inr (omega (arith, same, here, there, place, place'), omega (arith, of, smaller)))) in
-    let long = begins_with before ordered after before' (ordered' ∷ after') (sym split ∙ split') less in
-    runs_front configuration old number (before ++ ordered ∷ []) long.0 (subst (Runs configuration old number) long.1 (refused.0, refused.1))
-  where
-    less_than : (a b : ℕ) → ¬ (b < a) → ¬ (a ≡ b) → a < b
-    less_than a b not apart = omega (arith, not, apart)
+-- a piece runs over a front of the records that ends before each place where it may have refused one
+runs_to : (configuration : Configuration) (old new : ℕ → Part) (records : List Ordered) (first : ℕ) (found : Refused) (number : ℕ) → ArePlaced first records
+    → (front back : List Ordered) → records ≡ front ++ back → ((other : Refused) → other.piece ≡ number → ¬ Precedes other found → first + length front ≤ other.pos)
+    → HasBeen configuration old records new (Some found) number → Runs configuration old number front
+runs_to configuration old new records first found number placed front back split past (inl run) =
+    runs_front configuration old number front back (subst (Runs configuration old number) split (new number, run))
+runs_to configuration old new records first found number placed front back split past (inr (other, (of, (before, ordered, after, split', place, refused)), later)) =
+    let there : ordered.pos ≡ first + length before = place_behind first before ordered after (subst (ArePlaced first) split' placed) in
+    let long = begins front back before (ordered ∷ after) (sym split ∙ split') (let most = past other of later in omega (arith, most, there, place)) in
+    runs_front configuration old number front long.0 (subst (Runs configuration old number) long.1 (refused.0, refused.1))
 
 -- the least finding is a No among the records
 pub least_is_no : (configuration : Configuration) (old new : ℕ → Part) (records : List Ordered) (first : ℕ) (found : Refused) (part : Part) → ArePlaced first records
     → found.piece < length (pieces configuration) → HasRunOver configuration found.piece (old found.piece) records (Some found) part
     → ((number : ℕ) → number < length (pieces configuration) → HasBeen configuration old records new (Some found) number)
     → IsNo configuration old records found
-least_is_no configuration old new records first found part placed within (of, (before, ordered, after, split, place, refused)) been = record {
-  before = before;
-  ordered = ordered;
-  after = after;
-  split = split;
-  place = place;
-  piece = within;
-  refused = refused;
-  smaller = λ number less. runs_through configuration old new records first found number less placed before ordered after split place (been number (omega (arith, less, within)));
-  larger = λ number more inside. runs_before configuration old new records first found number placed before ordered after split place (been number inside);
-}
+least_is_no configuration old new records first found part placed within (of, (before, ordered, after, split, place, refused)) been =
+    let at : ordered.pos ≡ first + length before = place_behind first before ordered after (subst (ArePlaced first) split placed) in
+    record {
+      before = before;
+      ordered = ordered;
+      after = after;
+      split = split;
+      place = place;
+      piece = within;
+      refused = refused;
+      smaller = λ number less.
+          runs_to configuration old new records first found number placed (before ++ ordered ∷ []) after (split ∙ sym (append_assoc before (ordered ∷ []) after))
+          (λ other of not. omega (arith, at, place, length-append before (ordered ∷ []), greater other found not (omega (arith, of, less)))) (been number (omega (arith, less, within)));
+      larger = λ number more inside.
+          runs_to configuration old new records first found number placed before (ordered ∷ after) split
+          (λ other of not. omega (arith, at, place, no_smaller other found not)) (been number inside);
+    }
 
 -- where nothing was found each piece ran over the records
 pub none_ran : (configuration : Configuration) (old new : ℕ → Part) (records : List Ordered)
@@ -184,7 +145,7 @@ pub been_more : (configuration : Configuration) (old now next : ℕ → Part) (r
     → HasRunOver configuration number (old number) records found (next number)
     → (one : ℕ) → one < number + 1 → HasBeen configuration old records next after one
 been_more configuration old now next records least found after number is been same outcome =
-    up_to (HasBeen configuration old records next after) number (λ one less. stays one less (been one less)) (has_been configuration old next records least found after number is outcome)
+    below_more (HasBeen configuration old records next after) number (λ one less. stays one less (been one less)) (has_been configuration old next records least found after number is outcome)
   where
     stays : (one : ℕ) → one < number → HasBeen configuration old records now least one → HasBeen configuration old records next after one
     stays one less (inl run) = inl (subst (λ part. PieceRun configuration (piece_at configuration one) (old one) records part) (sym (same one less)) run)

@@ -1,20 +1,22 @@
 -- The verdict with the user's rules: there is one, what a Yes means, and how rounds follow one another.
-use Rattle.std.proofs.Common.{◌≡◌, ◌⊎◌, ◌<◌, ◌≤◌, ◌+◌, ◌∙◌, ℕ, zero, suc, List, [], ◌∷◌, ◌++◌, append_assoc, Option, Some, None, length, refl, sym, ap, subst, inl, inr, arith}
+use Rattle.std.proofs.Common.{◌≡◌, ◌<◌, ◌≤◌, ◌+◌, ◌∙◌, ℕ, suc, List, [], ◌∷◌, ◌++◌, append_assoc, Option, Some, None, length, take, drop, refl, sym, ap, subst, inl, inr, arith}
 use Rattle.std.specs.List.{All}
 use Rattle.std.specs.Prelude.{IfSome}
-use Rattle.std.proofs.lemmas.List.{append-nil, get_or_append_left, length-append}
+use Rattle.std.proofs.lemmas.Bool.{cases_lt}
+use Rattle.std.proofs.lemmas.List.{append-nil, get_or_append_left, length-append, length-take-le, take-append-drop}
 use Rattle.std.proofs.lemmas.List.Elements.{All-append}
+use Rattle.std.proofs.lemmas.Option.{same_Some}
 use Rattle.apex_types.specs.declared.record.Ordered.{Ordered}
 use Rattle.apex_types.specs.declared.view.View.{View}
 use Rattle.apex_machine.specs.Channels.{EndsAreApart}
 use Rattle.apex_machine.specs.Configuration.{Configuration, WindowsAreConfigured}
-use Rattle.apex_machine.specs.Pieces.{Part, pieces}
-use Rattle.apex_machine.specs.Runs.{ArePlaced, PieceRun}
+use Rattle.apex_machine.specs.Pieces.{Part}
+use Rattle.apex_machine.specs.Runs.{ArePlaced}
 use Rattle.apex_machine.specs.State.{State, cold_state}
 use Rattle.apex_machine.specs.Step.{Run}
 use Rattle.apex_machine.specs.Views.{run_views}
 use Rattle.apex_laws.proofs.Stays.{stays_tied}
-use Rattle.piece_check.specs.Parts.{piece_at}
+use Rattle.piece_check.specs.Parts.{Holding}
 use Rattle.user_rules.proofs.FirstBroken.{first_broken_behind, first_broken_stays, one_first_broken}
 use Rattle.user_rules.specs.declared.broken.Broken.{Broken as BrokenView}
 use Rattle.user_rules.specs.declared.relation.Relation.{Relation}
@@ -24,16 +26,16 @@ use Rattle.verdict_merge.specs.declared.survey.Survey.{Survey}
 use Rattle.verdict_merge.specs.declared.verdict.Verdict.{Verdict}
 use Rattle.verdict_merge.specs.declared.verdict.Verdict.TheVariants.{Yes, No, Broken}
 use Rattle.verdict_merge.specs.declared.breach.Breach.{Breach}
-use Rattle.verdict_merge.specs.Rounds.{AllRun, AreGoing, HaveRunOver, IsNo, IsRound, IsSurveyed, IsTested, Judging, Runs, cold_parts, parts_of}
+use Rattle.verdict_merge.specs.Rounds.{AllRun, AreGoing, HaveRunOver, IsNo, IsRound, IsSurveyed, IsTested, Judging, cold_parts, parts_in, parts_of}
 use Rattle.verdict_merge.specs.Verdicts.{IsBroken, IsRunWhereYes, IsVerdict, IsVerdictFrom, OneVerdict, ViewsMeet, against, no_of}
-use Rattle.verdict_merge.specs.Views.{AreViews, AreViewsBehind, before_place, broken_of, up_to}
-use Rattle.verdict_merge.proofs.Giving.{HaveRun}
-use Rattle.verdict_merge.proofs.Rounds.{all_run_from, all_run_on, no_behind, no_from, no_on, runs_front, runs_on}
+use Rattle.verdict_merge.specs.Views.{AreViews, AreViewsBehind, broken_of, up_to}
+use Rattle.verdict_merge.proofs.Giving.{HaveRun, run_up_to, up_to_no}
+use Rattle.verdict_merge.proofs.Rounds.{all_run_on, no_behind, no_on, runs_on}
 use Rattle.verdict_merge.proofs.Silence.{machine_runs}
 use Rattle.verdict_merge.proofs.Splits.{begins, begins_with}
-use Rattle.verdict_merge.proofs.Verdicts.{no_rule_broken, one_pieces_verdict, order_of, runs_no_longer, runs_up_to}
-use Rattle.verdict_merge.proofs.Viewing.{before_of, up_to_front}
-use Rattle.verdict_merge.proofs.ViewedRun.{one_list_of_views, views_are_of_the_run, views_from, views_join, views_on}
+use Rattle.verdict_merge.proofs.Verdicts.{no_rule_broken, one_pieces_verdict, runs_no_longer}
+use Rattle.verdict_merge.proofs.Viewing.{up_to_front}
+use Rattle.verdict_merge.proofs.ViewedRun.{one_list_of_views, views_are_of_the_run, views_join, views_on}
 
 -- parts of lists of views
 
@@ -49,14 +51,6 @@ views_front configuration parts before (ordered ∷ front) back views (view, mor
 all_front : {A : Type 0} (Fact : A → Type 0) (front back : List A) → All Fact (front ++ back) → All Fact front
 all_front Fact front back all = λ index one within.
     subst Fact (get_or_append_left front back one index within) (all index one (omega (arith, within, length-append front back)))
-
--- views that all meet every relation do so in front
-pub meet_front : (configuration : Configuration) (relations : List Relation) (parts : ℕ → Part) (front back : List Ordered)
-    → ViewsMeet configuration relations parts (front ++ back) → ViewsMeet configuration relations parts front
-meet_front configuration [] parts front back meet = tt
-meet_front configuration (relation ∷ relations) parts front back (views, viewed, meet) =
-    let parted = views_front configuration parts [] front back views viewed in
-    (parted.0, parted.3, all_front (MeetsAll (relation ∷ relations)) parted.0 parted.1 (subst (All (MeetsAll (relation ∷ relations))) parted.2 meet))
 
 -- what follows after
 pub meet_on : (configuration : Configuration) (relations : List Relation) (old new : ℕ → Part) (front back : List Ordered) → AllRun configuration old front new
@@ -88,14 +82,10 @@ broken_not_met configuration (relation ∷ relations) records pos rule is long r
 no_and_broken : (configuration : Configuration) (relations : List Relation) (records : List Ordered) (found : Refused) (pos rule : ℕ)
     → (stands : IsNo configuration (cold_parts configuration) records found) → ViewsMeet configuration relations (cold_parts configuration) stands.before
     → IsBroken configuration relations (cold_parts configuration) 0 records pos rule → ⊥
-no_and_broken configuration relations records found pos rule stands meet is = elim (order_of (length stands.before) (length is.through)) [
+no_and_broken configuration relations records found pos rule stands meet is = elim (cases_lt (length stands.before) (length is.through)) [
   | inl less ↦ runs_no_longer configuration (cold_parts configuration) records found stands is.through is.after is.split less (is.runs found.piece stands.piece)
-  | inr most ↦ broken_not_met configuration relations records pos rule is stands.before (stands.ordered ∷ stands.after) stands.split (at_most most) meet
+  | inr most ↦ broken_not_met configuration relations records pos rule is stands.before (stands.ordered ∷ stands.after) stands.split most meet
 ]
-  where
-    at_most : (length stands.before ≡ length is.through) ⊎ (length is.through < length stands.before) → length is.through ≤ length stands.before
-    at_most (inl same) = omega (arith, same)
-    at_most (inr less) = omega (arith, less)
 
 -- where each piece runs over all the records and all views meet every relation, no rule is broken
 yes_and_broken : (configuration : Configuration) (relations : List Relation) (records : List Ordered) (pos rule : ℕ) → ViewsMeet configuration relations (cold_parts configuration) records
@@ -114,19 +104,15 @@ one_broken_of configuration relations records pos rule pos' rule' is also most =
     let here : IsFirstBroken relations also.views (Some is.broken) =
     subst (λ list. IsFirstBroken relations list (Some is.broken)) (sym parted.2)
     (first_broken_stays relations parted.0 parted.1 is.broken (subst (λ list. IsFirstBroken relations list (Some is.broken)) (sym same) is.first)) in
-    some_is is.broken also.broken (one_first_broken relations also.views (Some is.broken) (Some also.broken) here also.first)
-  where
-    some_is : (one other : BrokenView) → ◌≡◌ {A = Option BrokenView} (Some one) (Some other) → one ≡ other
-    some_is one other e = cc
+    same_Some is.broken also.broken (one_first_broken relations also.views (Some is.broken) (Some also.broken) here also.first)
 
 one_broken : (configuration : Configuration) (relations : List Relation) (records : List Ordered) (pos rule pos' rule' : ℕ)
     → IsBroken configuration relations (cold_parts configuration) 0 records pos rule → IsBroken configuration relations (cold_parts configuration) 0 records pos' rule'
     → ◌≡◌ {A = Verdict} (Broken pos rule) (Broken pos' rule')
 one_broken configuration relations records pos rule pos' rule' is also =
-    let same : is.broken ≡ also.broken = elim (order_of (length is.through) (length also.through)) [
+    let same : is.broken ≡ also.broken = elim (cases_lt (length is.through) (length also.through)) [
       | inl less ↦ one_broken_of configuration relations records pos rule pos' rule' is also (omega (arith, less))
-      | inr (inl alike) ↦ one_broken_of configuration relations records pos rule pos' rule' is also (omega (arith, alike))
-      | inr (inr more) ↦ sym (one_broken_of configuration relations records pos' rule' pos rule also is (omega (arith, more)))
+      | inr most ↦ sym (one_broken_of configuration relations records pos' rule' pos rule also is most)
     ] in
     let places : pos ≡ pos' = is.place ∙ ap (λ (broken : BrokenView). 0 + broken.view) same ∙ sym also.place in
     let numbers : rule ≡ rule' = is.number ∙ ap (λ (broken : BrokenView). broken.rule) same ∙ sym also.number in
@@ -221,27 +207,7 @@ pub no_here : (configuration : Configuration) (relations : List Relation) (parts
     → IsNo configuration parts records found → ViewsMeet configuration relations parts (up_to (Some found) records)
     → IsVerdictFrom configuration relations parts count (records ++ more) (no_of found)
 no_here configuration relations parts count records more found placed stands meet =
-    let here : up_to (Some found) records ≡ stands.before =
-    ap (before_place found.pos) stands.split ∙ before_of count stands.before stands.ordered stands.after found.pos (subst (ArePlaced count) stands.split placed) stands.place in
-    (no_behind configuration parts records more found stands, subst (ViewsMeet configuration relations parts) here meet)
-
--- all pieces run over the front of what stands before a refusal
-run_up_to : (configuration : Configuration) (parts : ℕ → Part) (count : ℕ) (records : List Ordered) (found : Option Refused) → ArePlaced count records → HaveRun configuration parts records found
-    → (number : ℕ) → number < length (pieces configuration) → (front back : List Ordered) → up_to found records ≡ front ++ back → Runs configuration parts number front
-run_up_to configuration parts count records None placed outcome number within front back split =
-    runs_front configuration parts number front back (subst (Runs configuration parts number) split (outcome number within))
-run_up_to configuration parts count records (Some found) placed stands number within front back split =
-    let here : up_to (Some found) records ≡ stands.before =
-    ap (before_place found.pos) stands.split ∙ before_of count stands.before stands.ordered stands.after found.pos (subst (ArePlaced count) stands.split placed) stands.place in
-    runs_front configuration parts number front back (subst (Runs configuration parts number) (sym here ∙ split) (runs_up_to configuration parts records found stands number within))
-
--- the record of an index, and those up to it
-split_through : (records : List Ordered) (index : ℕ) → index < length records → (through : List Ordered) × (after : List Ordered) × (records ≡ through ++ after) × (length through ≡ suc index)
-split_through [] index within = absurd (omega (arith, within))
-split_through (ordered ∷ others) zero within = (ordered ∷ [], others, refl, refl)
-split_through (ordered ∷ others) (suc index) within =
-    let rest = split_through others index (omega (arith, within)) in
-    (ordered ∷ rest.0, rest.1, ap (λ list. ordered ∷ list) rest.2, ap suc rest.3)
+    (no_behind configuration parts records more found stands, subst (ViewsMeet configuration relations parts) (up_to_no configuration parts count records found placed stands) meet)
 
 -- the first broken view is the first of those up to it
 first_through : (relations : List Relation) (front back : List View) (broken : BrokenView) → length front ≡ suc broken.view → IsFirstBroken relations (front ++ back) (Some broken)
@@ -271,19 +237,21 @@ broken_here configuration relations parts count records more found views broken 
     let front = up_to_front records found in
     let counted : length views ≡ length (up_to found records) = length_viewed configuration parts [] (up_to found records) views viewed in
     let inside : broken.view < length (up_to found records) = omega (arith, counted, ap length first.split, length-append first.before (first.view ∷ first.after), first.counted) in
-    let cut = split_through (up_to found records) broken.view inside in
-    let parted = views_front configuration parts [] cut.0 cut.1 views (subst (λ list. AreViewsBehind configuration parts [] list views) cut.2 viewed) in
-    let many : length parted.0 ≡ suc broken.view = length_viewed configuration parts [] cut.0 parted.0 parted.3 ∙ cut.3 in
+    let through = take (suc broken.view) (up_to found records) in
+    let rest = drop (suc broken.view) (up_to found records) in
+    let cut : up_to found records ≡ through ++ rest = sym (take-append-drop (suc broken.view) (up_to found records)) in
+    let many : length through ≡ suc broken.view = length-take-le (suc broken.view) (up_to found records) (omega (arith, inside)) in
+    let parted = views_front configuration parts [] through rest views (subst (λ list. AreViewsBehind configuration parts [] list views) cut viewed) in
     record {
-      through = cut.0;
-      after = (cut.1 ++ front.0) ++ more;
-      split = ap (λ list. list ++ more) (front.1 ∙ ap (λ list. list ++ front.0) cut.2 ∙ append_assoc cut.0 cut.1 front.0) ∙ append_assoc cut.0 (cut.1 ++ front.0) more;
-      runs = λ number within. run_up_to configuration parts count records found placed outcome number within cut.0 cut.1 cut.2;
+      through = through;
+      after = (rest ++ front.0) ++ more;
+      split = ap (λ list. list ++ more) (front.1 ∙ ap (λ list. list ++ front.0) cut ∙ append_assoc through rest front.0) ∙ append_assoc through (rest ++ front.0) more;
+      runs = λ number within. run_up_to configuration parts count records found placed outcome number within through rest cut;
       views = parted.0;
       viewed = parted.3;
       broken = broken;
-      first = first_through relations parted.0 parted.1 broken many (subst (λ list. IsFirstBroken relations list (Some broken)) parted.2 first);
-      last = cut.3;
+      first = first_through relations parted.0 parted.1 broken (length_viewed configuration parts [] through parted.0 parted.3 ∙ many) (subst (λ list. IsFirstBroken relations list (Some broken)) parted.2 first);
+      last = many;
       place = refl;
       number = refl;
     }
@@ -335,29 +303,37 @@ goes_on_here configuration relations old new records found (Some breach) round t
 goes_on_here configuration relations old new records (Some found) None round tested is = let some : ◌≡◌ {A = Option Verdict} (Some (no_of found)) None = is in cc
 goes_on_here configuration relations old new records None None round tested is = (round, meet_tested configuration relations (parts_of old) records None tested)
 
-meet_from : (configuration : Configuration) (relations : List Relation) (one other : ℕ → Part) (records : List Ordered)
-    → ((number : ℕ) → number < length (pieces configuration) → one number ≡ other number) → ViewsMeet configuration relations one records → ViewsMeet configuration relations other records
-meet_from configuration [] one other records same meet = tt
-meet_from configuration (relation ∷ relations) one other records same (views, viewed, meet) = (views, views_from configuration one other [] records views same viewed, meet)
+-- the verdict that decides, else Yes
+abbrev pub decided_or : Option Verdict → ℕ → Verdict
+decided_or None count = Yes count
+decided_or (Some verdict) count = verdict
 
--- a verdict from parts that are the same
-pub verdict_from : (configuration : Configuration) (relations : List Relation) (one other : ℕ → Part) (count : ℕ) (records : List Ordered) (verdict : Verdict)
-    → ((number : ℕ) → number < length (pieces configuration) → one number ≡ other number) → IsVerdictFrom configuration relations one count records verdict
-    → IsVerdictFrom configuration relations other count records verdict
-verdict_from configuration relations one other count records (Yes all) same (counted, (final, runs), meet) =
-    (counted, (final, all_run_from configuration one other records final same runs), meet_from configuration relations one other records same meet)
-verdict_from configuration relations one other count records (No pos piece cause) same (stands, meet) =
-    (no_from configuration one other records (record { pos = pos; piece = piece; cause = cause }) same stands, meet_from configuration relations one other stands.before same meet)
-verdict_from configuration relations one other count records (Broken pos rule) same is = record {
-  through = is.through;
-  after = is.after;
-  split = is.split;
-  runs = λ number within. let run = is.runs number within in (run.0, subst (λ part. PieceRun configuration (piece_at configuration number) part is.through run.0) (same number within) run.1);
-  views = is.views;
-  viewed = views_from configuration one other [] is.through is.views same is.viewed;
-  broken = is.broken;
-  first = is.first;
-  last = is.last;
-  place = is.place;
-  number = is.number;
-}
+-- the verdict over all the records, which the pieces survey from the cold state on
+pub plain_verdict : (configuration : Configuration) (relations : List Relation) (records : List Ordered) (pieces_before : List Holding) (survey : Survey) (decided : Option Verdict)
+    → ArePlaced 0 records → AllRun configuration (cold_parts configuration) [] (parts_in pieces_before) → IsSurveyed configuration 0 records relations pieces_before survey
+    → against 0 survey.found (broken_of survey.breach) ≡ decided → IsVerdict configuration relations records (decided_or decided (length records))
+plain_verdict configuration relations records pieces_before survey decided placed cold surveyed decides =
+    verdict_on configuration relations (cold_parts configuration) (parts_in pieces_before) 0 [] records (decided_or decided (length records)) cold (meet_nothing relations)
+    (by decided decides)
+  where
+    meet_nothing : (relations : List Relation) → ViewsMeet configuration relations (cold_parts configuration) []
+    meet_nothing [] = tt
+    meet_nothing (relation ∷ relations) = ([], refl, λ index one within. absurd (omega (arith, within)))
+
+    start : Judging
+    start = record { count = 0; pieces = pieces_before; breach = None }
+
+    end : Judging
+    end = record { count = length records; pieces = survey.pieces.items; breach = survey.breach }
+
+    round : IsRound configuration start records survey.found end
+    round = round_is configuration start end records relations survey (omega arith) surveyed refl
+
+    by : (decided : Option Verdict) → against 0 survey.found (broken_of survey.breach) ≡ decided
+        → IsVerdictFrom configuration relations (parts_in pieces_before) 0 records (decided_or decided (length records))
+    by (Some verdict) decides =
+        subst (λ list. IsVerdictFrom configuration relations (parts_in pieces_before) 0 list verdict) (append-nil records)
+        (ends_here configuration relations start end records [] survey.found survey.breach verdict placed round surveyed.tested decides)
+    by None decides =
+        let on = goes_on_here configuration relations start end records survey.found survey.breach round surveyed.tested decides in
+        (omega (arith, on.0.1), (parts_in survey.pieces.items, on.0.0), on.1)

@@ -1,120 +1,62 @@
 -- Where all pieces run over the records, these are a run of the machine.
-use Rattle.std.proofs.Common.{◌<◌, length, arith, ◌≡◌, ◌⊎◌, ◌∙◌, ℕ, suc, List, [], ◌∷◌, ◌++◌, Bool, true, false, Some, map, nat_eq, nat_le, ◌||◌, ap, inl, inr, refl, sym, subst, true≢false, eqb-true}
-use Rattle.std.specs.Prelude.{IsTrue, is_some, if◌then◌else◌, slice_index_or}
+use Rattle.std.proofs.Common.{◌≡◌, ◌<◌, ◌+◌, ◌-◌, ◌∙◌, ℕ, suc, List, [], ◌∷◌, Bool, true, false, Some, get_or, length, map, nat_eq, ap, refl, sym, subst, true≢false, eqb-true, arith}
+use Rattle.std.specs.Prelude.{IsTrue, is_some, if◌then◌else◌}
+use Rattle.std.proofs.lemmas.List.{get_or_default, length-map}
+use Rattle.std.proofs.lemmas.List.Folds.{Any-from_list_any}
 use Rattle.apex_machine.specs.Step.{Run}
 use Rattle.apex_types.specs.declared.record.Ordered.{Ordered}
-use Rattle.apex_machine.specs.Channels.{channel_numbers, put_rising, queuing_among, queuing_of, rising, sampling_among, sampling_of}
-use Rattle.apex_machine.specs.Configuration.{Configuration, PartitionLimits, QueuingChannel, SamplingChannel, WindowsAreConfigured, limits_among}
+use Rattle.apex_machine.specs.Channels.{channel_numbers}
+use Rattle.apex_machine.specs.Configuration.{Configuration, PartitionLimits, WindowsAreConfigured, limits_among}
 use Rattle.apex_machine.specs.Pieces.{Piece, Part, part, pieces, is_configured}
 use Rattle.apex_machine.specs.Pieces.Piece.{Module, OfChannel, OfPartition}
 use Rattle.apex_machine.specs.Runs.{ArePlaced, PieceRun}
 use Rattle.apex_machine.specs.State.{State, cold_state}
 use Rattle.apex_laws.proofs.Runs.{one_run}
 use Rattle.apex_laws.proofs.Stays.{stays_tied}
+use Rattle.module_config.proofs.Numbers.{number-configured}
+use Rattle.piece_check.proofs.Numbering.{length-pieces, piece_at_channel, piece_at_partition}
+use Rattle.piece_check.specs.Parts.{piece_at}
 use Rattle.verdict_merge.specs.Rounds.{Runs, cold_parts}
 
-abbrev pub Among : Piece → List Piece → Type 0
-Among piece [] = ⊥
-Among piece (other ∷ others) = (piece ≡ other) ⊎ Among piece others
+-- a number is at an index of a list
+abbrev IsListed : ℕ → List ℕ → Type 0
+IsListed number numbers = (index : ℕ) × (index < length numbers) × (get_or numbers index 0 ≡ number)
 
-among_limits : (number : ℕ) (limits : List PartitionLimits) → is_some (limits_among number limits) ≡ true
-    → Among (OfPartition number) (map (λ l. OfPartition l.number) limits)
-among_limits number [] has = absurd (true≢false (sym has))
-among_limits number (first ∷ others) has = by (nat_eq first.number number) refl has (λ h. among_limits number others h)
+-- the number of a partition is among those of all partitions
+partition_listed : (number : ℕ) (partitions : List PartitionLimits) → is_some (limits_among number partitions) ≡ true → IsListed number (map (λ limits. limits.number) partitions)
+partition_listed number [] has = absurd (true≢false (sym has))
+partition_listed number (first ∷ others) has = by (nat_eq first.number number) refl has (λ later. partition_listed number others later)
   where
-    by : (b : Bool) → nat_eq first.number number ≡ b → is_some (if b then Some first else limits_among number others) ≡ true
-        → (is_some (limits_among number others) ≡ true → Among (OfPartition number) (map (λ l. OfPartition l.number) others))
-        → (OfPartition number ≡ OfPartition first.number) ⊎ Among (OfPartition number) (map (λ l. OfPartition l.number) others)
-    by true same has later = inl (ap OfPartition (sym (eqb-true first.number number same)))
-    by false other has later = inr (later has)
+    by : (same : Bool) → nat_eq first.number number ≡ same → is_some (if same then Some first else limits_among number others) ≡ true
+        → (is_some (limits_among number others) ≡ true → IsListed number (map (λ limits. limits.number) others)) → IsListed number (map (λ limits. limits.number) (first ∷ others))
+    by true same has more = (0, omega arith, eqb-true first.number number same)
+    by false other has more = let rest = more has in (suc rest.0, omega (arith, rest.1), rest.2)
 
-Among-left : (piece : Piece) (first second : List Piece) → Among piece first → Among piece (first ++ second)
-Among-left piece [] second among = absurd among
-Among-left piece (other ∷ others) second among =
-    elim among [ inl same ↦ inl same | inr more ↦ inr (Among-left piece others second more) ]
-
-Among-right : (piece : Piece) (first second : List Piece) → Among piece second → Among piece (first ++ second)
-Among-right piece [] second among = among
-Among-right piece (other ∷ others) second among = inr (Among-right piece others second among)
-
--- a channel is one of those whose numbers are in order
-abbrev IsChannel : ℕ → List ℕ → Type 0
-IsChannel number numbers = Among (OfChannel number) (map (λ other. OfChannel other) numbers)
-
-put_here : (number : ℕ) (sorted : List ℕ) → IsChannel number (put_rising number sorted)
-put_here number [] = inl refl
-put_here number (other ∷ others) = by (nat_le number other) (put_here number others)
-  where
-    by : (b : Bool) → IsChannel number (put_rising number others)
-        → IsChannel number (if b then number ∷ other ∷ others else other ∷ put_rising number others)
-    by true later = inl refl
-    by false later = inr later
-
-put_there : (number one : ℕ) (sorted : List ℕ) → IsChannel number sorted → IsChannel number (put_rising one sorted)
-put_there number one [] among = absurd among
-put_there number one (other ∷ others) among = by (nat_le one other) among (λ later. put_there number one others later)
-  where
-    by : (b : Bool) → IsChannel number (other ∷ others) → (IsChannel number others → IsChannel number (put_rising one others))
-        → IsChannel number (if b then one ∷ other ∷ others else other ∷ put_rising one others)
-    by true here later = inr here
-    by false here later = elim here [ inl same ↦ inl same | inr more ↦ inr (later more) ]
-
-rising_there : (number : ℕ) (numbers sorted : List ℕ) → IsChannel number sorted → IsChannel number (rising numbers sorted)
-rising_there number [] sorted among = among
-rising_there number (one ∷ numbers) sorted among = put_there number one (rising numbers sorted) (rising_there number numbers sorted among)
-
-sampling_there : (number : ℕ) (channels : List SamplingChannel) (sorted : List ℕ) → is_some (sampling_among number channels) ≡ true
-    → IsChannel number (rising (map (λ channel. channel.number) channels) sorted)
-sampling_there number [] sorted has = absurd (true≢false (sym has))
-sampling_there number (first ∷ others) sorted has = by (nat_eq first.number number) refl has (λ h. sampling_there number others sorted h)
-  where
-    by : (b : Bool) → nat_eq first.number number ≡ b → is_some (if b then Some first else sampling_among number others) ≡ true
-        → (is_some (sampling_among number others) ≡ true → IsChannel number (rising (map (λ channel. channel.number) others) sorted))
-        → IsChannel number (put_rising first.number (rising (map (λ channel. channel.number) others) sorted))
-    by true same has later =
-        subst (λ n. IsChannel n (put_rising first.number (rising (map (λ channel. channel.number) others) sorted))) (eqb-true first.number number same)
-        (put_here first.number (rising (map (λ channel. channel.number) others) sorted))
-    by false other has later = put_there number first.number (rising (map (λ channel. channel.number) others) sorted) (later has)
-
-queuing_there : (number : ℕ) (channels : List QueuingChannel) (sorted : List ℕ) → is_some (queuing_among number channels) ≡ true
-    → IsChannel number (rising (map (λ channel. channel.number) channels) sorted)
-queuing_there number [] sorted has = absurd (true≢false (sym has))
-queuing_there number (first ∷ others) sorted has = by (nat_eq first.number number) refl has (λ h. queuing_there number others sorted h)
-  where
-    by : (b : Bool) → nat_eq first.number number ≡ b → is_some (if b then Some first else queuing_among number others) ≡ true
-        → (is_some (queuing_among number others) ≡ true → IsChannel number (rising (map (λ channel. channel.number) others) sorted))
-        → IsChannel number (put_rising first.number (rising (map (λ channel. channel.number) others) sorted))
-    by true same has later =
-        subst (λ n. IsChannel n (put_rising first.number (rising (map (λ channel. channel.number) others) sorted))) (eqb-true first.number number same)
-        (put_here first.number (rising (map (λ channel. channel.number) others) sorted))
-    by false other has later = put_there number first.number (rising (map (λ channel. channel.number) others) sorted) (later has)
-
--- a configured channel is one of the channels
-channel_there : (configuration : Configuration) (number : ℕ) (sampled : Bool) → is_some (sampling_of configuration number) ≡ sampled
-    → sampled || is_some (queuing_of configuration number) ≡ true → IsChannel number (channel_numbers configuration)
-channel_there configuration number true is has =
-    sampling_there number configuration.sampling (rising (map (λ channel. channel.number) configuration.queuing) []) is
-channel_there configuration number false is has =
-    rising_there number (map (λ channel. channel.number) configuration.sampling) (rising (map (λ channel. channel.number) configuration.queuing) [])
-    (queuing_there number configuration.queuing [] has)
-
--- a configured piece is one of the pieces
-pub is_one : (configuration : Configuration) (piece : Piece) → is_configured configuration piece ≡ true → Among piece (pieces configuration)
-is_one configuration Module has = inl refl
-is_one configuration (OfPartition number) has =
-    inr (Among-left (OfPartition number) (map (λ l. OfPartition l.number) configuration.partitions) (map (λ n. OfChannel n) (channel_numbers configuration))
-    (among_limits number configuration.partitions has))
-is_one configuration (OfChannel number) has =
-    inr (Among-right (OfChannel number) (map (λ l. OfPartition l.number) configuration.partitions) (map (λ n. OfChannel n) (channel_numbers configuration))
-    (channel_there configuration number (is_some (sampling_of configuration number)) refl has))
-
--- one of the pieces stands at a number
-pub numbered : (piece : Piece) (others : List Piece) → Among piece others → (number : ℕ) × (number < length others) × (slice_index_or others number Module ≡ piece)
-numbered piece [] among = absurd among
-numbered piece (other ∷ others) among = elim among [
-  | inl same ↦ (0, omega arith, sym same)
-  | inr more ↦ let rest = numbered piece others more in (suc rest.0, omega (arith, rest.1), rest.2)
-]
+-- a configured piece has a number
+pub numbered : (configuration : Configuration) (piece : Piece) → is_configured configuration piece ≡ true
+    → (number : ℕ) × (number < length (pieces configuration)) × (piece_at configuration number ≡ piece)
+numbered configuration Module has = (0, omega arith, refl)
+numbered configuration (OfPartition number) has =
+    let numbers = map (λ (limits : PartitionLimits). limits.number) configuration.partitions in
+    let at = partition_listed number configuration.partitions has in
+    let below : at.0 < length configuration.partitions = omega (arith, at.1, length-map configuration.partitions (λ limits. limits.number)) in
+    let there : suc at.0 - 1 ≡ at.0 = omega arith in
+    let is : get_or numbers (suc at.0 - 1) 0 ≡ number = ap (λ n. get_or numbers n 0) there ∙ at.2 in (
+      suc at.0,
+      omega (arith, below, length-pieces configuration),
+      piece_at_partition configuration (suc at.0) (omega arith) (omega (arith, below)) ∙ ap OfPartition is,
+    )
+numbered configuration (OfChannel number) has =
+    let numbers = channel_numbers configuration in
+    let at = Any-from_list_any (nat_eq number) numbers (number-configured configuration number ∙ has) in
+    let index : ℕ = suc (length configuration.partitions + at.0) in
+    let there : index - 1 - length configuration.partitions ≡ at.0 = omega arith in
+    let is : get_or numbers (index - 1 - length configuration.partitions) 0 ≡ number =
+    ap (λ n. get_or numbers n 0) there ∙ get_or_default numbers at.0 0 at.1 at.2 ∙ at.3 ∙ sym (eqb-true number at.1 at.4) in (
+      index,
+      omega (arith, at.2, length-pieces configuration),
+      piece_at_channel configuration index (omega arith) (omega arith) (omega (arith, at.2)) ∙ ap OfChannel is,
+    )
 
 -- the run of a piece, if it is configured
 abbrev RunTo : Configuration → List Ordered → Piece → Type 0
@@ -127,7 +69,7 @@ run_to configuration records runs piece = by (is_configured configuration piece)
   where
     by : (b : Bool) → is_configured configuration piece ≡ b → RunTo configuration records piece
     by true has =
-        let there = numbered piece (pieces configuration) (is_one configuration piece has) in
+        let there = numbered configuration piece has in
         let run = runs there.0 there.1 in
         (run.0, λ _. subst (λ one. PieceRun configuration one (part one (cold_state configuration)) records run.0) there.2 run.1)
     by false has = (part piece (cold_state configuration), λ h. absurd (true≢false (sym h ∙ has)))

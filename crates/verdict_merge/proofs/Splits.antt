@@ -1,10 +1,11 @@
 -- Lists that are split in two ways, and the places of records in them.
-use Rattle.std.proofs.Common.{Option, Some, None, get_or, ◌-◌, ◌≢◌, ◌⊎◌, inl, inr, Bool, true, false, nat_eq, eqb-true, eq-eqb, true≢false, subst, ◌≡◌, ◌<◌, ◌≤◌, ◌+◌, ◌∙◌, ℕ, zero, suc, List, [], ◌∷◌, ◌++◌, length, refl, sym, ap, arith, append_assoc}
+use Rattle.std.proofs.Common.{below_more, Some, ◌-◌, ◌≡◌, ◌<◌, ◌≤◌, ◌+◌, ◌∙◌, ℕ, suc, List, [], ◌∷◌, ◌++◌, length, refl, sym, ap, arith, append_assoc}
 use Rattle.std.specs.Prelude.{slice_get}
 use Rattle.std.proofs.lemmas.List.{length-append}
-use Rattle.std.proofs.lemmas.Option.{get_or_from_slice_get, slice_get_cases}
+use Rattle.std.proofs.lemmas.Option.{get_or_from_slice_get, slice_get_within}
 use Rattle.apex_types.specs.declared.record.Ordered.{Ordered}
 use Rattle.apex_machine.specs.Runs.{ArePlaced}
+use Rattle.piece_check.proofs.Reaching.{placed_at}
 
 -- the shorter front begins the longer one
 pub begins : {A : Type 0} (short holds_before long rest : List A) → short ++ holds_before ≡ long ++ rest → length short ≤ length long → (middle : List A) × (long ≡ short ++ middle)
@@ -32,39 +33,13 @@ pub placed_front : (first : ℕ) (front back : List Ordered) → ArePlaced first
 placed_front first [] back placed = tt
 placed_front first (one ∷ front) back placed = (placed.0, placed_front (suc first) front back placed.1)
 
--- two numbers are the same, or they are not
-pub same_or : (one other : ℕ) → (one ≡ other) ⊎ (one ≢ other)
-same_or one other = by (nat_eq one other) refl
-  where
-    by : (same : Bool) → nat_eq one other ≡ same → (one ≡ other) ⊎ (one ≢ other)
-    by true is = inl (eqb-true one other is)
-    by false is = inr (λ e. true≢false (sym (eq-eqb one other e) ∙ is))
-
 -- a fact about all numbers below one more
 pub up_to : (Fact : ℕ → Type 0) (count : ℕ) → ((number : ℕ) → number < count → Fact number) → Fact count → (number : ℕ) → number < count + 1 → Fact number
-up_to Fact count below last number less = elim (same_or number count) [
-  | inl same ↦ subst Fact (sym same) last
-  | inr apart ↦ below number (omega (arith, less, apart))
-]
-
--- the place of a record by its number among them
-pub place_at : (first : ℕ) (records : List Ordered) (index : ℕ) (default : Ordered) → ArePlaced first records → index < length records → (get_or records index default).pos ≡ first + index
-place_at first [] index default placed within = absurd (omega arith)
-place_at first (ordered ∷ others) zero default placed within = omega (arith, placed.0)
-place_at first (ordered ∷ others) (suc index) default placed within = omega (arith, place_at (suc first) others index default placed.1 (omega arith))
-
-found_within : {A : Type 0} (list : List A) (index : ℕ) (one : A) → slice_get list index ≡ Some one → index < length list
-found_within list index one is = elim (slice_get_cases list index).1 [
-  | inl (other, within, there, same) ↦ within
-  | inr (past, none) ↦ some_or_none one (sym is ∙ none)
-]
-  where
-    some_or_none : {B : Type 0} (two : B) → ◌≡◌ {A = Option B} (Some two) None → index < length list
-    some_or_none two e = cc
+up_to = below_more
 
 -- the last of some records stands right before what comes after them
 pub last_place : (first : ℕ) (records : List Ordered) (last : Ordered) → ArePlaced first records → slice_get records (length records - 1) ≡ Some last → last.pos + 1 ≡ first + length records
 last_place first records last placed is =
-    let within = found_within records (length records - 1) last is in
+    let within = slice_get_within records (length records - 1) last is in
     let there = get_or_from_slice_get records (length records - 1) last last is in
-    omega (arith, place_at first records (length records - 1) last placed within, ap (λ one. one.pos) there, within)
+    omega (arith, placed_at first (length records - 1) last records placed within, ap (λ one. one.pos) there, within)

@@ -1,6 +1,9 @@
 -- An order of records has one verdict, and it is that of what all pieces find.
-use Rattle.std.proofs.Common.{◌≡◌, ◌⊎◌, ◌<◌, ◌+◌, ◌∙◌, ℕ, zero, suc, List, [], ◌∷◌, ◌++◌, Option, Some, None, length, refl, sym, ap, subst, inl, inr, arith, append_assoc}
+use Rattle.std.proofs.Common.{◌≡◌, ◌⊎◌, ◌<◌, ◌≤◌, ◌+◌, ◌∙◌, ℕ, zero, suc, List, [], ◌∷◌, ◌++◌, Option, Some, None, length, refl, sym, ap, subst, inl, inr, arith, append_assoc}
 use Rattle.std.specs.Prelude.{Contains, slice_index_or}
+use Rattle.std.proofs.lemmas.Bool.{cases_lt, cases_order}
+use Rattle.std.proofs.lemmas.List.{append-nil, length-append}
+use Rattle.std.proofs.lemmas.Option.{none-some, same_Some}
 use Rattle.apex_types.specs.declared.cause.Cause.{Cause}
 use Rattle.apex_types.specs.declared.record.Ordered.{Ordered}
 use Rattle.apex_machine.specs.Configuration.{Configuration}
@@ -17,24 +20,13 @@ use Rattle.user_rules.specs.FirstBroken.{IsFirstBroken}
 use Rattle.verdict_merge.specs.declared.finding.Refused.{Refused}
 use Rattle.verdict_merge.specs.declared.verdict.Verdict.{Verdict}
 use Rattle.verdict_merge.specs.declared.verdict.Verdict.TheVariants.{Yes, No, Broken}
-use Rattle.verdict_merge.specs.Findings.{IsLeast, Precedes}
-use Rattle.verdict_merge.specs.Rounds.{AllRun, HasRunOver, IsNo, Runs, cold_parts}
+use Rattle.verdict_merge.specs.Findings.{IsLeast, IsLesser, Precedes}
+use Rattle.verdict_merge.specs.Rounds.{AllRun, IsNo, Runs, cold_parts}
 use Rattle.verdict_merge.specs.Verdicts.{AllFind, Follows, IsVerdict, VerdictIsOfTheFindings, findings_of}
 use Rattle.verdict_merge.proofs.Among.{contains_behind, contains_cases, contains_here, contains_none}
-use Rattle.verdict_merge.proofs.Least.{not_itself, through}
-use Rattle.verdict_merge.proofs.Rounds.{least_is_no, runs_front}
+use Rattle.verdict_merge.proofs.Least.{least_more, not_itself, through}
+use Rattle.verdict_merge.proofs.Rounds.{HasBeen, least_is_no, runs_front}
 use Rattle.verdict_merge.proofs.Splits.{begins_with, place_behind}
-
--- two numbers in order
-pub order_of : (one other : ℕ) → (one < other) ⊎ ((one ≡ other) ⊎ (other < one))
-order_of zero zero = inr (inl refl)
-order_of zero (suc other) = inl (omega arith)
-order_of (suc one) zero = inr (inr (omega arith))
-order_of (suc one) (suc other) = elim (order_of one other) [
-  | inl less ↦ inl (omega (arith, less))
-  | inr (inl same) ↦ inr (inl (ap suc same))
-  | inr (inr more) ↦ inr (inr (omega (arith, more)))
-]
 
 -- what the pieces say of one order of records, whatever the rules
 abbrev pub IsPiecesVerdict : Configuration → List Ordered → Verdict → Type 0
@@ -44,18 +36,12 @@ IsPiecesVerdict configuration records (Broken pos rule) = ⊥
 
 -- one verdict
 
-none_some : (refusal : Refusal) → ◌≡◌ {A = Option Refusal} None (Some refusal) → ⊥
-none_some refusal e = cc
-
-one_refusal : (one other : Refusal) → ◌≡◌ {A = Option Refusal} (Some one) (Some other) → one ≡ other
-one_refusal one other e = cc
-
 -- a piece that runs through a record does not refuse it
 pub runs_and_refuses : (configuration : Configuration) (piece : Piece) (old : Part) (before : List Ordered) (ordered : Ordered) (cause : Cause) (final : Part)
     → PieceRun configuration piece old (before ++ ordered ∷ []) final → Refuses configuration piece old before ordered cause → ⊥
 runs_and_refuses configuration piece old before ordered cause final run refuses =
     let refusal : Refusal = record { pos = ordered.pos; cause = cause } in
-    none_some refusal (one_first_refusal configuration piece old (before ++ ordered ∷ []) None (Some refusal)
+    none-some refusal (one_first_refusal configuration piece old (before ++ ordered ∷ []) None (Some refusal)
     (run_finds_nothing configuration piece old (before ++ ordered ∷ []) final run)
     (refused_found configuration piece old before ordered [] refusal refl refuses))
 
@@ -68,9 +54,9 @@ no_at configuration parts first records found placed stands =
 -- each piece runs up to the record of a No
 pub runs_up_to : (configuration : Configuration) (parts : ℕ → Part) (records : List Ordered) (found : Refused) (stands : IsNo configuration parts records found)
     → (number : ℕ) → number < length (pieces configuration) → Runs configuration parts number stands.before
-runs_up_to configuration parts records found stands number within = elim (order_of number found.piece) [
-  | inl less ↦ runs_front configuration parts number stands.before (stands.ordered ∷ []) (stands.smaller number less)
-  | inr (inl same) ↦ subst (λ one. Runs configuration parts one stands.before) (sym same) (stands.refused.0, stands.refused.1)
+runs_up_to configuration parts records found stands number within = elim (cases_order number found.piece) [
+  | inr (inl less) ↦ runs_front configuration parts number stands.before (stands.ordered ∷ []) (stands.smaller number less)
+  | inl same ↦ subst (λ one. Runs configuration parts one stands.before) (sym same) (stands.refused.0, stands.refused.1)
   | inr (inr more) ↦ stands.larger number more within
 ]
 
@@ -82,10 +68,6 @@ runs_no_longer configuration parts records found stands long rest split less run
     let run = runs_front configuration parts found.piece (stands.before ++ stands.ordered ∷ []) front.0 (subst (Runs configuration parts found.piece) front.1 runs) in
     runs_and_refuses configuration (piece_at configuration found.piece) (parts found.piece) stands.before stands.ordered found.cause run.0 run.1 stands.refused
 
-longer : (list : List Ordered) (ordered : Ordered) → length list < length (list ++ ordered ∷ [])
-longer [] ordered = omega arith
-longer (one ∷ list) ordered = omega (arith, longer list ordered)
-
 -- of two Nos of the same records none precedes the other
 no_sooner : (configuration : Configuration) (parts : ℕ → Part) (first : ℕ) (records : List Ordered) (one other : Refused) → ArePlaced first records
     → IsNo configuration parts records one → IsNo configuration parts records other → Precedes one other → ⊥
@@ -95,7 +77,7 @@ no_sooner configuration parts first records one other placed stands also (inl so
     (runs_up_to configuration parts records other also one.piece stands.piece)
 no_sooner configuration parts first records one other placed stands also (inr (same, less)) =
     runs_no_longer configuration parts records one stands (also.before ++ also.ordered ∷ []) also.after (also.split ∙ sym (append_assoc also.before (also.ordered ∷ []) also.after))
-    (omega (arith, same, longer also.before also.ordered, no_at configuration parts first records one placed stands, no_at configuration parts first records other placed also))
+    (omega (arith, same, length-append also.before (also.ordered ∷ []), no_at configuration parts first records one placed stands, no_at configuration parts first records other placed also))
     (also.smaller one.piece less)
 
 no_less : (a b : ℕ) → ¬ (a < b) → ¬ (b < a) → a ≡ b
@@ -121,7 +103,7 @@ one_no configuration parts first records pos piece cause pos' piece' cause' plac
     let alike : piece ≡ piece' = no_less piece piece' (λ less. not (inr (same, less))) (λ less. nor (inr (sym same, less))) in
     let finds = subst (λ number. Finds configuration (piece_at configuration number) (parts number) records (Some (record { pos = pos'; cause = cause' }))) (sym alike)
     (no_finds configuration parts records other also) in
-    let refusals = one_refusal (record { pos = pos; cause = cause }) (record { pos = pos'; cause = cause' })
+    let refusals = same_Some {A = Refusal} (record { pos = pos; cause = cause }) (record { pos = pos'; cause = cause' })
     (one_first_refusal configuration (piece_at configuration piece) (parts piece) records (Some (record { pos = pos; cause = cause })) (Some (record { pos = pos'; cause = cause' }))
     (no_finds configuration parts records one stands) finds) in
     let caused : cause ≡ cause' = ap (λ refusal. refusal.cause) refusals in
@@ -131,10 +113,8 @@ one_no configuration parts first records pos piece cause pos' piece' cause' plac
 no_yes : (configuration : Configuration) (records : List Ordered) (found : Refused) (final : ℕ → Part) → AllRun configuration (cold_parts configuration) records final
     → IsNo configuration (cold_parts configuration) records found → ⊥
 no_yes configuration records found final all stands =
-    runs_no_longer configuration (cold_parts configuration) records found stands (stands.before ++ stands.ordered ∷ []) stands.after
-    (stands.split ∙ sym (append_assoc stands.before (stands.ordered ∷ []) stands.after)) (longer stands.before stands.ordered)
-    (runs_front configuration (cold_parts configuration) found.piece (stands.before ++ stands.ordered ∷ []) stands.after
-    (subst (Runs configuration (cold_parts configuration) found.piece) (stands.split ∙ sym (append_assoc stands.before (stands.ordered ∷ []) stands.after)) (final found.piece, all found.piece stands.piece)))
+    runs_no_longer configuration (cold_parts configuration) records found stands records [] (sym (append-nil records))
+    (omega (arith, ap length stands.split, length-append stands.before (stands.ordered ∷ stands.after))) (final found.piece, all found.piece stands.piece)
 
 -- the pieces say one thing
 pub one_pieces_verdict : (configuration : Configuration) (records : List Ordered) (one other : Verdict) → ArePlaced 0 records
@@ -212,88 +192,36 @@ found_by configuration number (piece ∷ others) records findings (Some refusal,
 -- the least of a list
 
 decided : (one other : Refused) → Precedes one other ⊎ ¬ Precedes one other
-decided one other = elim (order_of one.pos other.pos) [
-  | inl sooner ↦ inl (inl sooner)
-  | inr (inl same) ↦ elim (order_of one.piece other.piece) [
-    | inl less ↦ inl (inr (same, less))
-    | inr (inl alike) ↦ inr (λ before. by_neither before same (omega (arith, alike)))
-    | inr (inr more) ↦ inr (λ before. by_neither before same (omega (arith, more)))
-  ]
-  | inr (inr later) ↦ inr (λ before. by_later before later)
+decided one other = elim (cases_order one.pos other.pos) [
+  | inl same ↦ elim (cases_lt one.piece other.piece) [ inl less ↦ inl (inr (same, less)) | inr most ↦ inr (neither (omega (arith, same)) (λ _. most)) ]
+  | inr (inl sooner) ↦ inl (inl sooner)
+  | inr (inr later) ↦ inr (neither (omega (arith, later)) (λ same. absurd (omega (arith, same, later))))
 ]
   where
-    by_neither : Precedes one other → one.pos ≡ other.pos → ¬ (one.piece < other.piece) → ⊥
-    by_neither (inl sooner) same not = absurd (omega (arith, sooner, same))
-    by_neither (inr (also, less)) same not = not less
+    neither : other.pos ≤ one.pos → (one.pos ≡ other.pos → other.piece ≤ one.piece) → ¬ Precedes one other
+    neither late most (inl sooner) = absurd (omega (arith, late, sooner))
+    neither late most (inr (same, less)) = let least = most same in absurd (omega (arith, least, less))
 
-    by_later : Precedes one other → other.pos < one.pos → ⊥
-    by_later (inl sooner) later = absurd (omega (arith, sooner, later))
-    by_later (inr (same, less)) later = absurd (omega (arith, same, later))
+lesser_of : (least : Option Refused) (next : Refused) → (found : Refused) × IsLesser Precedes least next found
+lesser_of None next = (next, refl)
+lesser_of (Some least) next = elim (decided next least) [ inl sooner ↦ (next, inl (refl, sooner)) | inr not ↦ (least, inr (refl, not)) ]
 
--- what no other precedes is before what one of those precedes
-before_too : (one least next : Refused) → ¬ Precedes one least → Precedes one next → Precedes least next
-before_too one least next not (inl sooner) = elim (order_of least.pos next.pos) [
-  | inl less ↦ inl less
-  | inr (inl same) ↦ absurd (not (inl (omega (arith, sooner, same))))
-  | inr (inr more) ↦ absurd (not (inl (omega (arith, sooner, more))))
-]
-before_too one least next not (inr (same, less)) = elim (order_of least.pos next.pos) [
-  | inl sooner ↦ inl sooner
-  | inr (inl alike) ↦ elim (order_of least.piece next.piece) [
-    | inl lower ↦ inr (alike, lower)
-    | inr (inl equal) ↦ absurd (not (inr (same ∙ sym alike, omega (arith, less, equal))))
-    | inr (inr higher) ↦ absurd (not (inr (same ∙ sym alike, omega (arith, less, higher))))
-  ]
-  | inr (inr more) ↦ absurd (not (inl (omega (arith, same, more))))
-]
-
-least_of : (findings : List Refused) → (found : Option Refused) × IsLeast Precedes findings found
-least_of [] = (None, refl)
-least_of (next ∷ findings) = with_next (least_of findings)
-  where
-    with_next : (found : Option Refused) × IsLeast Precedes findings found → (found : Option Refused) × IsLeast Precedes (next ∷ findings) found
-    with_next (None, none) = (
-      Some next,
-      (
-        contains_here next findings,
-        λ other there before. elim (contains_cases next other findings there) [
-          | inl same ↦ not_itself next (subst (λ one. Precedes one next) same before)
-          | inr more ↦ contains_none other (subst (λ list. Contains list other) none more)
-        ],
-      ),
-    )
-    with_next (Some least, (there, no_other)) = elim (decided least next) [
-      | inl sooner ↦ (
-        Some least,
-        (
-          contains_behind next least findings there,
-          λ other within before. elim (contains_cases next other findings within) [
-            | inl same ↦ not_itself next (through next least next (subst (λ one. Precedes one least) same before) sooner)
-            | inr more ↦ no_other other more before
-          ],
-        ),
-      )
-      | inr not ↦ (
-        Some next,
-        (
-          contains_here next findings,
-          λ other within before. elim (contains_cases next other findings within) [
-            | inl same ↦ not_itself next (subst (λ one. Precedes one next) same before)
-            | inr more ↦ not (before_too other least next (no_other other more) before)
-          ],
-        ),
-      )
-    ]
+-- the least of these and of others after them
+least_of : (front others : List Refused) (least : Option Refused) → IsLeast Precedes front least → (found : Option Refused) × IsLeast Precedes (front ++ others) found
+least_of front [] least is = (least, subst (λ list. IsLeast Precedes list least) (sym (append-nil front)) is)
+least_of front (next ∷ others) least is =
+    let lesser = lesser_of least next in
+    subst (λ list. (found : Option Refused) × IsLeast Precedes list found) (append_assoc front (next ∷ []) others)
+    (least_of (front ++ next ∷ []) others (Some lesser.0) (least_more Precedes not_itself through front least next lesser.0 is lesser.1))
 
 -- the verdict of the findings
 
 -- a part for each number, with a fact where a piece has it
 part_where : (count : ℕ) (Fact : ℕ → Part → Type 0) → ((number : ℕ) → number < count → (final : Part) × Fact number final)
     → (number : ℕ) → (final : Part) × (number < count → Fact number final)
-part_where count Fact found number = elim (order_of number count) [
-  | inl within ↦ (let one = found number within in (one.0, λ inside. one.1))
-  | inr (inl same) ↦ (ModulePart [], λ inside. absurd (omega (arith, inside, same)))
-  | inr (inr more) ↦ (ModulePart [], λ inside. absurd (omega (arith, inside, more)))
+part_where count Fact found number = elim (cases_lt number count) [
+  | inl within ↦ let one = found number within in (one.0, λ inside. one.1)
+  | inr past ↦ (ModulePart [], λ inside. absurd (omega (arith, inside, past)))
 ]
 
 -- what the piece of a number finds
@@ -314,13 +242,11 @@ no_findings configuration records findings all none number within = by (found_ze
 -- what became of each piece beside the least of the findings
 been_so : (configuration : Configuration) (records : List Ordered) (findings : List Refused) (least : Refused) → AllFind configuration 0 (pieces configuration) records findings
     → ((other : Refused) → Contains findings other → ¬ Precedes other least) → (number : ℕ) → number < length (pieces configuration)
-    → (final : Part) × (PieceRun configuration (piece_at configuration number) (cold_parts configuration number) records final
-    ⊎ ((other : Refused) × HasRunOver configuration number (cold_parts configuration number) records (Some other) final × ¬ Precedes other least))
+    → (final : Part) × HasBeen configuration (cold_parts configuration) records (λ _. final) (Some least) number
 been_so configuration records findings least all no_other number within = by (found_zero configuration records findings all number within)
   where
     by : FoundAt configuration records findings number (piece_at configuration number)
-        → (final : Part) × (PieceRun configuration (piece_at configuration number) (cold_parts configuration number) records final
-        ⊎ ((other : Refused) × HasRunOver configuration number (cold_parts configuration number) records (Some other) final × ¬ Precedes other least))
+        → (final : Part) × HasBeen configuration (cold_parts configuration) records (λ _. final) (Some least) number
     by (None, finds, tells) =
         let run = (nothing_found_is_a_run configuration (piece_at configuration number) (cold_parts configuration number) records).0 finds in
         (run.0, inl run.1)
@@ -340,8 +266,7 @@ least_no configuration records findings least placed all (there, no_other) =
     let at : least.piece ≡ by.0 = by.2 ∙ omega arith in
     let finds = subst (λ number. Finds configuration (piece_at configuration number) (cold_parts configuration number) records (Some (record { pos = least.pos; cause = least.cause }))) (sym at) by.3 in
     let been = part_where (length (pieces configuration))
-    (λ number final. PieceRun configuration (piece_at configuration number) (cold_parts configuration number) records final
-    ⊎ ((other : Refused) × HasRunOver configuration number (cold_parts configuration number) records (Some other) final × ¬ Precedes other least))
+    (λ number final. HasBeen configuration (cold_parts configuration) records (λ _. final) (Some least) number)
     (been_so configuration records findings least all no_other) in
     least_is_no configuration (cold_parts configuration) (λ number. (been number).0) records 0 least (cold_parts configuration least.piece) placed (omega (arith, at, by.1))
     (refl, (found_is_refused configuration (piece_at configuration least.piece) (cold_parts configuration least.piece) records (record { pos = least.pos; cause = least.cause })).0 finds)
@@ -358,7 +283,7 @@ follows_is configuration records findings (No pos piece cause) placed all least 
 follows_is configuration records findings (Broken pos rule) placed all follows = absurd follows
 
 some_follows : (findings : List Refused) (count : ℕ) → (verdict : Verdict) × Follows findings count verdict
-some_follows findings count = by (least_of findings)
+some_follows findings count = by (least_of [] findings None refl)
   where
     by : (found : Option Refused) × IsLeast Precedes findings found → (verdict : Verdict) × Follows findings count verdict
     by (None, none) = (Yes count, (none, refl))

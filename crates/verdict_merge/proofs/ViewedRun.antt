@@ -1,13 +1,15 @@
 -- The views over rounds, and over a run of the machine.
-use Rattle.std.proofs.Common.{◌≡◌, ◌<◌, ◌∙◌, ℕ, List, [], ◌∷◌, ◌++◌, Option, Some, length, refl, sym, ap, subst, append_assoc}
+use Rattle.std.proofs.Common.{◌≡◌, ◌∙◌, ℕ, List, [], ◌∷◌, ◌++◌, refl, sym, ap, subst, append_assoc}
 use Rattle.std.specs.Prelude.{IsTrue}
+use Rattle.std.proofs.lemmas.List.{append-nil}
+use Rattle.std.proofs.lemmas.Option.{same_Some}
 use Rattle.apex_types.specs.declared.record.Body.{Body}
 use Rattle.apex_types.specs.declared.record.Body.TheVariants.{Call, Ret, Disp, Tick}
 use Rattle.apex_types.specs.declared.record.Ordered.{Ordered}
 use Rattle.apex_types.specs.declared.view.View.{View}
 use Rattle.apex_machine.specs.Channels.{EndsAreApart}
 use Rattle.apex_machine.specs.Configuration.{Configuration}
-use Rattle.apex_machine.specs.Pieces.{Part, Piece, is_configured, part, pieces}
+use Rattle.apex_machine.specs.Pieces.{Part, Piece, is_configured, part}
 use Rattle.apex_machine.specs.Runs.{PieceRun}
 use Rattle.apex_machine.specs.State.{State, cold_state}
 use Rattle.apex_machine.specs.Step.{IsLawfulBody, Run}
@@ -48,11 +50,7 @@ pub views_join : (configuration : Configuration) (parts : ℕ → Part) (before 
     → AreViewsBehind configuration parts before (first ++ second) (views ++ more)
 views_join configuration parts before [] second views more none rest =
     subst (λ list. AreViewsBehind configuration parts before second (list ++ more)) (sym none)
-    (subst (λ list. AreViewsBehind configuration parts list second more) (append_nil before) rest)
-  where
-    append_nil : (list : List Ordered) → list ++ [] ≡ list
-    append_nil [] = refl
-    append_nil (one ∷ list) = ap (λ rest. one ∷ rest) (append_nil list)
+    (subst (λ list. AreViewsBehind configuration parts list second more) (append-nil before) rest)
 views_join configuration parts before (ordered ∷ first) second views more (view, later, is, here, holds_before) rest = (
   view,
   later ++ more,
@@ -61,29 +59,6 @@ views_join configuration parts before (ordered ∷ first) second views more (vie
   views_join configuration parts (before ++ ordered ∷ []) first second later more holds_before
       (subst (λ list. AreViewsBehind configuration parts list second more) (sym (append_assoc before (ordered ∷ []) first)) rest),
 )
-
--- views from parts that are the same
-pub views_from : (configuration : Configuration) (one other : ℕ → Part) (before records : List Ordered) (views : List View)
-    → ((number : ℕ) → number < length (pieces configuration) → one number ≡ other number) → AreViewsBehind configuration one before records views
-    → AreViewsBehind configuration other before records views
-views_from configuration one other before [] views same none = none
-views_from configuration one other before (ordered ∷ others) views same (view, more, is, here, rest) = (
-  view,
-  more,
-  is,
-  record {
-    number = here.number;
-    within = here.within;
-    judges = here.judges;
-    reached = here.reached;
-    run = subst (λ part. PieceRun configuration (piece_at configuration here.number) part before here.reached) (same here.number here.within) here.run;
-    seen = here.seen;
-  },
-  views_from configuration one other (before ++ ordered ∷ []) others more same rest,
-)
-
-one_some : (one other : View) → ◌≡◌ {A = Option View} (Some one) (Some other) → one ≡ other
-one_some one other e = cc
 
 -- the view of a record after these, from the cold state
 one_view : (configuration : Configuration) (before : List Ordered) (ordered : Ordered) (one other : View)
@@ -94,7 +69,7 @@ one_view configuration before ordered one other here also =
     λ number reached judges run. subst (λ piece. PieceRun configuration piece (part piece (cold_state configuration)) before reached) judges run in
     let same : here.reached ≡ also.reached = one_end configuration (judge ordered) (part (judge ordered) (cold_state configuration)) before here.reached also.reached
     (run_of here.number here.reached here.judges here.run) (run_of also.number also.reached also.judges also.run) in
-    one_some one other (sym here.seen ∙ ap (λ reached. view_in reached ordered) same ∙ also.seen)
+    same_Some one other (sym here.seen ∙ ap (λ reached. view_in reached ordered) same ∙ also.seen)
 
 -- records have one list of views
 pub one_list_of_views : (configuration : Configuration) (before records : List Ordered) (one other : List View)
@@ -125,7 +100,7 @@ views_are_of_the_run configuration state before (ordered ∷ others) final views
     let same : here.reached ≡ part piece state =
     one_end configuration piece (part piece (cold_state configuration)) before here.reached (part piece state) here.run (runs piece known) in
     let seen : view ≡ view_of state ordered =
-    one_some view (view_of state ordered) (sym here.seen ∙ ap (λ reached. view_in reached ordered) same ∙ (view_is_of_the_run state ordered piece).0 here.judges) in
+    same_Some view (view_of state ordered) (sym here.seen ∙ ap (λ reached. view_in reached ordered) same ∙ (view_is_of_the_run state ordered piece).0 here.judges) in
     let further : (one : Piece) → IsTrue (is_configured configuration one) → PieceRun configuration one (part one (cold_state configuration)) (before ++ ordered ∷ []) (part one next) =
     λ one has. (runs_join configuration one (part one (cold_state configuration)) before (ordered ∷ []) (part one next)).1
     (part one state, runs one has, run_of_each configuration state (ordered ∷ []) next ends tied (next, step, refl) one has) in

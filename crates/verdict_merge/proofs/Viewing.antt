@@ -1,6 +1,7 @@
 -- What all pieces together see of a round.
-use Rattle.std.proofs.Common.{◌≡◌, ◌⊎◌, ◌<◌, ◌≤◌, ◌+◌, ◌∙◌, ℕ, suc, List, [], ◌∷◌, ◌++◌, Bool, true, false, Option, Some, None, length, nat_lt, if◌then◌else◌, refl, sym, ap, subst, inl, inr, arith, append_assoc}
+use Rattle.std.proofs.Common.{◌≡◌, ◌<◌, ◌≤◌, ◌+◌, ◌∙◌, ℕ, suc, List, [], ◌∷◌, ◌++◌, Bool, true, false, Option, Some, None, length, nat_lt, if◌then◌else◌, refl, sym, ap, subst, inl, inr, arith, append_assoc}
 use Rattle.std.specs.Prelude.{Contains, slice_get}
+use Rattle.std.proofs.lemmas.Bool.{cases_lt}
 use Rattle.std.proofs.lemmas.Bool.Decides.{nat_tests}
 use Rattle.std.proofs.lemmas.List.{append-nil, length-append}
 use Rattle.apex_types.specs.declared.record.Ordered.{Ordered}
@@ -18,7 +19,7 @@ use Rattle.verdict_merge.proofs.Rounds.{runs_front}
 use Rattle.verdict_merge.proofs.Seeing.{is_seen, seen_is}
 use Rattle.verdict_merge.proofs.Slotted.{HaveSlots, put_in, put_in_from, put_in_stays, put_in_there, slot_at}
 use Rattle.verdict_merge.proofs.Splits.{begins, begins_with, place_behind}
-use Rattle.verdict_merge.proofs.Verdicts.{order_of, runs_and_refuses}
+use Rattle.verdict_merge.proofs.Verdicts.{runs_and_refuses}
 
 -- records before a place
 
@@ -150,17 +151,13 @@ pub stands_before : (configuration : Configuration) (parts : ℕ → Part) (numb
     → (more : List Ordered) × (up_to found records ≡ before ++ ordered ∷ more)
 stands_before configuration parts number first records None final placed outcome before ordered after split runs = (after, split)
 stands_before configuration parts number first records (Some found) final placed (of, (before', ordered', after', split', place, refused)) before ordered after split runs =
-    elim (order_of (length before) (length before')) [
+    elim (cases_lt (length before) (length before')) [
       | inl less ↦
           let middle = begins_with before ordered after before' (ordered' ∷ after') (sym split ∙ split') less in
           (middle.0, before_is ∙ middle.1 ∙ append_assoc before (ordered ∷ []) middle.0)
-      | inr no_less ↦ absurd (refuses (at_most (length before) (length before') no_less))
+      | inr most ↦ absurd (refuses most)
     ]
   where
-    at_most : (a b : ℕ) → (a ≡ b) ⊎ (b < a) → b ≤ a
-    at_most a b (inl same) = omega (arith, same)
-    at_most a b (inr less) = omega (arith, less)
-
     before_is : before_place found.pos records ≡ before'
     before_is =
         ap (before_place found.pos) split' ∙ before_of first before' ordered' after' found.pos (subst (ArePlaced first) split' placed) place

@@ -20,11 +20,11 @@ use Rattle.verdict_merge.proofs.outcome.go_over.Goals as goal
 
 pub loop-index-init : goal.loop-index-init
 loop-index-init g c =
+    let old = c.args.piece.now in
+    let number = c.args.number in
     let lent = c.args.lent.now in
     let config = lent.config.now in
     let records = lent.records.now in
-    let number = c.args.number in
-    let old = c.args.piece.now in
     let list : c.of-index-items.result ≡ touching config (piece_at config number) 0 records =
     c.of-index-items.ensures ∙ sorted_at config records (indices_of lent.touched.now) number (piece_of c.subject_of-subject.result) lent.sorted c.requires.piece c.subject_of-subject.ensures.value c.subject_of-subject.ensures.listed in (
       [],
@@ -38,12 +38,8 @@ loop-index-init g c =
 pub bounds-records-index : goal.bounds-records-index
 bounds-records-index g c =
     let lent = c.args.lent.now in
-    let config = lent.config.now in
-    let records = lent.records.now in
-    let outcome = c.loop-index.invariant.1 in
-    let split = c.loop-index.invariant.2 ∙ ap (λ left. outcome ++ left) c.in-Some.ensures.steps in
-    let at = next_within config c.args.number records outcome c.in-Some.index c.next.new.self split in
-    rw at.1 (reached_within config (piece_at config c.args.number) records (length outcome) at.0)
+    let at = next_within lent.config.now c.args.number lent.records.now c.loop-index.invariant.1 c.loop-index.invariant.2 c.in-Some.ensures.steps in
+    rw at.1 (reached_within lent.config.now (piece_at lent.config.now c.args.number) lent.records.now (length c.loop-index.invariant.1) at.0)
 
 pub offset_bounds-records-index : goal.offset_bounds-records-index
 offset_bounds-records-index g c = let within = bounds-records-index g c in search rules
@@ -51,46 +47,24 @@ offset_bounds-records-index g c = let within = bounds-records-index g c in searc
 pub judge_one-requires-clause-core : goal.judge_one-requires-clause-core
 judge_one-requires-clause-core g c =
     let lent = c.args.lent.now in
-    let config = lent.config.now in
-    let records = lent.records.now in
-    let number = c.args.number in
-    let piece = piece_at config number in
-    let ordered = c.index-records-index.result in
-    let outcome = c.loop-index.invariant.1 in
-    let come = c.loop-index.invariant.3 in
-    let split = c.loop-index.invariant.2 ∙ ap (λ left. outcome ++ left) c.in-Some.ensures.steps in
-    let at = stands config number lent.first records outcome c.in-Some.index c.next.new.self ordered split c.index-records-index.is c.requires.placed c.requires.cores in
+    let at = stands lent.config.now c.args.number lent.first lent.records.now c.loop-index.invariant.1 c.loop-index.invariant.2 c.in-Some.ensures.steps c.index-records-index.is c.requires.placed c.requires.cores in
     at.core
 
 pub judge_one-requires-clause-holds_before : goal.judge_one-requires-clause-holds_before
 judge_one-requires-clause-holds_before g c =
     let lent = c.args.lent.now in
-    let config = lent.config.now in
-    let records = lent.records.now in
-    let number = c.args.number in
-    let piece = piece_at config number in
-    let ordered = c.index-records-index.result in
-    let outcome = c.loop-index.invariant.1 in
-    let come = c.loop-index.invariant.3 in
-    let split = c.loop-index.invariant.2 ∙ ap (λ left. outcome ++ left) c.in-Some.ensures.steps in
-    let at = stands config number lent.first records outcome c.in-Some.index c.next.new.self ordered split c.index-records-index.is c.requires.placed c.requires.cores in
-    (subst (λ place. HoldsBefore place c.loop-index.piece.part) (sym at.place) (come.holds_before lent.first c.requires.placed c.requires.going.holds_before))
+    let at = stands lent.config.now c.args.number lent.first lent.records.now c.loop-index.invariant.1 c.loop-index.invariant.2 c.in-Some.ensures.steps c.index-records-index.is c.requires.placed c.requires.cores in
+    subst (λ place. HoldsBefore place c.loop-index.piece.part) (sym at.place) (c.loop-index.invariant.3.holds_before lent.first c.requires.placed c.requires.going.holds_before)
 
 pub returns-in-Ok-Some-clause-outcome : goal.returns-in-Ok-Some-clause-outcome
 returns-in-Ok-Some-clause-outcome g c =
     let lent = c.args.lent.now in
-    let config = lent.config.now in
-    let records = lent.records.now in
-    let number = c.args.number in
-    let piece = piece_at config number in
-    let ordered = c.index-records-index.result in
-    let outcome = c.loop-index.invariant.1 in
-    let come = c.loop-index.invariant.3 in
-    let split = c.loop-index.invariant.2 ∙ ap (λ left. outcome ++ left) c.in-Some.ensures.steps in
-    let at = stands config number lent.first records outcome c.in-Some.index c.next.new.self ordered split c.index-records-index.is c.requires.placed c.requires.cores in
-    let index = reached config piece records (length outcome) in
-    refuses_there config number lent.first records (relations_of c.args.rules.now) c.args.piece.now c.loop-index.piece c.judge_one.new.piece _ c.loop-index.invariant.0 c.in-Ok-Some.refused index ordered
-    refl come (subst (IsFirstBreach (relations_of c.args.rules.now) c.loop-index.invariant.0) (sym (rw c.in-Ok-Some.field-0-is at c.in-Ok-Some.ensures.tested)) c.loop-index.invariant.4) c.requires.placed c.requires.going.holds_before at.within at.is at.touched (rw c.in-Ok-Some.field-0-is at c.in-Ok-Some.ensures.judged) c.in-Ok-Some.ensures.of_module
+    let relations = relations_of c.args.rules.now in
+    let seen = c.loop-index.invariant.0 in
+    let at = stands lent.config.now c.args.number lent.first lent.records.now c.loop-index.invariant.1 c.loop-index.invariant.2 c.in-Some.ensures.steps c.index-records-index.is c.requires.placed c.requires.cores in
+    let index = reached lent.config.now (piece_at lent.config.now c.args.number) lent.records.now (length c.loop-index.invariant.1) in
+    refuses_there lent.config.now c.args.number lent.first lent.records.now relations c.args.piece.now c.loop-index.piece c.judge_one.new.piece _ seen c.in-Ok-Some.refused index c.index-records-index.result
+    refl c.loop-index.invariant.3 (subst (IsFirstBreach relations seen) (sym (rw c.in-Ok-Some.field-0-is at c.in-Ok-Some.ensures.tested)) c.loop-index.invariant.4) c.requires.placed c.requires.going.holds_before at.within at.is at.touched (rw c.in-Ok-Some.field-0-is at c.in-Ok-Some.ensures.judged) c.in-Ok-Some.ensures.of_module
 
 pub loop-index-preserved : goal.loop-index-preserved
 loop-index-preserved g c =
@@ -102,8 +76,7 @@ loop-index-preserved g c =
     let ordered = c.index-records-index.result in
     let outcome = c.loop-index.invariant.1 in
     let come = c.loop-index.invariant.3 in
-    let split = c.loop-index.invariant.2 ∙ ap (λ left. outcome ++ left) c.in-Some.ensures.steps in
-    let at = stands config number lent.first records outcome c.in-Some.index c.next.new.self ordered split c.index-records-index.is c.requires.placed c.requires.cores in
+    let at = stands lent.config.now c.args.number lent.first lent.records.now c.loop-index.invariant.1 c.loop-index.invariant.2 c.in-Some.ensures.steps c.index-records-index.is c.requires.placed c.requires.cores in
     let index = reached config piece records (length outcome) in
     let judged = rw c.in-Ok-None.field-0-is at c.in-Ok-None.ensures.judged in
     let old = c.args.piece.now in
@@ -123,7 +96,7 @@ loop-index-preserved g c =
     let longer : suc (length outcome) ≡ length (outcome ++ c.in-Some.index ∷ []) = omega (arith, length-append outcome (c.in-Some.index ∷ [])) in (
       seen ++ seen_of given index,
       outcome ++ c.in-Some.index ∷ [],
-      split ∙ sym (append_assoc outcome (c.in-Some.index ∷ []) c.next.new.self),
+      c.loop-index.invariant.2 ∙ ap (λ left. outcome ++ left) c.in-Some.ensures.steps ∙ sym (append_assoc outcome (c.in-Some.index ∷ []) c.next.new.self),
       subst (λ n. HasCome config number old records next (seen ++ seen_of given index) (reached config piece records n)) longer
           (holds_at_next config piece records (HasCome config number old records next (seen ++ seen_of given index)) (length outcome) at.listed
           (come_past config number old records next (seen ++ seen_of given index)) over),
@@ -133,13 +106,11 @@ loop-index-preserved g c =
 pub returns-clause-outcome : goal.returns-clause-outcome
 returns-clause-outcome g c =
     let lent = c.args.lent.now in
-    let config = lent.config.now in
     let records = lent.records.now in
-    let number = c.args.number in
-    let piece = piece_at config number in
     let outcome = c.loop-index.invariant.1 in
-    let all : touching config piece 0 records ≡ outcome = c.loop-index.invariant.2 ∙ ap (λ left. outcome ++ left) c.in-None.ensures.steps.0 ∙ append-nil outcome in
-    let end : reached config piece records (length outcome) ≡ length records =
-    get_or_past (touching config piece 0 records) (length outcome) (length records) (omega (arith, ap length all)) in
-    goes_through config number lent.first records (relations_of c.args.rules.now) c.args.piece.now c.loop-index.piece _ c.loop-index.invariant.0 (reached config piece records (length outcome)) refl
-    c.loop-index.invariant.3 c.loop-index.invariant.4 end c.requires.placed c.requires.going.holds_before
+    let piece = piece_at lent.config.now c.args.number in
+    let all : touching lent.config.now piece 0 records ≡ outcome = c.loop-index.invariant.2 ∙ ap (λ left. outcome ++ left) c.in-None.ensures.steps.0 ∙ append-nil outcome in
+    let end : reached lent.config.now piece records (length outcome) ≡ length records =
+    get_or_past (touching lent.config.now piece 0 records) (length outcome) (length records) (omega (arith, ap length all)) in
+    goes_through lent.config.now c.args.number lent.first records (relations_of c.args.rules.now) c.args.piece.now c.loop-index.piece _ c.loop-index.invariant.0
+    (reached lent.config.now piece records (length outcome)) refl c.loop-index.invariant.3 c.loop-index.invariant.4 end c.requires.placed c.requires.going.holds_before

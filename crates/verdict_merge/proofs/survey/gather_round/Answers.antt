@@ -1,4 +1,4 @@
-use Rattle.std.proofs.Common.{◌≡◌, ◌<◌, ◌+◌, ◌∙◌, ℕ, None, length, refl, sym, subst, arith}
+use Rattle.std.proofs.Common.{below_more, ◌≡◌, ◌<◌, ◌+◌, ◌∙◌, ℕ, None, length, refl, sym, subst, arith}
 use Rattle.std.specs.Prelude.{replicate}
 use Rattle.std.proofs.lemmas.List.{length-map, length-replicate}
 use Rattle.apex_machine.specs.Pieces.{pieces}
@@ -8,7 +8,6 @@ use Rattle.verdict_merge.proofs.Giving.{gives}
 use Rattle.verdict_merge.proofs.Holdings.{holding_left, left_each}
 use Rattle.verdict_merge.proofs.Rounds.{HasBeen, IsFound, been_more, found_more}
 use Rattle.verdict_merge.proofs.Slotted.{length-put_in, none_held, put_in}
-use Rattle.verdict_merge.proofs.Splits.{up_to}
 use Rattle.verdict_merge.proofs.Viewing.{HasFilled, filled_more, filled_stays, seen_have_slots, sound_more}
 use Rattle.verdict_merge.proofs.Watching.{outcome_of_piece, have_run_over, refused_within, wanted_filled}
 use Rattle.verdict_merge.proofs.survey.gather_round.Goals as goal
@@ -51,7 +50,7 @@ pieces-preserved c = λ relations start going over.
       slots = put_in here.seen before.slots;
       whole = length-put_in here.seen before.slots ∙ before.whole;
       sound = sound_more config (parts_in start) number records one.outcome.found here.seen before.slots within give before.whole here.are before.sound;
-      filled = up_to (HasFilled config (parts_in start) records (put_in here.seen before.slots)) number
+      filled = below_more (HasFilled config (parts_in start) records (put_in here.seen before.slots)) number
           (λ other less. filled_stays config (parts_in start) records here.seen before.slots other have (before.filled other less))
           (filled_more config (parts_in start) number lent.first records one.outcome.found (left number) here.seen before.slots c.requires.placed give before.whole outcome here.are);
       first = subst (IsFirstIn config (parts_in start) relations records (put_in here.seen before.slots)) (sym c.take_in.ensures.breach)
@@ -83,12 +82,12 @@ returns-in-Ok c = λ relations start going over.
     let found = subst (λ count. IsFound config (parts_in start) records count gathering.found) (sym all) after.least in
     let been : (number : ℕ) → number < length (pieces config) → HasBeen config (parts_in start) records left gathering.found number =
     λ number within. after.been number (omega (arith, within, all)) in
-    let outcome = have_run_over config (parts_in start) left records lent.first gathering.found c.requires.placed been found in
+    let stands = outcome_of_piece config start (pieces_in judged) records lent.first gathering.found c.requires.placed been found in
+    let outcome = have_run_over config start (pieces_in judged) records gathering.found stands in
     let filled = wanted_filled config (parts_in start) lent.first records gathering.found after.slots c.requires.placed (going.each 0 (omega arith)).whose (omega arith) outcome
     (λ number within. after.filled number (omega (arith, within, all))) in
     record {
-      outcome = subst (HaveRunOver config start records gathering.found) (sym c.in-Ok.ensures)
-          (outcome_of_piece config start (pieces_in judged) records lent.first gathering.found c.requires.placed been found);
+      outcome = subst (HaveRunOver config start records gathering.found) (sym c.in-Ok.ensures) stands;
       tested = subst (IsTested config relations (parts_in start) records gathering.found) (sym c.breach_in-breach.ensures)
           (is_tested config (parts_in start) relations lent.first records gathering.found c.requires.placed outcome after.slots gathering.breach after.whole after.sound filled after.first);
       going = subst (AreGoing config (lent.first + length records)) (sym c.in-Ok.ensures) (record {
