@@ -18,6 +18,15 @@ use std::io::Cursor;
 use std::sync::Wait;
 use std::thread::Threads;
 
+/// The texts of a check: the configuration, one recording for each core and the certificate; and the options that ask for its rules.
+#[derive(Clone, Copy, Debug)]
+pub struct Texts<'a> {
+    pub config: &'a [u8],
+    pub recordings: &'a [Vec<u8>],
+    pub order: &'a [u8],
+    pub options: &'a [RuleOption],
+}
+
 /// What came of a check.
 #[derive(Debug, Drop)]
 pub struct Answer {
@@ -59,27 +68,23 @@ fn has_lines(lines: &[u8], expected: Option<&[u8]>) -> bool
     }
 }
 
-/// The answer of the check for these texts: the configuration, one recording for each core, the certificate; and for the rules
-/// that these options ask for. It is run in this manner.
+/// The answer of the check for these texts, run in this manner.
 pub fn answer_to<T>(
     rt: T,
     alloc: Global,
-    config: &[u8],
-    recordings: &[Vec<u8>],
-    order: &[u8],
-    options: &[RuleOption],
+    texts: Texts<'_>,
     manner: Manner,
 ) -> Result<Answer, AllocError>
 where
     T: Threads + Wait + Sync + Copy + Send + 'static,
-    ensures { IfOk result (λ answer. IsReportOf manner.settings (texts_of config.now (map (λ recording. recording.items) recordings.now) order.now) options.now (reported_by answer.line.items answer.last.items answer.status)) }
+    ensures { IfOk result (λ answer. IsReportOf manner.settings (texts_of texts.entry.config.now (map (λ recording. recording.items) texts.entry.recordings.now) texts.entry.order.now) texts.entry.options.now (reported_by answer.line.items answer.last.items answer.status)) }
 {
-    let readers = readers_of(alloc, recordings)?;
-    let relations = relations_of(alloc, options)?;
+    let readers = readers_of(alloc, texts.recordings)?;
+    let relations = relations_of(alloc, texts.options)?;
     let Ok(mut last) = Last::new(alloc) else {
         return Err(AllocError);
     };
-    let inputs = Inputs::new(config, readers, order);
+    let inputs = Inputs::new(texts.config, readers, texts.order);
     let options = Options::new(manner.settings, &Open).in_rounds(manner.rounds.size());
     let outcome = check_relations(
         rt,

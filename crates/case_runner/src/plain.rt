@@ -4,7 +4,7 @@ ghost use Rattle.std.specs.Prelude.{◌≤◌, IfOk, length};
 ghost use Rattle.apex_types.specs.declared.limits.TheConstants.{MOST_CORES};
 ghost use Rattle.apex_machine.specs.Runs.{ArePlaced, AreOfCores};
 
-use crate::answering::{Answer, line_of, readers_of, status_of};
+use crate::answering::{Answer, Texts, line_of, readers_of, status_of};
 use apex_types::{Ordered, View};
 use core_intake::Intake;
 use module_config::Config;
@@ -23,23 +23,16 @@ use verdict_merge::check_plain;
 const DEPTH: usize = 64;
 
 /// What `check_plain` answers for these texts over the records that they place, whatever refuses the rest of them, and under the
-/// rules that these options ask for. There are no last records.
+/// rules that their options ask for. There are no last records.
 ///
 /// The answer to a configuration that is refused, or that has another number of cores, is an empty line with status 2.
-pub fn answer_at_once<T>(
-    rt: T,
-    alloc: Global,
-    config: &[u8],
-    recordings: &[Vec<u8>],
-    order: &[u8],
-    options: &[RuleOption],
-) -> Result<Answer, AllocError>
+pub fn answer_at_once<T>(rt: T, alloc: Global, texts: Texts<'_>) -> Result<Answer, AllocError>
 where
     T: Threads + Wait + Sync + Copy + Send + 'static,
 {
-    let found = match Config::read(alloc, config) {
+    let found = match Config::read(alloc, texts.config) {
         Ok(config) => {
-            let found = verdict_under(rt, alloc, &config, recordings, order, options);
+            let found = verdict_under(rt, alloc, &config, texts);
             // Its parts are dropped in one place.
             drop(config);
             found?
@@ -66,21 +59,20 @@ fn verdict_under<T>(
     rt: T,
     alloc: Global,
     config: &Config,
-    recordings: &[Vec<u8>],
-    order: &[u8],
-    options: &[RuleOption],
+    texts: Texts<'_>,
 ) -> Result<Option<Verdict>, AllocError>
 where
     T: Threads + Wait + Sync + Copy + Send + 'static,
 {
-    if config.cores() as usize != recordings.len() {
+    if config.cores() as usize != texts.recordings.len() {
         return Ok(None);
     }
-    let Ok(intake) = Intake::open(rt, alloc, readers_of(alloc, recordings)?, DEPTH) else {
+    let readers = readers_of(alloc, texts.recordings)?;
+    let Ok(intake) = Intake::open(rt, alloc, readers, DEPTH) else {
         return Err(AllocError);
     };
-    let records = records_of(rt, alloc, intake, order)?;
-    Ok(Some(verdict_over(alloc, config, &records, options)?))
+    let records = records_of(rt, alloc, intake, texts.order)?;
+    Ok(Some(verdict_over(alloc, texts.options, config, &records)?))
 }
 
 // All records that this certificate places, whatever refuses the rest.
@@ -108,9 +100,9 @@ fn records_of<T: Threads + Wait + Copy + Send + 'static>(
 // The verdict over these records under the rules that the options ask for, each of which is its own test.
 fn verdict_over(
     alloc: Global,
+    options: &[RuleOption],
     config: &Config,
     records: &[Ordered],
-    options: &[RuleOption],
 ) -> Result<Verdict, AllocError>
     requires placed { ArePlaced 0 records.now }
     requires cores { AreOfCores config.now.cores records.now }

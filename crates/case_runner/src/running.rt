@@ -3,7 +3,7 @@
 ghost use Rattle.std.specs.Prelude.{◌≡◌, ◌++◌, IfOk, is_some, map, option_map};
 ghost use Rattle.case_runner.specs.Answers.{IsCompared, texts_of, wanted_by};
 
-use crate::answering::{Answer, Expected, answer_to};
+use crate::answering::{Answer, Expected, Texts, answer_to};
 use crate::archive::{Section, sections};
 use crate::case::{Case, CaseFault, Cut};
 use crate::heading::Heading;
@@ -12,7 +12,6 @@ use crate::plain::answer_at_once;
 use crate::rewriting::in_format_2;
 use crate::tally::Tally;
 use itoa::Buffer;
-use rule_options::RuleOption;
 use sink::{Sink, WriteFault, put_all, put_parts};
 use std::alloc::{AllocError, Global};
 use std::fs;
@@ -151,29 +150,30 @@ where
     }
     let order = case.order_text()?;
     let rules = case.rules()?;
-    let texts = Texts {
-        config: case.config(),
-        recordings: case.recordings(),
-        order: &order,
-        rules: &rules,
+    let trial = Trial {
+        rt,
+        alloc,
+        texts: Texts {
+            config: case.config(),
+            recordings: case.recordings(),
+            order: &order,
+            options: &rules,
+        },
         named: case.named(),
         cut: None,
         is_rewritten: false,
     };
     if let Some(expected) = case.expected()? {
-        if let Some(difference) = texts.difference(rt, alloc, expected)? {
+        if let Some(difference) = trial.difference(expected)? {
             return Ok(Some(difference));
         }
     }
-    let cuts = case.cuts()?;
-    run_cuts(rt, alloc, texts, &cuts)
+    run_cuts(trial, &case.cuts()?)
 }
 
 // Runs a case for each first part of the recording of core 0.
 fn run_cuts<'a, T>(
-    rt: T,
-    alloc: Global,
-    whole: Texts<'_>,
+    whole: Trial<'_, T>,
     cuts: &[Cut<'a>],
 ) -> Result<Option<Difference<'a>>, CaseFault>
 where
@@ -182,7 +182,7 @@ where
     let Some(last) = cuts.last() else {
         return Ok(None);
     };
-    let recording = whole.recordings.first().ok_or(CaseFault::NoCuts)?;
+    let recording = whole.texts.recordings.first().ok_or(CaseFault::NoCuts)?;
     if last.bytes > recording.len() {
         return Err(CaseFault::NoCuts);
     }
@@ -195,134 +195,105 @@ where
             .last()
             .ok_or(CaseFault::NoCuts)?
             .expected;
+        let alloc = whole.alloc;
         let cut = vec![in alloc; Vec::from_slice(alloc, &recording[..bytes])?]?;
-        let texts = Texts {
-            recordings: &cut,
+        let trial = Trial {
+            texts: Texts {
+                recordings: &cut,
+                ..whole.texts
+            },
             named,
             cut: Some(bytes),
             ..whole
         };
-        if let Some(difference) = texts.difference(rt, alloc, expected)? {
+        if let Some(difference) = trial.difference(expected)? {
             return Ok(Some(difference));
         }
     }
     Ok(None)
 }
 
-// The texts of a check, of which the recording may be cut after so many bytes.
+// A check of texts, of which the recording may be cut after so many bytes, with the settings that the case names.
 #[derive(Clone, Copy)]
-struct Texts<'b> {
-    config: &'b [u8],
-    recordings: &'b [Vec<u8>],
-    order: &'b [u8],
-    rules: &'b [RuleOption],
+struct Trial<'b, T> {
+    rt: T,
+    alloc: Global,
+    texts: Texts<'b>,
     named: Named,
     cut: Option<usize>,
     is_rewritten: bool,
 }
 
-impl<'b> Texts<'b> {
+impl<'b, T: Threads + Wait + Sync + Copy + Send + 'static> Trial<'b, T> {
     // The first answer that is not the expected one: as the recordings are written, in rounds of each size, and in format 2; and of
     // all records at once.
-    fn difference<'a, T>(
-        &self,
-        rt: T,
-        alloc: Global,
-        expected: Expected<'a>,
-    ) -> Result<Option<Difference<'a>>, AllocError>
-    where
-        T: Threads + Wait + Sync + Copy + Send + 'static,
-    {
+    fn difference<'a>(&self, expected: Expected<'a>) -> Result<Option<Difference<'a>>, AllocError> {
         for rounds in [Rounds::OfOne, Rounds::OfSeven, Rounds::OfMost] {
-            if let Some(difference) = self.difference_in(rt, alloc, rounds, expected)? {
+            if let Some(difference) = self.difference_in(rounds, expected)? {
                 return Ok(Some(difference));
             }
         }
-        let rewritten = in_format_2(alloc, self.recordings)?;
-        let texts = Texts {
-            recordings: &rewritten,
+        let rewritten = in_format_2(self.alloc, self.texts.recordings)?;
+        let trial = Trial {
+            texts: Texts {
+                recordings: &rewritten,
+                ..self.texts
+            },
             named: self.named.by_one_worker(),
             is_rewritten: true,
             ..*self
         };
-        if let Some(difference) = texts.difference_in(rt, alloc, Rounds::OfMost, expected)? {
+        if let Some(difference) = trial.difference_in(Rounds::OfMost, expected)? {
             return Ok(Some(difference));
         }
-        self.difference_at_once(rt, alloc, expected)
+        self.difference_at_once(expected)
     }
 
     // The answer in these rounds, if it is not the expected one.
-    fn difference_in<'a, T>(
+    fn difference_in<'a>(
         &self,
-        rt: T,
-        alloc: Global,
         rounds: Rounds,
         expected: Expected<'a>,
     ) -> Result<Option<Difference<'a>>, AllocError>
-    where
-        T: Threads + Wait + Sync + Copy + Send + 'static,
-        ensures { IfOk result (λ difference. IsCompared self.now.named (texts_of self.now.config.now (map (λ recording. recording.items) self.now.recordings.now) self.now.order.now) self.now.rules.now (wanted_by expected.entry.line.now (option_map (λ lines. lines.now) expected.entry.last) expected.entry.status) (is_some difference)) }
+        ensures { IfOk result (λ difference. IsCompared self.now.named (texts_of self.now.texts.config.now (map (λ recording. recording.items) self.now.texts.recordings.now) self.now.texts.order.now) self.now.texts.options.now (wanted_by expected.entry.line.now (option_map (λ lines. lines.now) expected.entry.last) expected.entry.status) (is_some difference)) }
     {
         let manner = self.named.in_rounds(rounds);
-        let found = answer_to(
-            rt,
-            alloc,
-            self.config,
-            self.recordings,
-            self.order,
-            self.rules,
-            manner,
-        )?;
+        let found = answer_to(self.rt, self.alloc, self.texts, manner)?;
         if found.is(expected) {
             return Ok(None);
         }
-        Ok(Some(Difference {
-            cut: self.cut,
-            is_rewritten: self.is_rewritten,
-            how: How::Checked(manner),
-            expected,
-            found,
-        }))
+        Ok(Some(self.differing(How::Checked(manner), expected, found)))
     }
 
     // The verdict over all records at once, if it is not the expected one. Nothing is asked where the input is to be refused, since
-    // the verdict says nothing of it.
-    fn difference_at_once<'a, T>(
+    // the verdict says nothing of it. It leaves no last records.
+    fn difference_at_once<'a>(
         &self,
-        rt: T,
-        alloc: Global,
         expected: Expected<'a>,
-    ) -> Result<Option<Difference<'a>>, AllocError>
-    where
-        T: Threads + Wait + Sync + Copy + Send + 'static,
-    {
+    ) -> Result<Option<Difference<'a>>, AllocError> {
         if expected.status > 1 {
             return Ok(None);
         }
-        let found = answer_at_once(
-            rt,
-            alloc,
-            self.config,
-            self.recordings,
-            self.order,
-            self.rules,
-        )?;
-        // It leaves no last records.
+        let found = answer_at_once(self.rt, self.alloc, self.texts)?;
         let wanted = Expected {
-            line: expected.line,
             last: None,
-            status: expected.status,
+            ..expected
         };
         if found.is(wanted) {
             return Ok(None);
         }
-        Ok(Some(Difference {
+        Ok(Some(self.differing(How::AtOnce, wanted, found)))
+    }
+
+    // That this answer came where that was expected.
+    fn differing<'a>(&self, how: How, expected: Expected<'a>, found: Answer) -> Difference<'a> {
+        Difference {
             cut: self.cut,
             is_rewritten: self.is_rewritten,
-            how: How::AtOnce,
-            expected: wanted,
+            how,
+            expected,
             found,
-        }))
+        }
     }
 }
 

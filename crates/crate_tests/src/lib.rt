@@ -13,6 +13,8 @@ mod memory;
 #[cfg(test)]
 mod readers;
 #[cfg(test)]
+mod records;
+#[cfg(test)]
 mod relations;
 #[cfg(test)]
 mod ruled;

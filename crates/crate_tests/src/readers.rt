@@ -36,138 +36,95 @@ impl Read for Failing {
     }
 }
 
-// A reader of a text that fails past so many bytes.
-fn reader_of(text: &'static str, step: usize, given: usize) -> Failing {
-    Failing {
-        text: text.as_bytes(),
-        step,
-        given,
-    }
-}
+const WHOLE: usize = usize::MAX;
 
-// The outcome for these readers.
-fn outcome<T>(
-    rt: T,
-    alloc: Global,
-    recording: Failing,
-    order: Failing,
-    settings: Settings,
-) -> Result<Result<Verdict, CheckFault>, AllocError>
-where
-    T: Threads + Wait + Sync + Copy + Send + 'static,
-{
-    let readers = vec![in alloc; Watched::new(recording)]?;
-    Ok(check(
-        rt,
-        alloc,
-        CONFIG.as_bytes(),
-        readers,
-        Watched::new(order),
-        &[],
-        settings,
-        &Open,
-    ))
+// How the tests read and judge: so many bytes at a time, by so many workers and at this depth.
+const WAYS: [(usize, usize, usize); 3] = [(1, 1, 1), (7, 2, 2), (1000, 7, 64)];
+
+// A reader of a text that fails past so many bytes.
+fn reader_of(text: &'static [u8], step: usize, given: usize) -> Watched<Failing> {
+    Watched::new(Failing { text, step, given })
 }
 
 // How many rows are whole in the first bytes of a text.
-fn whole_rows(text: &str, bytes: usize) -> u64 {
+fn whole_rows(text: &[u8], bytes: usize) -> u64 {
     let mut rows = 0u64;
-    for byte in text.bytes().take(bytes) {
-        if byte == b'\n' {
+    for byte in text.iter().take(bytes) {
+        if *byte == b'\n' {
             rows = rows.saturating_add(1);
         }
     }
     rows
 }
 
-#[test]
-fn readers_fail(rt: HostRuntime) -> Result<(), Fail> {
-    let alloc = rt.alloc();
-    let whole = usize::MAX;
-    for (step, workers, depth) in [(1, 1, 1), (7, 2, 2), (1000, 7, 64)] {
-        let settings = Settings { workers, depth };
-        let (recording, order) = (
-            reader_of(RECORDING, step, whole),
-            reader_of(ORDER, step, whole),
-        );
-        assert_eq!(rt;
-            outcome(rt, alloc, recording, order, settings)?,
-            Ok(Verdict::Yes { records: 13 }),
-            "by {step}"
-        );
-        for given in 0..RECORDING.len().saturating_add(1) {
-            let cut = reader_of(RECORDING, step, given);
-            let (core, seq, fault) = (0, whole_rows(RECORDING, given), RowFault::Read);
-            assert_eq!(rt;
-                outcome(rt, alloc, cut, order, settings)?,
-                Err(CheckFault::Input(InputFault::Row { core, seq, fault })),
-                "a recording of {given} bytes by {step}"
-            );
-        }
-        for given in 0..ORDER.len().saturating_add(1) {
-            let cut = reader_of(ORDER, step, given);
-            let (place, fault) = (whole_rows(ORDER, given), CertFault::Read);
-            assert_eq!(rt;
-                outcome(rt, alloc, recording, cut, settings)?,
-                Err(CheckFault::Input(InputFault::Cert { place, fault })),
-                "a certificate of {given} bytes by {step}"
-            );
-        }
-    }
-    Ok(())
+// What has to come of a recording whose reader fails past so many bytes.
+fn failed_row(core: u32, text: &[u8], given: usize) -> Result<Verdict, CheckFault> {
+    let (seq, fault) = (whole_rows(text, given), RowFault::Read);
+    Err(CheckFault::Input(InputFault::Row { core, seq, fault }))
 }
 
-// The outcome for two cores of which the first has this sender, and the second this receiver.
-fn outcome_of_two<T>(
+// What comes of the recording and its certificate where their readers fail past so many bytes.
+fn outcome<T>(
     rt: T,
     alloc: Global,
-    sender: Failing,
-    receiver: Failing,
+    step: usize,
+    rows: usize,
+    pairs: usize,
     settings: Settings,
 ) -> Result<Result<Verdict, CheckFault>, AllocError>
 where
     T: Threads + Wait + Sync + Copy + Send + 'static,
 {
-    Ok(check(
-        rt,
-        alloc,
-        MODULE.as_bytes(),
-        vec![in alloc; Watched::new(sender), Watched::new(receiver)]?,
-        BOTH.as_bytes(),
-        &[],
-        settings,
-        &Open,
-    ))
+    let readers = vec![in alloc; reader_of(RECORDING.as_bytes(), step, rows)]?;
+    let order = reader_of(ORDER, step, pairs);
+    Ok(check(rt, alloc, CONFIG, readers, order, &[], settings, &Open))
+}
+
+#[test]
+fn readers_fail(rt: HostRuntime) -> Result<(), Fail> {
+    let alloc = rt.alloc();
+    let recording = RECORDING.as_bytes();
+    for (step, workers, depth) in WAYS {
+        let settings = Settings { workers, depth };
+        let whole = outcome(rt, alloc, step, WHOLE, WHOLE, settings)?;
+        assert_eq!(rt; whole, Ok(Verdict::Yes { records: 14 }), "by {step}");
+        for given in 0..recording.len().saturating_add(1) {
+            let outcome = outcome(rt, alloc, step, given, WHOLE, settings)?;
+            let failed = failed_row(0, recording, given);
+            assert_eq!(rt; outcome, failed, "a recording of {given} bytes by {step}");
+        }
+        for given in 0..ORDER.len().saturating_add(1) {
+            let outcome = outcome(rt, alloc, step, WHOLE, given, settings)?;
+            let (place, fault) = (whole_rows(ORDER, given), CertFault::Read);
+            let failed = Err(CheckFault::Input(InputFault::Cert { place, fault }));
+            assert_eq!(rt; outcome, failed, "a certificate of {given} bytes by {step}");
+        }
+    }
+    Ok(())
 }
 
 // Where one core's reader fails, the rows of the other are there, and those of its own up to the failure.
 #[test]
 fn one_reader_of_two_fails(rt: HostRuntime) -> Result<(), Fail> {
     let alloc = rt.alloc();
-    let fault = RowFault::Read;
-    for (step, workers, depth) in [(1, 1, 1), (7, 2, 2), (1000, 7, 64)] {
+    let (sender, receiver) = (SENDER.as_bytes(), RECEIVER.as_bytes());
+    for (step, workers, depth) in WAYS {
         let settings = Settings { workers, depth };
-        let (sender, receiver) = (
-            reader_of(SENDER, step, usize::MAX),
-            reader_of(RECEIVER, step, usize::MAX),
-        );
-        for given in 0..SENDER.len().saturating_add(1) {
-            let cut = reader_of(SENDER, step, given);
-            let (core, seq) = (0, whole_rows(SENDER, given));
-            assert_eq!(rt;
-                outcome_of_two(rt, alloc, cut, receiver, settings)?,
-                Err(CheckFault::Input(InputFault::Row { core, seq, fault })),
-                "{given} bytes of the sender by {step}"
-            );
-        }
-        for given in 0..RECEIVER.len().saturating_add(1) {
-            let cut = reader_of(RECEIVER, step, given);
-            let (core, seq) = (1, whole_rows(RECEIVER, given));
-            assert_eq!(rt;
-                outcome_of_two(rt, alloc, sender, cut, settings)?,
-                Err(CheckFault::Input(InputFault::Row { core, seq, fault })),
-                "{given} bytes of the receiver by {step}"
-            );
+        for (core, text) in [(0, sender), (1, receiver)] {
+            for given in 0..text.len().saturating_add(1) {
+                let (first, second) = if core == 0 {
+                    (given, WHOLE)
+                } else {
+                    (WHOLE, given)
+                };
+                let readers = vec![in alloc;
+                    reader_of(sender, step, first),
+                    reader_of(receiver, step, second),
+                ]?;
+                let outcome = check(rt, alloc, MODULE, readers, BOTH, &[], settings, &Open);
+                let failed = failed_row(core, text, given);
+                assert_eq!(rt; outcome, failed, "{given} bytes of core {core} by {step}");
+            }
         }
     }
     Ok(())

@@ -5,18 +5,16 @@ ghost use Rattle.apex_machine.specs.Runs.{ArePlaced, AreOfCores};
 ghost use Rattle.piece_check.specs.Touching.{AreSortedOut, indices_of};
 ghost use Rattle.partition_workers.specs.Contents.{AreGoingFrom, IsOpen, content_of, parts_held};
 
-use crate::gates::{Meeting, Pair};
+use crate::gates::Meeting;
+use crate::records::{config_of, records_of};
 use crate::ruled::rule;
 use crate::texts::{BOTH, MODULE, RECEIVER, SENDER};
 use apex_types::{Body, Cause, CoreId, Field, Ordered, PartId, Place, ProcId, Record, Who, Woken};
-use core_intake::Intake;
 use module_config::Config;
-use order_cert::CertSource;
 use partition_workers::{
     Board, Done, Gate, Naming, Open, PostFault, PostRefusal, Round, RoundFault, run_round,
 };
 use piece_check::{Piece, Touched};
-use placement::{Filled, Placer};
 use std::alloc::{AllocError, Global};
 use std::marker::Brand;
 use std::sync::Wait;
@@ -77,30 +75,12 @@ fn refused_records(alloc: Global) -> Result<Vec<Ordered>, AllocError>
     Ok(records)
 }
 
-// The module of the tests.
-fn read_config(alloc: Global) -> Option<Config>
-    ensures { IfSome result (λ config. config.cores ≡ 2) }
-{
-    let Ok(config) = Config::read(alloc, MODULE.as_bytes()) else {
-        return None;
-    };
-    if config.cores() == 2 {
-        Some(config)
-    } else {
-        None
-    }
-}
-
 // Which records touch each piece.
 fn sort_out(alloc: Global, config: &Config, records: &[Ordered]) -> Option<Touched>
     ensures { IfSome result (λ touched. AreSortedOut config.now records.now (indices_of touched)) }
 {
-    let Ok(mut touched) = Touched::new(alloc) else {
-        return None;
-    };
-    if touched.sort_out(config, records).is_err() {
-        return None;
-    }
+    let mut touched = Touched::new(alloc).ok()?;
+    touched.sort_out(config, records).ok()?;
     Some(touched)
 }
 
@@ -116,12 +96,8 @@ fn judge_all<G: Gate + Sync, R: Threads + Wait + Sync>(
     requires placed { ArePlaced 0 records.now }
     requires cores { AreOfCores 2 records.now }
 {
-    let Some(config) = read_config(alloc) else {
-        return Err(RoundFault::Memory);
-    };
-    let Some(touched) = sort_out(alloc, &config, records) else {
-        return Err(RoundFault::Memory);
-    };
+    let config = config_of(alloc, MODULE, 2).ok_or(RoundFault::Memory)?;
+    let touched = sort_out(alloc, &config, records).ok_or(RoundFault::Memory)?;
     let Ok(pieces) = start_pieces(alloc, &config) else {
         return Err(RoundFault::Memory);
     };
@@ -149,12 +125,11 @@ fn has_come(number: usize, ruled: bool, one: &Judged) -> bool {
 
 // Whether what has to come of all five pieces has come.
 fn have_come(ruled: bool, all: &[Judged]) -> bool {
-    for (number, one) in all.iter().enumerate() {
-        if !has_come(number, ruled, one) {
-            return false;
-        }
-    }
     all.len() == 5
+        && all
+            .iter()
+            .enumerate()
+            .all(|(number, one)| has_come(number, ruled, one))
 }
 
 // With a rule that each tick breaks, and with none.
@@ -165,13 +140,9 @@ fn any_number_of_workers_gives_the_same(rt: HostRuntime) -> Result<(), Fail> {
     let mut rules = Vec::new(alloc);
     rules.push(rule!(alloc, Relation::Less(Field::Kind, 3)))?;
     for workers in [1, 2, 5] {
-        let Ok(ruled) = judge_all(&rt, alloc, &records, &rules, workers, &Open) else {
-            return Err(Fail::from("no round under a rule"));
-        };
+        let ruled = judge_all(&rt, alloc, &records, &rules, workers, &Open)?;
         assert!(rt; have_come(true, &ruled), "{workers} workers under a rule");
-        let Ok(all) = judge_all(&rt, alloc, &records, &[], workers, &Open) else {
-            return Err(Fail::from("no round"));
-        };
+        let all = judge_all(&rt, alloc, &records, &[], workers, &Open)?;
         assert!(rt; have_come(false, &all), "{workers} workers");
     }
     Ok(())
@@ -184,28 +155,6 @@ fn no_worker_is_refused(rt: HostRuntime) -> Result<(), Fail> {
     Ok(())
 }
 
-// The records of a message from one partition to another, which touch all five pieces.
-fn sent_records<T: Threads + Wait + Copy + Send + 'static>(
-    rt: T,
-    alloc: Global,
-) -> Result<Vec<Ordered>, AllocError>
-    ensures placed { IfOk result (λ records. ArePlaced 0 records.items) }
-    ensures cores { IfOk result (λ records. AreOfCores 2 records.items) }
-{
-    let readers = vec![in alloc; SENDER.as_bytes(), RECEIVER.as_bytes()]?;
-    let Ok(intake) = Intake::open(rt, alloc, readers, 4) else {
-        return Err(AllocError);
-    };
-    let mut placer = Placer::new(intake, CertSource::new(alloc, BOTH.as_bytes()));
-    let mut records = Vec::new(alloc);
-    let filled = placer.fill(&rt, &mut records, 64);
-    placer.close(&rt);
-    match filled {
-        Filled::Ended(Ok(())) => Ok(records),
-        Filled::Full | Filled::Ended(Err(_)) | Filled::Memory => Err(AllocError),
-    }
-}
-
 // Whether no piece refuses a record.
 fn all_went(all: &[Judged]) -> bool {
     all.len() == 5 && all.iter().all(|one| one.outcome.found.is_none())
@@ -215,12 +164,11 @@ fn all_went(all: &[Judged]) -> bool {
 #[test]
 fn two_claims_meet(rt: HostRuntime) -> Result<(), Fail> {
     let alloc = rt.alloc();
-    let records = sent_records(rt, alloc)?;
+    let recordings = vec![in alloc; SENDER.as_bytes(), RECEIVER.as_bytes()]?;
+    let records = records_of(rt, alloc, recordings, BOTH)?;
     for workers in [2, 5] {
         let gate = Meeting::new(5, workers);
-        let Ok(judged) = judge_all(&rt, alloc, &records, &[], workers, &gate) else {
-            return Err(Fail::from("no round"));
-        };
+        let judged = judge_all(&rt, alloc, &records, &[], workers, &gate)?;
         assert!(rt; all_went(&judged), "{workers} workers");
         assert_eq!(rt; gate.met(), 5, "{workers} workers");
     }
@@ -231,13 +179,12 @@ fn two_claims_meet(rt: HostRuntime) -> Result<(), Fail> {
 #[test]
 fn every_two_claims_meet(rt: HostRuntime) -> Result<(), Fail> {
     let alloc = rt.alloc();
-    let records = sent_records(rt, alloc)?;
+    let recordings = vec![in alloc; SENDER.as_bytes(), RECEIVER.as_bytes()]?;
+    let records = records_of(rt, alloc, recordings, BOTH)?;
     for first in 0..5 {
         for second in first + 1..5 {
-            let gate = Pair::new(first, second);
-            let Ok(judged) = judge_all(&rt, alloc, &records, &[], 2, &gate) else {
-                return Err(Fail::from("no round"));
-            };
+            let gate = Meeting::of_two(first, second);
+            let judged = judge_all(&rt, alloc, &records, &[], 2, &gate)?;
             assert!(rt; all_went(&judged), "{first} and {second}");
             assert_eq!(rt; gate.met(), 2, "{first} and {second}");
         }
@@ -272,26 +219,16 @@ fn refuse<J: Naming>(board: &mut Board<J>, done: Done<J>) -> Option<(RefusedPost
 
 // What a board says of what it refuses, which is given up.
 fn refusal_by<J: Naming>(board: &mut Board<J>, done: Done<J>) -> Option<RefusedPost> {
-    match refuse(board, done) {
-        Some((refused, fault)) => {
-            fault.give_up();
-            Some(refused)
-        }
-        None => None,
-    }
+    let (refused, fault) = refuse(board, done)?;
+    fault.give_up();
+    Some(refused)
 }
 
 // What becomes of the next piece of the board, claimed by this worker.
 fn finish_next<J: Naming>(board: &mut Board<J>, worker: usize) -> Option<Done<J>>
     requires { J.round.relations ≡ [] }
 {
-    let Some(job) = board.claim(worker) else {
-        return None;
-    };
-    match job.run(&[]) {
-        Ok(done) => Some(done),
-        Err(_) => None,
-    }
+    board.claim(worker)?.run(&[]).ok()
 }
 
 // Claims the next piece of the board by this worker, and posts what becomes of it.
@@ -309,13 +246,8 @@ fn post_next<J: Naming>(board: &mut Board<J>, worker: usize) -> bool
 fn refuse_first<J: Naming>(board: &mut Board<J>, other: &mut Board<J>) -> Option<[RefusedPost; 2]>
     requires { J.round.relations ≡ [] }
 {
-    let Some(done) = finish_next(other, 1) else {
-        return None;
-    };
-    let Some((not_claimed, fault)) = refuse(board, done) else {
-        return None;
-    };
-    let PostFault { refusal: _, done } = fault;
+    let done = finish_next(other, 1)?;
+    let (not_claimed, PostFault { refusal: _, done }) = refuse(board, done)?;
     let posted = post_next(board, 1);
     match refusal_by(board, done) {
         Some(repeated) if posted => Some([not_claimed, repeated]),
@@ -327,14 +259,9 @@ fn refuse_first<J: Naming>(board: &mut Board<J>, other: &mut Board<J>) -> Option
 fn refuse_next<J: Naming>(board: &mut Board<J>, other: &mut Board<J>) -> Option<RefusedPost>
     requires { J.round.relations ≡ [] }
 {
-    match board.claim(3) {
-        Some(job) => drop(job),
-        None => return None,
-    }
-    match finish_next(other, 2) {
-        Some(done) => refusal_by(board, done),
-        None => None,
-    }
+    drop(board.claim(3)?);
+    let done = finish_next(other, 2)?;
+    refusal_by(board, done)
 }
 
 // The three refusals, by two boards of one round under no rule.
@@ -350,32 +277,18 @@ fn refuse_all<J: Naming>(
     requires going { AreGoingFrom J.round.configuration J.round.first 0 pieces.items }
     requires other_going { AreGoingFrom J.round.configuration J.round.first 0 others.items }
 {
-    let Ok(mut board) = Board::new(alloc, Round::<J>::new(*lent, pieces)) else {
-        return None;
-    };
-    let Ok(mut other) = Board::new(alloc, Round::<J>::new(*lent, others)) else {
-        return None;
-    };
-    let Some(first) = refuse_first(&mut board, &mut other) else {
-        return None;
-    };
-    match refuse_next(&mut board, &mut other) {
-        Some(foreign) => Some([first[0], first[1], foreign]),
-        None => None,
-    }
+    let mut board = Board::new(alloc, Round::<J>::new(*lent, pieces)).ok()?;
+    let mut other = Board::new(alloc, Round::<J>::new(*lent, others)).ok()?;
+    let [not_claimed, repeated] = refuse_first(&mut board, &mut other)?;
+    let foreign = refuse_next(&mut board, &mut other)?;
+    Some([not_claimed, repeated, foreign])
 }
 
 // The same, of the round that the tests judge.
 fn refuse_in_round(alloc: Global) -> Option<[RefusedPost; 3]> {
-    let Some(config) = read_config(alloc) else {
-        return None;
-    };
-    let Ok(records) = refused_records(alloc) else {
-        return None;
-    };
-    let Some(touched) = sort_out(alloc, &config, &records) else {
-        return None;
-    };
+    let config = config_of(alloc, MODULE, 2)?;
+    let records = refused_records(alloc).ok()?;
+    let touched = sort_out(alloc, &config, &records)?;
     let Ok(pieces) = start_pieces(alloc, &config) else {
         return None;
     };
@@ -386,24 +299,20 @@ fn refuse_in_round(alloc: Global) -> Option<[RefusedPost; 3]> {
     refuse_all::<Brand>(alloc, &lent, pieces, others)
 }
 
-// What has to be said of a refusal.
-fn refused_as(refusal: PostRefusal, worker: usize, number: usize, events: usize) -> RefusedPost {
-    RefusedPost {
+#[test]
+fn a_board_gives_back_what_it_refuses(rt: HostRuntime) -> Result<(), Fail> {
+    let refused = refuse_in_round(rt.alloc());
+    let wanted = [
+        (PostRefusal::NotClaimed, 1, 0, 0),
+        (PostRefusal::Repeated, 1, 0, 2),
+        (PostRefusal::Foreign, 2, 1, 3),
+    ];
+    let wanted = wanted.map(|(refusal, worker, number, events)| RefusedPost {
         refusal,
         worker,
         number,
         events,
-    }
-}
-
-#[test]
-fn a_board_gives_back_what_it_refuses(rt: HostRuntime) -> Result<(), Fail> {
-    let refused = refuse_in_round(rt.alloc());
-    let wanted = Some([
-        refused_as(PostRefusal::NotClaimed, 1, 0, 0),
-        refused_as(PostRefusal::Repeated, 1, 0, 2),
-        refused_as(PostRefusal::Foreign, 2, 1, 3),
-    ]);
-    assert_eq!(rt; refused, wanted);
+    });
+    assert_eq!(rt; refused, Some(wanted));
     Ok(())
 }

@@ -1,14 +1,12 @@
 // Writers that fail in mid-line, in the place of standard output.
 
 use crate::texts::{CONFIG, ORDER, RECORDING};
-use report::{CheckFault, Open, Settings, Verdict, check, write_report};
+use crate::verdicts::SETTINGS;
+use report::{Open, check, write_report};
 use sink::{WriteFault, WriterSink};
-use std::alloc::{AllocError, Global};
 use std::io;
 use std::io::{ErrorKind, Write};
-use std::sync::Wait;
 use std::test::Fail;
-use std::thread::Threads;
 
 // Takes two bytes at a time, while it has room.
 #[derive(Drop)]
@@ -47,41 +45,16 @@ impl Write for Stuck {
     }
 }
 
-// What comes of the recording under this certificate.
-fn outcome<T>(
-    rt: T,
-    alloc: Global,
-    order: &'static str,
-) -> Result<Result<Verdict, CheckFault>, AllocError>
-where
-    T: Threads + Wait + Sync + Copy + Send + 'static,
-{
-    let readers = vec![in alloc; RECORDING.as_bytes()]?;
-    let settings = Settings {
-        workers: 1,
-        depth: 4,
-    };
-    Ok(check(
-        rt,
-        alloc,
-        CONFIG.as_bytes(),
-        readers,
-        order.as_bytes(),
-        &[],
-        settings,
-        &Open,
-    ))
-}
-
 #[test]
 fn writers_fail(rt: HostRuntime) -> Result<(), Fail> {
     let alloc = rt.alloc();
     for (order, line) in [
-        (ORDER, "YES records=13\n"),
-        ("0,x", "REFUSED cert place=0 fault=BadNumber\n"),
-        ("9,0", "REFUSED order place=0 core=9 fault=NoSuchCore\n"),
+        (ORDER, "YES records=14\n"),
+        (b"0,x", "REFUSED cert place=0 fault=BadNumber\n"),
+        (b"9,0", "REFUSED order place=0 core=9 fault=NoSuchCore\n"),
     ] {
-        let outcome = outcome(rt, alloc, order)?;
+        let readers = vec![in alloc; RECORDING.as_bytes()]?;
+        let outcome = check(rt, alloc, CONFIG, readers, order, &[], SETTINGS, &Open);
         for room in 0..line.len().saturating_add(1) {
             let mut taken = Vec::new(alloc);
             let mut sink = WriterSink::new(Narrow {
@@ -90,12 +63,7 @@ fn writers_fail(rt: HostRuntime) -> Result<(), Fail> {
             });
             let written = write_report(&mut sink, &outcome);
             drop(sink);
-            let expected = if room < line.len() {
-                Err(WriteFault)
-            } else {
-                Ok(())
-            };
-            assert_eq!(rt; written, expected, "{line}");
+            assert_eq!(rt; written.is_ok(), room == line.len(), "{line}");
             assert_eq!(rt; taken.len(), room, "{line}");
             assert!(rt; line.as_bytes().starts_with(&taken), "{line}");
         }

@@ -108,23 +108,31 @@ impl Drop for Piecewise {
     }
 }
 
-/// Gives its text once the first read of another reader has begun too, and fails where that does not come about.
+/// What a count has come to once it is this number, or after 1,000,000 yields.
+pub fn awaited(count: &AtomicUsize, wanted: usize) -> usize {
+    for _ in 0..1_000_000 {
+        let reached = count.load(Ordering::SeqCst);
+        if reached >= wanted {
+            return reached;
+        }
+        thread::yield_now();
+    }
+    count.load(Ordering::SeqCst)
+}
+
+/// Gives its text once a read of another reader has begun too, and fails where that does not come about.
 #[derive(Drop)]
 pub struct Meeting {
     pub text: Piecewise,
-    pub begun: Arc<AtomicBool>,
-    pub other: Arc<AtomicBool>,
+    pub begun: Arc<AtomicUsize>,
 }
 
 impl Read for Meeting {
     fn read(&mut self, buf: &mut [u8]) -> io::Result<usize> {
-        self.begun.store(true, Ordering::SeqCst);
-        for _ in 0..1_000_000 {
-            if self.other.load(Ordering::SeqCst) {
-                return self.text.read(buf);
-            }
-            thread::yield_now();
+        self.begun.fetch_add(1, Ordering::SeqCst);
+        if awaited(&self.begun, 2) < 2 {
+            return Err(io::Error::from(ErrorKind::TimedOut));
         }
-        Err(io::Error::from(ErrorKind::TimedOut))
+        self.text.read(buf)
     }
 }

@@ -1,12 +1,12 @@
 // What no clause says: that the threads read beside one another, how far they read ahead, and what is left behind.
 
-use crate::intake_readers::{Meeting, Piece, Piecewise, Trace};
+use crate::intake_readers::{Meeting, Piece, Piecewise, Trace, awaited};
 use apex_types::{Body, Record};
 use core_intake::{Intake, IntakeFault};
 use csv_rows::{TextSource, Watched};
 use record_read::RowFault;
 use std::alloc::{AllocError, Global};
-use std::sync::atomic::{AtomicBool, AtomicUsize, Ordering};
+use std::sync::atomic::{AtomicUsize, Ordering};
 use std::sync::{Arc, Wait};
 use std::test::Fail;
 use std::thread;
@@ -28,12 +28,8 @@ fn rows_of(alloc: Global, kind: &str, count: u32) -> Result<Vec<u8>, AllocError>
 
 // A reader of so many rows, of which nothing is watched.
 fn reader_of(alloc: Global, kind: &str, count: u32, piece: Piece) -> Result<Piecewise, AllocError> {
-    Ok(Piecewise::new(
-        rows_of(alloc, kind, count)?,
-        piece,
-        WHOLE,
-        Trace::new(alloc)?,
-    ))
+    let text = rows_of(alloc, kind, count)?;
+    Ok(Piecewise::new(text, piece, WHOLE, Trace::new(alloc)?))
 }
 
 // The next answer of a core that there is.
@@ -42,10 +38,11 @@ fn answer<R: TextSource, T: Wait>(
     intake: &mut Intake<R>,
     core: usize,
 ) -> Option<Result<Option<Record>, RowFault>> {
-    if core >= intake.count() {
-        return None;
+    if core < intake.count() {
+        Some(intake.next_of(rt, core))
+    } else {
+        None
     }
-    Some(intake.next_of(rt, core))
 }
 
 // Whether the core's next record is the tick, or the dispatch of no process, of this number.
@@ -72,17 +69,13 @@ fn has_end<R: TextSource, T: Wait>(rt: &T, intake: &mut Intake<R>, core: usize) 
     matches!(answer(rt, intake, core), Some(Ok(None)))
 }
 
-// Waits, by at most 1,000,000 yields, until a reader was read so often, and then 200 yields more.
-fn settle(reads: &AtomicUsize, count: usize) {
-    for _ in 0..1_000_000 {
-        if reads.load(Ordering::SeqCst) >= count {
-            break;
-        }
-        thread::yield_now();
-    }
+// How often a reader was read, 200 yields after it was read so often or `awaited` gave up.
+fn settled(reads: &AtomicUsize, count: usize) -> usize {
+    awaited(reads, count);
     for _ in 0..200 {
         thread::yield_now();
     }
+    reads.load(Ordering::SeqCst)
 }
 
 #[test]
@@ -100,14 +93,10 @@ fn rows_come_in_order(rt: HostRuntime) -> Result<(), Fail> {
             let mut intake = Intake::open(rt, alloc, readers, depth)?;
             assert_eq!(rt; intake.count(), 2);
             for seq in 0..700 {
-                assert!(rt;
-                    has_row(&rt, &mut intake, 0, true, seq),
-                    "{seq} by {step} at {depth}"
-                );
-                assert!(rt;
-                    has_row(&rt, &mut intake, 1, false, seq),
-                    "{seq} by {step} at {depth}"
-                );
+                for (core, tick) in [(0, true), (1, false)] {
+                    let is_next = has_row(&rt, &mut intake, core, tick, seq);
+                    assert!(rt; is_next, "{seq} of {core} by {step} at {depth}");
+                }
             }
             for core in [0, 1, 0] {
                 assert!(rt; has_end(&rt, &mut intake, core));
@@ -121,28 +110,21 @@ fn rows_come_in_order(rt: HostRuntime) -> Result<(), Fail> {
 #[test]
 fn two_readers_meet(rt: HostRuntime) -> Result<(), Fail> {
     let alloc = rt.alloc();
-    let (first, second) = (
-        Arc::new(alloc, AtomicBool::new(false))?,
-        Arc::new(alloc, AtomicBool::new(false))?,
-    );
+    let begun = Arc::new(alloc, AtomicUsize::new(0))?;
     let one = Meeting {
         text: reader_of(alloc, "tick", 13, ALL)?,
-        begun: Arc::try_clone(&first)?,
-        other: Arc::try_clone(&second)?,
+        begun: Arc::try_clone(&begun)?,
     };
     let other = Meeting {
         text: reader_of(alloc, "disp", 13, ALL)?,
-        begun: second,
-        other: first,
+        begun,
     };
     let readers = vec![in alloc; Watched::new(one), Watched::new(other)]?;
     let mut intake = Intake::open(rt, alloc, readers, 4)?;
     for (core, tick) in [(0, true), (1, false)] {
         for seq in 0..13 {
-            assert!(rt;
-                has_row(&rt, &mut intake, core, tick, seq),
-                "{seq} of {core}"
-            );
+            let is_next = has_row(&rt, &mut intake, core, tick, seq);
+            assert!(rt; is_next, "{seq} of {core}");
         }
         assert!(rt; has_end(&rt, &mut intake, core));
     }
@@ -184,19 +166,11 @@ fn readers_do_not_run_ahead(rt: HostRuntime) -> Result<(), Fail> {
         let reader = Piecewise::new(text, Piece::Line, WHOLE, trace.share()?);
         let readers = vec![in alloc; Watched::new(reader)]?;
         let mut intake = Intake::open(rt, alloc, readers, depth)?;
-        settle(&trace.reads, waiting + batch + 1);
-        assert_eq!(rt;
-            trace.reads.load(Ordering::SeqCst),
-            waiting + batch + 1,
-            "at {depth}"
-        );
+        let first = settled(&trace.reads, waiting + batch + 1);
+        assert_eq!(rt; first, waiting + batch + 1, "at {depth}");
         assert!(rt; has_row(&rt, &mut intake, 0, true, 0));
-        settle(&trace.reads, waiting + 2 * batch + 1);
-        assert_eq!(rt;
-            trace.reads.load(Ordering::SeqCst),
-            waiting + 2 * batch + 1,
-            "at {depth}"
-        );
+        let second = settled(&trace.reads, waiting + 2 * batch + 1);
+        assert_eq!(rt; second, waiting + 2 * batch + 1, "at {depth}");
         intake.close(&rt);
     }
     Ok(())

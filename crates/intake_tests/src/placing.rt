@@ -29,10 +29,7 @@ fn placer_of<T: Threads + Wait + Copy + Send + 'static>(
     let Ok(readers) = vec![in alloc; FIRST.as_bytes(), SECOND.as_bytes()] else {
         return Err(IntakeFault::Memory);
     };
-    let intake = match Intake::open(rt, alloc, readers, 2) {
-        Ok(intake) => intake,
-        Err(fault) => return Err(fault),
-    };
+    let intake = Intake::open(rt, alloc, readers, 2)?;
     Ok(Placer::new(intake, CertSource::new(alloc, ORDER.as_bytes())))
 }
 

@@ -5,16 +5,17 @@ use rule_options::{RuleOption, RuleOptions, relations_of};
 use std::alloc::Global;
 use std::test::Fail;
 
-fn call_of(service: i64) -> View {
+/// The view of a call of the service of this number in partition 0, at time 7.
+pub fn call_of(service: i64) -> View {
     View {
         kind: 0,
-        core: 0,
+        core: 1,
         time: 7,
         part: 0,
-        proc: 1,
+        proc: 3,
         service,
         prio: 10,
-        out: 0,
+        out: 7,
         val: -1,
         elapsed: -1,
         woken: 0,
@@ -33,38 +34,35 @@ fn return_behind(elapsed: i64) -> View {
 #[test]
 fn reads_values(rt: HostRuntime) -> Result<(), Fail> {
     for (text, expected) in [
-        (b"0".as_slice(), Some(0)),
-        (b"4294967295".as_slice(), Some(4_294_967_295)),
-        (b"4294967296".as_slice(), None),
-        (b"04".as_slice(), None),
-        (b"-1".as_slice(), None),
-        (b"".as_slice(), None),
+        ("0", Some(0)),
+        ("4294967295", Some(4_294_967_295)),
+        ("4294967296", None),
+        ("04", None),
+        ("-1", None),
+        ("", None),
     ] {
         let given = expected.map(|ticks| RuleOptions {
             max_elapsed: Some(ticks),
             forbidden: None,
         });
-        assert_eq!(rt; RuleOptions::read(Some(text), None), given);
+        assert_eq!(rt; RuleOptions::read(Some(text.as_bytes()), None), given);
     }
     for (text, expected) in [
+        ("SIGNAL_SEMAPHORE", Some(Service::SignalSemaphore)),
+        ("STOP", Some(Service::Stop)),
         (
-            b"SIGNAL_SEMAPHORE".as_slice(),
-            Some(Service::SignalSemaphore),
-        ),
-        (b"STOP".as_slice(), Some(Service::Stop)),
-        (
-            b"GET_QUEUING_PORT_STATUS".as_slice(),
+            "GET_QUEUING_PORT_STATUS",
             Some(Service::GetQueuingPortStatus),
         ),
-        (b"stop".as_slice(), None),
-        (b"NO_ERROR".as_slice(), None),
-        (b"".as_slice(), None),
+        ("stop", None),
+        ("NO_ERROR", None),
+        ("", None),
     ] {
         let given = expected.map(|service| RuleOptions {
             max_elapsed: None,
             forbidden: Some(service),
         });
-        assert_eq!(rt; RuleOptions::read(None, Some(text)), given);
+        assert_eq!(rt; RuleOptions::read(None, Some(text.as_bytes())), given);
     }
     assert_eq!(rt; RuleOptions::read(Some(b"x"), Some(b"STOP")), None);
     assert_eq!(rt; RuleOptions::read(Some(b"1"), Some(b"x")), None);
@@ -79,22 +77,19 @@ fn numbers_the_options(rt: HostRuntime) -> Result<(), Fail> {
         max_elapsed: Some(4),
         forbidden: Some(Service::SignalSemaphore),
     };
+    let (ticks, service) = (
+        RuleOption::MaxElapsed(4),
+        RuleOption::Forbid(Service::SignalSemaphore),
+    );
     assert_eq!(rt;
         both.in_order(heap)?.as_slice(),
-        [
-            RuleOption::MaxElapsed(4),
-            RuleOption::Forbid(Service::SignalSemaphore),
-        ]
-        .as_slice()
+        [ticks, service].as_slice()
     );
     let one = RuleOptions {
         max_elapsed: None,
         ..both
     };
-    assert_eq!(rt;
-        one.in_order(heap)?.as_slice(),
-        [RuleOption::Forbid(Service::SignalSemaphore)].as_slice()
-    );
+    assert_eq!(rt; one.in_order(heap)?.as_slice(), [service].as_slice());
     Ok(())
 }
 

@@ -8,8 +8,8 @@ use std::alloc::{AllocError, Global};
 use std::test::Fail;
 use wait_set::WaitSet;
 
-// The process of this number of partition 0.
-fn who(number: u32) -> Who
+/// The process of this number of partition 0.
+pub fn who(number: u32) -> Who
     ensures { result ≡ record { part = 0; proc = number } }
 {
     Who {

@@ -1,26 +1,17 @@
 // Texts of rules: what they say, why they are refused, and their limits.
 
+use crate::options_of_rules::call_of;
 use apex_types::View;
-use rules_file::{RuleFault, RulesFault, read};
+use rules_file::RuleFault::{
+    self, BadName, Empty, Missing, NotToml, TooDeep, TooMany, UnknownField, UnknownKey,
+    UnknownName, WrongType,
+};
+use rules_file::{RulesFault, read};
 use std::alloc::Global;
 use std::test::Fail;
 
-// The view of a call of SEND_BUFFER in partition 0, at time 7.
-fn call_of_send_buffer() -> View {
-    View {
-        kind: 0,
-        core: 1,
-        time: 7,
-        part: 0,
-        proc: 3,
-        service: 16,
-        prio: 10,
-        out: 7,
-        val: -1,
-        elapsed: -1,
-        woken: 0,
-    }
-}
+// The number of SEND_BUFFER.
+const SEND_BUFFER: i64 = 16;
 
 // A text of one rule that holds of what this says.
 fn rule_text(alloc: Global, holds: &str) -> Result<Vec<u8>, Fail> {
@@ -60,11 +51,11 @@ fn refusal(alloc: Global, text: &[u8]) -> Option<RulesFault> {
     }
 }
 
-// What the first rule of a text answers of a view.
-fn answer(alloc: Global, text: &[u8], view: &View) -> Option<bool> {
-    match read(alloc, text) {
-        Ok(rules) => Some(rules.first()?.relation.holds(view)),
-        Err(_) => None,
+// What a rule that holds of what this says answers of a view.
+fn answer(alloc: Global, holds: &str, view: &View) -> Result<Option<bool>, Fail> {
+    match read(alloc, &rule_text(alloc, holds)?) {
+        Ok(rules) => Ok(rules.first().map(|rule| rule.relation.holds(view))),
+        Err(_) => Ok(None),
     }
 }
 
@@ -87,7 +78,7 @@ fn reads_two_rules(rt: HostRuntime) -> Result<(), Fail> {
     assert_eq!(rt; rules.len(), 2);
     assert_eq!(rt; rules[0].name.as_str(), "partition 1 is quick");
     assert_eq!(rt; rules[1].name.as_str(), "no buffers in partition 0");
-    let view = call_of_send_buffer();
+    let view = call_of(SEND_BUFFER);
     assert_eq!(rt; rules[0].relation.holds(&view), true);
     assert_eq!(rt; rules[1].relation.holds(&view), false);
     let slow = View {
@@ -108,7 +99,7 @@ fn compares_each_field(rt: HostRuntime) -> Result<(), Fail> {
         val: 4,
         elapsed: 9,
         woken: 2,
-        ..call_of_send_buffer()
+        ..call_of(SEND_BUFFER)
     };
     for (field, number) in [
         ("kind", 0i64),
@@ -136,11 +127,7 @@ fn compares_each_field(rt: HostRuntime) -> Result<(), Fail> {
                 let holds = format!(in heap;
                     "{{ field = \"{field}\", {comparison} = {against} }}"
                 )?;
-                assert_eq!(rt;
-                    answer(heap, &rule_text(heap, &holds)?, &view),
-                    Some(expected),
-                    "{holds}"
-                );
+                assert_eq!(rt; answer(heap, &holds, &view)?, Some(expected), "{holds}");
             }
         }
     }
@@ -170,14 +157,10 @@ fn knows_names(rt: HostRuntime) -> Result<(), Fail> {
             kind: number,
             service: number,
             out: number,
-            ..call_of_send_buffer()
+            ..call_of(SEND_BUFFER)
         };
         let holds = format!(in heap; "{{ field = \"{field}\", equal = \"{name}\" }}")?;
-        assert_eq!(rt;
-            answer(heap, &rule_text(heap, &holds)?, &view),
-            Some(true),
-            "{holds}"
-        );
+        assert_eq!(rt; answer(heap, &holds, &view)?, Some(true), "{holds}");
     }
     Ok(())
 }
@@ -187,48 +170,27 @@ fn knows_names(rt: HostRuntime) -> Result<(), Fail> {
 fn refuses_rules(rt: HostRuntime) -> Result<(), Fail> {
     let heap: Global = rt.alloc();
     for (holds, fault) in [
-        ("3", RuleFault::WrongType),
-        ("{}", RuleFault::Missing),
-        ("{ field = \"part\" }", RuleFault::Missing),
-        ("{ equal = 3 }", RuleFault::Missing),
-        ("{ field = 3, equal = 3 }", RuleFault::WrongType),
-        ("{ field = \"Part\", equal = 3 }", RuleFault::UnknownField),
-        ("{ field = \"part\", equal = 3.0 }", RuleFault::WrongType),
-        (
-            "{ field = \"part\", equal = \"call\" }",
-            RuleFault::UnknownName,
-        ),
-        (
-            "{ field = \"kind\", equal = \"START\" }",
-            RuleFault::UnknownName,
-        ),
-        (
-            "{ field = \"service\", equal = \"NO_ERROR\" }",
-            RuleFault::UnknownName,
-        ),
-        (
-            "{ field = \"out\", equal = \"START\" }",
-            RuleFault::UnknownName,
-        ),
-        (
-            "{ field = \"part\", equal = 3, less = 4 }",
-            RuleFault::UnknownKey,
-        ),
+        ("3", WrongType),
+        ("{}", Missing),
+        ("{ field = \"part\" }", Missing),
+        ("{ equal = 3 }", Missing),
+        ("{ field = 3, equal = 3 }", WrongType),
+        ("{ field = \"Part\", equal = 3 }", UnknownField),
+        ("{ field = \"part\", equal = 3.0 }", WrongType),
+        ("{ field = \"part\", equal = \"call\" }", UnknownName),
+        ("{ field = \"kind\", equal = \"START\" }", UnknownName),
+        ("{ field = \"service\", equal = \"NO_ERROR\" }", UnknownName),
+        ("{ field = \"out\", equal = \"START\" }", UnknownName),
+        ("{ field = \"part\", equal = 3, less = 4 }", UnknownKey),
         (
             "{ not = { field = \"part\", equal = 3 }, field = \"part\" }",
-            RuleFault::UnknownKey,
+            UnknownKey,
         ),
-        ("{ not = [] }", RuleFault::WrongType),
-        (
-            "{ and = { field = \"part\", equal = 3 } }",
-            RuleFault::WrongType,
-        ),
-        ("{ and = [] }", RuleFault::Empty),
-        ("{ or = [] }", RuleFault::Empty),
-        (
-            "{ field = \"part\", equal = 3 }\nnote = 1",
-            RuleFault::UnknownKey,
-        ),
+        ("{ not = [] }", WrongType),
+        ("{ and = { field = \"part\", equal = 3 } }", WrongType),
+        ("{ and = [] }", Empty),
+        ("{ or = [] }", Empty),
+        ("{ field = \"part\", equal = 3 }\nnote = 1", UnknownKey),
     ] {
         let expected = Some(RulesFault::Rule { rule: 0, fault });
         assert_eq!(rt;
@@ -245,44 +207,39 @@ fn refuses_rules(rt: HostRuntime) -> Result<(), Fail> {
 fn refuses_texts(rt: HostRuntime) -> Result<(), Fail> {
     let heap: Global = rt.alloc();
     for (text, fault) in [
-        (b"rule = ".as_slice(), RulesFault::File(RuleFault::NotToml)),
+        ("rule = ", NotToml),
+        ("", Missing),
+        ("[[rules]]", Missing),
+        ("rule = []\nrules = []", UnknownKey),
+        ("[rule]", WrongType),
+    ] {
+        assert_eq!(rt;
+            refusal(heap, text.as_bytes()),
+            Some(RulesFault::File(fault))
+        );
+    }
+    assert_eq!(rt;
+        refusal(heap, b"name = \"\xFF\""),
+        Some(RulesFault::File(NotToml))
+    );
+    for (text, rule, fault) in [
+        ("{ name = \"\", holds = {} }", 0, BadName),
         (
-            b"name = \"\xFF\"".as_slice(),
-            RulesFault::File(RuleFault::NotToml),
-        ),
-        (b"".as_slice(), RulesFault::File(RuleFault::Missing)),
-        (
-            b"[[rules]]".as_slice(),
-            RulesFault::File(RuleFault::Missing),
-        ),
-        (
-            b"rule = []\nrules = []".as_slice(),
-            RulesFault::File(RuleFault::UnknownKey),
-        ),
-        (b"[rule]".as_slice(), RulesFault::File(RuleFault::WrongType)),
-        (
-            b"rule = [{ name = \"\", holds = {} }]".as_slice(),
-            RulesFault::Rule {
-                rule: 0,
-                fault: RuleFault::BadName,
-            },
-        ),
-        (
-            b"rule = [{ name = \"r\", holds = { field = \"part\", less = 2 } }, 3]".as_slice(),
-            RulesFault::Rule {
-                rule: 1,
-                fault: RuleFault::WrongType,
-            },
+            "{ name = \"r\", holds = { field = \"part\", less = 2 } }, 3",
+            1,
+            WrongType,
         ),
         (
-            b"rule = [{ name = \"r\", holds = { field = \"part\", less = 2 } }, { name = \"s\" }]".as_slice(),
-            RulesFault::Rule {
-                rule: 1,
-                fault: RuleFault::Missing,
-            },
+            "{ name = \"r\", holds = { field = \"part\", less = 2 } }, { name = \"s\" }",
+            1,
+            Missing,
         ),
     ] {
-        assert_eq!(rt; refusal(heap, text), Some(fault));
+        let text = format!(in heap; "rule = [{text}]")?;
+        assert_eq!(rt;
+            refusal(heap, text.as_bytes()),
+            Some(RulesFault::Rule { rule, fault })
+        );
     }
     assert_eq!(rt; refusal(heap, b"rule = []"), None);
     Ok(())
@@ -292,21 +249,14 @@ fn refuses_texts(rt: HostRuntime) -> Result<(), Fail> {
 #[test]
 fn keeps_limits(rt: HostRuntime) -> Result<(), Fail> {
     let heap: Global = rt.alloc();
-    let too_deep = RulesFault::Rule {
-        rule: 0,
-        fault: RuleFault::TooDeep,
-    };
+    let [too_deep, too_long] = [TooDeep, TooMany].map(|fault| RulesFault::Rule { rule: 0, fault });
     assert_eq!(rt; refusal(heap, &negated_text(heap, 15)?), None);
     assert_eq!(rt; refusal(heap, &negated_text(heap, 16)?), Some(too_deep));
-    let not_toml = RulesFault::File(RuleFault::NotToml);
+    let not_toml = RulesFault::File(NotToml);
     assert_eq!(rt; refusal(heap, &negated_text(heap, 80)?), Some(not_toml));
-    let too_long = RulesFault::Rule {
-        rule: 0,
-        fault: RuleFault::TooMany,
-    };
     assert_eq!(rt; refusal(heap, &listed_text(heap, 64)?), None);
     assert_eq!(rt; refusal(heap, &listed_text(heap, 65)?), Some(too_long));
-    let too_many = RulesFault::File(RuleFault::TooMany);
+    let too_many = RulesFault::File(TooMany);
     let mut rules = Vec::new(heap);
     for _ in 0..1024 {
         rules.extend_from_slice(

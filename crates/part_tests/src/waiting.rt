@@ -3,24 +3,14 @@
 ghost use Rattle.std.specs.Prelude.{◌≡◌, ◌<◌, [], ◌∷◌, IfOk};
 ghost use Rattle.apex_types.specs.declared.record.Out.TheVariants as out;
 
+use crate::queuing::who;
 use apex_types::{
-    Cause, Claim, Code, Discipline, Message, Name, Out, PartId, Place, ProcId, SemaphoreOperation,
-    Who, Woken,
+    Cause, Claim, Code, Discipline, Message, Name, Out, Place, SemaphoreOperation, Woken,
 };
 use semaphore_event::Semaphore;
 use std::alloc::{AllocError, Global};
 use std::test::Fail;
 use wait_set::{Actor, ApexObject, Effect, ObjFault};
-
-// The process of this number of partition 0.
-fn who(number: u32) -> Who
-    ensures { result ≡ record { part = 0; proc = number } }
-{
-    Who {
-        part: PartId::new(0),
-        proc: ProcId::new(number),
-    }
-}
 
 // The process of this number, which calls at this place.
 fn caller(number: u32, place: u64) -> Actor
@@ -55,9 +45,7 @@ fn claim(alloc: Global, out: Out, woken: Woken) -> Claim
 fn only(alloc: Global, number: u32) -> Result<Woken, AllocError>
     ensures { IfOk result (λ woken. woken ≡ record { part = 0; proc = number } ∷ []) }
 {
-    let mut named = Vec::new(alloc);
-    named.push(who(number))?;
-    Ok(Woken::new(named))
+    Ok(Woken::new(vec![in alloc; who(number)]?))
 }
 
 #[test]
@@ -72,17 +60,17 @@ fn a_semaphore_by_itself(rt: HostRuntime) -> Result<(), Fail> {
     // Process 1 takes the one that there is, and process 2 waits.
     let done = claim(alloc, Out::Answer(Code::NoError), Woken::none(alloc));
     let taken = semaphore.apply(caller(1, 0), &wait, &done);
-    assert!(rt; taken == Ok(Effect { waits: false }));
+    assert!(rt; taken == Ok(Effect::of(&done)));
     let waits = claim(alloc, Out::Waits, Woken::none(alloc));
     let waited = semaphore.apply(caller(2, 1), &wait, &waits);
-    assert!(rt; waited == Ok(Effect { waits: true }));
+    assert!(rt; waited == Ok(Effect::of(&waits)));
 
     // A signal that wakes nobody is refused, and one that wakes process 2 is what the rule gives.
     let refused = semaphore.apply(caller(1, 2), &signal, &done);
     assert!(rt; refused == Err(ObjFault::Unlawful(Cause::Woken)));
     let wakes = claim(alloc, Out::Answer(Code::NoError), second);
     let woken = semaphore.apply(caller(1, 2), &signal, &wakes);
-    assert!(rt; woken == Ok(Effect { waits: false }));
+    assert!(rt; woken == Ok(Effect::of(&wakes)));
     assert!(rt; semaphore.value() == 0);
     Ok(())
 }

@@ -10,7 +10,7 @@ returns g c =
     let relations = c.in_ok-relations.relations.items in
     let outcome = c.check_relations-outcome.result in
     let items = c.check_relations-outcome.new.last in
-    let given : Given = given_by c.args.config.now (map (λ reader. cursor_remaining (λ text. Some text.items) reader) c.in_ok-readers.readers.items) false (Some c.args.order.now) false in
+    let given : Given = given_by c.args.texts.config.now (map (λ reader. cursor_remaining (λ text. Some text.items) reader) c.in_ok-readers.readers.items) false (Some c.args.texts.order.now) false in
     let answers : AnswersWith given relations c.args.manner.settings outcome items =
     subst (λ (settings : Settings). AnswersWith given relations settings outcome items) (c.in_rounds-options.ensures.settings ∙ c.new-2.ensures.settings)
     (subst (λ (one : Given). AnswersWith one relations c.in_rounds-options.result.settings outcome items) c.new-inputs.ensures c.check_relations-outcome.ensures) in
@@ -20,7 +20,7 @@ returns g c =
       asked = c.in_ok-relations.ensures;
       outcome = outcome;
       items = items;
-      answer = answers (map (λ recording. recording.items) c.args.recordings.now) c.args.order.now c.in_ok-readers.ensures.bytes refl;
+      answer = answers (map (λ recording. recording.items) c.args.texts.recordings.now) c.args.texts.order.now c.in_ok-readers.ensures.bytes refl;
       line = c.in_ok-line_of.ensures;
       last = written;
       status = c.status_of.ensures;
