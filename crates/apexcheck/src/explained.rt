@@ -1,72 +1,143 @@
-// The answer in words, on standard error. It decides nothing: a failure there, or want of memory, ends the words alone.
+// The answer in words, on standard error, after its line. It decides nothing: a failure there, or want of memory, ends the words alone.
 
 ghost use Rattle.std.specs.Prelude.{◌≡◌, map, option_map, slice_get, string_bytes};
 
 use crate::ending::Ending;
+use crate::explainer::Explainer;
 use crate::files::{open, open_text};
-use crate::usage::FileNames;
+use crate::usage::{Asked, FileNames, UsageFault, tell_usage};
+use csv::ByteRecord;
 use csv_rows::read_decimal;
 use explanation::{Explanation, RecordNumber};
 use input_explanation::{
     FoundRow, find_row, tell_certificate, tell_configuration, tell_order, tell_row_fault,
 };
 use module_config::ConfigFault;
-use order_cert::{CertFault, OrderFault};
 use placement::InputFault;
-use record_read::RowFault;
 use report::{ArgumentFault, CheckFault, Verdict};
 use std::alloc::Global;
 use std::fs;
 use std::fs::Files;
 use std::io::Read;
+use std::rt::Env;
 use wording::{Count, Words};
 
-/// Tells a person why the answer is no Yes: where the record, the row or the key is, what was found and what is wanted.
-pub fn explain<R: Files<File = F> + Eprint, F: Read + Drop>(
+/// Tells a person why the line is the one it is: where the record, the row or the key is, what was found and what was expected;
+/// and which keys of the configuration are ignored. With `--quiet` only what was noted is told.
+pub fn explain<R: Env + Files<File = F> + Eprint + AllocGlobal, F: Read + Drop>(
+    rt: &R,
+    alloc: Global,
+    asked: &Result<Asked, UsageFault>,
+    ending: &Ending,
+    explainer: &Explainer,
+) {
+    match asked {
+        Ok(Asked::Files(asked)) => {
+            tell(rt, explainer.noted());
+            if !asked.quiet {
+                tell(rt, &unknown_keys(alloc, &asked.names, explainer));
+                if let Some(words) = words_of(rt, alloc, &asked.names, ending, explainer) {
+                    tell(rt, &words);
+                }
+            }
+        }
+        Ok(Asked::StoredRun | Asked::Version) | Err(UsageFault::Memory) => {}
+        Err(UsageFault::Usage) => tell_usage(rt, alloc),
+    }
+}
+
+// Tells the words, if there are any.
+fn tell(rt: &impl Eprint, words: &Words) {
+    if !words.as_str().is_empty() {
+        // Standard error only helps a person, so that a failure there changes nothing.
+        let _ = rt.eprintln(format_args!("apexcheck: {}", words.as_str()));
+    }
+}
+
+// The keys of the configuration that are not known.
+fn unknown_keys(alloc: Global, names: &FileNames, explainer: &Explainer) -> Words {
+    let mut words = Words::new(alloc);
+    if !explainer.unknown_keys().as_str().is_empty() {
+        words.say(format_args!(
+            "{}: these keys are not known and are ignored:",
+            names.config
+        ));
+        words.append(explainer.unknown_keys());
+    }
+    words
+}
+
+// Why the answer is no Yes.
+fn words_of<R: Files<File = F>, F: Read + Drop>(
     rt: &R,
     alloc: Global,
     names: &FileNames,
     ending: &Ending,
-    explanation: &Explanation,
-) {
+    explainer: &Explainer,
+) -> Option<Words> {
     let Ending::Checked { outcome, .. } = ending else {
-        return;
+        return None;
     };
     match outcome {
-        Ok(Verdict::Yes { .. }) | Err(CheckFault::Memory) => {}
+        Ok(Verdict::Yes { .. }) => None,
         Ok(Verdict::No { .. } | Verdict::Broken { .. }) => {
-            explain_record(rt, alloc, names, explanation);
+            words_of_record(rt, alloc, names, explainer.explanation())
+        }
+        Err(CheckFault::Memory) => {
+            let mut words = Words::new(alloc);
+            words.say("out of memory: the records were not judged to their end");
+            Some(words)
         }
         Err(CheckFault::Arguments(fault)) => {
-            let mut words = Words::new(alloc);
-            tell_arguments(&mut words, *fault, names.cores.len());
-            tell(rt, &words);
+            Some(words_of_arguments(alloc, *fault, names.cores.len()))
         }
-        Err(CheckFault::Config(fault)) => explain_configuration(rt, alloc, names, *fault),
-        Err(CheckFault::Input(fault)) => explain_input(rt, alloc, names, fault),
+        Err(CheckFault::Config(fault)) => {
+            Some(words_of_configuration(rt, alloc, &names.config, *fault))
+        }
+        Err(CheckFault::Input(fault)) => words_of_input(rt, alloc, names, fault),
     }
 }
 
-// Reports where a refused certificate, order or recording is wrong.
-fn explain_input<R: Files<File = F> + Eprint, F: Read + Drop>(
+// Where a refused certificate, order or recording is wrong, and what is wrong with it.
+fn words_of_input<R: Files<File = F>, F: Read + Drop>(
     rt: &R,
     alloc: Global,
     names: &FileNames,
     fault: &InputFault,
-) {
+) -> Option<Words> {
+    let mut words = Words::new(alloc);
     match fault {
-        InputFault::Cert { place, fault } => explain_cert(rt, alloc, names, *place, *fault),
-        InputFault::Order { place, core, fault } => {
-            explain_order(rt, alloc, names, *place, *core, *fault);
+        InputFault::Cert { place, fault } => {
+            let found = say_place(rt, alloc, &mut words, &names.order, *place);
+            tell_certificate(&mut words, *fault, fields_of(alloc, &found).as_ref());
         }
-        InputFault::Row { core, seq, fault } => explain_row(rt, alloc, names, *core, *seq, *fault),
+        InputFault::Order { place, core, fault } => {
+            let found = say_place(rt, alloc, &mut words, &names.order, *place);
+            tell_order(&mut words, *fault, *core, number_named(alloc, &found));
+        }
+        InputFault::Row { core, seq, fault } => {
+            let name = name_of_core(names, *core)?;
+            let found = say_place(rt, alloc, &mut words, name, *seq);
+            tell_row_fault(&mut words, *fault, *seq, fields_of(alloc, &found).as_ref());
+        }
     }
+    Some(words)
 }
 
-// Tells the words.
-fn tell(rt: &impl Eprint, words: &Words) {
-    // Standard error only helps a person, so that a failure there changes nothing.
-    let _ = rt.eprintln(format_args!("apexcheck: {}", words.as_str()));
+// Says where a row is: its file and its line, or its number where it is not found once more. Gives the row, where it is.
+fn say_place<R: Files<File = F>, F: Read + Drop>(
+    rt: &R,
+    alloc: Global,
+    words: &mut Words,
+    name: &str,
+    number: u64,
+) -> Option<FoundRow> {
+    let found = row_of(rt, alloc, name, number);
+    match &found {
+        Some(row) => words.say(format_args!("{name}, line {}: ", row.line)),
+        None => words.say(format_args!("{name}, row {number}, counted from 0: ")),
+    }
+    found
 }
 
 // The row of this number in the file of this name, read once more. None where it is no regular file: a pipe gives its text once.
@@ -93,12 +164,18 @@ fn is_regular<R: Files<File = F>, F: Read + Drop>(rt: &R, name: &str) -> bool {
     }
 }
 
-// Tells where a row is: its file and its line, or its number where it is not found once more.
-fn tell_place(words: &mut Words, name: &str, number: u64, found: &Option<FoundRow>) {
+// The fields of a row, where it is found.
+fn fields_of(alloc: Global, found: &Option<FoundRow>) -> Option<ByteRecord> {
     match found {
-        Some(row) => words.say(format_args!("{name}, line {}: ", row.line)),
-        None => words.say(format_args!("{name}, row {number}, counted from 0: ")),
+        Some(row) => row.fields(alloc),
+        None => None,
     }
+}
+
+// The number of the record that a row of the certificate names.
+fn number_named(alloc: Global, found: &Option<FoundRow>) -> Option<u64> {
+    let fields = fields_of(alloc, found)?;
+    read_decimal(fields.get(1)?, u32::MAX as u64)
 }
 
 // The name of the file with a core's recording.
@@ -111,103 +188,28 @@ fn name_of_core(names: &FileNames, core: u32) -> Option<&str>
     }
 }
 
-// Tells of the record at the place of a No.
-fn explain_record<R: Files<File = F> + Eprint, F: Read + Drop>(
+// What the record at the place of a No says.
+fn words_of_record<R: Files<File = F>, F: Read + Drop>(
     rt: &R,
     alloc: Global,
     names: &FileNames,
     explanation: &Explanation,
-) {
-    let Some(RecordNumber { core, seq }) = explanation.record() else {
-        return;
-    };
-    let Some(name) = name_of_core(names, u32::from(core.number())) else {
-        return;
-    };
-    let number = u64::from(seq);
-    let found = row_of(rt, alloc, name, number);
+) -> Option<Words> {
+    let RecordNumber { core, seq } = explanation.record()?;
+    let name = name_of_core(names, u32::from(core.number()))?;
     let mut words = Words::new(alloc);
-    tell_place(&mut words, name, number, &found);
-    words.say(explanation.words().as_str());
-    tell(rt, &words);
+    say_place(rt, alloc, &mut words, name, u64::from(seq));
+    words.append(explanation.words());
+    Some(words)
 }
 
-// Tells of a row of a recording that has a fault.
-fn explain_row<R: Files<File = F> + Eprint, F: Read + Drop>(
+// What is wrong with the configuration in the file of this name.
+fn words_of_configuration<R: Files<File = F>, F: Read + Drop>(
     rt: &R,
     alloc: Global,
-    names: &FileNames,
-    core: u32,
-    seq: u64,
-    fault: RowFault,
-) {
-    let Some(name) = name_of_core(names, core) else {
-        return;
-    };
-    let found = row_of(rt, alloc, name, seq);
-    let mut words = Words::new(alloc);
-    tell_place(&mut words, name, seq, &found);
-    let fields = match &found {
-        Some(row) => row.fields(alloc),
-        None => None,
-    };
-    tell_row_fault(&mut words, fault, seq, fields.as_ref());
-    tell(rt, &words);
-}
-
-// Tells of a row of the certificate that has a fault.
-fn explain_cert<R: Files<File = F> + Eprint, F: Read + Drop>(
-    rt: &R,
-    alloc: Global,
-    names: &FileNames,
-    place: u64,
-    fault: CertFault,
-) {
-    let found = row_of(rt, alloc, &names.order, place);
-    let mut words = Words::new(alloc);
-    tell_place(&mut words, &names.order, place, &found);
-    let fields = match &found {
-        Some(row) => row.fields(alloc),
-        None => None,
-    };
-    tell_certificate(&mut words, fault, fields.as_ref());
-    tell(rt, &words);
-}
-
-// Tells of a pair of the certificate that may not stand in its place.
-fn explain_order<R: Files<File = F> + Eprint, F: Read + Drop>(
-    rt: &R,
-    alloc: Global,
-    names: &FileNames,
-    place: u64,
-    core: u32,
-    fault: OrderFault,
-) {
-    let found = row_of(rt, alloc, &names.order, place);
-    let mut words = Words::new(alloc);
-    tell_place(&mut words, &names.order, place, &found);
-    let named = match &found {
-        Some(row) => number_named(alloc, row),
-        None => None,
-    };
-    tell_order(&mut words, fault, core, named);
-    tell(rt, &words);
-}
-
-// The number of the record that a row of the certificate names.
-fn number_named(alloc: Global, row: &FoundRow) -> Option<u64> {
-    let fields = row.fields(alloc)?;
-    read_decimal(fields.get(1)?, u32::MAX as u64)
-}
-
-// Tells of a configuration that is refused.
-fn explain_configuration<R: Files<File = F> + Eprint, F: Read + Drop>(
-    rt: &R,
-    alloc: Global,
-    names: &FileNames,
+    name: &str,
     fault: ConfigFault,
-) {
-    let name = &names.config;
+) -> Words {
     let mut words = Words::new(alloc);
     words.say(format_args!("{name}: "));
     let text = if is_regular(rt, name) {
@@ -216,23 +218,25 @@ fn explain_configuration<R: Files<File = F> + Eprint, F: Read + Drop>(
         None
     };
     tell_configuration(&mut words, alloc, fault, text.as_deref());
-    tell(rt, &words);
+    words
 }
 
-// Tells what is wrong with the arguments of a check.
-fn tell_arguments(words: &mut Words, fault: ArgumentFault, recordings: usize) {
+// What is wrong with the arguments of a check.
+fn words_of_arguments(alloc: Global, fault: ArgumentFault, recordings: usize) -> Words {
+    let mut words = Words::new(alloc);
     words.say(fault);
     words.next_line();
     match fault {
         ArgumentFault::NoWorkers | ArgumentFault::TooManyWorkers => {
-            words.say("--workers wants a number from 1 to 64");
+            words.say("--workers must be a number from 1 to 64");
         }
         ArgumentFault::NoDepth | ArgumentFault::TooDeep => {
-            words.say("--depth wants a number from 1 to 4,096");
+            words.say("--depth must be a number from 1 to 4096");
         }
         ArgumentFault::ReaderCount => words.say(format_args!(
-            "there are {}, and wanted is one for each core that the key cores of the configuration gives",
+            "there are {}; expected one for each of the configuration's cores",
             Count(recordings, "recording")
         )),
     }
+    words
 }

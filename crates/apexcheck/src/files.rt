@@ -9,14 +9,12 @@ ghost use Rattle.apexcheck.specs.Files.{AreOpened, EndsAsAsked, IsOfFiles, endin
 ghost use Rattle.apexcheck.specs.Ruled.{where_asked};
 
 use crate::ending::{Ending, out_of_memory, refused_by};
-use crate::explained::explain;
 use crate::explainer::Explainer;
-use crate::ruled::{check_ruled, read_rules, tell_broken, tell_fields};
+use crate::ruled::{check_ruled, note_broken, read_rules};
 use crate::usage::{FileNames, FilesAsked};
 use apex_types::limits::LONGEST_CONFIGURATION;
 use csv_rows::{TextSource, Watched};
 use report::{Inputs, Last};
-use rules_file::RulesFault;
 use std::alloc::{AllocFailed, Global};
 use std::fs::{Files, OpenOptions};
 use std::io;
@@ -27,17 +25,21 @@ use std::thread::Threads;
 /// Opens the files of a run and checks what they hold. The configuration is read first, then the text of rules, if one is
 /// named; then the order is opened, then the recordings, core 0 first. The text of rules is judged after that.
 ///
-/// Where a file can't be opened, or the configuration or the text of rules can't be read, standard error names it and tells
-/// why, and so where the text of rules is refused. Where a rule is broken, standard error tells which. It explains the answer too,
-/// unless that is not asked for.
-pub fn check_files<R, F>(rt: &R, alloc: Global, asked: &FilesAsked) -> Ending
+/// The explainer receives what explains the end: which file can't be opened or read and why, why the text of rules is refused,
+/// which rule is broken, the record at the place of a No, and the keys of the configuration that are not known.
+pub fn check_files<R, F>(
+    rt: &R,
+    alloc: Global,
+    asked: &FilesAsked,
+    explainer: &mut Explainer,
+) -> Ending
 where
-    R: Files<File = F> + Eprint + AllocGlobal + Threads + Wait + Sync + Copy + Send + 'static,
+    R: Files<File = F> + AllocGlobal + Threads + Wait + Sync + Copy + Send + 'static,
     F: Read + Drop + Send + 'static,
     ensures { IsOfFiles ⟦<Watched<F> as TextSource>⟧.remaining ⟦<Watched<F> as TextSource>⟧.can_fail asked.now result }
 {
-    match Opened::open(rt, alloc, &asked.names) {
-        Ok(opened) => opened.check(rt, alloc, asked),
+    match Opened::open(rt, alloc, &asked.names, explainer) {
+        Ok(opened) => opened.check(rt, alloc, asked, explainer),
         Err(fault) => end_by(fault),
     }
 }
@@ -63,17 +65,22 @@ struct Opened<S> {
 }
 
 impl<F: Read + Drop + Send + 'static> Opened<Watched<F>> {
-    fn open<R: Files<File = F> + Eprint + AllocGlobal>(
+    fn open<R: Files<File = F> + AllocGlobal>(
         rt: &R,
         alloc: Global,
         names: &FileNames,
+        explainer: &mut Explainer,
     ) -> Result<Opened<Watched<F>>, OpenFault>
         ensures { IfOk result (AreOpened names.now) }
     {
-        let config = reported(rt, &names.config, open_text(rt, alloc, &names.config))?;
-        let rules = open_rules(rt, alloc, &names.rules)?;
-        let order = Watched::new(reported(rt, &names.order, open(rt, &names.order))?);
-        let cores = open_cores(rt, alloc, &names.cores)?;
+        let config = reported(
+            explainer,
+            &names.config,
+            open_text(rt, alloc, &names.config),
+        )?;
+        let rules = open_rules(rt, alloc, &names.rules, explainer)?;
+        let order = Watched::new(reported(explainer, &names.order, open(rt, &names.order))?);
+        let cores = open_cores(rt, alloc, &names.cores, explainer)?;
         Ok(Opened {
             config,
             rules,
@@ -84,24 +91,9 @@ impl<F: Read + Drop + Send + 'static> Opened<Watched<F>> {
 }
 
 impl<S: TextSource + Drop + Send + 'static> Opened<S> {
-    // Checks the texts, as is asked for, and explains why the answer is no Yes, unless that is not asked for.
-    fn check<R, F>(self, rt: &R, alloc: Global, asked: &FilesAsked) -> Ending
-    where
-        R: Files<File = F> + Eprint + AllocGlobal + Threads + Wait + Sync + Copy + Send + 'static,
-        F: Read + Drop,
-        ensures { EndsAsAsked S.remaining S.can_fail self asked.now result }
-    {
-        let mut explainer = Explainer::new(alloc);
-        let ending = self.judge(rt, alloc, asked, &mut explainer);
-        if !asked.quiet {
-            explain(rt, alloc, &asked.names, &ending, explainer.explanation());
-        }
-        ending
-    }
-
     // Judges the text of rules, and then checks the others under the rules of the options and of the text. The last records
-    // before the place of a No are in the end where they are asked for. The explainer receives what is at that place.
-    fn judge<R>(
+    // before the place of a No are in the end where they are asked for. The explainer receives what explains the end.
+    fn check<R>(
         self,
         rt: &R,
         alloc: Global,
@@ -109,7 +101,7 @@ impl<S: TextSource + Drop + Send + 'static> Opened<S> {
         explainer: &mut Explainer,
     ) -> Ending
     where
-        R: Eprint + Threads + Wait + Sync + Copy + Send + 'static,
+        R: Threads + Wait + Sync + Copy + Send + 'static,
         ensures { EndsAsAsked S.remaining S.can_fail self asked.now result }
     {
         let Opened {
@@ -124,7 +116,7 @@ impl<S: TextSource + Drop + Send + 'static> Opened<S> {
         let rules = match read_rules(alloc, rules.as_deref()) {
             Ok(rules) => rules,
             Err(fault) => {
-                tell_refused(rt, &asked.names, &fault);
+                explainer.note_rules(&asked.names, &fault);
                 return refused_by(fault);
             }
         };
@@ -136,8 +128,8 @@ impl<S: TextSource + Drop + Send + 'static> Opened<S> {
         let outcome = check_ruled(
             *rt, alloc, inputs, &options, &rules, settings, &mut last, explainer,
         );
-        tell_broken(rt, &options, &rules, &outcome);
-        tell_fields(alloc, explainer, &options, &rules, &outcome);
+        note_broken(explainer, alloc, &options, &rules, &outcome);
+        explainer.note_unknown_keys(alloc, &config);
         Ending::Checked {
             outcome,
             last: where_asked(asked.last, last),
@@ -152,42 +144,33 @@ fn where_asked(asked: bool, last: Last) -> Option<Last>
     if asked { Some(last) } else { None }
 }
 
-// Tells a person why the text of rules is refused. Want of memory is reported by the line alone.
-fn tell_refused(rt: &impl Eprint, names: &FileNames, fault: &RulesFault) {
-    match (&names.rules, fault) {
-        (None, _) | (_, RulesFault::Memory) => {}
-        (Some(name), fault) => {
-            // Standard error only helps a person, so that a failure there changes nothing.
-            let _ = rt.eprintln(format_args!("apexcheck: {name}: {fault}"));
-        }
-    }
-}
-
 // The text of rules in the file of this name, if one is named.
-fn open_rules<R: Files<File = F> + Eprint, F: Read + Drop>(
+fn open_rules<R: Files<File = F>, F: Read + Drop>(
     rt: &R,
     alloc: Global,
     name: &Option<String>,
+    explainer: &mut Explainer,
 ) -> Result<Option<Vec<u8>>, OpenFault>
     ensures { IfOk result (λ rules. is_some rules ≡ is_some name.now) }
 {
     match name {
-        Some(name) => Ok(Some(reported(rt, name, open_text(rt, alloc, name))?)),
+        Some(name) => Ok(Some(reported(explainer, name, open_text(rt, alloc, name))?)),
         None => Ok(None),
     }
 }
 
 // The recordings in the files of these names, in their order.
-fn open_cores<R: Files<File = F> + Eprint, F: Read + Drop>(
+fn open_cores<R: Files<File = F>, F: Read + Drop>(
     rt: &R,
     alloc: Global,
     names: &[String],
+    explainer: &mut Explainer,
 ) -> Result<Vec<Watched<F>>, OpenFault>
     ensures { IfOk result (λ cores. vec_len cores ≡ length names.now) }
 {
     let mut cores = Vec::new(alloc);
     for name in names {
-        cores.push(Watched::new(reported(rt, name, open(rt, name))?))?;
+        cores.push(Watched::new(reported(explainer, name, open(rt, name))?))?;
     }
     Ok(cores)
 }
@@ -229,8 +212,12 @@ enum OpenFault {
     Memory,
 }
 
-// The answer of the system for the file of this name. A refusal other than want of memory is reported to a person.
-fn reported<T: Drop>(rt: &impl Eprint, name: &str, answer: io::Result<T>) -> Result<T, OpenFault>
+// The answer of the system for the file of this name. A refusal other than want of memory is noted for a person.
+fn reported<T: Drop>(
+    explainer: &mut Explainer,
+    name: &str,
+    answer: io::Result<T>,
+) -> Result<T, OpenFault>
     ensures value { IfOk answer (λ value. result ≡ Ok value) }
     ensures memory { IfErr answer (λ e. error_kind e ≡ ErrorKind.OutOfMemory → result ≡ Err OpenFault.Memory) }
     ensures unopened { IfErr answer (λ e. error_kind e ≢ ErrorKind.OutOfMemory → result ≡ Err OpenFault.Unopened) }
@@ -239,8 +226,7 @@ fn reported<T: Drop>(rt: &impl Eprint, name: &str, answer: io::Result<T>) -> Res
         Ok(value) => Ok(value),
         Err(e) if e.kind() == ErrorKind::OutOfMemory => Err(OpenFault::Memory),
         Err(e) => {
-            // Standard error only helps a person, so that a failure there changes nothing.
-            let _ = rt.eprintln(format_args!("apexcheck: {name}: {e}"));
+            explainer.note(format_args!("{name}: {e}"));
             Err(OpenFault::Unopened)
         }
     }

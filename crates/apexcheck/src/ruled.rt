@@ -44,10 +44,10 @@ pub fn check_ruled<T, R, C, V>(
     witness: &mut V,
 ) -> Result<Verdict, CheckFault>
 where
+    V: Witness,
     T: Threads + Wait + Sync + Copy + Send + 'static,
     R: TextSource + Drop + Send + 'static,
     C: TextSource + Drop,
-    V: Witness,
     ensures { last.old ≡ [] → AnswersRuled inputs.entry options.now (map said rules.now) settings result last.new }
 {
     let Ok(relations) = all_relations(alloc, options, rules) else {
@@ -82,29 +82,11 @@ fn relations_in(alloc: Global, rules: &[NamedRule]) -> Result<Vec<Relation>, All
     Ok(relations)
 }
 
-/// Adds the fields of the view to what is reported of a broken rule. Where memory is refused nothing is added.
-pub fn tell_fields(
-    alloc: Global,
+/// Notes which rule is broken, if one is: that of an option by its words, one of a text by its name; and the fields of the
+/// record's view that it reads, where memory is not refused for that.
+pub fn note_broken(
     explainer: &mut Explainer,
-    options: &[RuleOption],
-    rules: &[NamedRule],
-    outcome: &Result<Verdict, CheckFault>,
-) {
-    let Ok(Verdict::Broken { rule, .. }) = outcome else {
-        return;
-    };
-    if let Some(option) = options.get(*rule) {
-        if let Ok(relation) = option.relation(alloc) {
-            explainer.tell_fields(&relation);
-        }
-    } else if let Some(named) = rules.get(*rule - options.len()) {
-        explainer.tell_fields(&named.relation);
-    }
-}
-
-/// Tells a person which rule is broken, if one is: that of an option by its words, one of a text by its name.
-pub fn tell_broken(
-    rt: &impl Eprint,
+    alloc: Global,
     options: &[RuleOption],
     rules: &[NamedRule],
     outcome: &Result<Verdict, CheckFault>,
@@ -113,15 +95,14 @@ pub fn tell_broken(
         return;
     };
     let place = pos.number();
-    // Standard error only helps a person, so that a failure there changes nothing.
     if let Some(option) = options.get(*rule) {
-        let _ = rt.eprintln(format_args!(
-            "apexcheck: the record in place {place} breaks rule {rule}: {option}"
-        ));
+        explainer.note(format_args!("the record in place {place} breaks rule {rule}: {option}"));
+        if let Ok(relation) = option.relation(alloc) {
+            explainer.tell_fields(&relation);
+        }
     } else if let Some(named) = rules.get(*rule - options.len()) {
         let name = &named.name;
-        let _ = rt.eprintln(format_args!(
-            "apexcheck: the record in place {place} breaks rule {rule}: {name}"
-        ));
+        explainer.note(format_args!("the record in place {place} breaks rule {rule}: {name}"));
+        explainer.tell_fields(&named.relation);
     }
 }

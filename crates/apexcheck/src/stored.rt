@@ -49,20 +49,7 @@ const RECORDING: &[u8] = b"0,disp,0,0,,,,,,,,,,,,
 ";
 
 // The records of core 0 in their own order.
-const ORDER: &[u8] = b"0,0
-0,1
-0,2
-0,3
-0,4
-0,5
-0,6
-0,7
-0,8
-0,9
-0,10
-0,11
-0,12
-";
+const ORDER: &[u8] = b"0,0\n0,1\n0,2\n0,3\n0,4\n0,5\n0,6\n0,7\n0,8\n0,9\n0,10\n0,11\n0,12\n";
 
 const SETTINGS: Settings = Settings {
     workers: 1,

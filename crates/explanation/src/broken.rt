@@ -1,8 +1,9 @@
 // The view of a record that breaks a rule, in words.
 
-use apex_types::{Field, View};
+use apex_types::{Code, Field, Out, SERVICES, View};
+use std::str;
 use user_rules::Relation;
-use wording::Words;
+use wording::{Words, out_name};
 
 const FIELDS: [(Field, &str); 11] = [
     (Field::Kind, "kind"),
@@ -18,20 +19,59 @@ const FIELDS: [(Field, &str); 11] = [
     (Field::Woken, "woken"),
 ];
 
+const KINDS: [&str; 4] = ["call", "return", "dispatch", "tick"];
+
+const OUTCOMES: [Out; 9] = [
+    Out::Answer(Code::NoError),
+    Out::Answer(Code::NoAction),
+    Out::Answer(Code::NotAvailable),
+    Out::Answer(Code::InvalidParam),
+    Out::Answer(Code::InvalidConfig),
+    Out::Answer(Code::InvalidMode),
+    Out::Answer(Code::TimedOut),
+    Out::Waits,
+    Out::Never,
+];
+
 /// Tells the fields of a view of which a relation speaks.
 pub fn tell_view(words: &mut Words, view: &View, relation: &Relation) {
     words.next_line();
-    words.say("of its view the rule speaks of");
+    words.say("the rule reads");
     let mut first = true;
     for (field, name) in FIELDS {
         if speaks_of(relation, field) {
             words.say(if first { " " } else { ", " });
             first = false;
-            words.say(format_args!("{name} = {}", view.get(field)));
+            let number = view.get(field);
+            words.say(format_args!("{name} = {number}"));
+            if let Some(word) = word_for(field, number) {
+                words.say(format_args!(" ({word})"));
+            }
         }
     }
     words.next_line();
     words.say("views and their numbers: docs/SPECIFICATION.md, part 12");
+}
+
+// The word for which a number of a field stands, where it stands for one.
+fn word_for(field: Field, number: i64) -> Option<&'static str> {
+    match field {
+        Field::Kind => {
+            let index = usize::try_from(number).ok()?;
+            KINDS.get(index).copied()
+        }
+        Field::Service => {
+            let index = usize::try_from(number.saturating_sub(1)).ok()?;
+            str::from_utf8(SERVICES.get(index)?.name).ok()
+        }
+        Field::Out => {
+            let out = OUTCOMES
+                .iter()
+                .find(|out| i64::from(out.number()) == number)?;
+            Some(out_name(*out))
+        }
+        _ => None,
+    }
 }
 
 // Whether a relation speaks of a field.

@@ -3,8 +3,8 @@
 use crate::module::tell_time;
 use crate::partition::Refusing;
 use crate::processes::{tell_choice, tell_numbered};
-use apex_types::{Body, Call, CoreId, Ordered, Who};
-use wording::{Numbered, Occupant, Words};
+use apex_types::{Body, CoreId, Ordered, Who};
+use wording::{Numbered, Words};
 
 /// Tells whose window a core is in, where a call or a return is of another partition.
 pub fn tell_window(words: &mut Words, refusing: &Refusing<'_>, core: CoreId) {
@@ -36,11 +36,8 @@ pub fn tell_refused_choice(words: &mut Words, refusing: &Refusing<'_>, ordered: 
         Body::Disp(Some(who)) => tell_dispatched(words, refusing, *who),
         Body::Disp(None) => {}
         Body::Tick(_) => tell_occupant(words, refusing, core),
-        Body::Call(call) => tell_caller(words, refusing, core, call),
-        Body::Ret(ret) => {
-            tell_occupant(words, refusing, core);
-            tell_own(words, refusing, ret.who);
-        }
+        Body::Call(call) => tell_actor(words, refusing, core, &call.who),
+        Body::Ret(ret) => tell_actor(words, refusing, core, &ret.who),
     }
     words.rule("part 2, the choice (IsChosen, GoesBefore)");
 }
@@ -53,22 +50,27 @@ fn tell_dispatched(words: &mut Words, refusing: &Refusing<'_>, who: Who) {
     }
     words.next_line();
     words.say(format_args!(
-        "{} is not of the partition whose window it is",
+        "{} does not belong to the partition of this window",
         Numbered(who)
     ));
 }
 
 // Tells the occupant of a core, and its state where it is the partition's.
 fn tell_occupant(words: &mut Words, refusing: &Refusing<'_>, core: CoreId) {
-    let occupant = refusing.clock.on(core);
     words.next_line();
-    words.say(format_args!(
-        "the last dispatch gave core {} to {}",
-        core.number(),
-        Occupant(occupant)
-    ));
-    if let Some(who) = refusing.clock.on(core) {
-        tell_own(words, refusing, who);
+    match refusing.clock.on(core) {
+        Some(occupant) => words.say(format_args!(
+            "the last dispatch gave core {} to {}",
+            core.number(),
+            Numbered(occupant)
+        )),
+        None => words.say(format_args!(
+            "core {} is idle: no dispatch before this record, or the last one, names a process",
+            core.number()
+        )),
+    }
+    if let Some(occupant) = refusing.clock.on(core) {
+        tell_own(words, refusing, occupant);
     }
 }
 
@@ -79,10 +81,10 @@ fn tell_own(words: &mut Words, refusing: &Refusing<'_>, who: Who) {
     }
 }
 
-// Tells the occupant and the state of the caller.
-fn tell_caller(words: &mut Words, refusing: &Refusing<'_>, core: CoreId, call: &Call) {
+// Tells the occupant and the state of the process that calls or returns.
+fn tell_actor(words: &mut Words, refusing: &Refusing<'_>, core: CoreId, who: &Who) {
     tell_occupant(words, refusing, core);
-    if refusing.clock.on(core) != Some(call.who) {
-        tell_own(words, refusing, call.who);
+    if refusing.clock.on(core) != Some(*who) {
+        tell_own(words, refusing, *who);
     }
 }

@@ -23,14 +23,14 @@ pub fn tell_refused_outcome(
     cause: Cause,
 ) {
     words.next_line();
-    words.say("an error condition holds, so that the call answers ");
+    words.say("an error condition holds, so the call answers ");
     tell_codes(words, conditions);
     match cause {
-        Cause::Out => words.say(format_args!(", and not {}", out_name(call.claim.out))),
-        Cause::Val => words.say(", and has no value"),
-        Cause::Data => words.say(", and gives no message"),
-        Cause::Woken => words.say(", and ends no wait"),
-        Cause::Chan => words.say(", and goes through no channel"),
+        Cause::Out => words.say(format_args!("; recorded {}", out_name(call.claim.out))),
+        Cause::Val => words.say(" and gives no value"),
+        Cause::Data => words.say(" and gives no message"),
+        Cause::Woken => words.say(" and ends no wait"),
+        Cause::Chan => words.say(" and goes through no channel"),
         _ => {}
     }
     tell_conditions(words, config, state, call);
@@ -42,7 +42,7 @@ pub fn tell_through(words: &mut Words, channel: ChanId, call: &Call, cause: Caus
     match cause {
         Cause::Chan => {
             words.say(format_args!(
-                "its port is of channel {}, and the record gives ",
+                "its port belongs to channel {}, but the record names ",
                 channel.number()
             ));
             match call.claim.chan {
@@ -55,17 +55,17 @@ pub fn tell_through(words: &mut Words, channel: ChanId, call: &Call, cause: Caus
         }
         Cause::Out => {
             words.say(format_args!(
-                "no error condition holds, so that it can't have {} here",
+                "no error condition holds, so the outcome {} is not possible here",
                 out_name(call.claim.out)
             ));
             if call.claim.out == Out::Waits {
-                words.say(", since it has no time-out or one of 0");
+                words.say(": the call has no time-out, or one of 0");
             }
             words.rule("part 11, cause Out (CanHave)");
         }
         _ => {
             words.say(
-                "a call through a channel ends waits of the other partition alone, and it names ",
+                "a call through a channel ends only waits of the other partition, but this one names ",
             );
             tell_processes(words, call.claim.woken.as_slice());
             words.rule("part 11, cause Woken");
@@ -77,11 +77,14 @@ pub fn tell_through(words: &mut Words, channel: ChanId, call: &Call, cause: Caus
 pub fn tell_answer(words: &mut Words, state: &PartitionState, now: u64, call: &Call, cause: Cause) {
     if cause == Cause::Chan {
         words.next_line();
-        words.say("the call goes through no channel, and the record gives one");
+        words.say("the call goes through no channel, but the record names one");
         words.rule("part 10, Call, outcome (IsAnswered)");
         return;
     }
     tell_basis(words, state, now, call);
+    if cause == Cause::Val {
+        tell_holder(words, state, call);
+    }
     let wanted = wanted_of(state, now, call);
     tell_difference(
         words,
@@ -121,6 +124,22 @@ fn tell_basis(words: &mut Words, state: &PartitionState, now: u64, call: &Call) 
             }
         }
         Request::GetStatus(kind, object) => tell_object(words, state, *kind, *object),
+    }
+}
+
+// Tells what has the number already that a creation claims for what it creates.
+fn tell_holder(words: &mut Words, state: &PartitionState, call: &Call) {
+    let Some(number) = call.claim.val else {
+        return;
+    };
+    match &call.request {
+        Request::CreateProcess { .. } => {
+            if let Some(holder) = peer_of(state, call.who, number) {
+                tell_numbered(words, state, holder);
+            }
+        }
+        Request::Create(_, object) => tell_object(words, state, object.kind(), number),
+        _ => {}
     }
 }
 
@@ -198,20 +217,20 @@ pub fn tell_difference(
     words.next_line();
     match cause {
         Cause::Out => words.say(format_args!(
-            "wanted is the outcome {}, and the record gives {}",
+            "expected the outcome {}, recorded {}",
             out_name(wanted.out),
             out_name(claim.out)
         )),
         Cause::Val => {
-            words.say("wanted is ");
+            words.say("expected ");
             tell_value(words, wanted.val);
             tell_further(words, wanted.val2, wanted.val3);
-            words.say(", and the record gives ");
+            words.say("; recorded ");
             tell_value(words, claim.val.map_or(Value::Nothing, Value::Number));
             tell_further(words, claim.val2, claim.val3);
         }
         Cause::Data => words.say(format_args!(
-            "wanted is {}, and the record gives {}",
+            "expected {}, recorded {}",
             Bytes(wanted.bytes),
             Bytes(claim.bytes.as_bytes())
         )),
@@ -226,7 +245,7 @@ fn tell_value(words: &mut Words, value: Value) {
         Value::Nothing => words.say("no value"),
         Value::Number(number) => words.say(format_args!("the value {number}")),
         Value::New => words.say(
-            "a new number, 1 to 2,147,483,647, that nothing of its kind has in the partition",
+            "a new number from 1 to 2,147,483,647, which nothing of its kind has in the partition",
         ),
     }
 }
@@ -237,12 +256,12 @@ fn tell_woken(words: &mut Words, waking: Waking, all: Option<&WaitSet>, named: &
     match (waking, all) {
         (Waking::One(who), _) => words.say(format_args!("the wait of {}", Numbered(who))),
         (Waking::All, Some(set)) => words.say(format_args!(
-            "the waits of all who wait there, which are {}",
+            "the waits of all who wait there, {} in number",
             set.len()
         )),
         _ => words.say("no wait"),
     }
-    words.say(", and the record names ");
+    words.say(", but the record names ");
     if named.is_empty() {
         words.say("nobody");
     } else {

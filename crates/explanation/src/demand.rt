@@ -8,51 +8,59 @@ use wording::Words;
 pub fn tell_demand(words: &mut Words, subject: Subject, body: &Body, cause: Cause) {
     words.say(": ");
     match cause {
-        Cause::Names => words.say("each partition and channel that a record names is configured"),
+        Cause::Names => words.say(
+            "each partition and channel that a record names must be configured",
+        ),
         Cause::Skew => {
-            words.say("by a tick its core comes at most the skew ahead of each other core");
+            words.say("a tick must leave its core at most the skew ahead of every other core");
         }
         Cause::Idle => tell_idle(words, body),
-        Cause::Window => words.say("a call or a return stands in a window of its own partition"),
+        Cause::Window => words.say("a call or a return must be in a window of its own partition"),
         Cause::Choice => tell_choice(words, subject, body),
         Cause::Return => tell_return(words, body),
-        Cause::OutsideProfile => words.say("the call stands outside of what is judged"),
-        Cause::Prio => words.say("a call gives the current priority of its caller"),
+        Cause::OutsideProfile => words.say("this use of the service is outside the profile"),
+        Cause::Prio => words.say("a call must show the current priority of its caller"),
         Cause::Chan => words.say(
-            "a call gives the channel of its port, and none where it meets an error condition or uses no port",
+            "a call must name the channel of its port, or none if an error condition holds or it uses no port",
         ),
-        Cause::Out => words.say("the outcome is the one that the rules give"),
-        Cause::Val => words.say("the value is the one that goes with the outcome"),
-        Cause::Data => words.say("the message is the one that goes with the outcome"),
-        Cause::Woken => words.say("a record names exactly the processes whose wait ends by it"),
+        Cause::Out => words.say("the outcome must be the one that the rules give"),
+        Cause::Val => words.say("the value must be the one that belongs to the outcome"),
+        Cause::Data => words.say("the message must be the one that belongs to the outcome"),
+        Cause::Woken => words.say("a record must name exactly the processes whose waits it ends"),
     }
 }
 
 fn tell_idle(words: &mut Words, body: &Body) {
     match body {
-        Body::Call(_) | Body::Ret(_) => words.say("in no window there is no call and no return"),
-        Body::Disp(_) => words.say("in no window a dispatch names no process"),
-        Body::Tick(_) => words.say("a tick in no window finds its core idle"),
+        Body::Call(_) | Body::Ret(_) => words.say(
+            "outside every window there can be no call and no return",
+        ),
+        Body::Disp(_) => words.say("outside every window a dispatch must name no process"),
+        Body::Tick(_) => words.say("outside every window a core must be idle when it ticks"),
     }
 }
 
 fn tell_choice(words: &mut Words, subject: Subject, body: &Body) {
     if let Subject::Channel(_) = subject {
-        words.say("who calls through a channel waits at neither of its ends");
+        words.say(
+            "a process that calls through a channel must not be waiting at either of its ends",
+        );
         return;
     }
     match body {
-        Body::Disp(_) => words.say("a dispatch names the choice of its core"),
-        Body::Tick(_) => words.say("a tick finds the choice of its core as the occupant"),
+        Body::Disp(_) => words.say("a dispatch must name the choice of its core"),
+        Body::Tick(_) => words.say("at a tick the occupant must be the choice of the core"),
         Body::Call(_) | Body::Ret(_) => {
-            words.say("who calls or returns is the occupant of its core, and the choice");
+            words.say(
+                "a process that calls or returns must be the occupant of its core, and the choice",
+            );
         }
     }
 }
 
 fn tell_return(words: &mut Words, body: &Body) {
     match body {
-        Body::Ret(_) => words.say("a return is that of the outcome which is due"),
-        _ => words.say("a process returns from its last call before it makes another"),
+        Body::Ret(_) => words.say("a return must be that of the pending outcome"),
+        _ => words.say("a process must return from its last call before it makes another"),
     }
 }

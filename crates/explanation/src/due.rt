@@ -10,7 +10,10 @@ use wording::{Numbered, Words};
 pub fn tell_due_at_tick(words: &mut Words, refusing: &Refusing<'_>, core: CoreId, named: &[Who]) {
     let next = refusing.clock.now(core).saturating_add(1);
     words.next_line();
-    words.say(format_args!("with the tick the time of core {} is {next}", core.number()));
+    words.say(format_args!(
+        "after the tick, the time of core {} is {next}",
+        core.number()
+    ));
     let table = refusing.state.processes();
     for index in 0..table.len().saturating_add(1) {
         let Some((proc, process)) = table.at(index) else {
@@ -37,15 +40,16 @@ fn tell_due(words: &mut Words, who: Who, process: &Process, is_due: bool, is_nam
     if is_due == is_named {
         return;
     }
+    let proc = who.proc;
     words.next_line();
     words.say(Numbered(who));
-    tell_standing(words, process);
+    tell_standing(words, proc, process);
     if is_due {
-        words.say(": its wait is over, and the record does not name it");
+        words.say(": its wait ends at this tick, but the record does not name it");
         return;
     }
     words.say(format_args!("; its core is {}", process.affinity.number()));
-    words.say(": its wait is not over by this tick, and the record names it");
+    words.say(": its wait does not end at this tick, but the record names it");
 }
 
 // Whether the wait of a process falls due on a core at this time.
@@ -61,7 +65,7 @@ fn tell_unknown(words: &mut Words, refusing: &Refusing<'_>, named: &[Who]) {
     for who in named {
         if who.part == refusing.number && refusing.state.processes().proc(who.proc).is_none() {
             words.next_line();
-            words.say(format_args!("there is no {}, and the record names it", Numbered(*who)));
+            words.say(format_args!("there is no {}, but the record names it", Numbered(*who)));
         }
     }
 }
@@ -71,7 +75,7 @@ pub fn tell_foreign_waits(words: &mut Words, refusing: &Refusing<'_>, call: &Cal
     for who in call.claim.woken.as_slice() {
         if who.part == refusing.number && !waits_for(refusing, *who, call) {
             tell_numbered(words, refusing.state, *who);
-            words.say(": it does not wait where the call can end a wait");
+            words.say(": it does not wait where this call can end a wait");
         }
     }
     words.rule("part 11, cause Woken (WakesHere)");

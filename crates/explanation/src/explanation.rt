@@ -92,12 +92,12 @@ fn tell_refusal(
 ) {
     words.next_line();
     match piece.subject() {
-        Subject::Module => words.say("the module refuses it"),
+        Subject::Module => words.say("the module rejects it"),
         Subject::Partition(number) => {
-            words.say(format_args!("partition {} refuses it", number.number()));
+            words.say(format_args!("partition {} rejects it", number.number()));
         }
         Subject::Channel(number) => {
-            words.say(format_args!("channel {} refuses it", number.number()));
+            words.say(format_args!("channel {} rejects it", number.number()));
         }
     }
     tell_demand(words, piece.subject(), &ordered.rec.body, cause);

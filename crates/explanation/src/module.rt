@@ -70,7 +70,7 @@ fn tell_skew(words: &mut Words, config: &Config, clock: &Clock, core: CoreId) {
     let next = clock.now(core).saturating_add(1);
     words.next_line();
     words.say(format_args!(
-        "core {} would come to time {next}; the skew allows {} ahead of another core",
+        "core {} would reach time {next}; the skew allows {} ticks ahead of another core",
         core.number(),
         config.skew()
     ));
@@ -79,7 +79,7 @@ fn tell_skew(words: &mut Words, config: &Config, clock: &Clock, core: CoreId) {
         if next.saturating_sub(state.time) > config.skew() {
             words.next_line();
             words.say(format_args!(
-                "core {number} is at time {}: it would be {} behind",
+                "core {number} is at time {}, {} ticks earlier",
                 state.time,
                 next.saturating_sub(state.time)
             ));
@@ -98,7 +98,7 @@ fn tell_idle(words: &mut Words, config: &Config, clock: &Clock, ordered: &Ordere
     if let Body::Tick(_) = &ordered.rec.body {
         words.next_line();
         words.say(format_args!("its occupant is {}", Occupant(clock.on(core))));
-        words.say("; a tick in no window wants the core idle, by a dispatch that names nobody");
+        words.say("; outside every window a core must be idle when it ticks");
     }
     words.rule("part 11, cause Idle; the windows: part 1 (window_at)");
 }

@@ -8,7 +8,7 @@ use wording::Words;
 pub fn tell_outside(words: &mut Words, state: &PartitionState, call: &Call) {
     words.next_line();
     words.say(
-        "this use of the service is not judged by the program; that does not say that it is unlawful",
+        "the program does not judge this use of the service, which does not mean that it is unlawful",
     );
     words.next_line();
     match &call.request {

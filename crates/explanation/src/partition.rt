@@ -68,10 +68,10 @@ fn tell_return_before(words: &mut Words, refusing: &Refusing<'_>, who: Who) {
     words.next_line();
     match due_to(refusing.state, who) {
         Some(outcome) => {
-            words.say("before it calls again it has to return from ");
+            words.say("before it calls again it must return from ");
             tell_outcome(words, outcome);
         }
-        None => words.say("it is no process of its partition"),
+        None => words.say("its partition has no such process"),
     }
     words.rule("part 10, Call, due");
 }
@@ -100,7 +100,7 @@ fn tell_priority(words: &mut Words, refusing: &Refusing<'_>, call: &Call) {
     };
     words.next_line();
     words.say(format_args!(
-        "its current priority is {}, and the record says {}",
+        "expected its current priority {}, recorded {}",
         process.current_priority, call.claim.prio
     ));
     words.say(format_args!("; its base priority is {}", process.base_priority));
@@ -122,13 +122,13 @@ fn tell_return(words: &mut Words, refusing: &Refusing<'_>, ret: &Return, cause: 
     match due_to(refusing.state, ret.who) {
         Some(outcome) => {
             words.next_line();
-            words.say("what is due to it is the return from ");
+            words.say("its pending outcome is the return from ");
             tell_outcome(words, outcome);
         }
         None => {
             words.next_line();
             words.say(
-                "nothing is due to it: each return belongs to a call before it, and a wait has to end first",
+                "it has no pending outcome: each return follows a call, and a wait must end first",
             );
             tell_numbered(words, refusing.state, ret.who);
         }

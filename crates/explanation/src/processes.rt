@@ -7,20 +7,25 @@ use wording::{Ascii, Numbered, Set, Words};
 
 /// Tells a process with its name and its state: ready, or why it is not.
 pub fn tell_process(words: &mut Words, who: Who, process: &Process) {
+    let proc = who.proc;
     words.say(Numbered(who));
     let name = process.name.as_bytes();
     if !name.is_empty() {
         words.say(format_args!(", \"{}\",", Ascii(name)));
     }
-    tell_standing(words, process);
+    tell_standing(words, proc, process);
     words.say(format_args!("; its core is {}", process.affinity.number()));
     words.say(format_args!(" and its current priority {}", process.current_priority));
 }
 
 /// Tells the state of a process: dormant, suspended, waiting, or ready.
-pub fn tell_standing(words: &mut Words, process: &Process) {
+pub fn tell_standing(words: &mut Words, proc: ProcId, process: &Process) {
     if !process.alive {
-        words.say(" is dormant");
+        words.say(if proc.number() == 0 {
+            " ended when its partition entered the mode NORMAL"
+        } else {
+            " is dormant"
+        });
         return;
     }
     if process.suspended {

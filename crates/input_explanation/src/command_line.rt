@@ -47,7 +47,7 @@ pub fn tell_command_line(words: &mut Words, given: &[String]) {
                 return;
             };
             if seen.get(option) == Some(&true) {
-                words.say(format_args!("{} stands twice", name_of(option)));
+                words.say(format_args!("{} is given twice", name_of(option)));
                 return;
             }
             if let Some(place) = seen.get_mut(option) {
@@ -122,10 +122,10 @@ fn following(given: &[String], index: usize) -> Option<&str> {
 // Tells of a word that is no option.
 fn tell_unknown(words: &mut Words, word: &str) {
     if word == "--version" {
-        words.say("--version stands alone, and there are other words");
+        words.say("--version takes no other words");
         return;
     }
-    words.say(format_args!("{} is no option", Found(word.as_bytes())));
+    words.say(format_args!("{} is not an option", Found(word.as_bytes())));
 }
 
 // Whether an option may have this value.
@@ -140,11 +140,12 @@ fn is_value(option: usize, value: &[u8]) -> bool {
 // Tells of a value that an option may not have.
 fn tell_value(words: &mut Words, option: usize, value: &str) {
     words.say(format_args!("{} is {}", name_of(option), Found(value.as_bytes())));
-    if option == 5 {
-        words.say(", and wanted is the name of a service");
-    } else {
-        words.say(", and wanted is a number from 0 to 4294967295 in its shortest form");
-    }
+    words.say(match option {
+        2 => "; expected a number from 1 to 64",
+        3 => "; expected a number from 1 to 4096",
+        4 => "; expected a number of ticks from 0 to 4294967295",
+        _ => "; expected the name of a service",
+    });
 }
 
 // Tells of what has to be there.
@@ -158,6 +159,6 @@ fn tell_missing(words: &mut Words, seen: &[bool], recordings: usize) {
     if recordings == 0 {
         words.say("no recording is named");
     } else {
-        words.say("the words are not those of the usage");
+        words.say("the words do not fit the usage");
     }
 }

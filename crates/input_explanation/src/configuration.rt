@@ -39,7 +39,7 @@ fn tell_text(words: &mut Words, alloc: Global, fault: ConfigFault, text: &[u8]) 
             ConfigFault::Missing | ConfigFault::WrongType | ConfigFault::OutOfRange => {
                 tell_module_keys(words, &keys);
             }
-            _ => tell_whole(words, &keys, fault),
+            _ => tell_whole(words, alloc, &keys, fault),
         },
         Err(why) => {
             if fault == ConfigFault::NotToml {
@@ -112,7 +112,7 @@ fn tell_key(words: &mut Words, at: At, key: &str, value: Option<&Value>, wanted:
         Some(value) => words.say(format_args!("is {}", Given(value))),
         None => words.say("is missing"),
     }
-    words.say(format_args!(", and wanted is {wanted}"));
+    words.say(format_args!("; expected {wanted}"));
 }
 
 // The number under a key; none where it is not from `least` to `most`, which is reported.

@@ -9,6 +9,7 @@ mod configuration;
 mod found_row;
 mod refusals;
 mod rows;
+mod unknown_keys;
 mod whole;
 
 pub use command_line::tell_command_line;
@@ -16,3 +17,4 @@ pub use configuration::tell_configuration;
 pub use found_row::{FoundRow, find_row};
 pub use refusals::{tell_certificate, tell_order};
 pub use rows::tell_row_fault;
+pub use unknown_keys::tell_unknown_keys;

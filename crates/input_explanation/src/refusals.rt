@@ -15,9 +15,7 @@ pub fn tell_certificate(words: &mut Words, fault: CertFault, fields: Option<&Byt
                 words.say(format_args!(", {}", Found(text)));
             }
         }
-        words.say(
-            ", and wanted is core,seq with numbers from 0 to 4294967295 in their shortest form",
-        );
+        words.say("; expected core,seq, two numbers from 0 to 4294967295 in their shortest form");
     }
     words.next_line();
     words.say("the certificate: docs/FORMATS.md, The certificate");
@@ -29,7 +27,7 @@ pub fn tell_order(words: &mut Words, fault: OrderFault, core: u32, named: Option
     match fault {
         OrderFault::NoSuchCore => words.say(format_args!("core {core} is not configured")),
         OrderFault::Missing => words.say(format_args!(
-            "the certificate ends here, and the recording of core {core} has a further record"
+            "the certificate ends here, but the recording of core {core} has a further record"
         )),
         _ => words.say(format_args!("of core {core}: {fault}")),
     }
@@ -41,17 +39,17 @@ pub fn tell_order(words: &mut Words, fault: OrderFault, core: u32, named: Option
     }
     words.next_line();
     match fault {
-        OrderFault::NoSuchCore => words.say("wanted is a core that the configuration has"),
+        OrderFault::NoSuchCore => words.say("expected a core of the configuration"),
         OrderFault::Skipped => words.say(
-            "wanted is the core's next record, a smaller number; each record stands once, in its core's order",
+            "expected the core's next record, a smaller number; each record is named once, in its core's order",
         ),
         OrderFault::Repeated => words.say(
-            "wanted is the core's next record, a greater number; each record stands once, in its core's order",
+            "expected the core's next record, a greater number; each record is named once, in its core's order",
         ),
         OrderFault::Absent => words.say(
-            "wanted is a recording that goes on, or a certificate without this row",
+            "expected a longer recording, or a certificate without this row",
         ),
-        OrderFault::Missing => words.say("wanted is a row for each record of each core"),
+        OrderFault::Missing => words.say("expected a row for each record of each core"),
     }
     words.next_line();
     words.say("lawful orders: docs/SPECIFICATION.md, part 15 (IsLawfulOrder)");

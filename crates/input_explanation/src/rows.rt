@@ -19,37 +19,37 @@ pub fn tell_row_fault(words: &mut Words, fault: RowFault, seq: u64, fields: Opti
     words.next_line();
     match fault {
         RowFault::FieldCount => words.say(format_args!(
-            "it has {}, and wanted are 16, or 18 where the first row has 18",
+            "it has {}; expected 18 if the first row has 18, and else 16",
             Count(fields.len(), "field")
         )),
         RowFault::SeqGap => {
             tell_field(words, fields, Column::Sequence);
-            words.say(format_args!(", and the next number is {seq}"));
+            words.say(format_args!("; expected {seq}"));
         }
         RowFault::BadKind => {
             tell_field(words, fields, Column::Kind);
-            words.say(", and wanted is call, ret, disp or tick");
+            words.say("; expected call, ret, disp or tick");
         }
         RowFault::BadService => {
             tell_field(words, fields, Column::Service);
             if find_service(text(fields, Column::Service)).is_some() {
-                words.say(", a service that stands in recordings of format 2 alone");
+                words.say(", a service of format 2 only");
             } else {
-                words.say(", which is no name of a service");
+                words.say(", which is not the name of a service");
             }
         }
         RowFault::BadName => {
             tell_field(words, fields, Column::Name);
-            words.say(format_args!(", and wanted are 1 to {LONGEST_NAME} bytes from 0x20 to 0x7E"));
+            words.say(format_args!("; expected 1 to {LONGEST_NAME} bytes from 0x20 to 0x7E"));
         }
         RowFault::BadOut => {
             tell_field(words, fields, Column::Outcome);
-            words.say(", and wanted is the name of a code, or in a call also wait or none");
+            words.say("; expected the name of a code, or in a call also wait or none");
         }
         RowFault::BadWoken => {
             tell_field(words, fields, Column::Woken);
             words.say(
-                ", and wanted are processes as part:proc, joined by ; and strictly rising, each proc 1 or more",
+                "; expected processes as part:proc in strictly rising order, separated by semicolons, each proc 1 or more",
             );
         }
         RowFault::BadNumber => tell_number(words, fields),
@@ -77,10 +77,10 @@ fn tell_number(words: &mut Words, fields: &ByteRecord) {
         let must_be_number = !given.is_empty() || *column == Column::Sequence;
         if must_be_number && is_no_number(*column, given) {
             tell_field(words, fields, *column);
-            words.say(", and wanted is a number in its shortest form, ");
+            words.say("; expected a number in its shortest form, ");
             match greatest(*column) {
-                Some(most) => words.say(format_args!("0 to {most}")),
-                None => words.say("of 64 bits with a sign"),
+                Some(most) => words.say(format_args!("from 0 to {most}")),
+                None => words.say("signed, of 64 bits"),
             }
             return;
         }
@@ -115,45 +115,53 @@ fn is_no_number(column: Column, given: &[u8]) -> bool {
     }
 }
 
-// Tells the message that is no message, or is too long.
+// Tells the message that is no message, or has the wrong length.
 fn tell_digits(words: &mut Words, fields: &ByteRecord, fault: RowFault) {
     let length = text(fields, Column::SecondNumber);
-    let is_message = is_wrong(text(fields, Column::Message), fault, read_signed(length));
-    let column = if is_message {
-        Column::Message
-    } else {
-        Column::Data
-    };
-    tell_field(words, fields, column);
-    if fault == RowFault::BadHex {
-        words.say(", and wanted are hexadecimal digits, two for each byte");
-        return;
-    }
-    words.say(", and wanted are 1 to 8,192 bytes");
+    let expected = message_length(length);
+    let is_message = takes_message(fields)
+        && is_wrong(text(fields, Column::Message), fault, expected);
     if is_message {
-        words.say(format_args!(", as many as n2 says, which is {}", Found(length)));
+        tell_field(words, fields, Column::Message);
+    } else {
+        tell_field(words, fields, Column::Data);
+    }
+    if fault == RowFault::BadHex {
+        words.say("; expected hexadecimal digits, two for each byte");
+    } else if !is_message {
+        words.say(format_args!("; expected at most {LONGEST_MESSAGE} bytes"));
+    } else if expected == 0 {
+        words.say(format_args!("; expected no message, since n2 is {}", Found(length)));
+    } else {
+        words.say(format_args!(
+            "; expected as many bytes as n2 says, which is {}",
+            Found(length)
+        ));
     }
 }
 
-// Whether a message of this text has the fault.
-fn is_wrong(given: &[u8], fault: RowFault, length: Option<i64>) -> bool {
+// Whether a row is a call of a service that is given a message.
+fn takes_message(fields: &ByteRecord) -> bool {
+    find_kind(text(fields, Column::Kind)) == Some(Kind::Call)
+        && find_service(text(fields, Column::Service)).is_some_and(|service| service
+            .arguments()
+            .message)
+}
+
+// How many bytes the message of a call has with this length argument: none where the length is out of range.
+fn message_length(length: &[u8]) -> usize {
+    match read_decimal(length, LONGEST_MESSAGE as u64) {
+        Some(bytes) => bytes as usize,
+        None => 0,
+    }
+}
+
+// Whether a message of this text has the fault, where so many bytes are expected.
+fn is_wrong(given: &[u8], fault: RowFault, expected: usize) -> bool {
     if fault == RowFault::BadHex {
         return given.len() % 2 == 1 || !given.iter().all(|byte| byte.is_ascii_hexdigit());
     }
-    let Ok(bytes) = i64::try_from(given.len() / 2) else {
-        return true;
-    };
-    match length {
-        Some(length) => {
-            let wanted = if length >= 1 && length <= LONGEST_MESSAGE as i64 {
-                length
-            } else {
-                0
-            };
-            bytes != wanted
-        }
-        None => false,
-    }
+    given.len() / 2 != expected
 }
 
 // Whether a field may be filled, and whether it may be empty.
@@ -166,6 +174,13 @@ enum Filling {
 
 // Tells the first field that is filled and may not be, or is empty and may not be.
 fn tell_misfit(words: &mut Words, fields: &ByteRecord) {
+    for column in [Column::Sequence, Column::Kind] {
+        if text(fields, column).is_empty() {
+            tell_field(words, fields, column);
+            words.say(" and must be filled");
+            return;
+        }
+    }
     let Some(kind) = find_kind(text(fields, Column::Kind)) else {
         return;
     };
@@ -176,14 +191,14 @@ fn tell_misfit(words: &mut Words, fields: &ByteRecord) {
             Filling::Filled => {
                 if is_empty {
                     tell_field(words, fields, *column);
-                    words.say(", and has to be filled");
+                    words.say(" and must be filled");
                     return;
                 }
             }
             Filling::Empty => {
                 if !is_empty {
                     tell_field(words, fields, *column);
-                    words.say(", and has to be empty");
+                    words.say(" and must be empty");
                     return;
                 }
             }

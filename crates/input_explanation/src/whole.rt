@@ -1,33 +1,24 @@
 // The refusals of a configuration as a whole in words: which of its tables don't go together.
 
+use crate::unknown_keys::items;
+use apex_types::limits::{MOST_CHANNELS, MOST_PARTITIONS, MOST_PORTS, MOST_WINDOWS};
 use module_config::ConfigFault;
+use std::alloc::{AllocError, Global};
 use toml::{Table, Value};
-use wording::Words;
+use wording::{Found, Words};
+
+// The lists of channels.
+const KINDS: [&str; 2] = ["sampling", "queuing"];
 
 /// Tells which tables of a configuration don't go together. Each of its keys is right by itself.
-pub fn tell_whole(words: &mut Words, keys: &Table, fault: ConfigFault) {
+pub fn tell_whole(words: &mut Words, alloc: Global, keys: &Table, fault: ConfigFault) {
     match fault {
-        ConfigFault::TooMany => tell_counts(words, keys),
-        ConfigFault::Duplicate => {
-            tell_same(words, keys, "partition", "number");
-            tell_same(words, keys, "sampling", "channel");
-            tell_same(words, keys, "queuing", "channel");
-        }
+        ConfigFault::TooMany => tell_counts(words, alloc, keys),
+        ConfigFault::Duplicate => tell_repeated(words, alloc, keys),
         ConfigFault::CoreNotOfPartition => tell_strange_windows(words, keys),
         ConfigFault::Overlap => tell_overlaps(words, keys),
         ConfigFault::ChannelEnds => tell_ends(words, keys),
         _ => {}
-    }
-}
-
-// The items of a list, none where there is none.
-fn items<'a>(keys: &'a Table, list: &str) -> &'a [Value] {
-    match keys.get(list) {
-        Some(value) => match value.as_array() {
-            Some(items) => items.as_slice(),
-            None => &[],
-        },
-        None => &[],
     }
 }
 
@@ -36,8 +27,8 @@ fn number_in(item: &Value, key: &str) -> Option<i64> {
     item.as_table()?.get(key)?.as_integer()
 }
 
-// Tells how many tables there are of each kind.
-fn tell_counts(words: &mut Words, keys: &Table) {
+// Tells how many tables there are of each kind, and which partition has too many ports.
+fn tell_counts(words: &mut Words, alloc: Global, keys: &Table) {
     words.next_line();
     words.say(format_args!(
         "there are {} partitions, {} windows, {} sampling channels and {} queuing channels",
@@ -46,27 +37,119 @@ fn tell_counts(words: &mut Words, keys: &Table) {
         items(keys, "sampling").len(),
         items(keys, "queuing").len()
     ));
-    words.say(
-        "; served are 32 partitions, 4,096 windows, 256 channels, and 64 ports of a kind in one partition",
-    );
+    words.say(format_args!(
+        "; at most {MOST_PARTITIONS} partitions, {MOST_WINDOWS} windows and {MOST_CHANNELS} channels are allowed"
+    ));
+    for list in KINDS {
+        let Ok(ends) = ends_in(alloc, keys, list) else {
+            return;
+        };
+        for partition in items(keys, "partition") {
+            tell_port_count(words, list, ends.as_slice(), number_in(partition, "number"));
+        }
+    }
 }
 
-// Tells the items of a list that have one number under a key.
-fn tell_same(words: &mut Words, keys: &Table, list: &str, key: &str) {
-    let all = items(keys, list);
-    for index in 0..all.len() {
-        for other in 0..index {
-            let (Some(one), Some(earlier)) = (all.get(index), all.get(other)) else {
-                return;
-            };
-            let number = number_in(one, key);
-            if number.is_some() && number == number_in(earlier, key) {
+// Tells how many ports of a kind a partition has, where these are too many.
+fn tell_port_count(words: &mut Words, list: &str, ends: &[End<'_>], partition: Option<i64>) {
+    let count = ends.iter().filter(|end| end.partition == partition).count();
+    if let Some(number) = partition {
+        if count > MOST_PORTS {
+            words.next_line();
+            words.say(format_args!(
+                "partition {number} has {count} {list} ports; at most {MOST_PORTS} are allowed"
+            ));
+        }
+    }
+}
+
+// Tells which number, or which name of a port, is given twice.
+fn tell_repeated(words: &mut Words, alloc: Global, keys: &Table) {
+    tell_same(words, keys, "partition", "partition", "number");
+    tell_same(words, keys, "sampling", "sampling", "channel");
+    tell_same(words, keys, "queuing", "queuing", "channel");
+    tell_same(words, keys, "sampling", "queuing", "channel");
+    for list in KINDS {
+        if let Ok(ends) = ends_in(alloc, keys, list) {
+            tell_same_port(words, list, ends.as_slice());
+        }
+    }
+}
+
+// Tells the first items, of two lists or of one, that have the same number under a key.
+fn tell_same(words: &mut Words, keys: &Table, list: &str, other_list: &str, key: &str) {
+    for (index, item) in items(keys, list).iter().enumerate() {
+        for (other, later) in items(keys, other_list).iter().enumerate() {
+            let is_later = list != other_list || index < other;
+            let number = number_in(item, key);
+            if is_later && number.is_some() && number == number_in(later, key) {
                 words.next_line();
-                words.say(format_args!("{list} {other} and {list} {index} have the same {key}"));
+                words.say(format_args!(
+                    "{list} {index} and {other_list} {other} have the same {key}"
+                ));
                 return;
             }
         }
     }
+}
+
+// Tells the first two ends of a list that give a partition the same port.
+fn tell_same_port(words: &mut Words, list: &str, ends: &[End<'_>]) {
+    for (index, end) in ends.iter().enumerate() {
+        for earlier in ends.iter().take(index) {
+            if earlier.partition == end.partition && earlier.port == end.port {
+                words.next_line();
+                words.say(format_args!(
+                    "{list} {} and {list} {} have an end with the same partition and port {}",
+                    earlier.channel,
+                    end.channel,
+                    Found(end.port.as_bytes())
+                ));
+                return;
+            }
+        }
+    }
+}
+
+// An end of a channel: the index of the channel in its list, and what the end gives.
+#[derive(Clone, Copy)]
+struct End<'a> {
+    channel: usize,
+    partition: Option<i64>,
+    port: &'a str,
+}
+
+// The ends of the channels of a list.
+fn ends_in<'a>(alloc: Global, keys: &'a Table, list: &str) -> Result<Vec<End<'a>>, AllocError> {
+    let mut ends = Vec::new(alloc);
+    for (channel, item) in items(keys, list).iter().enumerate() {
+        let Some(keys) = item.as_table() else {
+            continue;
+        };
+        for key in ["source", "destination"] {
+            if let Some(end) = keys.get(key) {
+                ends.push(end_of(channel, end))?;
+            }
+        }
+        for end in items(keys, "destinations") {
+            ends.push(end_of(channel, end))?;
+        }
+    }
+    Ok(ends)
+}
+
+// The end that a table describes.
+fn end_of<'a>(channel: usize, end: &'a Value) -> End<'a> {
+    End {
+        channel,
+        partition: number_in(end, "partition"),
+        port: text_in(end, "port").unwrap_or(""),
+    }
+}
+
+// The text under a key of an item.
+fn text_in<'a>(item: &'a Value, key: &str) -> Option<&'a str> {
+    item.as_table()?.get(key)?.as_str()
 }
 
 // The table of the partition of this number.
@@ -91,9 +174,9 @@ fn tell_strange_windows(words: &mut Words, keys: &Table) {
             words.next_line();
             words.say(format_args!("window {index} gives core {core} to partition {number}"));
             if partition_of(keys, number).is_some() {
-                words.say(", in whose list of cores it does not stand");
+                words.say(", whose list of cores lacks it");
             } else {
-                words.say(", and no partition has that number");
+                words.say(", but no partition has that number");
             }
             return;
         }
@@ -124,7 +207,7 @@ fn tell_overlaps(words: &mut Words, keys: &Table) {
             if share_a_tick(one, earlier) {
                 words.next_line();
                 words.say(format_args!(
-                    "window {other} and window {index} are of one core and share a tick"
+                    "window {other} and window {index} of the same core share a tick"
                 ));
                 return;
             }

@@ -77,13 +77,12 @@ pub fn codes_rule(request: &Request) -> &'static str {
         },
         Request::Caller(operation) => match operation {
             CallerOperation::SuspendSelf { .. } => "suspend_self_codes",
+            CallerOperation::GetMyId => "get_my_id_codes",
+            CallerOperation::TimedWait { .. } => "timed_wait_codes",
             CallerOperation::PeriodicWait => "periodic_wait_codes",
-            CallerOperation::StopSelf
-            | CallerOperation::GetMyId
-            | CallerOperation::TimedWait { .. }
-            | CallerOperation::GetTime => "condition_codes",
+            CallerOperation::StopSelf | CallerOperation::GetTime => "condition_codes",
         },
-        Request::SetPartitionMode(..) => "condition_codes",
+        Request::SetPartitionMode(..) => "set_mode_codes",
         Request::Create(..) => "create_codes",
         Request::Buffer(_, operation) => match operation {
             BufferOperation::Send { .. } => "message_codes",

@@ -7,8 +7,12 @@ use std::fmt::Display;
 const LONGEST: usize = 16_384;
 
 /// A text in words. Once memory is refused to it, or it is too long, nothing more is added to it.
+///
+/// What is said may come from a file or a command line: its control characters are written as `\n` or `\u{1b}`, so that a
+/// terminal shows them and does not obey them.
 #[derive(Drop)]
 pub struct Words {
+    alloc: Global,
     text: String,
     ended: bool,
 }
@@ -17,6 +21,7 @@ impl Words {
     /// No words. Takes no memory.
     pub fn new(alloc: Global) -> Words {
         Words {
+            alloc,
             text: String::new(alloc),
             ended: false,
         }
@@ -24,18 +29,27 @@ impl Words {
 
     /// Adds these words.
     pub fn say(&mut self, words: impl Display + Drop) {
-        if self.ended || self.text.len() >= LONGEST {
+        let Ok(said) = format!(in self.alloc; "{words}") else {
             self.ended = true;
             return;
+        };
+        for character in said.chars() {
+            if character.is_control() {
+                self.add(character.escape_default());
+            } else {
+                self.add(character);
+            }
         }
-        if write!(self.text, "{words}").is_err() {
-            self.ended = true;
-        }
+    }
+
+    /// Adds other words, with their lines.
+    pub fn append(&mut self, other: &Words) {
+        self.add(other.as_str());
     }
 
     /// Begins a further line, which is set in.
     pub fn next_line(&mut self) {
-        self.say("\n    ");
+        self.add("\n    ");
     }
 
     /// Tells the rule that is not kept, by its place in the specification.
@@ -47,5 +61,13 @@ impl Words {
     /// The text.
     pub fn as_str(&self) -> &str {
         self.text.as_str()
+    }
+
+    // Adds a text as it is.
+    fn add(&mut self, text: impl Display + Drop) {
+        self.ended |= self.text.len() >= LONGEST;
+        if !self.ended && write!(self.text, "{text}").is_err() {
+            self.ended = true;
+        }
     }
 }

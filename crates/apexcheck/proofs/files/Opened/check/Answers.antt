@@ -10,7 +10,7 @@ use Rattle.verdict_merge.specs.declared.verdict.Verdict.{Verdict}
 use Rattle.apexcheck.specs.declared.ending.Ending.TheVariants.{Checked}
 use Rattle.apexcheck.specs.Files.{given_of}
 use Rattle.apexcheck.specs.Ruled.{AnswersRuled, IsRuledEnding, rules_given, where_asked}
-use Rattle.apexcheck.proofs.files.Opened.judge.Goals as goal
+use Rattle.apexcheck.proofs.files.Opened.check.Goals as goal
 
 -- a run ends by the answer under the rules that its text says
 ends : (given : Given) (options : List RuleOption) (text : Option (List ℕ)) (settings : Settings) (asked : Bool) (rules : List SaidRule) (outcome : Result Verdict CheckFault) (last : List LastItem)

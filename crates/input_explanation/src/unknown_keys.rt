@@ -1,0 +1,107 @@
+// The keys of a configuration that no rule of it reads: they are ignored, and one of them may be a word misspelt.
+
+use std::alloc::Global;
+use toml::{Table, Value};
+use wording::{Found, Words};
+
+const MODULE: [&str; 7] = [
+    "cores",
+    "frame",
+    "skew",
+    "partition",
+    "window",
+    "sampling",
+    "queuing",
+];
+
+const PARTITION: [&str; 9] = [
+    "number",
+    "period",
+    "cores",
+    "processes",
+    "buffers",
+    "blackboards",
+    "semaphores",
+    "events",
+    "mutexes",
+];
+
+const WINDOW: [&str; 4] = ["core", "partition", "start", "length"];
+
+const SAMPLING: [&str; 5] = ["channel", "size", "refresh", "source", "destinations"];
+
+const QUEUING: [&str; 7] = [
+    "channel",
+    "size",
+    "capacity",
+    "source",
+    "source_discipline",
+    "destination",
+    "destination_discipline",
+];
+
+const END: [&str; 2] = ["partition", "port"];
+
+/// Tells each key of this configuration that is not known, with its table. Says nothing where each is known, or where the text
+/// is not TOML.
+pub fn tell_unknown_keys(words: &mut Words, alloc: Global, text: &[u8]) {
+    let Ok(keys) = toml::table_from_slice(alloc, text) else {
+        return;
+    };
+    tell_unknown(words, &keys, "", None, &MODULE);
+    tell_items(words, &keys, "partition", &PARTITION);
+    tell_items(words, &keys, "window", &WINDOW);
+    tell_items(words, &keys, "sampling", &SAMPLING);
+    tell_items(words, &keys, "queuing", &QUEUING);
+}
+
+// The tables of a list, and the ends of a channel in them.
+fn tell_items(words: &mut Words, keys: &Table, list: &str, known: &[&str]) {
+    for (index, item) in items(keys, list).iter().enumerate() {
+        let Some(keys) = item.as_table() else {
+            continue;
+        };
+        tell_unknown(words, keys, list, Some(index), known);
+        for end in ["source", "destination"] {
+            if let Some(end) = table_under(keys, end) {
+                tell_unknown(words, end, list, Some(index), &END);
+            }
+        }
+        for end in items(keys, "destinations") {
+            if let Some(end) = end.as_table() {
+                tell_unknown(words, end, list, Some(index), &END);
+            }
+        }
+    }
+}
+
+// The keys of one table that are none of these.
+fn tell_unknown(words: &mut Words, keys: &Table, list: &str, index: Option<usize>, known: &[&str]) {
+    for key in keys.keys() {
+        let key = key.as_str();
+        if known.iter().any(|name| *name == key) {
+            continue;
+        }
+        words.next_line();
+        if let Some(index) = index {
+            words.say(format_args!("{list} {index}, "));
+        }
+        words.say(Found(key.as_bytes()));
+    }
+}
+
+/// The items of a list, none where there is none.
+pub(crate) fn items<'a>(keys: &'a Table, list: &str) -> &'a [Value] {
+    match keys.get(list) {
+        Some(value) => match value.as_array() {
+            Some(items) => items.as_slice(),
+            None => &[],
+        },
+        None => &[],
+    }
+}
+
+// The table under a key, if there is one.
+fn table_under<'a>(keys: &'a Table, key: &str) -> Option<&'a Table> {
+    keys.get(key)?.as_table()
+}
