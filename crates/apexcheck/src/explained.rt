@@ -22,8 +22,8 @@ use std::io::Read;
 use std::rt::Env;
 use wording::{Count, Words};
 
-/// Tells a person why the line is the one it is: where the record, the row or the key is, what was found and what was expected;
-/// and which keys of the configuration are ignored. With `--quiet` only what was noted is told.
+/// Explains the line to a person: where the record, the row or the key is, what was found and what was expected; and which keys
+/// of the configuration are ignored. With `--quiet` it prints only what was noted.
 pub fn explain<R: Env + Files<File = F> + Eprint + AllocGlobal, F: Read + Drop>(
     rt: &R,
     alloc: Global,
@@ -46,7 +46,7 @@ pub fn explain<R: Env + Files<File = F> + Eprint + AllocGlobal, F: Read + Drop>(
     }
 }
 
-// Tells the words, if there are any.
+// Prints the words, if there are any.
 fn tell(rt: &impl Eprint, words: &Words) {
     if !words.as_str().is_empty() {
         // Standard error only helps a person, so that a failure there changes nothing.

@@ -1,4 +1,4 @@
-// What explains the end of a run to a person. It is gathered while the run goes on, and told once the run's line is written.
+// What explains the end of a run to a person. It is gathered while the run goes on, and printed after the line.
 
 use crate::usage::FileNames;
 use apex_types::{Cause, Ordered, View};
@@ -36,7 +36,7 @@ impl Explainer {
         &self.explanation
     }
 
-    /// What is to be told before anything else, empty where there is nothing.
+    /// What is printed before anything else, empty if there is nothing.
     pub fn noted(&self) -> &Words {
         &self.note
     }
@@ -46,12 +46,12 @@ impl Explainer {
         &self.unknown_keys
     }
 
-    /// Notes what is to be told before anything else.
+    /// Notes what is printed before anything else.
     pub fn note(&mut self, words: impl Display + Drop) {
         self.note.say(words);
     }
 
-    /// Notes why the text of rules is refused. Want of memory is reported by the line alone.
+    /// Notes why the rules file is refused. A refusal of memory is reported by the line alone.
     pub fn note_rules(&mut self, names: &FileNames, fault: &RulesFault) {
         match (&names.rules, fault) {
             (None, _) | (_, RulesFault::Memory) => {}

@@ -25,7 +25,7 @@ use std::thread::Threads;
 /// Opens the files of a run and checks what they hold. The configuration is read first, then the text of rules, if one is
 /// named; then the order is opened, then the recordings, core 0 first. The text of rules is judged after that.
 ///
-/// The explainer receives what explains the end: which file can't be opened or read and why, why the text of rules is refused,
+/// The explainer receives what explains the end: which file can't be opened or read and why, why the rules file is refused,
 /// which rule is broken, the record at the place of a No, and the keys of the configuration that are not known.
 pub fn check_files<R, F>(
     rt: &R,

@@ -97,7 +97,7 @@ pub fn from_words(rt: &(impl Env + AllocGlobal), alloc: Global) -> Result<Asked,
     read_words(alloc, words.as_slice())
 }
 
-/// Tells a person what is wrong with the words that the program was given, and how it is used.
+/// Prints what is wrong with the words that the program was given, and how it is used.
 pub fn tell_usage(rt: &(impl Env + Eprint + AllocGlobal), alloc: Global) {
     let mut reported = Words::new(alloc);
     match env::args(rt) {

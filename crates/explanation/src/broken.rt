@@ -53,7 +53,7 @@ pub fn tell_view(words: &mut Words, view: &View, relation: &Relation) {
     words.say("views and their numbers: docs/SPECIFICATION.md, part 12");
 }
 
-// The word for which a number of a field stands, where it stands for one.
+// The word that a number of a field means, if it means one.
 fn word_for(field: Field, number: i64) -> Option<&'static str> {
     match field {
         Field::Kind => {

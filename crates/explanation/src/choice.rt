@@ -81,7 +81,7 @@ fn tell_own(words: &mut Words, refusing: &Refusing<'_>, who: Who) {
     }
 }
 
-// Tells the occupant and the state of the process that calls or returns.
+// Shows the occupant and the state of the process that calls or returns.
 fn tell_actor(words: &mut Words, refusing: &Refusing<'_>, core: CoreId, who: &Who) {
     tell_occupant(words, refusing, core);
     if refusing.clock.on(core) != Some(*who) {

@@ -127,7 +127,7 @@ fn tell_basis(words: &mut Words, state: &PartitionState, now: u64, call: &Call) 
     }
 }
 
-// Tells what has the number already that a creation claims for what it creates.
+// Shows what already has the number that a creation claims.
 fn tell_holder(words: &mut Words, state: &PartitionState, call: &Call) {
     let Some(number) = call.claim.val else {
         return;

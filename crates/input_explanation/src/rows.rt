@@ -115,7 +115,7 @@ fn is_no_number(column: Column, given: &[u8]) -> bool {
     }
 }
 
-// Tells the message that is no message, or has the wrong length.
+// Shows the message that is not one, or has the wrong length.
 fn tell_digits(words: &mut Words, fields: &ByteRecord, fault: RowFault) {
     let length = text(fields, Column::SecondNumber);
     let expected = message_length(length);

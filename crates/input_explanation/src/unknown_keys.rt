@@ -42,8 +42,7 @@ const QUEUING: [&str; 7] = [
 
 const END: [&str; 2] = ["partition", "port"];
 
-/// Tells each key of this configuration that is not known, with its table. Says nothing where each is known, or where the text
-/// is not TOML.
+/// Lists each unknown key of this configuration, with its table. Adds nothing if every key is known, or if the text is not TOML.
 pub fn tell_unknown_keys(words: &mut Words, alloc: Global, text: &[u8]) {
     let Ok(keys) = toml::table_from_slice(alloc, text) else {
         return;

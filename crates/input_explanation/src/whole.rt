@@ -27,7 +27,7 @@ fn number_in(item: &Value, key: &str) -> Option<i64> {
     item.as_table()?.get(key)?.as_integer()
 }
 
-// Tells how many tables there are of each kind, and which partition has too many ports.
+// Shows how many tables there are of each kind, and which partition has too many ports.
 fn tell_counts(words: &mut Words, alloc: Global, keys: &Table) {
     words.next_line();
     words.say(format_args!(
@@ -50,7 +50,7 @@ fn tell_counts(words: &mut Words, alloc: Global, keys: &Table) {
     }
 }
 
-// Tells how many ports of a kind a partition has, where these are too many.
+// Shows how many ports of a kind a partition has, if these are too many.
 fn tell_port_count(words: &mut Words, list: &str, ends: &[End<'_>], partition: Option<i64>) {
     let count = ends.iter().filter(|end| end.partition == partition).count();
     if let Some(number) = partition {
@@ -63,7 +63,7 @@ fn tell_port_count(words: &mut Words, list: &str, ends: &[End<'_>], partition: O
     }
 }
 
-// Tells which number, or which name of a port, is given twice.
+// Shows which number, or which name of a port, is given twice.
 fn tell_repeated(words: &mut Words, alloc: Global, keys: &Table) {
     tell_same(words, keys, "partition", "partition", "number");
     tell_same(words, keys, "sampling", "sampling", "channel");
@@ -76,7 +76,7 @@ fn tell_repeated(words: &mut Words, alloc: Global, keys: &Table) {
     }
 }
 
-// Tells the first items, of two lists or of one, that have the same number under a key.
+// Shows the first items, of two lists or of one, that have the same number under a key.
 fn tell_same(words: &mut Words, keys: &Table, list: &str, other_list: &str, key: &str) {
     for (index, item) in items(keys, list).iter().enumerate() {
         for (other, later) in items(keys, other_list).iter().enumerate() {
@@ -93,7 +93,7 @@ fn tell_same(words: &mut Words, keys: &Table, list: &str, other_list: &str, key:
     }
 }
 
-// Tells the first two ends of a list that give a partition the same port.
+// Shows the first two ends of a list that give a partition the same port.
 fn tell_same_port(words: &mut Words, list: &str, ends: &[End<'_>]) {
     for (index, end) in ends.iter().enumerate() {
         for earlier in ends.iter().take(index) {
