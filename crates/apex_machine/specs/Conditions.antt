@@ -24,16 +24,12 @@ codes_for (Some object) codes = codes object
 -- whether a mode is NORMAL
 abbrev pub is_normal : Mode → Bool
 is_normal mode.Normal = true
-is_normal mode.Idle = false
-is_normal mode.ColdStart = false
-is_normal mode.WarmStart = false
+is_normal _ = false
 
 -- whether a mode is COLD_START
 abbrev pub is_cold_start : Mode → Bool
 is_cold_start mode.ColdStart = true
-is_cold_start mode.Idle = false
-is_cold_start mode.WarmStart = false
-is_cold_start mode.Normal = false
+is_cold_start _ = false
 
 -- the caller
 

@@ -1,4 +1,5 @@
 -- The service of a request, and the kind of what it creates.
+use Rattle.apex_types.specs.declared.object_kind.KindServices.{KindServices}
 use Rattle.apex_types.specs.declared.object_kind.ObjectKind.{ObjectKind}
 use Rattle.apex_types.specs.declared.object_kind.ObjectKind.TheVariants as kind
 use Rattle.apex_types.specs.declared.operation.{BlackboardOperation.BlackboardOperation, BufferOperation.BufferOperation, CallerOperation.CallerOperation, EventOperation.EventOperation, MutexOperation.MutexOperation, NewObject.NewObject, ProcessOperation.ProcessOperation, QueuingOperation.QueuingOperation, SamplingOperation.SamplingOperation, SemaphoreOperation.SemaphoreOperation}
@@ -17,35 +18,15 @@ kind_of (NewObject.Mutex priority discipline) = kind.Mutex
 kind_of (NewObject.SamplingPort size direction refresh) = kind.SamplingPort
 kind_of (NewObject.QueuingPort size capacity direction discipline) = kind.QueuingPort
 
--- the service that creates one of a kind
-abbrev pub creation_service : ObjectKind → Service
-creation_service kind.Buffer = service.CreateBuffer
-creation_service kind.Blackboard = service.CreateBlackboard
-creation_service kind.Semaphore = service.CreateSemaphore
-creation_service kind.Event = service.CreateEvent
-creation_service kind.Mutex = service.CreateMutex
-creation_service kind.SamplingPort = service.CreateSamplingPort
-creation_service kind.QueuingPort = service.CreateQueuingPort
-
--- the service that tells the number of what has a name, by its kind
-abbrev pub id_service : ObjectKind → Service
-id_service kind.Buffer = service.GetBufferId
-id_service kind.Blackboard = service.GetBlackboardId
-id_service kind.Semaphore = service.GetSemaphoreId
-id_service kind.Event = service.GetEventId
-id_service kind.Mutex = service.GetMutexId
-id_service kind.SamplingPort = service.GetSamplingPortId
-id_service kind.QueuingPort = service.GetQueuingPortId
-
--- the service that tells the state of one of a kind
-abbrev pub status_service : ObjectKind → Service
-status_service kind.Buffer = service.GetBufferStatus
-status_service kind.Blackboard = service.GetBlackboardStatus
-status_service kind.Semaphore = service.GetSemaphoreStatus
-status_service kind.Event = service.GetEventStatus
-status_service kind.Mutex = service.GetMutexStatus
-status_service kind.SamplingPort = service.GetSamplingPortStatus
-status_service kind.QueuingPort = service.GetQueuingPortStatus
+-- the services that create one of a kind, and report the number of what has a name and the status of one of the kind
+abbrev pub services_of : ObjectKind → KindServices
+services_of kind.Buffer = record { creation = service.CreateBuffer; id = service.GetBufferId; status = service.GetBufferStatus }
+services_of kind.Blackboard = record { creation = service.CreateBlackboard; id = service.GetBlackboardId; status = service.GetBlackboardStatus }
+services_of kind.Semaphore = record { creation = service.CreateSemaphore; id = service.GetSemaphoreId; status = service.GetSemaphoreStatus }
+services_of kind.Event = record { creation = service.CreateEvent; id = service.GetEventId; status = service.GetEventStatus }
+services_of kind.Mutex = record { creation = service.CreateMutex; id = service.GetMutexId; status = service.GetMutexStatus }
+services_of kind.SamplingPort = record { creation = service.CreateSamplingPort; id = service.GetSamplingPortId; status = service.GetSamplingPortStatus }
+services_of kind.QueuingPort = record { creation = service.CreateQueuingPort; id = service.GetQueuingPortId; status = service.GetQueuingPortStatus }
 
 -- the service that asks this of a process
 abbrev pub process_service : ProcessOperation → Service
@@ -108,7 +89,7 @@ service_of (request.CreateProcess name priority period) = service.CreateProcess
 service_of (request.Process process operation) = process_service operation
 service_of (request.Caller operation) = caller_service operation
 service_of (request.SetPartitionMode mode) = service.SetPartitionMode
-service_of (request.Create name object) = creation_service (kind_of object)
+service_of (request.Create name object) = (services_of (kind_of object)).creation
 service_of (request.Buffer buffer operation) = buffer_service operation
 service_of (request.Blackboard blackboard operation) = blackboard_service operation
 service_of (request.Semaphore semaphore operation) = semaphore_service operation
@@ -116,5 +97,5 @@ service_of (request.Event event operation) = event_service operation
 service_of (request.Mutex mutex operation) = mutex_service operation
 service_of (request.SamplingPort port operation) = sampling_service operation
 service_of (request.QueuingPort port operation) = queuing_service operation
-service_of (request.GetId kind name) = id_service kind
-service_of (request.GetStatus kind object) = status_service kind
+service_of (request.GetId kind name) = (services_of kind).id
+service_of (request.GetStatus kind object) = (services_of kind).status

@@ -23,7 +23,7 @@ pub use code::Code;
 pub use discipline::Discipline;
 pub use format::Format;
 pub use number::{ChanId, CoreId, PartId, Place, ProcId};
-pub use object_kind::ObjectKind;
+pub use object_kind::{KindServices, ObjectKind};
 pub use operation::{
     BlackboardOperation, BufferOperation, CallerOperation, EventOperation, MutexOperation,
     NewObject, ProcessOperation, QueuingOperation, SamplingOperation, SemaphoreOperation,

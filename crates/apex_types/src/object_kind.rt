@@ -1,9 +1,20 @@
 // The kinds of objects and ports.
 
 ghost use Rattle.std.specs.Prelude.{◌≡◌};
-ghost use Rattle.apex_types.specs.Requested.{creation_service, id_service, status_service};
+ghost use Rattle.apex_types.specs.Requested.{services_of};
 
 use crate::service::Service;
+
+/// The services that all kinds have.
+#[derive(Clone, Copy, Debug, PartialEq, Eq)]
+pub struct KindServices {
+    /// Creates one of the kind.
+    pub creation: Service,
+    /// Reports the number of what has a name.
+    pub id: Service,
+    /// Reports the status of one of the kind.
+    pub status: Service,
+}
 
 /// A kind of objects or ports of a partition. Each has its own numbers and names.
 #[derive(Clone, Copy, Debug, PartialEq, Eq)]
@@ -18,48 +29,46 @@ pub enum ObjectKind {
 }
 
 impl ObjectKind {
-    /// The service that creates one of this kind.
-    pub fn creation_service(self) -> Service
-        ensures { result ≡ creation_service self }
+    /// The services that create one of this kind, and report its number and its status.
+    pub fn services(self) -> KindServices
+        ensures { result ≡ services_of self }
     {
         match self {
-            ObjectKind::Buffer => Service::CreateBuffer,
-            ObjectKind::Blackboard => Service::CreateBlackboard,
-            ObjectKind::Semaphore => Service::CreateSemaphore,
-            ObjectKind::Event => Service::CreateEvent,
-            ObjectKind::Mutex => Service::CreateMutex,
-            ObjectKind::SamplingPort => Service::CreateSamplingPort,
-            ObjectKind::QueuingPort => Service::CreateQueuingPort,
-        }
-    }
-
-    /// The service that tells the number of what has a name.
-    pub fn id_service(self) -> Service
-        ensures { result ≡ id_service self }
-    {
-        match self {
-            ObjectKind::Buffer => Service::GetBufferId,
-            ObjectKind::Blackboard => Service::GetBlackboardId,
-            ObjectKind::Semaphore => Service::GetSemaphoreId,
-            ObjectKind::Event => Service::GetEventId,
-            ObjectKind::Mutex => Service::GetMutexId,
-            ObjectKind::SamplingPort => Service::GetSamplingPortId,
-            ObjectKind::QueuingPort => Service::GetQueuingPortId,
-        }
-    }
-
-    /// The service that tells the state of one of this kind.
-    pub fn status_service(self) -> Service
-        ensures { result ≡ status_service self }
-    {
-        match self {
-            ObjectKind::Buffer => Service::GetBufferStatus,
-            ObjectKind::Blackboard => Service::GetBlackboardStatus,
-            ObjectKind::Semaphore => Service::GetSemaphoreStatus,
-            ObjectKind::Event => Service::GetEventStatus,
-            ObjectKind::Mutex => Service::GetMutexStatus,
-            ObjectKind::SamplingPort => Service::GetSamplingPortStatus,
-            ObjectKind::QueuingPort => Service::GetQueuingPortStatus,
+            ObjectKind::Buffer => KindServices {
+                creation: Service::CreateBuffer,
+                id: Service::GetBufferId,
+                status: Service::GetBufferStatus,
+            },
+            ObjectKind::Blackboard => KindServices {
+                creation: Service::CreateBlackboard,
+                id: Service::GetBlackboardId,
+                status: Service::GetBlackboardStatus,
+            },
+            ObjectKind::Semaphore => KindServices {
+                creation: Service::CreateSemaphore,
+                id: Service::GetSemaphoreId,
+                status: Service::GetSemaphoreStatus,
+            },
+            ObjectKind::Event => KindServices {
+                creation: Service::CreateEvent,
+                id: Service::GetEventId,
+                status: Service::GetEventStatus,
+            },
+            ObjectKind::Mutex => KindServices {
+                creation: Service::CreateMutex,
+                id: Service::GetMutexId,
+                status: Service::GetMutexStatus,
+            },
+            ObjectKind::SamplingPort => KindServices {
+                creation: Service::CreateSamplingPort,
+                id: Service::GetSamplingPortId,
+                status: Service::GetSamplingPortStatus,
+            },
+            ObjectKind::QueuingPort => KindServices {
+                creation: Service::CreateQueuingPort,
+                id: Service::GetQueuingPortId,
+                status: Service::GetQueuingPortStatus,
+            },
         }
     }
 }

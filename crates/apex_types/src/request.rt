@@ -51,7 +51,7 @@ impl Request {
             Request::Process(_, operation) => operation.service(),
             Request::Caller(operation) => operation.service(),
             Request::SetPartitionMode(..) => Service::SetPartitionMode,
-            Request::Create(_, object) => object.kind().creation_service(),
+            Request::Create(_, object) => object.kind().services().creation,
             Request::Buffer(_, operation) => operation.service(),
             Request::Blackboard(_, operation) => operation.service(),
             Request::Semaphore(_, operation) => operation.service(),
@@ -59,8 +59,8 @@ impl Request {
             Request::Mutex(_, operation) => operation.service(),
             Request::SamplingPort(_, operation) => operation.service(),
             Request::QueuingPort(_, operation) => operation.service(),
-            Request::GetId(kind, _) => kind.id_service(),
-            Request::GetStatus(kind, _) => kind.status_service(),
+            Request::GetId(kind, _) => kind.services().id,
+            Request::GetStatus(kind, _) => kind.services().status,
         }
     }
 }
