@@ -1,5 +1,6 @@
 -- The queuing ports of a partition are at their ends, when ports are created.
-use Rattle.std.proofs.Common.{◌≡◌, ℕ, List, [], ◌∷◌, ◌++◌, true, false, cond, nat_eq, ℤ, pos, negsuc, Option, Some, None, refl, subst, ◌&&◌}
+use Rattle.std.proofs.Common.{◌≡◌, ℕ, List, [], ◌∷◌, ◌++◌, true, false, cond, nat_eq, ℤ, pos, negsuc, Option, Some, None, refl, subst, ◌&&◌, ◌||◌}
+use Rattle.std.specs.Prelude.{option_map}
 use Rattle.std.specs.List.{list_any}
 use Rattle.std.specs.Str.{bytes_eq}
 use Rattle.std.proofs.lemmas.Bool.{and_from, and_parts}
@@ -7,9 +8,10 @@ use Rattle.apex_types.specs.declared.record.Who.{Who}
 use Rattle.apex_types.specs.declared.operation.{NewObject.NewObject, SamplingOperation.SamplingOperation}
 use Rattle.apex_types.specs.declared.request.Request.{Request}
 use Rattle.apex_types.specs.declared.request.Request.TheVariants as request
+use Rattle.apex_machine.specs.declared.state.Direction.{Direction}
 use Rattle.apex_machine.specs.declared.state.Direction.TheVariants as direction
 use Rattle.apex_machine.specs.After.{new_queuing_port, objects_by}
-use Rattle.apex_machine.specs.Channels.{QueuingPort, is_port, queuing_end, queuing_port, queuing_port_among}
+use Rattle.apex_machine.specs.Channels.{QueuingPort, end_among, is_port, queuing_end, queuing_port}
 use Rattle.apex_machine.specs.Configuration.{ChannelEnd, Configuration, QueuingChannel}
 use Rattle.apex_machine.specs.State.{Partition, Port}
 use Rattle.apex_laws.specs.Laws.{AllPorts, IsAtEnd}
@@ -25,23 +27,30 @@ IsEndAmong partition channels port =
 end_partition : (partition : ℕ) (name : List ℕ) (place : ChannelEnd) → is_port partition name place ≡ true → nat_eq place.partition partition ≡ true
 end_partition partition name place is = (and_parts (nat_eq place.partition partition) (bytes_eq name place.port) is).0
 
+-- the port at an end
+abbrev port_at : Option (QueuingChannel × Direction) → Option QueuingPort
+port_at found = option_map (λ one. queuing_end one.0 one.1) found
+
+-- the end that has the port, among these channels
+abbrev found_among : ℕ → List ℕ → List QueuingChannel → Option (QueuingChannel × Direction)
+found_among partition name channels = end_among (λ channel. channel.source) (λ channel. channel.destination ∷ []) partition name channels
+
 -- a port that the configuration has is at its end
-port_among : (partition : ℕ) (name : List ℕ) (channels : List QueuingChannel) (port : QueuingPort) → queuing_port_among partition name channels ≡ Some port → IsEndAmong partition channels port
+port_among : (partition : ℕ) (name : List ℕ) (channels : List QueuingChannel) (port : QueuingPort) → port_at (found_among partition name channels) ≡ Some port → IsEndAmong partition channels port
 port_among partition name [] port is = cc
 port_among partition name (channel ∷ others) port is =
     elim (is_port partition name channel.source) as (λ here. is_port partition name channel.source ≡ here
-    → cond here (Some (queuing_end channel direction.Source channel.source_discipline))
-    (cond (is_port partition name channel.destination) (Some (queuing_end channel direction.Destination channel.destination_discipline)) (queuing_port_among partition name others)) ≡ Some port
+    → port_at (cond here (Some (channel, direction.Source)) (cond (is_port partition name channel.destination || false) (Some (channel, direction.Destination)) (found_among partition name others))) ≡ Some port
     → IsEndAmong partition (channel ∷ others) port) [
       | true ↦ λ here is.
-          let same : queuing_end channel direction.Source channel.source_discipline ≡ port = cc in
+          let same : queuing_end channel direction.Source ≡ port = cc in
           subst (IsEndAmong partition (channel ∷ others)) same
           (λ source. first_holds _ _ (and_from _ _ (is_itself channel.number) (end_partition partition name channel.source here)), λ destination. cc)
       | false ↦ λ not_source is. elim (is_port partition name channel.destination) as (λ there. is_port partition name channel.destination ≡ there
-          → cond there (Some (queuing_end channel direction.Destination channel.destination_discipline)) (queuing_port_among partition name others) ≡ Some port
+          → port_at (cond (there || false) (Some (channel, direction.Destination)) (found_among partition name others)) ≡ Some port
           → IsEndAmong partition (channel ∷ others) port) [
             | true ↦ λ there is.
-                let same : queuing_end channel direction.Destination channel.destination_discipline ≡ port = cc in
+                let same : queuing_end channel direction.Destination ≡ port = cc in
                 subst (IsEndAmong partition (channel ∷ others)) same
                 (λ source. cc, λ destination. first_holds _ _ (and_from _ _ (is_itself channel.number) (end_partition partition name channel.destination there)))
             | false ↦ λ not_there is.

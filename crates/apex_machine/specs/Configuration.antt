@@ -1,6 +1,7 @@
 -- What a module's configuration says: cores, frame, skew, partitions with their limits, windows, channels.
 use Rattle.std.specs.Prelude.{◌≡◌, IsTrue, ℕ, ◌+◌, ◌%◌, List, [], ◌∷◌, Option, Some, None, Bool, false, ◌&&◌, nat_eq, nat_le, nat_lt, if◌then◌else◌, is_some, ℤ, pos, negsuc}
-use Rattle.std.specs.List.{list_any}
+use Rattle.std.specs.List.{find, list_any}
+use Rattle.std.specs.Option.{option_map_or}
 use Rattle.apex_types.specs.declared.discipline.Discipline.{Discipline}
 
 -- a partition's window: from its start on, for its length, the core is the partition's in each major frame
@@ -68,14 +69,13 @@ window_among core offset (window ∷ windows) = if is_within core offset window 
 abbrev pub window_at : Configuration → ℕ → ℕ → Option ℕ
 window_at configuration core time = window_among core (time % configuration.frame) configuration.windows
 
--- the limits of a partition among others, by its number
-abbrev pub limits_among : ℕ → List PartitionLimits → Option PartitionLimits
-limits_among number [] = None
-limits_among number (limits ∷ others) = if nat_eq limits.number number then Some limits else limits_among number others
+-- the first of these items that has this number, if there is one
+abbrev pub numbered : {Item : Type 0} → (Item → ℕ) → ℕ → List Item → Option Item
+numbered number_of number items = find (λ item. nat_eq (number_of item) number) items
 
 -- the limits of the partition of this number, if it is configured
 abbrev pub limits_of : Configuration → ℕ → Option PartitionLimits
-limits_of configuration number = limits_among number configuration.partitions
+limits_of configuration number = numbered (λ limits. limits.number) number configuration.partitions
 
 -- whether a partition of this number is configured
 abbrev pub has_partition : Configuration → ℕ → Bool
@@ -83,8 +83,7 @@ has_partition configuration number = is_some (limits_of configuration number)
 
 -- whether a partition is configured and this is one of its cores
 abbrev pub has_core : ℕ → Option PartitionLimits → Bool
-has_core core None = false
-has_core core (Some limits) = list_any (nat_eq core) limits.cores
+has_core core found = option_map_or (λ limits. list_any (nat_eq core) limits.cores) found false
 
 -- whether a caller's number is one of the partition's cores
 abbrev pub is_core : Configuration → ℕ → ℤ → Bool
@@ -96,41 +95,21 @@ abbrev pub first_of : List ℕ → ℕ
 first_of [] = 0
 first_of (core ∷ cores) = core
 
--- the first core, by the limits of the partition, if it is configured
-abbrev pub first_core_in : Option PartitionLimits → ℕ
-first_core_in None = 0
-first_core_in (Some limits) = first_of limits.cores
-
 -- the first core of a partition: the initialising process runs there, and each process until its affinity is set
 abbrev pub first_core : Configuration → ℕ → ℕ
-first_core configuration number = first_core_in (limits_of configuration number)
-
--- how many processes may be created, by the limits of the partition, if it is configured
-abbrev pub process_limit_in : Option PartitionLimits → ℕ
-process_limit_in None = 0
-process_limit_in (Some limits) = limits.processes
-
--- how many processes a partition may create
-abbrev pub process_limit : Configuration → ℕ → ℕ
-process_limit configuration number = process_limit_in (limits_of configuration number)
-
--- the period, by the limits of the partition, if it is configured
-abbrev pub period_in : Option PartitionLimits → ℕ
-period_in None = 1
-period_in (Some limits) = limits.period
-
--- how many objects of a kind may be created, by the limits of the partition, if it is configured
-abbrev pub object_limit_in : (PartitionLimits → ℕ) → Option PartitionLimits → ℕ
-object_limit_in kind None = 0
-object_limit_in kind (Some limits) = kind limits
+first_core configuration number = option_map_or (λ limits. first_of limits.cores) (limits_of configuration number) 0
 
 -- how many objects of a kind a partition may create
 abbrev pub object_limit : Configuration → (PartitionLimits → ℕ) → ℕ → ℕ
-object_limit configuration kind number = object_limit_in kind (limits_of configuration number)
+object_limit configuration kind number = option_map_or kind (limits_of configuration number) 0
+
+-- how many processes a partition may create
+abbrev pub process_limit : Configuration → ℕ → ℕ
+process_limit configuration number = object_limit configuration (λ limits. limits.processes) number
 
 -- a partition's period
 abbrev pub period_of : Configuration → ℕ → ℕ
-period_of configuration number = period_in (limits_of configuration number)
+period_of configuration number = option_map_or (λ limits. limits.period) (limits_of configuration number) 1
 
 -- each window is of a configured partition
 abbrev pub WindowsAreConfigured : Configuration → Type 0

@@ -1,5 +1,5 @@
 -- A reading of the items that are left, beside that of all.
-use Rattle.std.proofs.Common.{◌≡◌, ◌<◌, ◌+◌, ◌++◌, ◌∷◌, [], ℕ, List, Some, Ok, Err, refl, sym, ◌∙◌, ap, append_assoc, get_or, drop, length, length-append}
+use Rattle.std.proofs.Common.{◌≡◌, ◌<◌, ◌+◌, ◌++◌, ◌∷◌, [], ℕ, List, Ok, Err, refl, sym, ◌∙◌, ap, append_assoc, get_or, drop, length, length-append}
 use Rattle.std.specs.Prelude.{All, Result}
 use Rattle.std.proofs.lemmas.List.Elements.{All-append, All-cons, All-nil}
 use Rattle.std.specs.Result.{result_err}
@@ -10,24 +10,35 @@ use Rattle.toml.proofs.Views.{items_view-drop}
 use Rattle.module_config.specs.declared.fault.ConfigFault.{ConfigFault}
 use Rattle.module_config.specs.Keys.{◌>>=◌, each_item}
 
+-- an item is read, and then those after it
+pub item-read : {A : Type 0} (reading : Data → Result A ConfigFault) (values : List Value) (i : ℕ) (value : Value) (first : A)
+    → i < length values → value ≡ get_or values i value → reading (view value) ≡ Ok first
+    → each_item reading (items_view (drop i values)) ≡ each_item reading (items_view (drop (i + 1) values)) >>= (λ rest. Ok (first ∷ rest))
+item-read reading values i value first below is read = let cut = items_view-drop values i value below in rw (cut, ← is, read) refl
+
+-- an item is refused, and with it those after it
+pub item-refused : {A : Type 0} (reading : Data → Result A ConfigFault) (values : List Value) (i : ℕ) (value : Value) (fault : ConfigFault)
+    → i < length values → value ≡ get_or values i value → reading (view value) ≡ Err fault → each_item reading (items_view (drop i values)) ≡ Err fault
+item-refused reading values i value fault below is read = let cut = items_view-drop values i value below in rw (cut, ← is, read) refl
+
 -- what is read, after what was read before
-abbrev pub behind : {A : Type 0} → List A → Result (List A) ConfigFault → Result (List A) ConfigFault
-behind front (Ok rest) = Ok (front ++ rest)
-behind front (Err fault) = Err fault
+abbrev pub after : {A : Type 0} → List A → Result (List A) ConfigFault → Result (List A) ConfigFault
+after front (Ok rest) = Ok (front ++ rest)
+after front (Err fault) = Err fault
 
 -- before the first item nothing was read
-pub behind-nothing : {A : Type 0} (reading : Result (List A) ConfigFault) → behind [] reading ≡ reading
-behind-nothing (Ok rest) = refl
-behind-nothing (Err fault) = refl
+pub after-nothing : {A : Type 0} (reading : Result (List A) ConfigFault) → after [] reading ≡ reading
+after-nothing (Ok rest) = refl
+after-nothing (Err fault) = refl
 
 -- one element goes over from what is left to what was read
-pub behind-more : {A : Type 0} (front : List A) (first : A) (reading : Result (List A) ConfigFault) → behind front (reading >>= (λ rest. Ok (first ∷ rest))) ≡ behind (front ++ first ∷ []) reading
-behind-more front first (Ok rest) = ap (λ all. Ok all) (sym (append_assoc front (first ∷ []) rest))
-behind-more front first (Err fault) = refl
+pub after-more : {A : Type 0} (front : List A) (first : A) (reading : Result (List A) ConfigFault) → after front (reading >>= (λ rest. Ok (first ∷ rest))) ≡ after (front ++ first ∷ []) reading
+after-more front first (Ok rest) = ap (λ all. Ok all) (sym (append_assoc front (first ∷ []) rest))
+after-more front first (Err fault) = refl
 
 -- what a loop that reads the items of a list keeps after `i` of them: each element has a fact
 pub record KeepsReading {A : Type 0} (P : A → Type 0) (reading : Data → Result A ConfigFault) (values : List Value) (i : ℕ) (found : List A) : Type 0 where
-  pub reads : behind found (each_item reading (items_view (drop i values))) ≡ each_item reading (items_view values)
+  pub reads : after found (each_item reading (items_view (drop i values))) ≡ each_item reading (items_view values)
   pub as_many : length found ≡ i
   pub each : All P found
 
@@ -40,45 +51,18 @@ pub reading-more : {A : Type 0} (P : A → Type 0) (reading : Data → Result A 
     → KeepsReading P reading values i found → i < length values → value ≡ get_or values i value → reading (view value) ≡ Ok first → P first
     → KeepsReading P reading values (i + 1) (found ++ first ∷ [])
 reading-more P reading values i found value first before below is read here =
-    let cut = items_view-drop values i value below in
-    let more = behind-more found first (each_item reading (items_view (drop (i + 1) values))) in
-    let whole : behind found (each_item reading (items_view (drop i values))) ≡ behind (found ++ first ∷ []) (each_item reading (items_view (drop (i + 1) values))) = rw (cut, ← is, read) more in
+    let more = after-more found first (each_item reading (items_view (drop (i + 1) values))) in
     record {
-      reads = sym whole ∙ before.reads;
+      reads = sym (ap (after found) (item-read reading values i value first below is read) ∙ more) ∙ before.reads;
       as_many = length-append found (first ∷ []) ∙ ap (λ n. n + 1) before.as_many;
       each = All-append P found (first ∷ []) before.each (All-cons P first [] here (All-nil P));
     }
-
--- an item is refused, and with it the list
-pub reading-refused : {A : Type 0} (P : A → Type 0) (reading : Data → Result A ConfigFault) (values : List Value) (i : ℕ) (found : List A) (value : Value) (fault : ConfigFault)
-    → KeepsReading P reading values i found → i < length values → value ≡ get_or values i value → reading (view value) ≡ Err fault
-    → each_item reading (items_view values) ≡ Err fault
-reading-refused P reading values i found value fault before below is read =
-    let cut = items_view-drop values i value below in
-    let whole : behind found (each_item reading (items_view (drop i values))) ≡ Err fault = rw (cut, ← is, read) refl in
-    sym before.reads ∙ whole
 
 -- what a loop that judges the items of a list keeps after `i` of them
 pub record KeepsJudging {A : Type 0} (reading : Data → Result A ConfigFault) (values : List Value) (i : ℕ) : Type 0 where
   pub judged : result_err (each_item reading (items_view (drop i values))) ≡ result_err (each_item reading (items_view values))
 
 -- a value before them refuses nothing
-value-before : {A : Type 0} (first : A) (reading : Result (List A) ConfigFault) → result_err (reading >>= (λ rest. Ok (first ∷ rest))) ≡ result_err reading
+pub value-before : {A : Type 0} (first : A) (reading : Result (List A) ConfigFault) → result_err (reading >>= (λ rest. Ok (first ∷ rest))) ≡ result_err reading
 value-before first (Ok rest) = refl
 value-before first (Err fault) = refl
-
--- an item is read, and the loop goes on
-pub judging-more : {A : Type 0} (reading : Data → Result A ConfigFault) (values : List Value) (i : ℕ) (value : Value) (first : A)
-    → i < length values → value ≡ get_or values i value → reading (view value) ≡ Ok first
-    → result_err (each_item reading (items_view (drop i values))) ≡ result_err (each_item reading (items_view (drop (i + 1) values)))
-judging-more reading values i value first below is read =
-    let cut = items_view-drop values i value below in
-    rw (cut, ← is, read) (value-before first (each_item reading (items_view (drop (i + 1) values))))
-
--- an item is refused, and with it the list
-pub judging-refused : {A : Type 0} (reading : Data → Result A ConfigFault) (values : List Value) (i : ℕ) (value : Value) (fault : ConfigFault)
-    → i < length values → value ≡ get_or values i value → reading (view value) ≡ Err fault
-    → result_err (each_item reading (items_view (drop i values))) ≡ Some fault
-judging-refused reading values i value fault below is read =
-    let cut = items_view-drop values i value below in
-    rw (cut, ← is, read) refl

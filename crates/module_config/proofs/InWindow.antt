@@ -14,7 +14,7 @@ record FoundIn (core offset partition : ℕ) (windows : List Window) : Type 0 wh
   window : Window
   index : ℕ
   below : index < length windows
-  stands : get_or windows index window ≡ window
+  at : get_or windows index window ≡ window
   owned : window.partition ≡ partition
   within : is_within core offset window ≡ true
 
@@ -25,10 +25,10 @@ found core offset partition (window ∷ windows) is = by (is_within core offset 
   where
     by : (b : Bool) → is_within core offset window ≡ b → (if b then Some window.partition else window_among core offset windows) ≡ Some partition
         → (window_among core offset windows ≡ Some partition → FoundIn core offset partition windows) → FoundIn core offset partition (window ∷ windows)
-    by true within is later = record { window = window; index = 0; below = omega arith; stands = refl; owned = cc; within = within }
+    by true within is later = record { window = window; index = 0; below = omega arith; at = refl; owned = cc; within = within }
     by false outside is later =
         let rest = later is in
-        record { window = rest.window; index = suc rest.index; below = omega (arith, rest.below); stands = rest.stands; owned = rest.owned; within = rest.within }
+        record { window = rest.window; index = suc rest.index; below = omega (arith, rest.below); at = rest.at; owned = rest.owned; within = rest.within }
 
 -- two windows that hold one time share a tick
 share : (core offset : ℕ) (window other : Window) → is_within core offset window ≡ true → is_within core offset other ≡ true → shares_tick window other ≡ true
@@ -37,18 +37,18 @@ share core offset window other first second = grind (arith, nat_tests)
 -- without overlap a window that holds the time is the one that is found
 only : (core offset : ℕ) (windows : List Window) (k : ℕ) (window : Window) → has_overlap windows ≡ false → k < length windows → get_or windows k window ≡ window
     → is_within core offset window ≡ true → window_among core offset windows ≡ Some window.partition
-only core offset [] k window apart below stands within = absurd (omega arith)
-only core offset (first ∷ windows) zero window apart below stands within = let same : first ≡ window = stands in rw (same, within) refl
-only core offset (first ∷ windows) (suc k) window apart below stands within =
+only core offset [] k window apart below at within = absurd (omega arith)
+only core offset (first ∷ windows) zero window apart below at within = let same : first ≡ window = at in rw (same, within) refl
+only core offset (first ∷ windows) (suc k) window apart below at within =
     let (here, later) = or_parts (list_any (shares_tick first) windows) (has_overlap windows) apart in
     let under : k < length windows = omega arith in
-    by (is_within core offset first) refl under here (only core offset windows k window later under stands within)
+    by (is_within core offset first) refl under here (only core offset windows k window later under at within)
   where
     by : (b : Bool) → is_within core offset first ≡ b → k < length windows → list_any (shares_tick first) windows ≡ false → window_among core offset windows ≡ Some window.partition
         → (if b then Some first.partition else window_among core offset windows) ≡ Some window.partition
     by true held under none rest =
-        let at : get_or windows k window ≡ window = stands in
-        let shared : shares_tick first (get_or windows k window) ≡ true = rw at (share core offset first window held within) in
+        let same : get_or windows k window ≡ window = at in
+        let shared : shares_tick first (get_or windows k window) ≡ true = rw same (share core offset first window held within) in
         let any : list_any (shares_tick first) windows ≡ true = list_any_at (shares_tick first) windows k window under shared in
         cc
     by false outside under none rest = rest
@@ -64,7 +64,7 @@ holds-found configuration core time partition is =
     let within = here.within in (
       here.window,
       record {
-        configured = (here.index, here.below, here.stands);
+        configured = (here.index, here.below, here.at);
         of_core = grind (arith, nat_tests, within);
         of_partition = here.owned;
         begun = grind (arith, nat_tests, within);

@@ -1,14 +1,12 @@
 -- What a configuration keeps that is not refused.
 use Rattle.std.proofs.Common.{◌≡◌, Some, None, Bool, true, false, not, refl, ◌%◌}
-use Rattle.std.specs.Prelude.{All, AllPairs, ◌||◌, if◌then◌else◌}
-use Rattle.std.proofs.lemmas.Bool.{or_parts}
-use Rattle.apex_machine.specs.Channels.{channel_numbers}
+use Rattle.std.specs.Prelude.{All, AllPairs, if◌then◌else◌}
 use Rattle.apex_machine.specs.Configuration.{Configuration, WindowsAreConfigured}
 use Rattle.module_config.specs.declared.fault.ConfigFault.TheVariants.{TooMany, Duplicate, CoreNotOfPartition, Overlap, ChannelEnds}
 use Rattle.module_config.specs.Ends.{are_joined}
-use Rattle.module_config.specs.Whole.{are_of_partitions, has_duplicate, has_number_twice, has_overlap, has_port_twice, is_given_twice, is_too_large, whole_fault}
+use Rattle.module_config.specs.Whole.{are_of_partitions, has_overlap, is_given_twice, is_too_large, whole_fault}
 use Rattle.module_config.specs.Limits.{BeginsNoLater, HasTick, IsOrdered, IsConsistent}
-use Rattle.module_config.proofs.Numbered.{IsRising-from_ordered}
+use Rattle.module_config.proofs.Numbered.{IsRising-from_ordered, once}
 use Rattle.module_config.proofs.Found.{window_among-found}
 use Rattle.module_config.proofs.Windows.{is_timetable}
 
@@ -28,8 +26,7 @@ pub IsConsistent-from_none : (configuration : Configuration) → IsOrdered confi
 IsConsistent-from_none configuration ordered by_start ticks none =
     let (large, twice, fit, meet, joined) = passed (is_too_large configuration) (is_given_twice configuration)
     (are_of_partitions configuration.partitions configuration.windows) (has_overlap configuration.windows) (are_joined configuration) none in
-    let given = (or_parts (has_duplicate configuration.partitions || has_number_twice (channel_numbers configuration)) (has_port_twice configuration) twice).0 in
-    let numbers = (or_parts (has_duplicate configuration.partitions) (has_number_twice (channel_numbers configuration)) given).0 in
+    let numbers = (once configuration twice).0 in
     record {
       not_too_large = large;
       once = twice;

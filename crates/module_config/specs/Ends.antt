@@ -2,7 +2,7 @@
 use Rattle.std.specs.Prelude.{ℕ, List, [], ◌∷◌, ◌++◌, count_by, Bool, not, ◌&&◌, is_some, nat_eq, nat_lt}
 use Rattle.std.specs.List.{flat_map, list_all, list_any}
 use Rattle.apex_machine.specs.Channels.{is_port}
-use Rattle.apex_machine.specs.Configuration.{ChannelEnd, Configuration, PartitionLimits, QueuingChannel, SamplingChannel, limits_among}
+use Rattle.apex_machine.specs.Configuration.{ChannelEnd, Configuration, PartitionLimits, QueuingChannel, SamplingChannel, numbered}
 use Rattle.module_config.specs.declared.ends.Likeness.{Likeness}
 use Rattle.module_config.specs.declared.ends.Likeness.TheVariants as by
 
@@ -43,13 +43,17 @@ is_exceeded likeness most places place = nat_lt most (count_alike likeness place
 abbrev pub are_too_many : Likeness → ℕ → List ChannelEnd → Bool
 are_too_many likeness most places = list_any (is_exceeded likeness most places) places
 
+-- one of these partitions has this number
+abbrev pub has_number : ℕ → List PartitionLimits → Bool
+has_number number partitions = is_some (numbered (λ limits. limits.number) number partitions)
+
 -- a channel from this end may go to another: the other's partition is configured, and is not this end's
 abbrev pub goes_to : List PartitionLimits → ChannelEnd → ChannelEnd → Bool
-goes_to partitions source place = is_some (limits_among place.partition partitions) && not (nat_eq source.partition place.partition)
+goes_to partitions source place = has_number place.partition partitions && not (nat_eq source.partition place.partition)
 
 -- a channel joins a configured partition with others that are
 abbrev pub is_joined : List PartitionLimits → ChannelEnd → List ChannelEnd → Bool
-is_joined partitions source places = is_some (limits_among source.partition partitions) && list_all (goes_to partitions source) places
+is_joined partitions source places = has_number source.partition partitions && list_all (goes_to partitions source) places
 
 -- a sampling channel does
 abbrev pub is_sampling_joined : List PartitionLimits → SamplingChannel → Bool

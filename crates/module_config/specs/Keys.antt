@@ -1,8 +1,9 @@
 -- How the value under one key is read: it is missing, has the wrong type, is out of range, or is taken.
-use Rattle.std.specs.Prelude.{◌≡◌, ◌≢◌, ℕ, suc, List, [], ◌∷◌, length, Option, Some, None, Result, Ok, Err, Bool, true, false, ◌&&◌, nat_le, pos, negsuc, codes, if◌then◌else◌}
+use Rattle.std.specs.Prelude.{◌≡◌, ◌≢◌, ℕ, List, [], ◌∷◌, length, Option, Some, None, is_some, Result, Ok, Err, Bool, true, false, ◌&&◌, nat_le, pos, negsuc, codes, if◌then◌else◌}
 use Rattle.std.specs.List.{list_all}
 use Rattle.std.specs.Str.{bytes_eq}
-use Rattle.toml.specs.Data.{Data, integer, string, array, table, Items, no_items, item, Members}
+use Rattle.toml.specs.Data.{Data, integer, string, array, table, Items, no_items, item, Members, get_item}
+use Rattle.toml.specs.Text.{has_items}
 use Rattle.apex_types.specs.declared.limits.TheConstants.{GREATEST_SPAN, LONGEST_NAME}
 use Rattle.apex_types.specs.declared.discipline.Discipline.{Discipline}
 use Rattle.apex_types.specs.declared.discipline.Discipline.TheVariants as discipline
@@ -12,7 +13,7 @@ use Rattle.module_config.specs.declared.keys.ItemType.{ItemType}
 use Rattle.module_config.specs.declared.keys.ItemType.TheVariants as of
 
 infixl 10 ◌>>=◌
--- a reading and then the next one; the first refusal stands
+-- a reading and then the next one; the first refusal is the answer
 abbrev pub ◌>>=◌ : {A B : Type 0} → Result A ConfigFault → (A → Result B ConfigFault) → Result B ConfigFault
 (Ok value) >>= next = next value
 (Err fault) >>= next = Err fault
@@ -27,7 +28,7 @@ abbrev pub Gives : {A B : Type 0} → (A → B) → Result A ConfigFault → Res
 Gives view (Ok value) reading = reading ≡ Ok (view value)
 Gives view (Err fault) reading = fault ≢ Memory → reading ≡ Err fault
 
--- a value that has to be there
+-- a value that must be there
 abbrev pub required : Option Data → Result Data ConfigFault
 required None = Err Missing
 required (Some value) = Ok value
@@ -113,17 +114,15 @@ list_of test _ = Err WrongType
 
 -- a list with an item at least
 abbrev pub at_least_one : Items → Result Items ConfigFault
-at_least_one no_items = Err OutOfRange
-at_least_one (item value items) = Ok (item value items)
+at_least_one items = if has_items items then Ok items else Err OutOfRange
 
--- how many items a list has
-abbrev pub item_count : Items → ℕ
-item_count no_items = 0
-item_count (item value items) = suc (item_count items)
+-- the list under a key, with an item at least, each of this type
+abbrev pub some_at : ItemType → Option Data → Result Items ConfigFault
+some_at item_type value = required value >>= list_of (is_of item_type) >>= at_least_one
 
--- a list with this many items at most
+-- a list with this many items at most: there is none at this index
 abbrev pub at_most : ℕ → Items → Result Items ConfigFault
-at_most most items = if nat_le (item_count items) most then Ok items else Err OutOfRange
+at_most most items = if is_some (get_item most items) then Err OutOfRange else Ok items
 
 -- what each item of a list is read as, in turn
 abbrev pub each_item : {A : Type 0} → (Data → Result A ConfigFault) → Items → Result (List A) ConfigFault

@@ -6,16 +6,19 @@ use Rattle.module_config.specs.declared.described.ModuleSize.{ModuleSize}
 use Rattle.module_config.specs.Ends.{are_joined}
 use Rattle.module_config.specs.Whole.{are_of_partitions, has_overlap, is_given_twice, is_too_large}
 
+-- a number is from a low one to a high one
+pub record IsFrom (low high number : ℕ) : Type 0 where
+  pub least : low ≤ number
+  pub most : number ≤ high
+
 -- a module has from 1 to the most cores
-pub record IsSize (size : ModuleSize) : Type 0 where
-  pub least : 1 ≤ size.cores
-  pub most : size.cores ≤ MOST_CORES
+abbrev pub IsSize : ModuleSize → Type 0
+IsSize size = IsFrom 1 MOST_CORES size.cores
 
 -- a partition's number, period and processes are within their limits
 pub record AreLimits (number period processes : ℕ) : Type 0 where
   pub number_most : number ≤ GREATEST_PARTITION
-  pub period_least : 1 ≤ period
-  pub period_most : period ≤ GREATEST_SPAN
+  pub period_range : IsFrom 1 GREATEST_SPAN period
   pub processes_most : processes ≤ MOST_PROCESSES
 
 -- no partition's number is above a later one's
@@ -47,27 +50,20 @@ AreCoresOf count limits = All (λ core. core < count) limits.cores
 -- a sampling channel's number, size and refresh period are within their limits
 pub record AreSamplingLimits (channel : SamplingChannel) : Type 0 where
   pub number_most : channel.number ≤ GREATEST_CHANNEL
-  pub size_least : 1 ≤ channel.size
-  pub size_most : channel.size ≤ LONGEST_MESSAGE
-  pub refresh_least : 1 ≤ channel.refresh
-  pub refresh_most : channel.refresh ≤ GREATEST_SPAN
+  pub size : IsFrom 1 LONGEST_MESSAGE channel.size
+  pub refresh : IsFrom 1 GREATEST_SPAN channel.refresh
 
 -- a queuing channel's number, size and capacity are within their limits
 pub record AreQueuingLimits (channel : QueuingChannel) : Type 0 where
   pub number_most : channel.number ≤ GREATEST_CHANNEL
-  pub size_least : 1 ≤ channel.size
-  pub size_most : channel.size ≤ LONGEST_MESSAGE
-  pub capacity_least : 1 ≤ channel.capacity
-  pub capacity_most : channel.capacity ≤ MOST_MESSAGES
+  pub size : IsFrom 1 LONGEST_MESSAGE channel.size
+  pub capacity : IsFrom 1 MOST_MESSAGES channel.capacity
 
 -- the numbers of a configuration are within their limits
 pub record IsWithinLimits (configuration : Configuration) : Type 0 where
-  pub cores_least : 1 ≤ configuration.cores
-  pub cores_most : configuration.cores ≤ MOST_CORES
-  pub frame_least : 1 ≤ configuration.frame
-  pub frame_most : configuration.frame ≤ GREATEST_SPAN
-  pub skew_least : 1 ≤ configuration.skew
-  pub skew_most : configuration.skew ≤ GREATEST_SPAN
+  pub cores : IsFrom 1 MOST_CORES configuration.cores
+  pub frame : IsFrom 1 GREATEST_SPAN configuration.frame
+  pub skew : IsFrom 1 GREATEST_SPAN configuration.skew
   pub some_partition : 1 ≤ length configuration.partitions
   pub own_cores : All (AreCoresOf configuration.cores) configuration.partitions
   pub sampling : All AreSamplingLimits configuration.sampling

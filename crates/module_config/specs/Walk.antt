@@ -2,13 +2,14 @@
 use Rattle.std.specs.Prelude.{ℕ, ◌+◌, ◌-◌, List, [], ◌∷◌, Option, Result, Ok, Err, Bool, pos, nat_le, nat_lt, ◌&&◌, if◌then◌else◌, codes}
 use Rattle.toml.specs.Data.{Data, integer, Items, no_items, item, Members, get_member}
 use Rattle.apex_types.specs.declared.limits.TheConstants.{GREATEST_PARTITION, MOST_CORES, MOST_OBJECTS, MOST_PROCESSES}
+use Rattle.apex_machine.specs.Channels.{in_order}
 use Rattle.apex_machine.specs.Configuration.{Configuration, PartitionLimits, Window}
 use Rattle.module_config.specs.declared.fault.ConfigFault.{ConfigFault}
 use Rattle.module_config.specs.declared.fault.ConfigFault.TheVariants.{OutOfRange}
 use Rattle.module_config.specs.declared.keys.ItemType.TheVariants as of
 use Rattle.module_config.specs.ChannelWalk.{queuing_at, sampling_at}
-use Rattle.module_config.specs.Keys.{◌>>=◌, integer_at, natural_at, ticks_at, required, is_of, list_of, at_least_one, each_at, each_item, table_in, tables_in}
-use Rattle.module_config.specs.Order.{in_order, stands_before, begins_before}
+use Rattle.module_config.specs.Keys.{◌>>=◌, integer_at, natural_at, ticks_at, some_at, each_at, each_item, table_in}
+use Rattle.module_config.specs.Order.{comes_before, begins_before}
 
 -- the next core of a partition's list: above those before it, and one that the module has
 abbrev pub core_in : ℕ → ℕ → Data → Result ℕ ConfigFault
@@ -24,7 +25,7 @@ rising_cores count least (item value items) =
 
 -- the cores of a partition: a list of integers, of which there is one at least, rising, and each a core of the module
 abbrev pub cores_at : ℕ → Option Data → Result (List ℕ) ConfigFault
-cores_at count value = required value >>= list_of (is_of of.Integer) >>= at_least_one >>= rising_cores count 0
+cores_at count value = some_at of.Integer value >>= rising_cores count 0
 
 -- how many objects of a kind a partition may create
 abbrev pub objects_at : Option Data → Result ℕ ConfigFault
@@ -34,7 +35,7 @@ objects_at value = integer_at 0 MOST_OBJECTS value
 abbrev pub put_by : {A : Type 0} → (A → A → Bool) → Result (List A) ConfigFault → Result (List A) ConfigFault
 put_by precedes reading = reading >>= (λ all. Ok (in_order precedes [] all))
 
--- the partition that a value describes, which has to be a table, in a module of this many cores
+-- the partition that a value describes, which must be a table, in a module of this many cores
 abbrev pub partition_in : ℕ → Data → Result PartitionLimits ConfigFault
 partition_in count value =
     table_in value >>= (λ keys.
@@ -61,9 +62,9 @@ partition_in count value =
 
 -- the partitions: a list of tables, of which there is one at least, put in the order of their numbers
 abbrev pub partitions_at : ℕ → Option Data → Result (List PartitionLimits) ConfigFault
-partitions_at count value = put_by stands_before (required value >>= tables_in >>= at_least_one >>= each_item (partition_in count))
+partitions_at count value = put_by comes_before (some_at of.Table value >>= each_item (partition_in count))
 
--- the window that a value describes, which has to be a table: it ends within the major frame
+-- the window that a value describes, which must be a table: it ends within the major frame
 abbrev pub window_in : ℕ → ℕ → Data → Result Window ConfigFault
 window_in count frame value =
     table_in value >>= (λ keys.

@@ -1,9 +1,9 @@
 -- What is refused over the whole of a configuration, once each key has been read.
-use Rattle.std.specs.Prelude.{ℕ, ◌+◌, List, [], ◌∷◌, length, Option, Some, None, is_some, Bool, false, not, ◌&&◌, ◌||◌, nat_eq, nat_lt, if◌then◌else◌}
+use Rattle.std.specs.Prelude.{ℕ, ◌+◌, List, [], ◌∷◌, length, Option, Some, None, Bool, false, not, ◌&&◌, ◌||◌, nat_eq, nat_lt, if◌then◌else◌}
 use Rattle.std.specs.List.{list_any, list_all}
 use Rattle.apex_types.specs.declared.limits.TheConstants.{MOST_CHANNELS, MOST_PARTITIONS, MOST_PORTS, MOST_WINDOWS}
 use Rattle.apex_machine.specs.Channels.{channel_numbers}
-use Rattle.apex_machine.specs.Configuration.{Configuration, PartitionLimits, Window, has_core, limits_among}
+use Rattle.apex_machine.specs.Configuration.{Configuration, PartitionLimits, Window, has_core, numbered}
 use Rattle.module_config.specs.declared.ends.Likeness.TheVariants as by
 use Rattle.module_config.specs.declared.fault.ConfigFault.{ConfigFault}
 use Rattle.module_config.specs.declared.fault.ConfigFault.TheVariants.{TooMany, Duplicate, CoreNotOfPartition, Overlap, ChannelEnds}
@@ -27,15 +27,11 @@ is_too_large configuration =
     || has_many_channels configuration
     || has_many_ports configuration
 
--- two partitions have one number
-abbrev pub has_duplicate : List PartitionLimits → Bool
-has_duplicate [] = false
-has_duplicate (limits ∷ others) = is_some (limits_among limits.number others) || has_duplicate others
-
--- a number stands twice in a list
-abbrev pub has_number_twice : List ℕ → Bool
-has_number_twice [] = false
-has_number_twice (number ∷ numbers) = list_any (nat_eq number) numbers || has_number_twice numbers
+-- two of these items have one number
+abbrev pub has_number_twice : {Item : Type 0} → (Item → ℕ) → List Item → Bool
+has_number_twice number_of [] = false
+has_number_twice number_of (item ∷ items) =
+    list_any (λ other. nat_eq (number_of other) (number_of item)) items || has_number_twice number_of items
 
 -- two ends of channels are one port
 abbrev pub has_port_twice : Configuration → Bool
@@ -44,11 +40,13 @@ has_port_twice configuration = are_too_many by.Port 1 (ends_of configuration.sam
 -- a partition's number, a channel's number or a partition's port name is given twice; of channels over both kinds
 abbrev pub is_given_twice : Configuration → Bool
 is_given_twice configuration =
-    has_duplicate configuration.partitions || has_number_twice (channel_numbers configuration) || has_port_twice configuration
+    has_number_twice (λ limits. limits.number) configuration.partitions
+    || has_number_twice (λ number. number) (channel_numbers configuration)
+    || has_port_twice configuration
 
 -- the window's partition is configured, and the window's core is one of its cores
 abbrev pub is_of_partition : List PartitionLimits → Window → Bool
-is_of_partition partitions window = has_core window.core (limits_among window.partition partitions)
+is_of_partition partitions window = has_core window.core (numbered (λ limits. limits.number) window.partition partitions)
 
 -- each window's core is one of its partition's cores
 abbrev pub are_of_partitions : List PartitionLimits → List Window → Bool

@@ -1,16 +1,15 @@
 // The channels of a configuration, and the ports at their ends.
 
-ghost use Rattle.std.specs.Prelude.{◌≡◌, ◌<◌, ◌≤◌, ◌&&◌, length, nat_eq, option_map, slice_index, true};
-ghost use Rattle.std.specs.List.{list_any};
+ghost use Rattle.std.specs.Prelude.{◌≡◌, ◌<◌, ◌≤◌, length, option_map, slice_index, true};
 ghost use Rattle.apex_types.specs.declared.limits.TheConstants.{MOST_CHANNELS};
 ghost use Rattle.apex_machine.specs.Channels.{channel_numbers, has_channel, is_at_end, queuing_port, sampling_port};
 ghost use Rattle.module_config.specs.Ports.{kind_of, configured_queuing, configured_sampling};
 
 use crate::config::Config;
+use crate::configured::{find_end, has_end};
 use crate::number::find;
 use crate::port::{ChannelKind, QueuingPort, SamplingPort};
-use crate::queuing::{QueuedChannel, find_queuing_port};
-use crate::sampling::{find_sampling_port, has_end};
+use apex_machine::Direction;
 use apex_types::{ChanId, Name, PartId};
 
 impl Config {
@@ -61,41 +60,37 @@ impl Config {
     pub fn is_at_end(&self, chan: ChanId, part: PartId) -> bool
         ensures { result ≡ is_at_end self.now chan part }
     {
-        let (sampling, queuing) = (&self.layout.sampling, &self.layout.queuing);
-        has_sender(queuing, chan, part)
-            || has_receiver(queuing, chan, part)
-            || has_end(sampling, chan, part)
+        has_end(&self.layout.queuing, chan, part) || has_end(&self.layout.sampling, chan, part)
     }
 
     /// What is configured of the sampling port that a partition has under this name, or None where it has none.
     pub fn sampling_port(&self, part: PartId, name: &Name) -> Option<SamplingPort>
         ensures { option_map configured_sampling result ≡ sampling_port self.now part name.now }
     {
-        find_sampling_port(&self.layout.sampling, part, name)
+        let (channel, direction) = find_end(&self.layout.sampling, part, name)?;
+        Some(SamplingPort {
+            channel: channel.number,
+            size: channel.size,
+            direction,
+            refresh: channel.refresh,
+        })
     }
 
     /// What is configured of the queuing port that a partition has under this name, or None where it has none.
     pub fn queuing_port(&self, part: PartId, name: &Name) -> Option<QueuingPort>
         ensures { option_map configured_queuing result ≡ queuing_port self.now part name.now }
     {
-        find_queuing_port(&self.layout.queuing, part, name)
+        let (channel, direction) = find_end(&self.layout.queuing, part, name)?;
+        let discipline = match direction {
+            Direction::Source => channel.source_discipline,
+            Direction::Destination => channel.destination_discipline,
+        };
+        Some(QueuingPort {
+            channel: channel.number,
+            size: channel.size,
+            capacity: channel.capacity,
+            direction,
+            discipline,
+        })
     }
-}
-
-// Whether a partition is the source of a queuing channel of this number.
-fn has_sender(channels: &[QueuedChannel], number: ChanId, part: PartId) -> bool
-    ensures { result ≡ list_any (λ channel. nat_eq channel.number number && nat_eq channel.source.partition part) channels.now }
-{
-    channels
-        .iter()
-        .any(|channel| channel.is_sender(number, part))
-}
-
-// Whether a partition is the destination of a queuing channel of this number.
-fn has_receiver(channels: &[QueuedChannel], number: ChanId, part: PartId) -> bool
-    ensures { result ≡ list_any (λ channel. nat_eq channel.number number && nat_eq channel.destination.partition part) channels.now }
-{
-    channels
-        .iter()
-        .any(|channel| channel.is_receiver(number, part))
 }

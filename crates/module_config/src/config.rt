@@ -221,10 +221,8 @@ impl Config {
     pub fn has_core(&self, part: PartId, given: i64) -> bool
         ensures { result ≡ is_core self.now part given }
     {
-        match self.partition(part) {
-            Some(partition) => given >= 0 && partition.cores.contains(given as u64),
-            None => false,
-        }
+        self.partition(part)
+            .is_some_and(|limits| given >= 0 && limits.cores.contains(given as u64))
     }
 
     /// How many processes a partition may create, and 0 where none of this number is configured.
@@ -232,10 +230,7 @@ impl Config {
         ensures value { result ≡ process_limit self.now part }
         ensures most { result ≤ MOST_PROCESSES }
     {
-        match self.partition(part) {
-            Some(partition) => partition.processes,
-            None => 0,
-        }
+        self.partition(part).map_or(0, |limits| limits.processes)
     }
 
     /// How many buffers a partition may create, and 0 where none of this number is configured.
@@ -279,10 +274,7 @@ impl Config {
         ensures least { 1 ≤ result }
         ensures most { result ≤ GREATEST_SPAN }
     {
-        match self.partition(part) {
-            Some(partition) => partition.period,
-            None => 1,
-        }
+        self.partition(part).map_or(1, |limits| limits.period)
     }
 }
 

@@ -1,13 +1,17 @@
-// What channels of both kinds have in common: a source and destinations.
+// What channels of both kinds have in common: a number, a source and destinations.
 
-ghost use Rattle.std.specs.Prelude.{◌≡◌, ◌+◌, ◌*◌, ◌≤◌, ◌∷◌, List, length};
-ghost use Rattle.std.specs.List.{flat_map, list_all};
+ghost use Rattle.std.specs.Prelude.{◌≡◌, ◌+◌, ◌*◌, ◌≤◌, ◌&&◌, ◌∷◌, List, length, nat_eq, option_map};
+ghost use Rattle.std.specs.List.{flat_map, list_all, list_any};
 ghost use Rattle.apex_types.specs.declared.limits.TheConstants.{MOST_CHANNELS, MOST_DESTINATIONS};
+ghost use Rattle.apex_machine.specs.Channels.{end_among};
 ghost use Rattle.apex_machine.specs.Configuration.{ChannelEnd};
 ghost use Rattle.module_config.specs.Ends.{count_alike, is_joined};
 
-use crate::ends::{Likeness, PortEnd};
+use crate::ends::{Likeness, PortEnd, has_end_of, has_port};
+use crate::number::Numbered;
 use crate::partition::Partition;
+use apex_machine::Direction;
+use apex_types::{ChanId, Name, PartId};
 
 /// A channel of one kind, by its ends.
 pub(crate) trait ConfiguredChannel {
@@ -73,4 +77,41 @@ pub(crate) fn are_joined<Channel: ConfiguredChannel>(
             .source()
             .is_joined(partitions, channel.destinations())
     })
+}
+
+/// The first of these channels that has the partition's port of this name at an end, and the direction there.
+pub(crate) fn find_end<'a, Channel: ConfiguredChannel>(
+    channels: &'a [Channel],
+    part: PartId,
+    name: &Name,
+) -> Option<(&'a Channel, Direction)>
+    ensures { option_map (λ found. (found.0.now, found.1)) result ≡ end_among Channel.source_of Channel.destinations_of part name.now channels.now }
+{
+    for channel in channels {
+        if channel.source().is_port(part, name) {
+            return Some((channel, Direction::Source));
+        }
+        if has_port(channel.destinations(), part, name) {
+            return Some((channel, Direction::Destination));
+        }
+    }
+    None
+}
+
+/// Whether a partition is at an end of a channel of this number.
+pub(crate) fn has_end<Channel: Numbered + ConfiguredChannel>(
+    channels: &[Channel],
+    number: ChanId,
+    part: PartId,
+) -> bool
+    ensures { result ≡ list_any (λ channel. nat_eq (Channel.number_of channel) number && list_any (λ place. nat_eq place.partition part) (Channel.source_of channel ∷ Channel.destinations_of channel)) channels.now }
+{
+    channels.iter().any(|channel| channel.number() == number.number() && is_at_end(channel, part))
+}
+
+// Whether a partition is at an end of a channel.
+fn is_at_end<Channel: ConfiguredChannel>(channel: &Channel, part: PartId) -> bool
+    ensures { result ≡ list_any (λ place. nat_eq place.partition part) (Channel.source_of channel.now ∷ Channel.destinations_of channel.now) }
+{
+    channel.source().partition() == part || has_end_of(channel.destinations(), part)
 }

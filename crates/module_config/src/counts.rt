@@ -1,18 +1,17 @@
 // The numbers of the channels, and their ends, counted over both kinds.
 
-ghost use Rattle.std.specs.Prelude.{◌≡◌, ◌+◌, ◌<◌, ◌≤◌, ◌∷◌, length, map, nat_eq, nat_le};
-ghost use Rattle.std.specs.List.{list_any, position_or_len};
+ghost use Rattle.std.specs.Prelude.{◌≡◌, ◌+◌, ◌≤◌, ◌∷◌, length, map, nat_lt};
+ghost use Rattle.std.specs.List.{list_any};
 ghost use Rattle.arrayvec.specs.ArrayVec.{array_vec_len};
 ghost use Rattle.apex_types.specs.declared.limits.TheConstants.{MOST_CHANNELS};
-ghost use Rattle.apex_machine.specs.Channels.{channel_numbers, put_rising, rising};
+ghost use Rattle.apex_machine.specs.Channels.{channel_numbers, in_order};
 ghost use Rattle.module_config.specs.Ends.{are_too_many, ends_of, is_exceeded};
 ghost use Rattle.module_config.specs.Laid.{laid_out};
-ghost use Rattle.module_config.specs.Whole.{has_number_twice};
 
 use crate::configured::{ConfiguredChannel, count_alike};
 use crate::ends::{Likeness, PortEnd};
 use crate::layout::Layout;
-use crate::number::Numbered;
+use crate::number::{Numbered, place_among};
 use crate::queuing::QueuedChannel;
 use crate::sampling::SampledChannel;
 use apex_types::limits::MOST_CHANNELS;
@@ -32,54 +31,13 @@ pub(crate) fn channel_numbers(layout: &Layout) -> ArrayVec<u16, MOST_CHANNELS>
 // Puts the number of each channel among those in rising order.
 fn put_numbers<Channel: Numbered>(numbers: &mut ArrayVec<u16, MOST_CHANNELS>, channels: &[Channel])
     requires { array_vec_len numbers.old + length channels.now ≤ MOST_CHANNELS }
-    ensures value { numbers.new.items ≡ rising (map Channel.number_of channels.now) numbers.old.items }
+    ensures value { numbers.new.items ≡ in_order nat_lt numbers.old.items (map Channel.number_of channels.now) }
     ensures as_many { array_vec_len numbers.new ≡ array_vec_len numbers.old + length channels.now }
 {
     for channel in channels {
-        put_rising(numbers, channel.number());
+        let place = place_among(numbers.as_slice(), channel.number());
+        numbers.insert(place, channel.number());
     }
-}
-
-// Puts a number before the first that is not below it.
-fn put_rising(numbers: &mut ArrayVec<u16, MOST_CHANNELS>, number: u16)
-    requires { array_vec_len numbers.old < MOST_CHANNELS }
-    ensures value { numbers.new.items ≡ put_rising number numbers.old.items }
-    ensures one_more { array_vec_len numbers.new ≡ array_vec_len numbers.old + 1 }
-{
-    let place = place_among(numbers.as_slice(), number);
-    numbers.insert(place, number);
-}
-
-// The index of the first number that is not below this one, or of the end.
-fn place_among(numbers: &[u16], number: u16) -> usize
-    ensures value { result ≡ position_or_len (nat_le number) numbers.now }
-    ensures within { result ≤ length numbers.now }
-{
-    for (index, other) in numbers.iter().enumerate() {
-        if number <= *other {
-            return index;
-        }
-    }
-    numbers.len()
-}
-
-/// Whether a number stands twice in a list.
-pub(crate) fn has_number_twice(numbers: &[u16]) -> bool
-    ensures { result ≡ has_number_twice numbers.now }
-{
-    for (index, number) in numbers.iter().enumerate() {
-        if is_among(&numbers[index + 1..], *number) {
-            return true;
-        }
-    }
-    false
-}
-
-// Whether a number stands in a list.
-fn is_among(numbers: &[u16], number: u16) -> bool
-    ensures { result ≡ list_any (nat_eq number) numbers.now }
-{
-    numbers.iter().any(|other| number == *other)
 }
 
 /// How many ends of some channels may be alike.

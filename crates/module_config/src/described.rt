@@ -36,7 +36,7 @@ pub(crate) trait Described: Drop {
         ensures limits { IfOk result (keeps size) };
 }
 
-/// The items of the list of tables under a key. Each is described as it has to be; there is none without the key.
+/// The items of the list of tables under a key. Each is described as it must be; there is none without the key.
 pub(crate) fn items_under<'a, Item: Described>(
     keys: &'a Table,
     key: &str,
@@ -52,7 +52,7 @@ pub(crate) fn items_under<'a, Item: Described>(
     Ok(items)
 }
 
-/// Refuses the first item that is not described as it has to be.
+/// Refuses the first item that is not described as it must be.
 pub(crate) fn judge<Item: Described>(items: &[Value], size: ModuleSize) -> Result<(), ConfigFault>
     requires { IsSize size }
     ensures { result_err result ≡ result_err (each_item (Item.described size) (items_view items.now)) }

@@ -11,7 +11,7 @@ ghost use Rattle.module_config.specs.Ends.{count_alike, goes_to, is_alike, is_jo
 ghost use Rattle.module_config.specs.Keys.{Reads, each_item};
 
 use crate::fault::ConfigFault;
-use crate::keys::{ItemType, integer, list, name, required, table};
+use crate::keys::{ItemType, integer, name, required, some_items, table};
 use crate::partition::Partition;
 use crate::whole::find_partition;
 use apex_types::limits::{GREATEST_PARTITION, LONGEST_NAME, MOST_DESTINATIONS};
@@ -42,7 +42,7 @@ impl Model for PortEnd {
     ghost view = { λ place. record { partition = place.partition; port = place.port.items } };
 }
 
-// What stands in the places of a list of ends that are not in use.
+// What is in the places of a list of ends that are not in use.
 impl Default for PortEnd {
     fn default() -> PortEnd {
         PortEnd {
@@ -154,10 +154,7 @@ pub(crate) fn ends_under(
 ) -> Result<ArrayVec<PortEnd, MOST_DESTINATIONS>, ConfigFault>
     ensures { Reads (λ ends. ends.items) result (ends_at (get_member key.now (table_view keys.now))) }
 {
-    let items = list(required(keys, key)?, ItemType::Table)?;
-    if items.is_empty() {
-        return Err(ConfigFault::OutOfRange);
-    }
+    let items = some_items(keys, key, ItemType::Table)?;
     if items.len() > MOST_DESTINATIONS {
         return Err(ConfigFault::OutOfRange);
     }

@@ -15,7 +15,7 @@ pub enum ConfigFault {
     /// The text is not UTF-8 or not TOML.
     #[error("the text is not TOML")]
     NotToml,
-    /// A key that has to be there is not.
+    /// A key that must be there is not.
     #[error("a key is missing")]
     Missing,
     /// A value is of another type than its key has.

@@ -5,7 +5,7 @@ ghost use Rattle.std.specs.List.{list_all};
 ghost use Rattle.toml.specs.Data.{get_member};
 ghost use Rattle.toml.specs.View.{view, table_view, items_view};
 ghost use Rattle.apex_types.specs.declared.limits.TheConstants.{GREATEST_SPAN, LONGEST_NAME};
-ghost use Rattle.module_config.specs.Keys.{Reads, required, natural_at, integer_at, ticks_at, text_at, name_at, discipline_at, is_name, is_printable, is_of, all_items, list_of, table_in, tables_at};
+ghost use Rattle.module_config.specs.Keys.{Reads, required, natural_at, integer_at, ticks_at, text_at, name_at, discipline_at, is_name, is_printable, is_of, all_items, list_of, some_at, table_in, tables_at};
 ghost use Rattle.module_config.specs.Walk.{objects_at};
 
 use crate::fault::ConfigFault;
@@ -157,6 +157,22 @@ pub(crate) fn list<'a>(value: &'a Value, item_type: ItemType) -> Result<&'a [Val
     let items = array.as_slice();
     if !are_of(item_type, items) {
         return Err(ConfigFault::WrongType);
+    }
+    Ok(items)
+}
+
+/// The items of the list under a key, which must be there: one at least, each of this type.
+pub(crate) fn some_items<'a>(
+    table: &'a Table,
+    key: &str,
+    item_type: ItemType,
+) -> Result<&'a [Value], ConfigFault>
+    ensures value { Reads (λ items. items_view items.now) result (some_at item_type (get_member key.now (table_view table.now))) }
+    ensures some { IfOk result (λ items. 1 ≤ length items.now) }
+{
+    let items = list(required(table, key)?, item_type)?;
+    if items.is_empty() {
+        return Err(ConfigFault::OutOfRange);
     }
     Ok(items)
 }

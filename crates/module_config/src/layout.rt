@@ -1,24 +1,23 @@
 // What a table configures, each key judged by itself.
 
 ghost use Rattle.std.specs.Prelude.{◌≡◌, ◌≤◌, IfOk, IfErr, IsOk, All, AllPairs, codes, length};
-ghost use Rattle.std.specs.List.{position_or_len};
 ghost use Rattle.toml.specs.Data.{get_member};
 ghost use Rattle.toml.specs.View.{table_view, items_view};
 ghost use Rattle.module_config.specs.Keys.{Gives, each_item};
-ghost use Rattle.module_config.specs.Order.{is_numbered_above, stands_before};
+ghost use Rattle.module_config.specs.Order.{comes_before};
 ghost use Rattle.module_config.specs.Walk.{partition_in, partitions_at, put_by, walk};
 ghost use Rattle.module_config.specs.Limits.{AreCoresOf, BeginsNoLater, HasTick, IsWithinLimits, IsOrdered, IsSize};
 ghost use Rattle.module_config.specs.Laid.{laid_out};
 
 use crate::described::{Described, ModuleSize, items_under, judge, read_each};
 use crate::fault::ConfigFault;
-use crate::keys::{ItemType, integer, list, required, ticks};
+use crate::keys::{ItemType, integer, some_items, ticks};
+use crate::number::{Numbered, place_among};
 use crate::partition::Partition;
 use crate::queuing::QueuedChannel;
 use crate::sampling::SampledChannel;
 use crate::timetable::ordered_windows;
 use crate::window::TimeWindow;
-use apex_types::PartId;
 use apex_types::limits::MOST_CORES;
 use std::alloc::Global;
 use toml::{Table, Value};
@@ -70,15 +69,12 @@ pub(crate) fn read_layout(alloc: Global, keys: &Table) -> Result<Layout, ConfigF
 // The items of the list of partitions. There is one at least, and each describes a partition.
 fn partition_items<'a>(keys: &'a Table, size: ModuleSize) -> Result<&'a [Value], ConfigFault>
     requires { IsSize size }
-    ensures listed { IfOk result (λ items. partitions_at size.cores (get_member (codes "partition") (table_view keys.now)) ≡ put_by stands_before (each_item (partition_in size.cores) (items_view items.now))) }
+    ensures listed { IfOk result (λ items. partitions_at size.cores (get_member (codes "partition") (table_view keys.now)) ≡ put_by comes_before (each_item (partition_in size.cores) (items_view items.now))) }
     ensures some { IfOk result (λ items. 1 ≤ length items.now) }
     ensures judged { IfOk result (λ items. IsOk (each_item (partition_in size.cores) (items_view items.now))) }
     ensures refused { IfErr result (λ fault. partitions_at size.cores (get_member (codes "partition") (table_view keys.now)) ≡ Err fault) }
 {
-    let items = list(required(keys, "partition")?, ItemType::Table)?;
-    if items.is_empty() {
-        return Err(ConfigFault::OutOfRange);
-    }
+    let items = some_items(keys, "partition", ItemType::Table)?;
     judge::<Partition>(items, size)?;
     Ok(items)
 }
@@ -90,7 +86,7 @@ fn ordered_partitions(
     size: ModuleSize,
 ) -> Result<Vec<Partition>, ConfigFault>
     requires { IsSize size }
-    ensures value { Gives (λ found. found.items) result (put_by stands_before (each_item (partition_in size.cores) (items_view items.now))) }
+    ensures value { Gives (λ found. found.items) result (put_by comes_before (each_item (partition_in size.cores) (items_view items.now))) }
     ensures as_many { IfOk result (λ found. length found.items ≡ length items.now) }
     ensures own_cores { IfOk result (λ found. All (AreCoresOf size.cores) found.items) }
     ensures ordered { IfOk result (λ found. IsOrdered found.items) }
@@ -98,21 +94,8 @@ fn ordered_partitions(
     let mut found = Vec::new(alloc);
     for item in items {
         let partition = Partition::read(item, size)?;
-        let place = place_among(&found, partition.number);
+        let place = place_among(&found, partition.number());
         found.insert(place, partition)?;
     }
     Ok(found)
-}
-
-// The index of the first partition of a number above this one, or of the end.
-fn place_among(partitions: &[Partition], number: PartId) -> usize
-    ensures value { result ≡ position_or_len (is_numbered_above number) partitions.now }
-    ensures within { result ≤ length partitions.now }
-{
-    for (index, partition) in partitions.iter().enumerate() {
-        if number < partition.number {
-            return index;
-        }
-    }
-    partitions.len()
 }

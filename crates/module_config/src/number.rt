@@ -1,34 +1,63 @@
-// What is found by its number.
+// What has a number: partitions, channels, and numbers themselves.
 
-ghost use Rattle.std.specs.Prelude.{◌≡◌, ◌∷◌, [], ℕ, List, Option, Some, None, nat_eq, option_map, if◌then◌else◌};
+ghost use Rattle.std.specs.Prelude.{◌≡◌, ◌≤◌, ℕ, length, nat_eq, nat_lt, option_map};
+ghost use Rattle.std.specs.List.{list_any, position_or_len};
+ghost use Rattle.apex_machine.specs.Configuration.{numbered};
+ghost use Rattle.module_config.specs.Whole.{has_number_twice};
 
 /// What has a number.
 pub(crate) trait Numbered {
     // Its number.
     ghost number_of: { Self → ℕ };
 
-    // The first of this number among others, if there is one.
-    ghost among: { ℕ → List Self → Option Self };
-
     /// Its number.
     fn number(&self) -> u16
         ensures { result ≡ number_of self.now };
+}
 
-    // None is among none.
-    ghost among_none: { (number : ℕ) → among number [] ≡ None };
+impl Numbered for u16 {
+    ghost number_of = { λ number. number };
 
-    // It is the first, or it is among the others.
-    ghost among_more: { (number : ℕ) (first : Self) (others : List Self) → among number (first ∷ others) ≡ (if nat_eq (number_of first) number then Some first else among number others) };
+    fn number(&self) -> u16 {
+        *self
+    }
 }
 
 /// The first of this number, if there is one.
 pub(crate) fn find<Item: Numbered>(items: &[Item], number: u16) -> Option<&Item>
-    ensures { option_map (λ found. found.now) result ≡ Item.among number items.now }
+    ensures { option_map (λ found. found.now) result ≡ numbered Item.number_of number items.now }
 {
-    for item in items {
-        if item.number() == number {
-            return Some(item);
+    items.iter().find(|item| item.number() == number)
+}
+
+/// The index of the first of a number above this one, or of the end.
+pub(crate) fn place_among<Item: Numbered>(items: &[Item], number: u16) -> usize
+    ensures value { result ≡ position_or_len (λ item. nat_lt number (Item.number_of item)) items.now }
+    ensures within { result ≤ length items.now }
+{
+    for (index, item) in items.iter().enumerate() {
+        if number < item.number() {
+            return index;
         }
     }
-    None
+    items.len()
+}
+
+/// Whether two have one number.
+pub(crate) fn has_number_twice<Item: Numbered>(items: &[Item]) -> bool
+    ensures { result ≡ has_number_twice Item.number_of items.now }
+{
+    for (index, item) in items.iter().enumerate() {
+        if has_number(&items[index + 1..], item.number()) {
+            return true;
+        }
+    }
+    false
+}
+
+// Whether one has this number.
+fn has_number<Item: Numbered>(items: &[Item], number: u16) -> bool
+    ensures { result ≡ list_any (λ item. nat_eq (Item.number_of item) number) items.now }
+{
+    items.iter().any(|other| other.number() == number)
 }

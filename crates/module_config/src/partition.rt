@@ -4,6 +4,7 @@ use crate::cores::CoreList;
 use crate::described::{Described, ModuleSize};
 use crate::fault::ConfigFault;
 use crate::keys::{integer, objects, table, ticks};
+use crate::number::Numbered;
 use apex_types::PartId;
 use apex_types::limits::{GREATEST_PARTITION, MOST_PROCESSES};
 use std::marker::Model;
@@ -43,6 +44,14 @@ impl Model for Partition {
     } };
 
     ghost invariant = { λ own. AreLimits own.number own.period own.processes };
+}
+
+impl Numbered for Partition {
+    ghost number_of = { λ limits. limits.number };
+
+    fn number(&self) -> u16 {
+        u16::from(self.number.number())
+    }
 }
 
 impl Described for Partition {

@@ -1,19 +1,13 @@
 // Queuing channels, in the order of the text.
 
-ghost use Rattle.std.specs.Prelude.{◌≡◌, ◌∷◌, [], ◌&&◌, nat_eq, option_map};
-ghost use Rattle.apex_machine.specs.Channels.{queuing_port_among};
-ghost use Rattle.module_config.specs.Ports.{configured_queuing};
-
 use crate::configured::ConfiguredChannel;
 use crate::described::{Described, ModuleSize};
 use crate::ends::PortEnd;
 use crate::fault::ConfigFault;
 use crate::keys::{discipline, integer, table};
 use crate::number::Numbered;
-use crate::port::QueuingPort;
-use apex_machine::Direction;
 use apex_types::limits::{GREATEST_CHANNEL, LONGEST_MESSAGE, MOST_MESSAGES};
-use apex_types::{ChanId, Discipline, Name, PartId};
+use apex_types::{ChanId, Discipline};
 use std::marker::Model;
 use toml::Value;
 
@@ -22,7 +16,7 @@ use toml::Value;
 #[derive(Debug, Drop)]
 pub(crate) struct QueuedChannel {
     pub(crate) number: ChanId,
-    size: u16,
+    pub(crate) size: u16,
     pub(crate) capacity: u16,
     pub(crate) source: PortEnd,
     pub(crate) source_discipline: Discipline,
@@ -47,16 +41,7 @@ impl Model for QueuedChannel {
 }
 
 impl Numbered for QueuedChannel {
-    ghost use Rattle.std.specs.Prelude.{refl};
-    ghost use Rattle.apex_machine.specs.Channels.{queuing_among};
-
     ghost number_of = { λ channel. channel.number };
-
-    ghost among = { queuing_among };
-
-    ghost among_none = { λ number. refl };
-
-    ghost among_more = { λ number first others. refl };
 
     fn number(&self) -> u16 {
         self.number.number()
@@ -106,56 +91,4 @@ impl ConfiguredChannel for QueuedChannel {
     fn destinations(&self) -> &[PortEnd] {
         std::slice::from_ref(&self.destination)
     }
-}
-
-impl QueuedChannel {
-    /// Whether the channel has this number, and the partition is its source.
-    pub(crate) fn is_sender(&self, number: ChanId, part: PartId) -> bool
-        ensures { result ≡ (nat_eq self.now.number number && nat_eq self.now.source.partition part) }
-    {
-        self.number == number && self.source.partition() == part
-    }
-
-    /// Whether the channel has this number, and the partition is its destination.
-    pub(crate) fn is_receiver(&self, number: ChanId, part: PartId) -> bool
-        ensures { result ≡ (nat_eq self.now.number number && nat_eq self.now.destination.partition part) }
-    {
-        self.number == number && self.destination.partition() == part
-    }
-
-    // The port of a partition under a name, if it is at an end of the channel.
-    fn port(&self, part: PartId, name: &Name) -> Option<QueuingPort>
-        ensures { option_map configured_queuing result ≡ queuing_port_among part name.now (self.now ∷ []) }
-    {
-        let (direction, discipline) = if self.source.is_port(part, name) {
-            (Direction::Source, self.source_discipline)
-        } else if self.destination.is_port(part, name) {
-            (Direction::Destination, self.destination_discipline)
-        } else {
-            return None;
-        };
-        Some(QueuingPort {
-            channel: self.number,
-            size: self.size,
-            capacity: self.capacity,
-            direction,
-            discipline,
-        })
-    }
-}
-
-/// The port of a partition under a name, at an end of a queuing channel, if there is one.
-pub(crate) fn find_queuing_port(
-    channels: &[QueuedChannel],
-    part: PartId,
-    name: &Name,
-) -> Option<QueuingPort>
-    ensures { option_map configured_queuing result ≡ queuing_port_among part name.now channels.now }
-{
-    for channel in channels {
-        if let Some(port) = channel.port(part, name) {
-            return Some(port);
-        }
-    }
-    None
 }

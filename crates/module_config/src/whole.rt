@@ -1,17 +1,18 @@
 // What is refused over the whole of a configuration, once each key has been read.
 
 ghost use Rattle.std.specs.Prelude.{◌≡◌, ◌+◌, ◌≤◌, All, AllPairs, false, length, option_map};
-ghost use Rattle.apex_machine.specs.Configuration.{limits_among};
+ghost use Rattle.apex_machine.specs.Configuration.{PartitionLimits, numbered};
 ghost use Rattle.module_config.specs.Ends.{are_joined};
 ghost use Rattle.module_config.specs.Laid.{laid_out};
 ghost use Rattle.module_config.specs.Limits.{BeginsNoLater, HasTick};
-ghost use Rattle.module_config.specs.Whole.{is_too_large, has_many_channels, has_many_ports, is_given_twice, has_port_twice, has_duplicate, is_of_partition, are_of_partitions, whole_fault};
+ghost use Rattle.module_config.specs.Whole.{is_too_large, has_many_channels, has_many_ports, is_given_twice, has_port_twice, is_of_partition, are_of_partitions, whole_fault};
 
 use crate::configured::are_joined as channels_are_joined;
-use crate::counts::{EndCount, channel_numbers, has_number_twice};
+use crate::counts::{EndCount, channel_numbers};
 use crate::ends::Likeness;
 use crate::fault::ConfigFault;
 use crate::layout::Layout;
+use crate::number::{find, has_number_twice};
 use crate::partition::Partition;
 use crate::timetable::has_overlap;
 use crate::window::TimeWindow;
@@ -85,7 +86,7 @@ fn is_given_twice(layout: &Layout) -> bool
     requires { has_many_channels (laid_out layout.now) ≡ false }
     ensures { result ≡ is_given_twice (laid_out layout.now) }
 {
-    has_duplicate(&layout.partitions)
+    has_number_twice(&layout.partitions)
         || has_number_twice(&channel_numbers(layout))
         || has_port_twice(layout)
 }
@@ -113,30 +114,10 @@ fn are_joined(layout: &Layout) -> bool
 }
 
 /// The partition of this number, if there is one.
-pub(crate) fn find_partition<'a>(
-    partitions: &'a [Partition],
-    number: PartId,
-) -> Option<&'a Partition>
-    ensures { option_map (λ found. found.now) result ≡ limits_among number partitions.now }
+pub(crate) fn find_partition(partitions: &[Partition], number: PartId) -> Option<&Partition>
+    ensures { option_map (λ found. found.now) result ≡ numbered (λ (limits : PartitionLimits). limits.number) number partitions.now }
 {
-    for partition in partitions {
-        if partition.number == number {
-            return Some(partition);
-        }
-    }
-    None
-}
-
-// Whether two partitions have one number.
-fn has_duplicate(partitions: &[Partition]) -> bool
-    ensures { result ≡ has_duplicate partitions.now }
-{
-    for (index, partition) in partitions.iter().enumerate() {
-        if find_partition(&partitions[index + 1..], partition.number).is_some() {
-            return true;
-        }
-    }
-    false
+    find(partitions, u16::from(number.number()))
 }
 
 // Whether each window's core is one of its partition's cores.
@@ -152,8 +133,7 @@ fn are_of_partitions(partitions: &[Partition], windows: &[TimeWindow]) -> bool
 fn is_of_partition(partitions: &[Partition], window: &TimeWindow) -> bool
     ensures { result ≡ is_of_partition partitions.now window.now }
 {
-    match find_partition(partitions, window.partition()) {
-        Some(partition) => partition.cores.contains(u64::from(window.core().number())),
-        None => false,
-    }
+    find_partition(partitions, window.partition()).is_some_and(|limits| limits
+        .cores
+        .contains(u64::from(window.core().number())))
 }

@@ -3,11 +3,11 @@ use Rattle.std.proofs.Common.{◌≡◌, ◌<◌, ◌≤◌, ◌-◌, ℕ, zero,
 use Rattle.std.specs.List.{list_any}
 use Rattle.std.proofs.lemmas.List.{length-append, length-map}
 use Rattle.apex_types.specs.declared.record.Who.{Who}
-use Rattle.apex_machine.specs.Configuration.{Configuration, PartitionLimits, QueuingChannel, SamplingChannel}
+use Rattle.apex_machine.specs.Configuration.{Configuration, PartitionLimits, numbered}
 use Rattle.apex_machine.specs.State.{names_one_of}
-use Rattle.apex_machine.specs.Channels.{channel_numbers, has_channel, queuing_among, sampling_among}
+use Rattle.apex_machine.specs.Channels.{channel_numbers, has_channel, queuing_of, sampling_of}
 use Rattle.apex_types.specs.declared.limits.TheConstants.{GREATEST_CHANNEL}
-use Rattle.module_config.specs.Limits.{AreQueuingLimits, AreSamplingLimits, IsWithinLimits}
+use Rattle.module_config.specs.Limits.{IsWithinLimits}
 use Rattle.std.specs.Prelude.{All}
 use Rattle.std.proofs.lemmas.Bool.Decides.{nat_tests}
 use Rattle.std.proofs.lemmas.List.Elements.{All-head, All-tail}
@@ -82,32 +82,20 @@ names_one_of_any number (who ∷ named) = ap (λ (rest : Bool). nat_eq who.part 
 
 -- the number of a configured channel is no greater than the greatest
 
-sampling_fits : (number : ℕ) (channels : List SamplingChannel) → All AreSamplingLimits channels → is_some (sampling_among number channels) ≡ true → number ≤ GREATEST_CHANNEL
-sampling_fits number [] all some = cc
-sampling_fits number (channel ∷ others) all some = by (nat_eq channel.number number) refl some (sampling_fits number others (All-tail AreSamplingLimits channel others all))
+fits : {Item : Type 0} (number_of : Item → ℕ) (number most : ℕ) (items : List Item) → All (λ item. number_of item ≤ most) items → is_some (numbered number_of number items) ≡ true → number ≤ most
+fits number_of number most [] all some = cc
+fits number_of number most (item ∷ others) all some =
+    by (nat_eq (number_of item) number) refl some (fits number_of number most others (All-tail (λ one. number_of one ≤ most) item others all))
   where
-    by : (same : Bool) → nat_eq channel.number number ≡ same → is_some (if same then Some channel else sampling_among number others) ≡ true
-        → (is_some (sampling_among number others) ≡ true → number ≤ GREATEST_CHANNEL) → number ≤ GREATEST_CHANNEL
-    by true same found later =
-        let limits : channel.number ≤ GREATEST_CHANNEL = (All-head AreSamplingLimits channel others all).number_most in
-        grind (arith, nat_tests)
-    by false differs found later = later found
-
-queuing_fits : (number : ℕ) (channels : List QueuingChannel) → All AreQueuingLimits channels → is_some (queuing_among number channels) ≡ true → number ≤ GREATEST_CHANNEL
-queuing_fits number [] all some = cc
-queuing_fits number (channel ∷ others) all some = by (nat_eq channel.number number) refl some (queuing_fits number others (All-tail AreQueuingLimits channel others all))
-  where
-    by : (same : Bool) → nat_eq channel.number number ≡ same → is_some (if same then Some channel else queuing_among number others) ≡ true
-        → (is_some (queuing_among number others) ≡ true → number ≤ GREATEST_CHANNEL) → number ≤ GREATEST_CHANNEL
-    by true same found later =
-        let limits : channel.number ≤ GREATEST_CHANNEL = (All-head AreQueuingLimits channel others all).number_most in
-        grind (arith, nat_tests)
+    by : (same : Bool) → nat_eq (number_of item) number ≡ same → is_some (if same then Some item else numbered number_of number others) ≡ true
+        → (is_some (numbered number_of number others) ≡ true → number ≤ most) → number ≤ most
+    by true same found later = let limit : number_of item ≤ most = All-head (λ one. number_of one ≤ most) item others all in grind (arith, nat_tests)
     by false differs found later = later found
 
 pub channel_fits : (configuration : Configuration) (number : ℕ) → IsWithinLimits configuration → has_channel configuration number ≡ true → number ≤ GREATEST_CHANNEL
-channel_fits configuration number limits has = by (is_some (sampling_among number configuration.sampling)) refl has
+channel_fits configuration number limits has = by (is_some (sampling_of configuration number)) refl has
   where
-    by : (samples : Bool) → is_some (sampling_among number configuration.sampling) ≡ samples
-        → (samples || is_some (queuing_among number configuration.queuing)) ≡ true → number ≤ GREATEST_CHANNEL
-    by true samples has = sampling_fits number configuration.sampling limits.sampling samples
-    by false other has = queuing_fits number configuration.queuing limits.queuing has
+    by : (samples : Bool) → is_some (sampling_of configuration number) ≡ samples
+        → (samples || is_some (queuing_of configuration number)) ≡ true → number ≤ GREATEST_CHANNEL
+    by true samples has = fits (λ channel. channel.number) number GREATEST_CHANNEL configuration.sampling (λ i default below. (limits.sampling i default below).number_most) samples
+    by false other has = fits (λ channel. channel.number) number GREATEST_CHANNEL configuration.queuing (λ i default below. (limits.queuing i default below).number_most) has

@@ -1,14 +1,13 @@
-use Rattle.std.proofs.Common.{◌≡◌, ◌≤◌, ap, sym, arith}
+use Rattle.std.proofs.Common.{◌≤◌, sym, arith}
 use Rattle.module_config.specs.Limits.{AreCoresOf}
-use Rattle.module_config.specs.Order.{stands_before}
+use Rattle.module_config.specs.Order.{comes_before}
 use Rattle.module_config.specs.Walk.{partition_in}
 use Rattle.module_config.proofs.Placing.{keeps}
-use Rattle.module_config.proofs.Numbered.{number_decides}
+use Rattle.module_config.proofs.Numbers.{number_decides}
 use Rattle.module_config.proofs.layout.ordered_partitions.Goals as goal
 
 pub loop-item-preserved : goal.loop-item-preserved
 loop-item-preserved c =
-    let numbered : c.partition.inside.number ≡ c.in_ok-partition.partition.number = ap (λ limits. limits.number) c.partition.view_is in
-    let at = rw (numbered, c.deref.ensures.value) at c.place_among-place.ensures.value in
-    keeps stands_before (AreCoresOf c.args.size.cores) (λ limits other. limits.number ≤ other.number) (partition_in c.args.size.cores) c.args.items.now c.loop-item.item-index c.loop-item.found.items c.item-item.result c.in_ok-partition.partition c.place_among-place.result
-    c.insert.new.self.items number_decides c.loop-item.invariant (omega arith) c.item-item.is (sym c.in_ok-partition.ensures.value) c.in_ok-partition.ensures.limits at c.in_ok-insert.ensures.items
+    let at = rw (c.number.ensures, c.deref.ensures.value) at c.place_among-place.ensures.value in
+    keeps comes_before (AreCoresOf c.args.size.cores) (λ limits other. limits.number ≤ other.number) (partition_in c.args.size.cores) c.args.items.now c.loop-item.item-index c.loop-item.found.items c.item-item.result c.in_ok-partition.partition c.place_among-place.result
+    c.insert.new.self.items (number_decides (λ limits. limits.number)) c.loop-item.invariant (omega arith) c.item-item.is (sym c.in_ok-partition.ensures.value) c.in_ok-partition.ensures.limits at c.in_ok-insert.ensures.items
