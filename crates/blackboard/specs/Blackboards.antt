@@ -1,5 +1,5 @@
 -- The blackboard after each operation.
-use Rattle.std.specs.Prelude.{List, [], ◌∷◌}
+use Rattle.std.specs.Prelude.{List, []}
 use Rattle.apex_types.specs.declared.operation.{BlackboardOperation.BlackboardOperation}
 use Rattle.apex_types.specs.declared.record.Claim.{Claim}
 use Rattle.apex_machine.specs.declared.state.Entry.{Entry}
@@ -16,9 +16,4 @@ readers_after actor BlackboardOperation.Clear claim entries = left_by claim entr
 
 -- the blackboard after an operation
 abbrev pub after : Actor → BlackboardOperation → Claim → Blackboard → Blackboard
-after actor operation claim found =
-    record (blackboard_effect operation found).next { readers = readers_after actor operation claim found.readers }
-
--- its one waiting set
-abbrev pub sets : Blackboard → List (List Entry)
-sets found = found.readers ∷ []
+after actor operation claim found = record (blackboard_effect operation found).next { readers = readers_after actor operation claim found.readers }

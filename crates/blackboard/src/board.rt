@@ -1,6 +1,6 @@
 // Blackboards.
 
-ghost use Rattle.std.specs.Prelude.{◌≡◌, [], None};
+ghost use Rattle.std.specs.Prelude.{◌≡◌, ◌∷◌, [], None};
 ghost use Rattle.std.specs.Option.{option_copied};
 ghost use Rattle.apex_types.specs.declared.operation.BlackboardOperation.TheVariants as on_blackboard;
 ghost use Rattle.apex_machine.specs.Objects.{blackboard_effect};
@@ -11,9 +11,9 @@ ghost use Rattle.blackboard.specs.Blackboards as rules;
 
 use apex_machine::Status;
 use apex_types::{BlackboardOperation, Claim, Discipline, Message, Name, Who};
-use std::alloc::Global;
+use std::alloc::{AllocError, Global};
 use std::marker::Model;
-use wait_set::{Actor, ApexObject, Effect, Given, Named, ObjFault, WaitSet, judge_waking_all};
+use wait_set::{Actor, ApexObject, Given, Named, Owners, WaitSet};
 
 /// A blackboard: the greatest size of its messages, the message on it, if it isn't empty, and those that wait to read.
 #[derive(Drop)]
@@ -78,16 +78,6 @@ impl Blackboard {
             val3: None,
         }
     }
-
-    // What READ_BLACKBOARD gives its caller.
-    fn given_to_reader(&self, time_out: i64) -> Given<'_>
-        ensures { answer_given result ≡ (blackboard_effect (on_blackboard.Read time_out) self.now).answer }
-    {
-        match &self.message {
-            Some(message) => Given::giving(message.as_bytes(), None),
-            None => Given::unmet(time_out),
-        }
-    }
 }
 
 impl Named for Blackboard {
@@ -105,45 +95,42 @@ impl ApexObject for Blackboard {
 
     ghost after = { rules.after };
 
-    ghost sets = { rules.sets };
+    ghost sets = { λ board. board.readers ∷ [] };
 
     ghost without_one = { λ who board. record board { readers = without_one who board.readers } };
 
-    fn apply(
+    fn answer(&self, _actor: &Actor, operation: &BlackboardOperation) -> Given<'_> {
+        match (operation, &self.message) {
+            // The message is on the blackboard, and all who wait for one get it.
+            (BlackboardOperation::Display { .. }, _) => Given::waking_all(&self.readers),
+            (BlackboardOperation::Read { .. }, Some(message)) => {
+                Given::giving(message.as_bytes(), None)
+            }
+            (BlackboardOperation::Read { time_out }, None) => Given::unmet(*time_out),
+            (BlackboardOperation::Clear, _) => Given::done(),
+        }
+    }
+
+    fn carry_out(
         &mut self,
         actor: Actor,
         operation: &BlackboardOperation,
         claim: &Claim,
-    ) -> Result<Effect, ObjFault> {
+    ) -> Result<Owners, AllocError> {
         match operation {
-            // The message is on the blackboard, and all who wait for one get it.
             BlackboardOperation::Display { message, .. } => {
-                judge_waking_all(&self.readers, claim).map_err(ObjFault::Unlawful)?;
-                let bytes = Vec::from_slice(self.alloc, message.as_bytes()).map_err(
-                    |_| ObjFault::Memory,
-                )?;
+                let bytes = Vec::from_slice(self.alloc, message.as_bytes())?;
                 self.readers.release(claim.woken.as_slice());
                 self.message = Some(Message::new(bytes));
-                Ok(Effect::of(claim))
             }
-            // The message stays on the blackboard; where there is none the caller waits.
-            BlackboardOperation::Read { time_out } => {
-                self.given_to_reader(*time_out)
-                    .judge(claim)
-                    .map_err(ObjFault::Unlawful)?;
-                self.readers
-                    .settle(actor, claim, &[])
-                    .map_err(|_| ObjFault::Memory)?;
-                Ok(Effect::of(claim))
-            }
+            BlackboardOperation::Read { .. } => self.readers.settle(actor, claim, &[])?,
             // The blackboard is empty.
             BlackboardOperation::Clear => {
-                Given::done().judge(claim).map_err(ObjFault::Unlawful)?;
                 self.readers.release(claim.woken.as_slice());
                 self.message = None;
-                Ok(Effect::of(claim))
             }
         }
+        Ok(Owners::nobody())
     }
 
     fn leave(&mut self, who: Who) -> bool {

@@ -9,7 +9,7 @@ use apex_types::{BufferOperation, Claim, Discipline, Name, Who};
 use message_queue::MessageQueue;
 use std::alloc::{AllocError, Global};
 use std::marker::Model;
-use wait_set::{Actor, ApexObject, Effect, Named, ObjFault};
+use wait_set::{Actor, ApexObject, Given, Named, Owners};
 
 /// A buffer: its name, the greatest size of its messages, and the queue of them, whose senders and receivers wait by one discipline.
 #[derive(Drop)]
@@ -104,12 +104,19 @@ impl ApexObject for Buffer {
 
     ghost without_one = { rules.without_one };
 
-    fn apply(
+    fn answer(&self, _actor: &Actor, operation: &BufferOperation) -> Given<'_> {
+        match operation {
+            BufferOperation::Send { time_out, .. } => self.queue.answer_to_send(*time_out),
+            BufferOperation::Receive { time_out } => self.queue.answer_to_receive(*time_out),
+        }
+    }
+
+    fn carry_out(
         &mut self,
         actor: Actor,
         operation: &BufferOperation,
         claim: &Claim,
-    ) -> Result<Effect, ObjFault> {
+    ) -> Result<Owners, AllocError> {
         match operation {
             BufferOperation::Send {
                 time_out,
@@ -118,7 +125,7 @@ impl ApexObject for Buffer {
             } => self.queue.send(actor, message, *time_out, claim)?,
             BufferOperation::Receive { time_out } => self.queue.receive(actor, *time_out, claim)?,
         }
-        Ok(Effect::of(claim))
+        Ok(Owners::nobody())
     }
 
     fn leave(&mut self, who: Who) -> bool {

@@ -1,15 +1,17 @@
 -- A channel with its number and what was given when it was made: what a configuration says of it, what it demands of a call, and
 -- what it is afterwards.
-use Rattle.std.specs.Prelude.{◌≡◌, ℕ, Bool, nat_eq}
+use Rattle.std.specs.Prelude.{◌≡◌, ℕ, Bool, nat_eq, IsFalse, IsTrue}
 use Rattle.apex_types.specs.declared.discipline.Discipline.{Discipline}
 use Rattle.apex_types.specs.declared.record.Body.TheVariants.{Call}
 use Rattle.apex_types.specs.declared.record.Call.{Call as CallRecord}
 use Rattle.apex_types.specs.declared.record.Who.{Who}
 use Rattle.apex_machine.specs.declared.state.WaitingSet.TheVariants as set
 use Rattle.apex_machine.specs.After.{content_by}
+use Rattle.apex_machine.specs.Answer.{Answer}
 use Rattle.apex_machine.specs.Channels.{capacity_of, is_at_destination, is_at_source, receiving_discipline, refresh_of, sending_discipline}
 use Rattle.apex_machine.specs.Configuration.{Configuration}
 use Rattle.apex_machine.specs.Demands.{AllHold, through_demands}
+use Rattle.apex_machine.specs.Ports.{channel_effect, suits_use, use_of}
 use Rattle.apex_machine.specs.State.{Channel}
 use Rattle.apex_machine.specs.Waiting.{set_after, without}
 use Rattle.wait_set.specs.declared.object.ObjFault.{ObjFault}
@@ -49,6 +51,19 @@ IsConfigured configuration held = SaysTheSame configuration held.number held.set
 -- all who wait at a channel have places below this one
 abbrev pub AllBelow : ℕ → Held → Type 0
 AllBelow place held = StandBefore place held.channel.senders × StandBefore place held.channel.receivers
+
+-- what a channel gives the caller of a call at this time of its core, whichever configuration it has: its service is of the channel's kind
+abbrev pub Gives : ℕ → CallRecord → Held → Answer → Type 0
+Gives now call held answer =
+    (configuration : Configuration) → IsConfigured configuration held
+    → IsTrue (suits_use configuration held.number call.who.part (use_of call.request) held.channel)
+    × (answer ≡ (channel_effect configuration now held.number call.who.part (use_of call.request) held.channel).answer)
+
+-- the service of a call is not of the channel's kind, whichever configuration the channel has
+abbrev pub DoesNotServe : CallRecord → Held → Type 0
+DoesNotServe call held =
+    (configuration : Configuration) → IsConfigured configuration held
+    → IsFalse (suits_use configuration held.number call.who.part (use_of call.request) held.channel)
 
 -- a call meets all that the channel demands of it at this time of its core, whichever configuration the channel has
 abbrev pub Accepts : ℕ → CallRecord → Held → Type 0

@@ -5,9 +5,10 @@ ghost use Rattle.std.specs.Option.{option_copied};
 ghost use Rattle.apex_machine.specs.Demands.{stands_in};
 ghost use Rattle.apex_machine.specs.State.{is_named, is_same};
 ghost use Rattle.channel.specs.Held as rules;
-ghost use Rattle.channel.specs.Held.{Accepts, AllBelow, IsAfterCall, RefusesCall};
+ghost use Rattle.channel.specs.Held.{Accepts, AllBelow, DoesNotServe, Gives, IsAfterCall, RefusesCall};
 ghost use Rattle.channel.specs.Kinds.{destination_in, is_sampled, last_written, queuing_held, sampling_held, source_in};
 ghost use Rattle.message_queue.specs.Queues.{empty_queue};
+ghost use Rattle.wait_set.specs.Givens.{answer_given};
 
 use crate::queuing::QueuingChannel;
 use crate::sampling::{SamplingChannel, Stamped};
@@ -15,7 +16,7 @@ use apex_types::{Call, Cause, ChanId, Discipline, ObjectKind, PartId, Place, Req
 use message_queue::MessageQueue;
 use std::alloc::{AllocError, Global};
 use std::marker::Model;
-use wait_set::{Actor, ObjFault};
+use wait_set::{Actor, Given, ObjFault};
 
 /// A channel, which knows its number.
 #[derive(Drop)]
@@ -108,6 +109,26 @@ impl Channel {
         match &self.kind {
             Kind::Sampling(channel) => channel.last.as_ref(),
             Kind::Queuing(_) => None,
+        }
+    }
+
+    /// What a call through the channel gives its caller, at this time of its core in ticks. None where its service is not one of the
+    /// channel's kind, or asks for the status of a port that is at neither end. Takes no memory.
+    pub fn answer(&self, now: u64, call: &Call) -> Option<Given<'_>>
+        ensures given { IfSome result (λ given. Gives now call.now self.now (answer_given given)) }
+        ensures none { IfNone result (DoesNotServe call.now self.now) }
+    {
+        match (&self.kind, &call.request) {
+            (Kind::Sampling(channel), Request::SamplingPort(_, operation)) => {
+                Some(channel.answer(now, operation))
+            }
+            (Kind::Queuing(channel), Request::QueuingPort(_, operation)) => {
+                Some(channel.answer(operation))
+            }
+            (Kind::Queuing(channel), Request::GetStatus(ObjectKind::QueuingPort, _)) => {
+                channel.answer_to_asker(call.who.part)
+            }
+            _ => None,
         }
     }
 

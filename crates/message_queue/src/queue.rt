@@ -1,10 +1,10 @@
 // Queues of messages.
 
-ghost use Rattle.std.specs.Prelude.{◌≡◌, ◌↔◌, ◌<◌, ◌||◌, [], length, nat_eq, slice_get, IfErr, IfOk, IsTrue, OnErr, OnOk};
+ghost use Rattle.std.specs.Prelude.{◌≡◌, ◌↔◌, ◌<◌, ◌||◌, ℕ, List, [], length, nat_eq, slice_get, IfOk, IsTrue, OnErr, OnOk};
 ghost use Rattle.std.specs.Option.{option_copied};
 ghost use Rattle.apex_machine.specs.Demands.{AllHold, answer_demands, stands_in};
 ghost use Rattle.apex_machine.specs.State.{is_named, is_same};
-ghost use Rattle.wait_set.specs.Actors.{Refuses, entry_with};
+ghost use Rattle.wait_set.specs.Actors.{WaitsAlone, entry_with};
 ghost use Rattle.wait_set.specs.Givens.{answer_given};
 ghost use Rattle.wait_set.specs.Sets.{IsNew};
 ghost use Rattle.message_queue.specs.Queues as rules;
@@ -13,7 +13,7 @@ use apex_types::{Claim, Discipline, Message, PartId, Who};
 use circular_buffer::HeapCircularBuffer;
 use std::alloc::{AllocError, Global};
 use std::marker::Model;
-use wait_set::{Actor, Given, ObjFault, WaitSet};
+use wait_set::{Actor, Given, WaitSet};
 
 /// A queue of messages: those that it holds, and those that wait to send and to receive.
 #[derive(Drop)]
@@ -91,40 +91,41 @@ impl MessageQueue {
         &self.receivers
     }
 
-    /// Sends a message, where the claim is what the rule gives: the receiver that waits first gets it; else, if there is room, the
-    /// queue holds it; else the caller waits with it, or gets NOT_AVAILABLE where its time-out is 0.
+    /// What a send gives its caller: done, and the wait of the receiver that waits first ends, if one waits; where none waits and
+    /// there is no room the caller waits, or gets NOT_AVAILABLE where its time-out is 0.
+    pub fn answer_to_send(&self, time_out: i64) -> Given<'_>
+        ensures { (message : List ℕ) → answer_given result ≡ (rules.sent_to message time_out self.now).answer }
+    {
+        let receiver = self.receivers.first().map(|entry| entry.who);
+        if receiver.is_some() || self.has_room() {
+            Given::waking(receiver)
+        } else {
+            Given::unmet(time_out)
+        }
+    }
+
+    /// Sends a message, where the claim is what a send gives: the receiver that waits first gets it; else, if there is room, the
+    /// queue holds it; else a caller that waits does so with it.
     ///
-    /// Refused, with nothing changed, where the claim is another, or where memory is refused for the message or the entry.
+    /// AllocError where memory is refused for the message or the entry; nothing is changed then.
     pub fn send(
         &mut self,
         actor: Actor,
         message: &Message,
         time_out: i64,
         claim: &Claim,
-    ) -> Result<(), ObjFault>
+    ) -> Result<(), AllocError>
         requires new { IsNew (entry_with actor []) self.old.senders.entries }
-        ensures ok { OnOk result (AllHold (answer_demands (rules.sent_to message.now time_out self.old).answer claim.now)) }
+        requires given { AllHold (answer_demands (rules.sent_to message.now time_out self.old).answer claim.now) }
+        requires alone { WaitsAlone claim.now }
         ensures after { OnOk result (self.new ≡ rules.after_send actor message.now time_out claim.now self.old) }
-        ensures refused { IfErr result (Refuses (answer_demands (rules.sent_to message.now time_out self.old).answer claim.now)) }
         ensures unchanged { OnErr result (self.new ≡ self.old) }
     {
-        let receiver = self.receivers.first().map(|entry| entry.who);
-        let is_held = receiver.is_none() && self.has_room();
-        let given = if receiver.is_some() || is_held {
-            Given::waking(receiver)
-        } else {
-            Given::unmet(time_out)
-        };
-        given.judge(claim).map_err(ObjFault::Unlawful)?;
-        if is_held {
-            let bytes = Vec::from_slice(self.alloc, message.as_bytes()).map_err(
-                |_| ObjFault::Memory,
-            )?;
+        if self.receivers.first().is_none() && self.has_room() {
+            let bytes = Vec::from_slice(self.alloc, message.as_bytes())?;
             self.messages.push_back(Message::new(bytes));
         }
-        self.senders
-            .settle(actor, claim, message.as_bytes())
-            .map_err(|_| ObjFault::Memory)?;
+        self.senders.settle(actor, claim, message.as_bytes())?;
         self.receivers.release(claim.woken.as_slice());
         Ok(())
     }
@@ -136,23 +137,30 @@ impl MessageQueue {
         self.messages.len() < self.messages.capacity()
     }
 
-    /// Receives a message, where the claim is what the rule gives: the caller gets the oldest one, if there is one, and the message
-    /// of the sender that waits first moves up; else the caller waits, or gets NOT_AVAILABLE where its time-out is 0.
+    /// What a receive gives its caller: the oldest message, and the wait of the sender that waits first ends, if one waits; where
+    /// there is no message the caller waits, or gets NOT_AVAILABLE where its time-out is 0.
+    pub fn answer_to_receive(&self, time_out: i64) -> Given<'_>
+        ensures { answer_given result ≡ (rules.received_from time_out self.now).answer }
+    {
+        let sender = self.senders.first().map(|entry| entry.who);
+        match self.messages.front() {
+            Some(message) => Given::giving(message.as_bytes(), sender),
+            None => Given::unmet(time_out),
+        }
+    }
+
+    /// Receives a message, where the claim is what a receive gives: the oldest one, if there is one, is taken, and the message of
+    /// the sender that waits first moves up; else a caller that waits does so.
     ///
-    /// Refused, with nothing changed, where the claim is another, or where memory is refused for the entry.
-    pub fn receive(&mut self, actor: Actor, time_out: i64, claim: &Claim) -> Result<(), ObjFault>
+    /// AllocError where memory is refused for the entry; nothing is changed then.
+    pub fn receive(&mut self, actor: Actor, time_out: i64, claim: &Claim) -> Result<(), AllocError>
         requires new { IsNew (entry_with actor []) self.old.receivers.entries }
-        ensures ok { OnOk result (AllHold (answer_demands (rules.received_from time_out self.old).answer claim.now)) }
+        requires given { AllHold (answer_demands (rules.received_from time_out self.old).answer claim.now) }
+        requires alone { WaitsAlone claim.now }
         ensures after { OnOk result (self.new ≡ rules.after_receive actor time_out claim.now self.old) }
-        ensures refused { IfErr result (Refuses (answer_demands (rules.received_from time_out self.old).answer claim.now)) }
         ensures unchanged { OnErr result (self.new ≡ self.old) }
     {
-        self.given_to_receiver(time_out)
-            .judge(claim)
-            .map_err(ObjFault::Unlawful)?;
-        self.receivers
-            .settle(actor, claim, &[])
-            .map_err(|_| ObjFault::Memory)?;
+        self.receivers.settle(actor, claim, &[])?;
         if self.messages.pop_front().is_some() {
             self.move_up();
         }
@@ -166,17 +174,6 @@ impl MessageQueue {
     {
         if let Some(entry) = self.senders.take_first() {
             self.messages.push_back(entry.message);
-        }
-    }
-
-    // What a receive gives its caller.
-    fn given_to_receiver(&self, time_out: i64) -> Given<'_>
-        ensures { answer_given result ≡ (rules.received_from time_out self.now).answer }
-    {
-        let sender = self.senders.first().map(|entry| entry.who);
-        match self.messages.front() {
-            Some(message) => Given::giving(message.as_bytes(), sender),
-            None => Given::unmet(time_out),
         }
     }
 

@@ -1,15 +1,12 @@
 -- What an operation on a mutex asks, and the mutex and its owner after it.
-use Rattle.std.specs.Prelude.{◌≤◌, List, [], ◌∷◌, IsTrue}
+use Rattle.std.specs.Prelude.{◌≤◌, List, []}
 use Rattle.apex_types.specs.declared.operation.{MutexOperation.MutexOperation}
 use Rattle.apex_types.specs.declared.record.Claim.{Claim}
 use Rattle.apex_machine.specs.declared.state.Entry.{Entry}
 use Rattle.apex_machine.specs.Objects.{mutex_effect}
 use Rattle.apex_machine.specs.State.{Mutex}
-use Rattle.apex_machine.specs.Waiting.{is_waiting}
 use Rattle.wait_set.specs.declared.object.Actor.{Actor}
-use Rattle.wait_set.specs.declared.object.ObjFault.{ObjFault}
 use Rattle.wait_set.specs.declared.object.Owners.{Owners}
-use Rattle.wait_set.specs.declared.object.ObjFault.TheVariants.{Unlawful, Memory}
 use Rattle.wait_set.specs.Actors.{joined_by, left_by}
 
 -- ACQUIRE_MUTEX asks that the count is not above its place: so it can rise by one
@@ -24,8 +21,7 @@ waiters_after actor MutexOperation.Release claim entries = left_by claim entries
 
 -- the mutex after an operation
 abbrev pub after : Actor → MutexOperation → Claim → Mutex → Mutex
-after actor operation claim found =
-    record (mutex_effect actor.who.proc operation found).next { waiters = waiters_after actor operation claim found.waiters }
+after actor operation claim found = record (mutex_effect actor.who.proc operation found).next { waiters = waiters_after actor operation claim found.waiters }
 
 -- who owns the mutex, and who owns it once it is the next one; its owner runs with its priority
 abbrev pub owners_from : Mutex → Mutex → Owners
@@ -34,12 +30,3 @@ owners_from found next = record { before = found.owner; after = next.owner; prio
 -- who owns the mutex before an operation, and who owns it after
 abbrev pub owners : Actor → MutexOperation → Mutex → Owners
 owners actor operation found = owners_from found (mutex_effect actor.who.proc operation found).next
-
--- its one waiting set
-abbrev pub sets : Mutex → List (List Entry)
-sets found = found.waiters ∷ []
-
--- a refusal of memory: it comes only to a caller that waits
-abbrev pub WantsMemoryToWait : Claim → ObjFault → Type 0
-WantsMemoryToWait claim (Unlawful cause) = Unit {0}
-WantsMemoryToWait claim Memory = IsTrue (is_waiting claim.out)

@@ -1,23 +1,21 @@
 // Mutexes.
 
-ghost use Rattle.std.specs.Prelude.{ℤ, ◌≡◌, ◌↔◌, ◌≤◌, ◌<◌, ◌+◌, [], None, IfErr, IfOk, IsTrue, OnErr, OnOk};
+ghost use Rattle.std.specs.Prelude.{ℤ, ◌≡◌, ◌≤◌, ◌<◌, ◌+◌, ◌∷◌, [], None, IfOk, IsTrue, OnErr, OnOk};
 ghost use Rattle.apex_types.specs.declared.operation.MutexOperation.TheVariants as on_mutex;
-ghost use Rattle.apex_types.specs.declared.record.Out.TheVariants as out;
 ghost use Rattle.apex_types.specs.declared.limits.TheConstants.{PLACE_COUNT};
 ghost use Rattle.apex_machine.specs.Demands.{AllHold, answer_demands};
 ghost use Rattle.apex_machine.specs.Objects.{is_owner, mutex_effect, mutex_released, owned_by};
 ghost use Rattle.apex_machine.specs.Statuses.{mutex_status};
-ghost use Rattle.apex_machine.specs.Waiting.{first_waiter};
-ghost use Rattle.wait_set.specs.Actors.{Refuses, entry_with, left_by};
-ghost use Rattle.wait_set.specs.Givens.{answer_given};
+ghost use Rattle.apex_machine.specs.Waiting.{first_waiter, is_waiting};
+ghost use Rattle.wait_set.specs.Actors.{WaitsAlone, entry_with, left_by};
 ghost use Rattle.wait_set.specs.Sets.{IsNew, without_one};
 ghost use Rattle.mutex_ceiling.specs.Mutexes as rules;
 
 use apex_machine::Status;
 use apex_types::{Claim, Discipline, MutexOperation, Name, ProcId, Who};
-use std::alloc::Global;
+use std::alloc::{AllocError, Global};
 use std::marker::Model;
-use wait_set::{Actor, ApexObject, Effect, Given, Named, ObjFault, Owners, WaitSet};
+use wait_set::{Actor, ApexObject, Given, Named, Owners, WaitSet};
 
 /// A mutex: its priority, the process that owns it, how often its owner has acquired it, and those that wait.
 #[derive(Drop)]
@@ -105,47 +103,31 @@ impl Mutex653 {
         }
     }
 
-    /// ACQUIRE_MUTEX: a free mutex is the caller's, its owner acquires it once more, another process waits.
+    /// ACQUIRE_MUTEX by a claim that is what it gives: a free mutex is the caller's, its owner acquires it once more, another
+    /// process waits. Says who owned it and who owns it now.
     ///
     /// Each call adds one to the count at most, so that the count is not above the place of a later call.
-    /// Refused, with nothing changed, where the claim is another, or where memory is refused to a caller that waits.
+    /// AllocError where memory is refused to a caller that waits; nothing is changed then.
     pub fn acquire(
         &mut self,
         actor: Actor,
         time_out: i64,
         claim: &Claim,
-    ) -> Result<Effect, ObjFault>
+    ) -> Result<Owners, AllocError>
         requires new { IsNew (entry_with actor []) self.old.waiters }
         requires counted { self.old.count ≤ actor.place }
-        ensures ok { OnOk result (AllHold (answer_demands (mutex_effect actor.who.proc (on_mutex.Acquire time_out) self.old).answer claim.now)) }
+        requires given { AllHold (answer_demands (mutex_effect actor.who.proc (on_mutex.Acquire time_out) self.old).answer claim.now) }
+        requires alone { WaitsAlone claim.now }
         ensures after { OnOk result (self.new ≡ rules.after actor (on_mutex.Acquire time_out) claim.now self.old) }
         ensures counted { self.new.count ≤ self.old.count + 1 }
-        ensures waits { IfOk result (λ effect. IsTrue effect.waits ↔ (claim.now.out ≡ out.Waits)) }
-        ensures owners { IfOk result (λ effect. effect.owners ≡ rules.owners actor (on_mutex.Acquire time_out) self.old) }
-        ensures refused { IfErr result (Refuses (answer_demands (mutex_effect actor.who.proc (on_mutex.Acquire time_out) self.old).answer claim.now)) }
-        ensures memory { IfErr result (rules.WantsMemoryToWait claim.now) }
+        ensures owners { IfOk result (λ owners. owners ≡ rules.owners actor (on_mutex.Acquire time_out) self.old) }
+        ensures memory { OnErr result (IsTrue (is_waiting claim.now.out)) }
         ensures unchanged { OnErr result (self.new ≡ self.old) }
     {
-        self.answer_to_acquire(&actor, time_out)
-            .judge(claim)
-            .map_err(ObjFault::Unlawful)?;
-        self.waiters
-            .settle(actor, claim, &[])
-            .map_err(|_| ObjFault::Memory)?;
+        self.waiters.settle(actor, claim, &[])?;
         let before = self.owner;
         self.take(&actor);
-        Ok(Effect::with_owners(claim, self.owners_since(before)))
-    }
-
-    // What ACQUIRE_MUTEX gives its caller: a free mutex and its own are had at once.
-    fn answer_to_acquire(&self, actor: &Actor, time_out: i64) -> Given<'static>
-        ensures { answer_given result ≡ (mutex_effect actor.now.who.proc (on_mutex.Acquire time_out) self.now).answer }
-    {
-        if self.owner.is_none() || self.is_owned_by(actor.who.proc) {
-            Given::done()
-        } else {
-            Given::unmet(time_out)
-        }
+        Ok(self.owners_since(before))
     }
 
     // The mutex after ACQUIRE_MUTEX, but for those who wait: it is as it was where another process owns it.
@@ -160,36 +142,17 @@ impl Mutex653 {
         }
     }
 
-    /// RELEASE_MUTEX: one is taken from a count above 1; else the first who waits owns the mutex, or it is free.
-    ///
-    /// Refused, with nothing changed, where the claim is another. Takes no memory.
-    pub fn release(&mut self, claim: &Claim) -> Result<Effect, ObjFault>
-        ensures ok { OnOk result (AllHold (answer_demands (mutex_released (first_waiter self.old.discipline self.old.waiters) self.old).answer claim.now)) }
-        ensures after { OnOk result (self.new ≡ record (mutex_released (first_waiter self.old.discipline self.old.waiters) self.old).next { waiters = left_by claim.now self.old.waiters }) }
+    /// RELEASE_MUTEX by a claim that is what it gives: one is taken from a count above 1; else the first who waits owns the mutex,
+    /// or it is free. Says who owned it and who owns it now. Takes no memory.
+    pub fn release(&mut self, claim: &Claim) -> Owners
+        ensures after { self.new ≡ record (mutex_released (first_waiter self.old.discipline self.old.waiters) self.old).next { waiters = left_by claim.now self.old.waiters } }
         ensures counted { self.new.count ≤ self.old.count + 1 }
-        ensures waits { IfOk result (λ effect. IsTrue effect.waits ↔ (claim.now.out ≡ out.Waits)) }
-        ensures owners { IfOk result (λ effect. effect.owners ≡ rules.owners_from self.old (mutex_released (first_waiter self.old.discipline self.old.waiters) self.old).next) }
-        ensures refused { IfErr result (Refuses (answer_demands (mutex_released (first_waiter self.old.discipline self.old.waiters) self.old).answer claim.now)) }
-        ensures memory { IfErr result (rules.WantsMemoryToWait claim.now) }
-        ensures unchanged { OnErr result (self.new ≡ self.old) }
+        ensures owners { result ≡ rules.owners_from self.old (mutex_released (first_waiter self.old.discipline self.old.waiters) self.old).next }
     {
-        self.answer_to_release()
-            .judge(claim)
-            .map_err(ObjFault::Unlawful)?;
         let before = self.owner;
         self.give_up();
         self.waiters.release(claim.woken.as_slice());
-        Ok(Effect::with_owners(claim, self.owners_since(before)))
-    }
-
-    // What RELEASE_MUTEX gives: the wait of the first ends by the last release.
-    fn answer_to_release(&self) -> Given<'static>
-        ensures { answer_given result ≡ (mutex_released (first_waiter self.now.discipline self.now.waiters) self.now).answer }
-    {
-        if self.count > 1 {
-            return Given::done();
-        }
-        Given::waking(self.waiters.first().map(|entry| entry.who))
+        self.owners_since(before)
     }
 
     // The mutex after RELEASE_MUTEX, but for those who wait.
@@ -254,20 +217,32 @@ impl ApexObject for Mutex653 {
 
     ghost owners = { rules.owners };
 
-    ghost sets = { rules.sets };
+    ghost sets = { λ mutex. mutex.waiters ∷ [] };
 
     ghost without_one = { λ who mutex. record mutex { waiters = without_one who mutex.waiters } };
 
+    fn answer(&self, actor: &Actor, operation: &MutexOperation) -> Given<'_> {
+        match operation {
+            // A free mutex and its own are had at once.
+            MutexOperation::Acquire { .. } if self.owner.is_none() => Given::done(),
+            MutexOperation::Acquire { .. } if self.is_owned_by(actor.who.proc) => Given::done(),
+            MutexOperation::Acquire { time_out } => Given::unmet(*time_out),
+            // The wait of the first ends by the last release.
+            MutexOperation::Release if self.count > 1 => Given::done(),
+            MutexOperation::Release => Given::waking(self.waiters.first().map(|entry| entry.who)),
+        }
+    }
+
     #[tactic(auto, using(crate::proofs::TimeOuts::as_given))]
-    fn apply(
+    fn carry_out(
         &mut self,
         actor: Actor,
         operation: &MutexOperation,
         claim: &Claim,
-    ) -> Result<Effect, ObjFault> {
+    ) -> Result<Owners, AllocError> {
         match operation {
             MutexOperation::Acquire { time_out } => self.acquire(actor, *time_out, claim),
-            MutexOperation::Release => self.release(claim),
+            MutexOperation::Release => Ok(self.release(claim)),
         }
     }
 

@@ -10,7 +10,7 @@ use apex_types::{
 use semaphore_event::Semaphore;
 use std::alloc::{AllocError, Global};
 use std::test::Fail;
-use wait_set::{Actor, ApexObject, Effect, ObjFault};
+use wait_set::{Actor, ApexObject, Effect, ObjFault, Owners};
 
 // The process of this number, which calls at this place.
 fn caller(number: u32, place: u64) -> Actor
@@ -48,6 +48,14 @@ fn only(alloc: Global, number: u32) -> Result<Woken, AllocError>
     Ok(Woken::new(vec![in alloc; who(number)]?))
 }
 
+// What an operation reports of an object that nobody owns.
+fn effect(waits: bool) -> Effect {
+    Effect {
+        waits,
+        owners: Owners::nobody(),
+    }
+}
+
 #[test]
 fn a_semaphore_by_itself(rt: HostRuntime) -> Result<(), Fail> {
     let alloc = rt.alloc();
@@ -60,17 +68,17 @@ fn a_semaphore_by_itself(rt: HostRuntime) -> Result<(), Fail> {
     // Process 1 takes the one that there is, and process 2 waits.
     let done = claim(alloc, Out::Answer(Code::NoError), Woken::none(alloc));
     let taken = semaphore.apply(caller(1, 0), &wait, &done);
-    assert!(rt; taken == Ok(Effect::of(&done)));
+    assert!(rt; taken == Ok(effect(false)));
     let waits = claim(alloc, Out::Waits, Woken::none(alloc));
     let waited = semaphore.apply(caller(2, 1), &wait, &waits);
-    assert!(rt; waited == Ok(Effect::of(&waits)));
+    assert!(rt; waited == Ok(effect(true)));
 
     // A signal that wakes nobody is refused, and one that wakes process 2 is what the rule gives.
     let refused = semaphore.apply(caller(1, 2), &signal, &done);
     assert!(rt; refused == Err(ObjFault::Unlawful(Cause::Woken)));
     let wakes = claim(alloc, Out::Answer(Code::NoError), second);
     let woken = semaphore.apply(caller(1, 2), &signal, &wakes);
-    assert!(rt; woken == Ok(Effect::of(&wakes)));
+    assert!(rt; woken == Ok(effect(false)));
     assert!(rt; semaphore.value() == 0);
     Ok(())
 }

@@ -60,27 +60,27 @@ buffer_new place partition call given at_work =
     ))
 
 pub blackboard_new : (place : ℕ) (partition : Partition) (call : CallRecord) (given : ℤ) → IsAtWork place partition call.who
-    → IfSome (given_object partition.blackboards given) (λ found. IsNewInEach (entry_with (actor_of place call) []) (blackboards.sets found))
+    → IfSome (given_object partition.blackboards given) (λ found. IsNewInEach (entry_with (actor_of place call) []) (found.readers ∷ []))
 blackboard_new place partition call given at_work =
-    new_there (actor_of place call) blackboards.sets partition.blackboards given
+    new_there (actor_of place call) (λ found. found.readers ∷ []) partition.blackboards given
     (λ n found at. (is_new place partition call.who call.claim.prio [] at_work (set.BlackboardReaders n) found.readers (rw at refl), tt))
 
 pub semaphore_new : (place : ℕ) (partition : Partition) (call : CallRecord) (given : ℤ) → IsAtWork place partition call.who
-    → IfSome (given_object partition.semaphores given) (λ found. IsNewInEach (entry_with (actor_of place call) []) (semaphores.sets found))
+    → IfSome (given_object partition.semaphores given) (λ found. IsNewInEach (entry_with (actor_of place call) []) (found.waiters ∷ []))
 semaphore_new place partition call given at_work =
-    new_there (actor_of place call) semaphores.sets partition.semaphores given
+    new_there (actor_of place call) (λ found. found.waiters ∷ []) partition.semaphores given
     (λ n found at. (is_new place partition call.who call.claim.prio [] at_work (set.SemaphoreWaiters n) found.waiters (rw at refl), tt))
 
 pub event_new : (place : ℕ) (partition : Partition) (call : CallRecord) (given : ℤ) → IsAtWork place partition call.who
-    → IfSome (given_object partition.events given) (λ found. IsNewInEach (entry_with (actor_of place call) []) (events.sets found))
+    → IfSome (given_object partition.events given) (λ found. IsNewInEach (entry_with (actor_of place call) []) (found.waiters ∷ []))
 event_new place partition call given at_work =
-    new_there (actor_of place call) events.sets partition.events given
+    new_there (actor_of place call) (λ found. found.waiters ∷ []) partition.events given
     (λ n found at. (is_new place partition call.who call.claim.prio [] at_work (set.EventWaiters n) found.waiters (rw at refl), tt))
 
 pub mutex_new : (place : ℕ) (partition : Partition) (call : CallRecord) (given : ℤ) → IsAtWork place partition call.who
-    → IfSome (given_object partition.mutexes given) (λ found. IsNewInEach (entry_with (actor_of place call) []) (mutexes.sets found))
+    → IfSome (given_object partition.mutexes given) (λ found. IsNewInEach (entry_with (actor_of place call) []) (found.waiters ∷ []))
 mutex_new place partition call given at_work =
-    new_there (actor_of place call) mutexes.sets partition.mutexes given
+    new_there (actor_of place call) (λ found. found.waiters ∷ []) partition.mutexes given
     (λ n found at. (is_new place partition call.who call.claim.prio [] at_work (set.MutexWaiters n) found.waiters (rw at refl), tt))
 
 -- what an operation on the mutex asks of it: its count is not above the place

@@ -1,5 +1,5 @@
 -- Whom a partition may serve, what it answers, and which object a request is for.
-use Rattle.std.specs.Prelude.{◌≡◌, ◌≢◌, ◌⊎◌, ℕ, ℤ, List, [], None, IsErrAnd, IsFalse, IsOk, IsTrue, MatchResult, Result, is_some, if◌then◌else◌}
+use Rattle.std.specs.Prelude.{◌≡◌, ◌≢◌, ◌⊎◌, ℕ, ℤ, Bool, true, false, List, [], None, IsErrAnd, IsFalse, IsOk, IsTrue, MatchResult, Result, is_some, if◌then◌else◌}
 use Rattle.apex_types.specs.declared.cause.Cause.{Cause}
 use Rattle.apex_types.specs.declared.operation.{ProcessOperation.ProcessOperation, SamplingOperation.SamplingOperation}
 use Rattle.apex_types.specs.declared.record.Call.{Call as CallRecord}
@@ -57,6 +57,12 @@ pub record IsClear (configuration : Configuration) (cores : List CoreState) (pla
 -- service gives its caller, at this time of its core
 abbrev pub served_demands : ℕ → Partition → CallRecord → List {1} Demand
 served_demands now partition call = answer_demands (answer_of now call.who partition call.request) call.claim
+
+-- whether a request creates a process, an object or a port
+abbrev pub creates : Request → Bool
+creates (request.CreateProcess name priority period) = true
+creates (request.Create name object) = true
+creates _ = false
 
 -- who makes a call, as an object sees it: with the priority that the call claims
 abbrev pub actor_of : ℕ → CallRecord → Actor

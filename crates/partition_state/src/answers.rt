@@ -1,65 +1,97 @@
-// What the services of processes give their callers, and whether a claim is that.
+// What each service gives its caller.
 
-ghost use Rattle.std.specs.Prelude.{◌≡◌, ◌↔◌, ℕ, pos, IsTrue, if◌then◌else◌};
+ghost use Rattle.std.specs.Prelude.{◌≡◌, ℕ, true, IfNone, IfSome};
 ghost use Rattle.apex_types.specs.declared.request.Request.TheVariants as request;
-ghost use Rattle.apex_machine.specs.Answer as answer;
-ghost use Rattle.apex_machine.specs.Answer.{HasValue, Number};
-ghost use Rattle.apex_machine.specs.Demands.{Judges, answer_demands};
 ghost use Rattle.apex_machine.specs.DueTimes as due_times;
+ghost use Rattle.apex_machine.specs.Names.{number_found, number_of};
 ghost use Rattle.apex_machine.specs.Services as services;
 ghost use Rattle.apex_machine.specs.Services.{peer};
-ghost use Rattle.apex_machine.specs.State.{created};
+ghost use Rattle.apex_machine.specs.State.{created, given_object};
 ghost use Rattle.wait_set.specs.Givens.{answer_given};
-ghost use Rattle.partition_state.specs.Calls.{served_demands};
+ghost use Rattle.partition_state.specs.Calls.{creates};
 
+use crate::objects::caller_of;
 use crate::state::PartitionState;
 use apex_machine::Wait;
-use apex_types::{Call, CallerOperation, Cause, Claim, Out, ProcessOperation, Who};
-use wait_set::{Given, judge_value};
+use apex_types::{Call, CallerOperation, Name, ObjectKind, Place, ProcessOperation, Request, Who};
+use object_table::ObjectTable;
+use wait_set::{Actor, ApexObject, Given};
 
 impl PartitionState {
-    /// Judges the claim of a call by which this process asks something for itself, at this time of its core, in ticks: it must be
-    /// what the service gives. The cause is that of the first demand that fails.
-    pub(crate) fn judge_own(
-        &self,
-        now: u64,
-        who: Who,
-        operation: &CallerOperation,
-        claim: &Claim,
-    ) -> Result<(), Cause>
-        ensures { Judges (answer_demands (services.answer_of now who self.now (request.Caller operation.now)) claim.now) result }
+    /// What a call gives its caller that meets no error condition and goes through no channel, at this place and at this time of its
+    /// core, in ticks. None for a creation, which gives any number that nothing of its kind has. Takes no memory.
+    pub fn answer(&self, now: u64, place: Place, call: &Call) -> Option<Given<'_>>
+        ensures given { IfSome result (λ given. answer_given given ≡ services.answer_of now call.now.who self.now call.now.request) }
+        ensures none { IfNone result (creates call.now.request ≡ true) }
     {
-        match operation {
-            CallerOperation::StopSelf => never().judge(claim),
-            CallerOperation::TimedWait { delay: time }
-            | CallerOperation::SuspendSelf { time_out: time } => done_if(*time == 0).judge(claim),
-            CallerOperation::PeriodicWait => {
-                done_if(self.processes.is_released(now, who.proc)).judge(claim)
+        let caller = caller_of(place, call);
+        match &call.request {
+            Request::CreateProcess { .. } | Request::Create(..) => None,
+            Request::Process(process, operation) => {
+                Some(self.answer_on(call.who, *process, operation))
             }
-            CallerOperation::GetMyId => {
-                judge_value(is_number(who.proc.number().into(), claim.val), claim)
+            Request::Caller(operation) => Some(self.own_answer(now, call.who, operation)),
+            Request::SetPartitionMode(..) => Some(Given::never()),
+            Request::Buffer(buffer, operation) => {
+                Some(answer_by(&self.buffers, *buffer, &caller, operation))
             }
-            CallerOperation::GetTime => judge_value(is_number(now, claim.val), claim),
+            Request::Blackboard(blackboard, operation) => {
+                Some(answer_by(&self.blackboards, *blackboard, &caller, operation))
+            }
+            Request::Semaphore(semaphore, operation) => {
+                Some(answer_by(&self.semaphores, *semaphore, &caller, operation))
+            }
+            Request::Event(event, operation) => {
+                Some(answer_by(&self.events, *event, &caller, operation))
+            }
+            Request::Mutex(mutex, operation) => {
+                Some(answer_by(&self.mutexes, *mutex, &caller, operation))
+            }
+            Request::SamplingPort(..) | Request::QueuingPort(..) => Some(Given::done()),
+            Request::GetId(kind, name) => Some(self.id_answer(*kind, name)),
+            Request::GetStatus(kind, object) => {
+                Some(Given::reporting(self.status_of(*kind, *object)))
+            }
         }
     }
 
-    /// Judges the claim of a call of a service that names the process of this number: it must be what the service gives.
-    pub(crate) fn judge_named(
-        &self,
-        call: &Call,
-        process: i64,
-        operation: &ProcessOperation,
-    ) -> Result<(), Cause>
-        requires { call.now.request ≡ request.Process process operation.now }
-        ensures { (now : ℕ) → Judges (served_demands now self.now call.now) result }
+    // What GET_BUFFER_ID or its like gives: the number of what has this name.
+    fn id_answer<'a>(&self, kind: ObjectKind, name: &Name) -> Given<'a>
+        ensures { answer_given result ≡ services.done_with (number_found (number_of self.now kind name.now)) }
+    {
+        match self.number_of(kind, name) {
+            Some(number) => Given::valued(number.into()),
+            None => Given::done(),
+        }
+    }
+
+    // What a service gives by which this process asks something for itself, at this time of its core.
+    fn own_answer<'a>(&self, now: u64, who: Who, operation: &CallerOperation) -> Given<'a>
+        ensures { answer_given result ≡ services.answer_of now who self.now (request.Caller operation.now) }
     {
         match operation {
-            ProcessOperation::Resume => self.resuming(call.who, process).judge(&call.claim),
+            CallerOperation::StopSelf => Given::never(),
+            CallerOperation::TimedWait { delay: time }
+            | CallerOperation::SuspendSelf { time_out: time } => Given::done_if(*time == 0),
+            CallerOperation::PeriodicWait => {
+                Given::done_if(self.processes.is_released(now, who.proc))
+            }
+            CallerOperation::GetMyId => Given::valued(who.proc.number().into()),
+            CallerOperation::GetTime => Given::valued(now),
+        }
+    }
+
+    // What a service gives that names the process of this number: RESUME ends the wait of one that suspended itself.
+    fn answer_on<'a>(&self, who: Who, process: i64, operation: &ProcessOperation) -> Given<'a>
+        ensures { (now : ℕ) → answer_given result ≡ services.answer_of now who self.now (request.Process process operation.now) }
+    {
+        match operation {
+            ProcessOperation::Resume => self.resuming(who, process),
             ProcessOperation::InitializeCoreAffinity { .. }
             | ProcessOperation::Start
             | ProcessOperation::Stop
             | ProcessOperation::Suspend
-            | ProcessOperation::SetPriority { .. } => Given::done().judge(&call.claim),
+            | ProcessOperation::SetPriority { .. } => Given::done(),
         }
     }
 
@@ -80,36 +112,19 @@ impl PartitionState {
     }
 }
 
-/// The call does not return.
-pub(crate) fn never<'a>() -> Given<'a>
-    ensures { answer_given result ≡ answer.never }
+// What an operation gives its caller on the object of this number; done, where there is none.
+fn answer_by<'a, Object: ApexObject>(
+    objects: &'a ObjectTable<Object>,
+    number: i64,
+    caller: &Actor,
+    operation: &Object::Operation,
+) -> Given<'a>
+    ensures { answer_given result ≡ services.answer_by (given_object objects.now number) (Object.answer caller.now operation.now) }
 {
-    Given {
-        out: Out::Never,
-        bytes: &[],
-        woken: None,
+    match objects.given(number) {
+        Some(object) => object.answer(caller, operation),
+        None => Given::done(),
     }
-}
-
-// What is waited for has come, and the service is done at once; else the caller waits.
-fn done_if<'a>(has_come: bool) -> Given<'a>
-    ensures { answer_given result ≡ (if has_come then answer.done else answer.waiting) }
-{
-    if has_come {
-        return Given::done();
-    }
-    Given {
-        out: Out::Waits,
-        bytes: &[],
-        woken: None,
-    }
-}
-
-// Whether a claimed value is this number.
-fn is_number(number: u64, claimed: Option<i64>) -> bool
-    ensures { IsTrue result ↔ HasValue (Number (pos number)) claimed }
-{
-    claimed.is_some_and(|value| value >= 0 && value as u64 == number)
 }
 
 // Whether a wait is that of a process that suspended itself.

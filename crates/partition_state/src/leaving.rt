@@ -4,10 +4,9 @@ ghost use Rattle.std.specs.Prelude.{◌≡◌, ◌≢◌, ℕ, List, None, IfErr
 ghost use Rattle.apex_types.specs.declared.record.Body.TheVariants.{Tick};
 ghost use Rattle.apex_machine.specs.declared.state.CoreState.{CoreState};
 ghost use Rattle.apex_machine.specs.After.{each_set, partition_by, returned, woken_if_named};
-ghost use Rattle.apex_machine.specs.Answer as answer;
 ghost use Rattle.apex_machine.specs.Configuration.{Configuration};
 ghost use Rattle.apex_machine.specs.Demands.{AllHold, answer_demands};
-ghost use Rattle.apex_machine.specs.Services.{peer};
+ghost use Rattle.apex_machine.specs.Services.{done, peer};
 ghost use Rattle.apex_machine.specs.State.{created, each_item, item_at};
 ghost use Rattle.apex_machine.specs.Waiting.{set_after};
 ghost use Rattle.apex_laws.specs.PartLaws.{HasDistinctObjects, IsSoundPart};
@@ -19,9 +18,9 @@ ghost use Rattle.partition_state.specs.Leaving.{StandsWhereItWaits, StandsOnlyAt
 
 use crate::state::PartitionState;
 use apex_machine::{Wait, WaitingSet};
-use apex_types::{Call, Claim, PartId, Place, ProcId, Who, Woken};
+use apex_types::{Call, Code, Out, PartId, Place, ProcId, Who, Woken};
 use std::alloc::AllocError;
-use wait_set::{Given, ObjFault};
+use wait_set::{ObjFault, judge_outcome};
 
 impl PartitionState {
     /// Takes a process out of the waiting set that this wait names, if it names one. Takes no memory.
@@ -64,12 +63,12 @@ impl PartitionState {
     pub(crate) fn stop(&mut self, place: Place, call: &Call, process: i64) -> Result<(), ObjFault>
         requires at_work { IsAtWork place self.old call.now.who }
         requires found { created self.old.table process ≢ None }
-        ensures ok { OnOk result (AllHold (answer_demands answer.done call.now.claim)) }
+        ensures ok { OnOk result (AllHold (answer_demands done call.now.claim)) }
         ensures after { OnOk result (self.new ≡ left_if_there (peer call.now.who process) (created self.old.table process) self.old) }
-        ensures refused { IfErr result (Refuses (answer_demands answer.done call.now.claim)) }
+        ensures refused { IfErr result (Refuses (answer_demands done call.now.claim)) }
         ensures unchanged { OnErr result (self.new ≡ self.old) }
     {
-        judge_done(&call.claim)?;
+        judge_outcome(Out::Answer(Code::NoError), &call.claim).map_err(ObjFault::Unlawful)?;
         if let Some(proc) = self.processes.created_number(process) {
             let target = Who {
                 part: call.who.part,
@@ -120,12 +119,4 @@ impl PartitionState {
     {
         self.processes.wake_named(part, place, call)
     }
-}
-
-// Judges the claim of a call that is done at once, gives no value and ends no wait.
-fn judge_done(claim: &Claim) -> Result<(), ObjFault>
-    ensures ok { OnOk result (AllHold (answer_demands answer.done claim.now)) }
-    ensures refused { IfErr result (Refuses (answer_demands answer.done claim.now)) }
-{
-    Given::done().judge(claim).map_err(ObjFault::Unlawful)
 }

@@ -1,10 +1,12 @@
 // What a call makes of its partition.
 
-ghost use Rattle.std.specs.Prelude.{◌≡◌, None, IfErr, IfOk, OnErr, OnOk};
+ghost use Rattle.std.specs.Prelude.{◌≡◌, ◌≢◌, ℕ, List, None, IfErr, IfOk, OnErr, OnOk};
+ghost use Rattle.apex_types.specs.declared.operation.NewObject.{NewObject};
+ghost use Rattle.apex_types.specs.declared.request.Request.TheVariants as request;
 ghost use Rattle.apex_machine.specs.After.{own_partition, partition_called};
-ghost use Rattle.apex_machine.specs.Demands.{AllHold, own_call_demands};
+ghost use Rattle.apex_machine.specs.Demands.{AllHold, Judges, own_call_demands};
 ghost use Rattle.apex_machine.specs.State.{time_of};
-ghost use Rattle.apex_machine.specs.Waiting as restarted;
+ghost use Rattle.apex_machine.specs.Waiting.{restart_of as restarted_by};
 ghost use Rattle.apex_laws.specs.PartBounds.{IsBoundedPart};
 ghost use Rattle.apex_laws.specs.PartLaws.{IsSoundPart};
 ghost use Rattle.process_state.specs.Timely.{TimesFit};
@@ -12,15 +14,14 @@ ghost use Rattle.process_state.specs.Transfers.{IsTransferOf};
 ghost use Rattle.wait_set.specs.Actors.{Refuses};
 ghost use Rattle.partition_state.specs.Calls.{IsClear, IsJudged, LeavesObjects, RefusesOrWants, objects_served, served_demands};
 
-use crate::answers::never;
 use crate::objects::{caller_of, use_object};
 use crate::restarting::restart_of;
 use crate::state::PartitionState;
-use apex_types::{Call, Cause, ProcessOperation, Request};
+use apex_types::{Call, Cause, Out, Place, ProcessOperation, Request};
 use module_config::Config;
 use process_state::{Moment, Transfer};
 use std::alloc::AllocError;
-use wait_set::{ObjFault, judge_status, judge_value};
+use wait_set::{ObjFault, judge_outcome, judge_value};
 
 impl PartitionState {
     /// A call of one of the partition's processes on which no error condition holds and which goes through no channel: what
@@ -38,13 +39,13 @@ impl PartitionState {
         requires times { TimesFit moment.now.cores.now }
         requires now { now ≡ time_of moment.now.cores.now moment.now.core }
         ensures ok { OnOk result (AllHold (served_demands now self.old call.now)) }
-        ensures after { OnOk result (self.new ≡ own_partition (restarted.restart_of call.now) config.now moment.now.cores.now moment.now.place moment.now.core call.now self.old) }
+        ensures after { OnOk result (self.new ≡ own_partition (restarted_by call.now) config.now moment.now.cores.now moment.now.place moment.now.core call.now self.old) }
         ensures refused { IfErr result (RefusesOrWants (served_demands now self.old call.now)) }
         ensures unchanged { OnErr result (self.new ≡ self.old) }
     {
         match restart_of(call) {
             Some(mode) => {
-                never().judge(&call.claim).map_err(ObjFault::Unlawful)?;
+                judge_outcome(Out::Never, &call.claim).map_err(ObjFault::Unlawful)?;
                 self.restart(mode, config.first_core(call.who.part), moment.place);
                 Ok(())
             }
@@ -61,7 +62,7 @@ impl PartitionState {
         moment: &Moment<'_>,
         call: &Call,
     ) -> Result<(), ObjFault>
-        requires goes_on { restarted.restart_of call.now ≡ None }
+        requires goes_on { restarted_by call.now ≡ None }
         requires clear { IsClear config.now moment.now.cores.now moment.now.place moment.now.core self.old call.now }
         requires times { TimesFit moment.now.cores.now }
         requires now { now ≡ time_of moment.now.cores.now moment.now.core }
@@ -104,7 +105,7 @@ impl PartitionState {
         requires lawful { AllHold (own_call_demands config.now call.now.who.part moment.now.cores.now self.old moment.now.core call.now) }
         requires leaves { LeavesObjects call.now }
         requires times { TimesFit moment.now.cores.now }
-        ensures ok { OnOk result (self.new ≡ own_partition (restarted.restart_of call.now) config.now moment.now.cores.now moment.now.place moment.now.core call.now self.old) }
+        ensures ok { OnOk result (self.new ≡ own_partition (restarted_by call.now) config.now moment.now.cores.now moment.now.place moment.now.core call.now self.old) }
         ensures unchanged { OnErr result (self.new ≡ self.old) }
     {
         config.keeps_limits();
@@ -161,18 +162,24 @@ impl PartitionState {
                 use_object(&mut self.mutexes, *mutex, caller, operation, claim)
             }
             Request::SamplingPort(..) | Request::QueuingPort(..) => unreachable!(),
-            Request::CreateProcess { .. } => {
-                accepted(judge_value(self.processes.is_new_number(claim.val), claim))
-            }
-            Request::Process(process, operation) => {
-                accepted(self.judge_named(call, *process, operation))
-            }
-            Request::Caller(operation) => accepted(self.judge_own(now, call.who, operation, claim)),
-            Request::SetPartitionMode(..) => accepted(never().judge(claim)),
-            Request::GetId(kind, name) => accepted(self.judge_id(*kind, name, claim)),
-            Request::GetStatus(kind, object) => {
-                accepted(judge_status(self.status_of(*kind, *object), claim))
-            }
+            Request::CreateProcess { .. }
+            | Request::Process(..)
+            | Request::Caller(..)
+            | Request::SetPartitionMode(..)
+            | Request::GetId(..)
+            | Request::GetStatus(..) => accepted(self.judge(now, moment.place, call)),
+        }
+    }
+
+    // Judges the claim of a call that creates no object: it must be what the service gives, which is a new number where a process
+    // is created.
+    fn judge(&self, now: u64, place: Place, call: &Call) -> Result<(), Cause>
+        requires { (name : List ℕ) (object : NewObject) → call.now.request ≢ request.Create name object }
+        ensures { Judges (served_demands now self.now call.now) result }
+    {
+        match self.answer(now, place, call) {
+            Some(given) => given.judge(&call.claim),
+            None => judge_value(self.processes.is_new_number(call.claim.val), &call.claim),
         }
     }
 }

@@ -1,16 +1,12 @@
 // What services report of objects and ports: the number of what has a name, and the status of what has a number.
 
-ghost use Rattle.std.specs.Prelude.{◌≡◌, ◌↔◌, IsTrue};
-ghost use Rattle.apex_machine.specs.Answer.{HasValue, done_with};
-ghost use Rattle.apex_machine.specs.Demands.{Judges, answer_demands};
+ghost use Rattle.std.specs.Prelude.{◌≡◌};
 ghost use Rattle.apex_machine.specs.Names as names;
-ghost use Rattle.apex_machine.specs.Names.{number_found};
 ghost use Rattle.apex_machine.specs.Statuses as statuses;
 
 use crate::state::PartitionState;
 use apex_machine::Status;
-use apex_types::{Cause, Claim, Name, ObjectKind};
-use wait_set::judge_value;
+use apex_types::{Name, ObjectKind};
 
 impl PartitionState {
     /// The number of the object or the port of a kind that has this name, or None where none has.
@@ -42,25 +38,5 @@ impl PartitionState {
             ObjectKind::SamplingPort => Some(self.sampling_ports.given(object)?.status()),
             ObjectKind::QueuingPort => None,
         }
-    }
-
-    /// Judges the claim of GET_BUFFER_ID or its like: it must give the number of what has this name.
-    pub(crate) fn judge_id(&self, kind: ObjectKind, name: &Name, claim: &Claim) -> Result<(), Cause>
-        ensures { Judges (answer_demands (done_with (number_found (names.number_of self.now kind name.now))) claim.now) result }
-    {
-        judge_value(
-            is_number_found(self.number_of(kind, name), claim.val),
-            claim,
-        )
-    }
-}
-
-// Whether a claimed value is the number that was found, or none where none was.
-fn is_number_found(found: Option<u32>, claimed: Option<i64>) -> bool
-    ensures { IsTrue result ↔ HasValue (number_found found) claimed }
-{
-    match found {
-        Some(number) => claimed == Some(number.into()),
-        None => claimed.is_none(),
     }
 }

@@ -1,5 +1,5 @@
 -- The event after each operation.
-use Rattle.std.specs.Prelude.{List, [], ◌∷◌}
+use Rattle.std.specs.Prelude.{List, []}
 use Rattle.apex_types.specs.declared.operation.{EventOperation.EventOperation}
 use Rattle.apex_types.specs.declared.record.Claim.{Claim}
 use Rattle.apex_machine.specs.declared.state.Entry.{Entry}
@@ -17,7 +17,3 @@ waiters_after actor (EventOperation.Wait time_out) claim entries = joined_by act
 -- the event after an operation
 abbrev pub after : Actor → EventOperation → Claim → Event → Event
 after actor operation claim found = record (event_effect operation found).next { waiters = waiters_after actor operation claim found.waiters }
-
--- its one waiting set
-abbrev pub sets : Event → List (List Entry)
-sets found = found.waiters ∷ []

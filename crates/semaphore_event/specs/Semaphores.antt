@@ -1,5 +1,5 @@
 -- The semaphore after each operation.
-use Rattle.std.specs.Prelude.{List, [], ◌∷◌}
+use Rattle.std.specs.Prelude.{List, []}
 use Rattle.apex_types.specs.declared.operation.{SemaphoreOperation.SemaphoreOperation}
 use Rattle.apex_types.specs.declared.record.Claim.{Claim}
 use Rattle.apex_machine.specs.declared.state.Entry.{Entry}
@@ -15,9 +15,4 @@ waiters_after actor SemaphoreOperation.Signal claim entries = left_by claim entr
 
 -- the semaphore after an operation
 abbrev pub after : Actor → SemaphoreOperation → Claim → Semaphore → Semaphore
-after actor operation claim found =
-    record (semaphore_effect operation found).next { waiters = waiters_after actor operation claim found.waiters }
-
--- its one waiting set
-abbrev pub sets : Semaphore → List (List Entry)
-sets found = found.waiters ∷ []
+after actor operation claim found = record (semaphore_effect operation found).next { waiters = waiters_after actor operation claim found.waiters }

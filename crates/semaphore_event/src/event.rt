@@ -1,6 +1,6 @@
 // Events.
 
-ghost use Rattle.std.specs.Prelude.{◌≡◌, [], false};
+ghost use Rattle.std.specs.Prelude.{◌≡◌, ◌∷◌, [], false};
 ghost use Rattle.apex_machine.specs.Objects.{event_effect};
 ghost use Rattle.apex_machine.specs.Statuses.{event_status};
 ghost use Rattle.wait_set.specs.Sets.{without_one};
@@ -8,9 +8,9 @@ ghost use Rattle.semaphore_event.specs.Events as rules;
 
 use apex_machine::Status;
 use apex_types::{Claim, Discipline, EventOperation, Name, Who};
-use std::alloc::Global;
+use std::alloc::{AllocError, Global};
 use std::marker::Model;
-use wait_set::{Actor, ApexObject, Effect, Given, Named, ObjFault, WaitSet, judge_waking_all};
+use wait_set::{Actor, ApexObject, Given, Named, Owners, WaitSet};
 
 /// An event: whether it is up, and those that wait for it.
 #[derive(Drop)]
@@ -81,45 +81,39 @@ impl ApexObject for Event {
 
     ghost after = { rules.after };
 
-    ghost sets = { rules.sets };
+    ghost sets = { λ event. event.waiters ∷ [] };
 
     ghost without_one = { λ who event. record event { waiters = without_one who event.waiters } };
 
-    fn apply(
+    fn answer(&self, _actor: &Actor, operation: &EventOperation) -> Given<'_> {
+        match operation {
+            // The event is up, and all who wait for it go on.
+            EventOperation::Set => Given::waking_all(&self.waiters),
+            EventOperation::Reset => Given::done(),
+            // An event that is up lets its caller go on; else the caller waits.
+            EventOperation::Wait { .. } if self.up => Given::done(),
+            EventOperation::Wait { time_out } => Given::unmet(*time_out),
+        }
+    }
+
+    fn carry_out(
         &mut self,
         actor: Actor,
         operation: &EventOperation,
         claim: &Claim,
-    ) -> Result<Effect, ObjFault> {
+    ) -> Result<Owners, AllocError> {
         match operation {
-            // The event is up, and all who wait for it go on.
             EventOperation::Set => {
-                judge_waking_all(&self.waiters, claim).map_err(ObjFault::Unlawful)?;
                 self.waiters.release(claim.woken.as_slice());
                 self.up = true;
-                Ok(Effect::of(claim))
             }
-            // The event is down.
             EventOperation::Reset => {
-                Given::done().judge(claim).map_err(ObjFault::Unlawful)?;
                 self.waiters.release(claim.woken.as_slice());
                 self.up = false;
-                Ok(Effect::of(claim))
             }
-            // An event that is up lets its caller go on; else the caller waits.
-            EventOperation::Wait { time_out } => {
-                let given = if self.up {
-                    Given::done()
-                } else {
-                    Given::unmet(*time_out)
-                };
-                given.judge(claim).map_err(ObjFault::Unlawful)?;
-                self.waiters
-                    .settle(actor, claim, &[])
-                    .map_err(|_| ObjFault::Memory)?;
-                Ok(Effect::of(claim))
-            }
+            EventOperation::Wait { .. } => self.waiters.settle(actor, claim, &[])?,
         }
+        Ok(Owners::nobody())
     }
 
     fn leave(&mut self, who: Who) -> bool {

@@ -1,6 +1,6 @@
 // Counting semaphores.
 
-ghost use Rattle.std.specs.Prelude.{◌≡◌, []};
+ghost use Rattle.std.specs.Prelude.{◌≡◌, ◌∷◌, []};
 ghost use Rattle.apex_types.specs.declared.operation.SemaphoreOperation.TheVariants as on_semaphore;
 ghost use Rattle.apex_machine.specs.Objects.{semaphore_effect};
 ghost use Rattle.apex_machine.specs.Statuses.{semaphore_status};
@@ -10,9 +10,9 @@ ghost use Rattle.semaphore_event.specs.Semaphores as rules;
 
 use apex_machine::Status;
 use apex_types::{Claim, Code, Discipline, Name, SemaphoreOperation, Who};
-use std::alloc::Global;
+use std::alloc::{AllocError, Global};
 use std::marker::Model;
-use wait_set::{Actor, ApexObject, Effect, Given, Named, ObjFault, WaitSet};
+use wait_set::{Actor, ApexObject, Given, Named, Owners, WaitSet};
 
 /// A counting semaphore: its value, its maximum, and those that wait.
 #[derive(Drop)]
@@ -82,18 +82,6 @@ impl Semaphore {
             val3: None,
         }
     }
-
-    // What SIGNAL_SEMAPHORE gives its caller: at the maximum, where nobody waits, it does nothing.
-    fn given_to_signaller(&self) -> Given<'static>
-        ensures { answer_given result ≡ (semaphore_effect on_semaphore.Signal self.now).answer }
-    {
-        let first = self.waiters.first().map(|entry| entry.who);
-        if first.is_some() || self.value < self.maximum {
-            Given::waking(first)
-        } else {
-            Given::answering(Code::NoAction)
-        }
-    }
 }
 
 impl Named for Semaphore {
@@ -111,44 +99,47 @@ impl ApexObject for Semaphore {
 
     ghost after = { rules.after };
 
-    ghost sets = { rules.sets };
+    ghost sets = { λ semaphore. semaphore.waiters ∷ [] };
 
     ghost without_one = { λ who semaphore. record semaphore { waiters = without_one who semaphore.waiters } };
 
-    fn apply(
+    fn answer(&self, _actor: &Actor, operation: &SemaphoreOperation) -> Given<'_> {
+        match operation {
+            // One is taken of a value above 0; else the caller waits.
+            SemaphoreOperation::Wait { .. } if self.value > 0 => Given::done(),
+            SemaphoreOperation::Wait { time_out } => Given::unmet(*time_out),
+            // The first who waits goes on; else one is added; at the maximum nothing is done.
+            SemaphoreOperation::Signal => {
+                let first = self.waiters.first().map(|entry| entry.who);
+                if first.is_some() || self.value < self.maximum {
+                    Given::waking(first)
+                } else {
+                    Given::answering(Code::NoAction)
+                }
+            }
+        }
+    }
+
+    fn carry_out(
         &mut self,
         actor: Actor,
         operation: &SemaphoreOperation,
         claim: &Claim,
-    ) -> Result<Effect, ObjFault> {
+    ) -> Result<Owners, AllocError> {
         match operation {
-            // One is taken of a value above 0; else the caller waits.
-            SemaphoreOperation::Wait { time_out } => {
-                let given = if self.value > 0 {
-                    Given::done()
-                } else {
-                    Given::unmet(*time_out)
-                };
-                given.judge(claim).map_err(ObjFault::Unlawful)?;
-                self.waiters
-                    .settle(actor, claim, &[])
-                    .map_err(|_| ObjFault::Memory)?;
+            SemaphoreOperation::Wait { .. } => {
+                self.waiters.settle(actor, claim, &[])?;
                 self.value = self.value.saturating_sub(1);
-                Ok(Effect::of(claim))
             }
-            // The first who waits goes on; else one is added; at the maximum nothing is done.
             SemaphoreOperation::Signal => {
-                self.given_to_signaller()
-                    .judge(claim)
-                    .map_err(ObjFault::Unlawful)?;
                 let is_raised = self.waiters.first().is_none() && self.value < self.maximum;
                 self.waiters.release(claim.woken.as_slice());
                 if is_raised {
                     self.value += 1;
                 }
-                Ok(Effect::of(claim))
             }
         }
+        Ok(Owners::nobody())
     }
 
     fn leave(&mut self, who: Who) -> bool {

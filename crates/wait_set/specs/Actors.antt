@@ -42,10 +42,3 @@ Refuses demands Memory = AllHold demands
 abbrev pub value_of : Option ℤ → Value
 value_of None = Nothing
 value_of (Some number) = Number number
-
--- what a call claims is this outcome, with this value, no further one, and this message
-abbrev pub outcome_demands : Out → Value → List ℕ → Claim → List {1} Demand
-outcome_demands out value bytes claim =
-    record { cause = cause.Out; holds = claim.out ≡ out }
-    ∷ record { cause = cause.Val; holds = HasValues value None None claim }
-    ∷ record { cause = cause.Data; holds = claim.bytes ≡ bytes } ∷ []

@@ -1,29 +1,60 @@
 // What an operation gives its caller, and whether a claim is that.
 
-ghost use Rattle.std.specs.Prelude.{◌≡◌, ◌↔◌, None, IsTrue, OnOk};
+ghost use Rattle.std.specs.Prelude.{◌≡◌, ◌↔◌, [], None, pos, option_map, IsTrue, OnOk, if◌then◌else◌};
+ghost use Rattle.std.specs.Option.{option_to_list};
+ghost use Rattle.apex_types.specs.declared.record.Out.TheVariants as out;
 ghost use Rattle.apex_machine.specs.Answer as answer;
-ghost use Rattle.apex_machine.specs.Answer.{HasNoValues, HasValue, HasValues, NamesExactly, Number, Value};
+ghost use Rattle.apex_machine.specs.Answer.{HasNoValues, HasValue, HasValues, NamesExactly, Nothing, Number, Value};
 ghost use Rattle.apex_machine.specs.Demands.{Judges, answer_demands};
+ghost use Rattle.apex_machine.specs.Statuses.{telling};
 ghost use Rattle.apex_machine.specs.Waiting.{is_waiting};
-ghost use Rattle.wait_set.specs.Actors.{WaitsAlone, outcome_demands, value_of};
+ghost use Rattle.wait_set.specs.Actors.{WaitsAlone, value_of};
 
 use crate::named::names_only;
 use crate::set::WaitSet;
+use apex_machine::Status;
 use apex_types::{Cause, Claim, Code, Out, Who};
 
-/// What an operation gives its caller: the outcome, the message that goes with it, and whose wait ends, if one does. A value
-/// is judged beside it.
+/// What an operation gives its caller: the outcome, up to three values, the message that goes with it, and whose waits end.
 #[derive(Clone, Copy)]
 pub struct Given<'a> {
     pub out: Out,
+    pub val: Option<u64>,
+    pub val2: Option<u64>,
+    pub val3: Option<u64>,
     pub bytes: &'a [u8],
+    /// The process whose wait ends, if one's does.
     pub woken: Option<Who>,
+    /// The set in which the waits of all end, if the operation ends them.
+    pub woken_all: Option<&'a WaitSet>,
     /// A caller that waits ends no wait.
-    pub ghost alone: { IsTrue (is_waiting out) → woken ≡ None },
+    pub ghost alone: { IsTrue (is_waiting out) → (woken ≡ None) × (woken_all ≡ None) },
 }
 
 impl<'a> Given<'a> {
-    ghost use Rattle.wait_set.specs.Givens.{answer_given, given_demands, giving_value, listed};
+    ghost use Rattle.wait_set.specs.Givens.{answer_given, listed};
+
+    // This outcome without a value or a message, and nobody's wait ends.
+    fn leaving(out: Out) -> Given<'a>
+        ensures { answer_given result ≡ record { out = out; val = Nothing; val2 = None; val3 = None; bytes = []; woken = [] } }
+    {
+        Given {
+            out,
+            val: None,
+            val2: None,
+            val3: None,
+            bytes: &[],
+            woken: None,
+            woken_all: None,
+        }
+    }
+
+    /// The operation answers at once with this code, and does nothing.
+    pub fn answering(code: Code) -> Given<'a>
+        ensures { answer_given result ≡ answer.answering code }
+    {
+        Given::leaving(Out::Answer(code))
+    }
 
     /// The operation is done at once.
     pub fn done() -> Given<'a>
@@ -32,15 +63,21 @@ impl<'a> Given<'a> {
         Given::answering(Code::NoError)
     }
 
-    /// The operation answers at once with this code, and does nothing.
-    pub fn answering(code: Code) -> Given<'a>
-        ensures { answer_given result ≡ answer.answering code }
+    /// The call does not return.
+    pub fn never() -> Given<'a>
+        ensures { answer_given result ≡ answer.never }
     {
-        Given {
-            out: Out::Answer(code),
-            bytes: &[],
-            woken: None,
+        Given::leaving(Out::Never)
+    }
+
+    /// Where what is waited for has come, the operation is done at once; else the caller waits.
+    pub fn done_if(has_come: bool) -> Given<'a>
+        ensures { answer_given result ≡ (if has_come then answer.done else answer.waiting) }
+    {
+        if has_come {
+            return Given::done();
         }
+        Given::leaving(Out::Waits)
     }
 
     /// What cannot be had at once: with a time-out of 0 the code is NOT_AVAILABLE, else the caller waits.
@@ -50,76 +87,148 @@ impl<'a> Given<'a> {
         if time_out == 0 {
             return Given::answering(Code::NotAvailable);
         }
-        Given {
-            out: Out::Waits,
-            bytes: &[],
-            woken: None,
-        }
+        Given::leaving(Out::Waits)
     }
 
     /// The operation is done at once, and the wait of this process ends, if it is one.
     pub fn waking(woken: Option<Who>) -> Given<'a>
-        ensures { answer_given result ≡ answer.waking (listed woken) }
+        ensures { answer_given result ≡ answer.waking (option_to_list woken) }
+    {
+        Given::giving(&[], woken)
+    }
+
+    /// The operation is done at once, and the waits of all in a set end.
+    pub fn waking_all(set: &'a WaitSet) -> Given<'a>
+        ensures { answer_given result ≡ answer.waking (answer.waiters_of set.now.entries) }
     {
         Given {
             out: Out::Answer(Code::NoError),
+            val: None,
+            val2: None,
+            val3: None,
             bytes: &[],
-            woken,
+            woken: None,
+            woken_all: Some(set),
         }
     }
 
     /// The operation gives a message at once, and the wait of this process ends, if it is one.
     pub fn giving(bytes: &'a [u8], woken: Option<Who>) -> Given<'a>
-        ensures { answer_given result ≡ answer.giving bytes.now (listed woken) }
+        ensures { answer_given result ≡ answer.giving bytes.now (option_to_list woken) }
     {
         Given {
             out: Out::Answer(Code::NoError),
+            val: None,
+            val2: None,
+            val3: None,
             bytes,
             woken,
+            woken_all: None,
         }
     }
 
-    /// Judges a claim: it has to be what the operation gives. The cause is that of the first demand that fails.
+    /// The operation is done at once, and gives this value.
+    pub fn valued(val: u64) -> Given<'a>
+        ensures { answer_given result ≡ answer.done_with (Number (pos val)) }
+    {
+        Given::reporting(Some(Status {
+            val,
+            val2: None,
+            val3: None,
+        }))
+    }
+
+    /// The service reports this status at once, if it is one.
+    pub fn reporting(status: Option<Status>) -> Given<'a>
+        ensures { answer_given result ≡ telling status }
+    {
+        let Some(status) = status else {
+            return Given::done();
+        };
+        Given {
+            out: Out::Answer(Code::NoError),
+            val: Some(status.val),
+            val2: status.val2,
+            val3: status.val3,
+            bytes: &[],
+            woken: None,
+            woken_all: None,
+        }
+    }
+
+    /// The operation answers at once with this code, value and message.
+    pub fn reading(code: Code, val: u64, message: &'a [u8]) -> Given<'a>
+        ensures { answer_given result ≡ record { out = out.Answer code; val = Number (pos val); val2 = None; val3 = None; bytes = message.now; woken = [] } }
+    {
+        Given {
+            out: Out::Answer(code),
+            val: Some(val),
+            val2: None,
+            val3: None,
+            bytes: message,
+            woken: None,
+            woken_all: None,
+        }
+    }
+
+    /// Judges a claim: it must be what the operation gives. The cause is that of the first demand that fails.
     ///
     /// A claim that passes names nobody where its caller waits.
     pub fn judge(&self, claim: &Claim) -> Result<(), Cause>
         ensures judged { Judges (answer_demands (answer_given self.now) claim.now) result }
         ensures alone { OnOk result (WaitsAlone claim.now) }
     {
-        self.judge_with(None, claim)
-    }
-
-    /// Judges a claim as `judge` does, where the operation gives this value too.
-    pub fn judge_number(&self, number: i64, claim: &Claim) -> Result<(), Cause>
-        ensures judged { Judges (answer_demands (giving_value (Number number) self.now) claim.now) result }
-        ensures alone { OnOk result (WaitsAlone claim.now) }
-    {
-        self.judge_with(Some(number), claim)
-    }
-
-    // Judges a claim, where the operation gives this value, if it is one.
-    fn judge_with(&self, val: Option<i64>, claim: &Claim) -> Result<(), Cause>
-        ensures judged { Judges (given_demands val self.now claim.now) result }
-        ensures alone { OnOk result (WaitsAlone claim.now) }
-    {
-        judge_outcome(self.out, val, self.bytes, claim)?;
-        if !names_only(self.woken, claim.woken.as_slice()) {
+        if claim.out != self.out {
+            return Err(Cause::Out);
+        }
+        if !self.has_values(claim) {
+            return Err(Cause::Val);
+        }
+        if claim.bytes.as_bytes() != self.bytes {
+            return Err(Cause::Data);
+        }
+        if !self.is_named_by(claim) {
             return Err(Cause::Woken);
         }
         Ok(())
     }
+
+    // Whether a claim has just these values.
+    fn has_values(&self, claim: &Claim) -> bool
+        ensures { IsTrue result ↔ HasValues (value_of (option_map pos self.now.val)) (option_map pos self.now.val2) (option_map pos self.now.val3) claim.now }
+    {
+        is_number(self.val, claim.val)
+            && is_number(self.val2, claim.val2)
+            && is_number(self.val3, claim.val3)
+    }
+
+    // Whether a claim names exactly those whose waits end.
+    fn is_named_by(&self, claim: &Claim) -> bool
+        ensures { IsTrue result ↔ NamesExactly (listed self.now.woken self.now.woken_all) claim.now.woken }
+    {
+        match self.woken_all {
+            Some(set) => names_all(set, claim),
+            None => names_only(self.woken, claim.woken.as_slice()),
+        }
+    }
 }
 
-/// Judges the claim of an operation that is done at once, and by which the waits of all in a set end. The cause is that of
-/// the first demand that fails.
-pub fn judge_waking_all(set: &WaitSet, claim: &Claim) -> Result<(), Cause>
-    ensures { Judges (answer_demands (answer.waking (answer.waiters_of set.now.entries)) claim.now) result }
+// Whether a claimed value is this number, if it is one, and else none.
+fn is_number(number: Option<u64>, claimed: Option<i64>) -> bool
+    ensures { IsTrue result ↔ (claimed ≡ option_map pos number) }
 {
-    judge_outcome(Out::Answer(Code::NoError), None, &[], claim)?;
-    if !names_all(set, claim) {
-        return Err(Cause::Woken);
+    match number {
+        Some(number) => claimed.is_some_and(|value| value >= 0 && value as u64 == number),
+        None => claimed.is_none(),
     }
-    Ok(())
+}
+
+/// Judges the claim of an operation that has this outcome, gives nothing and ends no wait. The cause is that of the first demand that
+/// fails.
+pub fn judge_outcome(out: Out, claim: &Claim) -> Result<(), Cause>
+    ensures { Judges (answer_demands (record { out = out; val = Nothing; val2 = None; val3 = None; bytes = []; woken = [] }) claim.now) result }
+{
+    judge_alone(out, claim.val.is_none(), claim)
 }
 
 /// Judges the claim of an operation that is done at once, ends no wait, and gives a value: `has_value` says whether it is the one
@@ -127,55 +236,34 @@ pub fn judge_waking_all(set: &WaitSet, claim: &Claim) -> Result<(), Cause>
 pub fn judge_value(has_value: bool, claim: &Claim) -> Result<(), Cause>
     ensures { (value : Value) → (IsTrue has_value ↔ HasValue value claim.now.val) → Judges (answer_demands (answer.done_with value) claim.now) result }
 {
-    judge_with_value(Out::Answer(Code::NoError), has_value, &[], claim)?;
+    judge_alone(Out::Answer(Code::NoError), has_value, claim)
+}
+
+// Judges the claim of an operation that has this outcome, gives one value at most and ends no wait: `has_value` says whether the
+// value is the one that is claimed.
+fn judge_alone(out: Out, has_value: bool, claim: &Claim) -> Result<(), Cause>
+    ensures { (value : Value) → (IsTrue has_value ↔ HasValue value claim.now.val) → Judges (answer_demands (record { out = out; val = value; val2 = None; val3 = None; bytes = []; woken = [] }) claim.now) result }
+{
+    if claim.out != out {
+        return Err(Cause::Out);
+    }
+    if !has_value || claim.val2.is_some() || claim.val3.is_some() {
+        return Err(Cause::Val);
+    }
+    if !claim.bytes.as_bytes().is_empty() {
+        return Err(Cause::Data);
+    }
     if !names_only(None, claim.woken.as_slice()) {
         return Err(Cause::Woken);
     }
     Ok(())
 }
 
-// Judges the outcome that a claim gives, the value, if there is to be one, and the message.
-fn judge_outcome(out: Out, val: Option<i64>, bytes: &[u8], claim: &Claim) -> Result<(), Cause>
-    ensures { Judges (outcome_demands out (value_of val) bytes.now claim.now) result }
-{
-    judge_with_value(out, is_same_value(claim.val, val), bytes, claim)
-}
-
-fn is_same_value(claimed: Option<i64>, val: Option<i64>) -> bool
-    ensures { IsTrue result ↔ (claimed ≡ val) }
-{
-    claimed == val
-}
-
-// Judges the outcome that a claim gives, the value and the message: `has_value` says whether the value is the one that is claimed.
-// No further value goes with it.
-fn judge_with_value(out: Out, has_value: bool, bytes: &[u8], claim: &Claim) -> Result<(), Cause>
-    ensures { (value : Value) → (IsTrue has_value ↔ HasValue value claim.now.val) → Judges (outcome_demands out value bytes.now claim.now) result }
-{
-    if claim.out != out {
-        return Err(Cause::Out);
-    }
-    if !has_values(has_value, claim) {
-        return Err(Cause::Val);
-    }
-    if claim.bytes.as_bytes() != bytes {
-        return Err(Cause::Data);
-    }
-    Ok(())
-}
-
-// Whether a claim has this value and no further one: `has_value` says whether the value is the one that is claimed.
-fn has_values(has_value: bool, claim: &Claim) -> bool
-    ensures { (value : Value) → (IsTrue has_value ↔ HasValue value claim.now.val) → (IsTrue result ↔ HasValues value None None claim.now) }
-{
-    has_value && claim.val2.is_none() && claim.val3.is_none()
-}
-
 /// Whether a claim has no value.
 pub fn has_no_values(claim: &Claim) -> bool
     ensures { IsTrue result ↔ HasNoValues claim.now }
 {
-    has_values(claim.val.is_none(), claim)
+    claim.val.is_none() && claim.val2.is_none() && claim.val3.is_none()
 }
 
 // Whether a claim names exactly those who wait in a set.

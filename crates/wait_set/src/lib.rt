@@ -15,11 +15,9 @@ mod named;
 mod object;
 mod rank;
 mod set;
-mod status;
 
 pub use conditions::Conditions;
-pub use given::{Given, has_no_values, judge_value, judge_waking_all};
+pub use given::{Given, has_no_values, judge_outcome, judge_value};
 pub use laws::{enters_last, rising_is_list_of_waiters};
 pub use object::{Actor, ApexObject, Effect, Named, ObjFault, Owners};
 pub use set::{Refused, WaitSet};
-pub use status::judge_status;

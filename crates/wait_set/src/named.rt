@@ -1,11 +1,11 @@
 // Lists of processes that a claim names.
 
 ghost use Rattle.std.specs.Prelude.{◌≡◌, ◌↔◌, IsTrue};
+ghost use Rattle.std.specs.Option.{option_to_list};
 ghost use Rattle.apex_types.specs.Rising as rising;
 ghost use Rattle.apex_types.specs.Rising.{IsRising};
 ghost use Rattle.apex_machine.specs.Answer.{NamesExactly};
 ghost use Rattle.apex_machine.specs.State.{is_named};
-ghost use Rattle.wait_set.specs.Givens.{listed};
 ghost use Rattle.wait_set.specs.Sets.{NobodyTwice};
 
 use apex_types::Who;
@@ -13,7 +13,7 @@ use apex_types::Who;
 /// Whether a list names this process alone, or where there is none nobody.
 pub(crate) fn names_only(woken: Option<Who>, named: &[Who]) -> bool
     requires { IsRising named.now }
-    ensures { IsTrue result ↔ NamesExactly (listed woken) named.now }
+    ensures { IsTrue result ↔ NamesExactly (option_to_list woken) named.now }
 {
     match woken {
         Some(who) => match named {

@@ -9,11 +9,14 @@ ghost use Rattle.apex_machine.specs.Answer.{Answer};
 ghost use Rattle.apex_machine.specs.Demands.{AllHold, answer_demands};
 ghost use Rattle.wait_set.specs.declared.object.Actor.{Actor as ActorValue};
 ghost use Rattle.wait_set.specs.declared.object.Owners.{Owners as OwnersValue};
-ghost use Rattle.wait_set.specs.Actors.{OwesNothing, Refuses, entry_with};
+ghost use Rattle.wait_set.specs.Actors.{OwesNothing, Refuses, WaitsAlone, entry_with};
+ghost use Rattle.wait_set.specs.Givens.{answer_given};
 ghost use Rattle.wait_set.specs.Owners.{nobody, owned_by_nobody};
 ghost use Rattle.wait_set.specs.Sets.{IsNewInEach, stands_in_one};
 
+use crate::given::Given;
 use apex_types::{Cause, Claim, Name, Out, Place, ProcId, Who};
+use std::alloc::AllocError;
 use thiserror::Error;
 
 /// Who makes a call: the process, its current priority, and the place of the call.
@@ -50,27 +53,6 @@ impl Owners {
 pub struct Effect {
     pub waits: bool,
     pub owners: Owners,
-}
-
-impl Effect {
-    /// What an operation says whose claim is what it gives, on an object that nobody owns.
-    pub fn of(claim: &Claim) -> Effect
-        ensures waits { IsTrue result.waits ↔ (claim.now.out ≡ out.Waits) }
-        ensures owners { result.owners ≡ nobody }
-    {
-        Effect::with_owners(claim, Owners::nobody())
-    }
-
-    /// What an operation says whose claim is what it gives, on an object with these owners.
-    pub fn with_owners(claim: &Claim, owners: Owners) -> Effect
-        ensures waits { IsTrue result.waits ↔ (claim.now.out ≡ out.Waits) }
-        ensures owners { result.owners ≡ owners }
-    {
-        Effect {
-            waits: claim.out == Out::Waits,
-            owners,
-        }
-    }
 }
 
 /// Why an operation is refused.
@@ -119,6 +101,27 @@ pub trait ApexObject {
     // The object with all but this process in its waiting sets.
     ghost without_one: { WhoValue → Self → Self };
 
+    /// What an operation gives its caller. Takes no memory.
+    fn answer(&self, actor: &Actor, operation: &Self::Operation) -> Given<'_>
+        ensures { answer_given result ≡ answer actor.now operation.now self.now };
+
+    /// Carries out an operation whose claim is what it gives its caller, and says who owned the object and who owns it now.
+    ///
+    /// AllocError where memory is refused; nothing is changed then.
+    fn carry_out(
+        &mut self,
+        actor: Actor,
+        operation: &Self::Operation,
+        claim: &Claim,
+    ) -> Result<Owners, AllocError>
+        requires new { IsNewInEach (entry_with actor []) (sets self.old) }
+        requires owed { owes actor operation.now self.old }
+        requires given { AllHold (answer_demands (answer actor operation.now self.old) claim.now) }
+        requires alone { WaitsAlone claim.now }
+        ensures after { OnOk result (self.new ≡ after actor operation.now claim.now self.old) }
+        ensures owners { IfOk result (λ found. found ≡ owners actor operation.now self.old) }
+        ensures unchanged { OnErr result (self.new ≡ self.old) };
+
     /// Carries out an operation, where the claim is what it gives its caller.
     ///
     /// Refused, with nothing changed, where the claim is another, or where memory is refused.
@@ -135,7 +138,19 @@ pub trait ApexObject {
         ensures waits { IfOk result (λ effect. IsTrue effect.waits ↔ (claim.now.out ≡ out.Waits)) }
         ensures owners { IfOk result (λ effect. effect.owners ≡ owners actor operation.now self.old) }
         ensures refused { IfErr result (Refuses (answer_demands (answer actor operation.now self.old) claim.now)) }
-        ensures unchanged { OnErr result (self.new ≡ self.old) };
+        ensures unchanged { OnErr result (self.new ≡ self.old) }
+    {
+        self.answer(&actor, operation)
+            .judge(claim)
+            .map_err(ObjFault::Unlawful)?;
+        let owners = self
+            .carry_out(actor, operation, claim)
+            .map_err(|_| ObjFault::Memory)?;
+        Ok(Effect {
+            waits: claim.out == Out::Waits,
+            owners,
+        })
+    }
 
     /// Takes a process out of the waiting sets, and says whether it stood in one. Takes no memory.
     fn leave(&mut self, who: Who) -> bool

@@ -23,7 +23,7 @@ call-requires-clause-sound c =
     let served : AllHold (served_demands (time_of cores core) a.self.now call) = rw c.requires.now at c.in_ok-transfer.ensures.ok in
     let below : place < PLACE_COUNT = omega (arith, c.number-place.ensures.number, c.number-place.ensures.bound) in
     rw (ap (λ (processes : Processes). processes.table) same)
-    (sound_served config cores place core a.self.now call c.requires.clear served c.keeps_limits.ensures.limits.cores_most c.keeps_limits.ensures.cores
+    (sound_served config cores place core a.self.now call c.requires.clear served c.keeps_limits.ensures.limits.cores.most c.keeps_limits.ensures.cores
     c.keep_numbers.ensures below)
 
 pub returns-clause-after : goal.returns-clause-after

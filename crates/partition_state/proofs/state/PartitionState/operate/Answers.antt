@@ -6,13 +6,7 @@ use mir.Val.{SFits}
 use Rattle.partition_state.proofs.Clear.{at_work}
 use Rattle.partition_state.proofs.MutexTransfers.{mutex_accepted}
 use Rattle.partition_state.proofs.ObjectCalls.{blackboard_new, blackboards_served, buffer_new, buffers_served, event_new, events_served, mutex_new, mutexes_served, semaphore_new, semaphores_served}
-use Rattle.partition_state.proofs.Served.{accepted_ok, accepted_refused, changed_is_served}
 use Rattle.partition_state.proofs.state.PartitionState.operate.Goals as goal
-
-pub returns-in-Process : goal.returns-in-Process
-returns-in-Process c =
-    let judged = c.judge_named.ensures c.args.now in
-    search (rules, accepted_ok, accepted_refused, changed_is_served)
 
 pub returns-in_ok-create-in-Create-clause-ok : goal.returns-in_ok-create-in-Create-clause-ok
 returns-in_ok-create-in-Create-clause-ok c = rw c.in-Create.is c.in_ok-create-in-Create.ensures.ok
