@@ -2,7 +2,6 @@
 
 use crate::claim::tell_difference;
 use crate::held::tell_channel_held;
-use crate::wanted::wanted_through;
 use apex_types::{Body, Cause, Ordered, Request};
 use channel::Channel;
 use dispatch_rule::Times;
@@ -38,8 +37,9 @@ pub fn tell_channel(
             words.rule("part 5 (suits)");
         }
         _ => {
-            let wanted = wanted_through(channel, &kind, now, call);
-            tell_difference(words, &wanted, None, &call.claim, cause);
+            if let Some(given) = channel.answer(now, call) {
+                tell_difference(words, &given, &call.claim, cause);
+            }
             words.rule(answer_rule(&call.request));
         }
     }

@@ -3,14 +3,13 @@
 use crate::conditions::{tell_codes, tell_conditions};
 use crate::held::tell_object;
 use crate::processes::{peer_of, tell_numbered};
-use crate::wanted::{Value, Waking, Wanted, wanted_of};
 use apex_types::{
-    Call, CallerOperation, Cause, ChanId, Claim, ObjectKind, Out, ProcId, ProcessOperation,
-    Request, Who,
+    Call, CallerOperation, Cause, ChanId, Claim, Code, ObjectKind, Out, Place, ProcId,
+    ProcessOperation, Request, Who,
 };
 use module_config::Config;
 use partition_state::PartitionState;
-use wait_set::{Conditions, WaitSet};
+use wait_set::{Conditions, Given, WaitSet};
 use wording::{Bytes, Numbered, Words, answer_rule, out_name, tell_further, tell_processes};
 
 /// Tells the outcomes of a call on which error conditions hold, where its claim is none of them.
@@ -74,7 +73,14 @@ pub fn tell_through(words: &mut Words, channel: ChanId, call: &Call, cause: Caus
 }
 
 /// Tells what the rules give a call that meets no error condition and goes through no channel, where its claim is not so.
-pub fn tell_answer(words: &mut Words, state: &PartitionState, now: u64, call: &Call, cause: Cause) {
+pub fn tell_answer(
+    words: &mut Words,
+    state: &PartitionState,
+    now: u64,
+    place: Place,
+    call: &Call,
+    cause: Cause,
+) {
     if cause == Cause::Chan {
         words.next_line();
         words.say("the call goes through no channel, but the record names one");
@@ -85,14 +91,15 @@ pub fn tell_answer(words: &mut Words, state: &PartitionState, now: u64, call: &C
     if cause == Cause::Val {
         tell_holder(words, state, call);
     }
-    let wanted = wanted_of(state, now, call);
-    tell_difference(
-        words,
-        &wanted,
-        all_of(state, &call.request),
-        &call.claim,
-        cause,
-    );
+    match state.answer(now, place, call) {
+        Some(given) => {
+            tell_difference(words, &given, &call.claim, cause);
+            if let (Cause::Woken, Some(set)) = (cause, given.woken_all) {
+                tell_missing(words, state, call, set);
+            }
+        }
+        None => tell_no_creation(words, &call.claim, cause),
+    }
     words.rule(answer_rule(&call.request));
 }
 
@@ -195,71 +202,105 @@ fn tell_time(
     }
 }
 
-// Those who wait at the object that a call uses, where the object has a service that ends the waits of all.
-fn all_of<'a>(state: &'a PartitionState, request: &Request) -> Option<&'a WaitSet> {
-    match request {
-        Request::Blackboard(blackboard, _) => {
-            Some(state.blackboards().given(*blackboard)?.readers())
+// Tells who waits in a set, where the waits of all in it end, and is not named.
+fn tell_missing(words: &mut Words, state: &PartitionState, call: &Call, set: &WaitSet) {
+    let table = state.processes();
+    for index in 0..table.len() {
+        let Some((number, _)) = table.at(index) else {
+            return;
+        };
+        let who = Who {
+            part: call.who.part,
+            proc: *number,
+        };
+        if set.has(who) && !call.claim.woken.as_slice().contains(&who) {
+            words.say(format_args!("; {} waits there too", Numbered(who)));
         }
-        Request::Event(event, _) => Some(state.events().given(*event)?.waiters()),
-        _ => None,
     }
 }
 
-/// Tells what is wanted and what is claimed, of what the cause is about.
-pub fn tell_difference(
-    words: &mut Words,
-    wanted: &Wanted<'_>,
-    all: Option<&WaitSet>,
-    claim: &Claim,
-    cause: Cause,
-) {
+// Tells what a creation gives and what is claimed, of what the cause is about.
+fn tell_no_creation(words: &mut Words, claim: &Claim, cause: Cause) {
     words.next_line();
     match cause {
-        Cause::Out => words.say(format_args!(
-            "expected the outcome {}, recorded {}",
-            out_name(wanted.out),
-            out_name(claim.out)
-        )),
+        Cause::Out => tell_outcome(words, Out::Answer(Code::NoError), claim),
         Cause::Val => {
-            words.say("expected ");
-            tell_value(words, wanted.val);
-            tell_further(words, wanted.val2, wanted.val3);
-            words.say("; recorded ");
-            tell_value(words, claim.val.map_or(Value::Nothing, Value::Number));
-            tell_further(words, claim.val2, claim.val3);
+            words.say(
+                "expected a new number from 1 to 2,147,483,647, which nothing of its kind has in the partition",
+            );
+            tell_recorded_values(words, claim);
         }
-        Cause::Data => words.say(format_args!(
-            "expected {}, recorded {}",
-            Bytes(wanted.bytes),
-            Bytes(claim.bytes.as_bytes())
-        )),
-        Cause::Woken => tell_woken(words, wanted.woken, all, claim.woken.as_slice()),
+        Cause::Data => tell_bytes(words, &[], claim),
+        Cause::Woken => tell_woken(words, None, None, claim.woken.as_slice()),
         _ => {}
     }
 }
 
-// Tells a value that is wanted or claimed.
-fn tell_value(words: &mut Words, value: Value) {
+/// Tells what a call gives and what is claimed, of what the cause is about.
+pub fn tell_difference(words: &mut Words, given: &Given<'_>, claim: &Claim, cause: Cause) {
+    words.next_line();
+    match cause {
+        Cause::Out => tell_outcome(words, given.out, claim),
+        Cause::Val => {
+            words.say("expected ");
+            tell_value(words, given.val.map(signed));
+            tell_further(words, given.val2.map(signed), given.val3.map(signed));
+            tell_recorded_values(words, claim);
+        }
+        Cause::Data => tell_bytes(words, given.bytes, claim),
+        Cause::Woken => tell_woken(words, given.woken, given.woken_all, claim.woken.as_slice()),
+        _ => {}
+    }
+}
+
+// Tells the outcome that a call gives, and the one that is claimed.
+fn tell_outcome(words: &mut Words, out: Out, claim: &Claim) {
+    words.say(format_args!(
+        "expected the outcome {}, recorded {}",
+        out_name(out),
+        out_name(claim.out)
+    ));
+}
+
+// Tells the message that a call gives, and the one that is claimed.
+fn tell_bytes(words: &mut Words, bytes: &[u8], claim: &Claim) {
+    words.say(format_args!(
+        "expected {}, recorded {}",
+        Bytes(bytes),
+        Bytes(claim.bytes.as_bytes())
+    ));
+}
+
+// Tells the values that a claim has.
+fn tell_recorded_values(words: &mut Words, claim: &Claim) {
+    words.say("; recorded ");
+    tell_value(words, claim.val);
+    tell_further(words, claim.val2, claim.val3);
+}
+
+// A number as a record gives it.
+fn signed(number: u64) -> i64 {
+    i64::try_from(number).unwrap_or(i64::MAX)
+}
+
+// Tells a value that is expected or recorded.
+fn tell_value(words: &mut Words, value: Option<i64>) {
     match value {
-        Value::Nothing => words.say("no value"),
-        Value::Number(number) => words.say(format_args!("the value {number}")),
-        Value::New => words.say(
-            "a new number from 1 to 2,147,483,647, which nothing of its kind has in the partition",
-        ),
+        Some(number) => words.say(format_args!("the value {number}")),
+        None => words.say("no value"),
     }
 }
 
 // Tells whose waits the call ends, and whom the record names.
-fn tell_woken(words: &mut Words, waking: Waking, all: Option<&WaitSet>, named: &[Who]) {
+fn tell_woken(words: &mut Words, woken: Option<Who>, woken_all: Option<&WaitSet>, named: &[Who]) {
     words.say("the call ends ");
-    match (waking, all) {
-        (Waking::One(who), _) => words.say(format_args!("the wait of {}", Numbered(who))),
-        (Waking::All, Some(set)) => words.say(format_args!(
+    match (woken, woken_all) {
+        (Some(who), _) => words.say(format_args!("the wait of {}", Numbered(who))),
+        (None, Some(set)) => words.say(format_args!(
             "the waits of all who wait there, {} in number",
             set.len()
         )),
-        _ => words.say("no wait"),
+        (None, None) => words.say("no wait"),
     }
     words.say(", but the record names ");
     if named.is_empty() {
@@ -267,7 +308,7 @@ fn tell_woken(words: &mut Words, waking: Waking, all: Option<&WaitSet>, named: &
     } else {
         tell_processes(words, named);
     }
-    if let (Waking::All, Some(set)) = (waking, all) {
+    if let Some(set) = woken_all {
         for who in named {
             if !set.has(*who) {
                 words.say(format_args!("; {} does not wait there", Numbered(*who)));

@@ -17,6 +17,5 @@ mod module;
 mod outside;
 mod partition;
 mod processes;
-mod wanted;
 
 pub use explanation::{Explanation, RecordNumber};

@@ -31,7 +31,7 @@ pub fn tell_partition(words: &mut Words, refusing: &Refusing<'_>, ordered: &Orde
         _ => match &ordered.rec.body {
             Body::Call(call) => {
                 if call.who.part == refusing.number {
-                    tell_call(words, refusing, ordered.core, call, cause);
+                    tell_call(words, refusing, ordered, call, cause);
                 } else {
                     tell_foreign_waits(words, refusing, call);
                 }
@@ -44,7 +44,13 @@ pub fn tell_partition(words: &mut Words, refusing: &Refusing<'_>, ordered: &Orde
 }
 
 // Tells why a call of one of the partition's own processes is refused.
-fn tell_call(words: &mut Words, refusing: &Refusing<'_>, core: CoreId, call: &Call, cause: Cause) {
+fn tell_call(
+    words: &mut Words,
+    refusing: &Refusing<'_>,
+    ordered: &Ordered,
+    call: &Call,
+    cause: Cause,
+) {
     match cause {
         Cause::Return => tell_return_before(words, refusing, call.who),
         Cause::OutsideProfile => tell_outside(words, refusing.state, call),
@@ -57,7 +63,8 @@ fn tell_call(words: &mut Words, refusing: &Refusing<'_>, core: CoreId, call: &Ca
             } else if let Some(channel) = state.channel_of(&call.request) {
                 tell_through(words, channel, call, cause);
             } else {
-                tell_answer(words, state, refusing.clock.now(core), call, cause);
+                let now = refusing.clock.now(ordered.core);
+                tell_answer(words, state, now, ordered.pos, call, cause);
             }
         }
     }

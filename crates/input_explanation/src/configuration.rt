@@ -272,10 +272,16 @@ fn tell_window_keys(words: &mut Words, keys: &Table, at: At, cores: u64, frame: 
     Some(())
 }
 
-// Goes over the keys of a sampling channel.
-fn tell_sampling_keys(words: &mut Words, keys: &Table, at: At) -> Option<()> {
+// Goes over the keys that channels of both kinds have first.
+fn tell_channel_keys(words: &mut Words, keys: &Table, at: At) -> Option<()> {
     number(words, keys, at, "channel", 0, GREATEST_CHANNEL as u64)?;
     number(words, keys, at, "size", 1, LONGEST_MESSAGE as u64)?;
+    Some(())
+}
+
+// Goes over the keys of a sampling channel.
+fn tell_sampling_keys(words: &mut Words, keys: &Table, at: At) -> Option<()> {
+    tell_channel_keys(words, keys, at)?;
     number(words, keys, at, "refresh", 1, GREATEST_SPAN as u64)?;
     tell_end(words, keys, at, "source")?;
     let ends = list(words, keys, at, "destinations")?;
@@ -302,8 +308,7 @@ fn tell_sampling_keys(words: &mut Words, keys: &Table, at: At) -> Option<()> {
 
 // Goes over the keys of a queuing channel.
 fn tell_queuing_keys(words: &mut Words, keys: &Table, at: At) -> Option<()> {
-    number(words, keys, at, "channel", 0, GREATEST_CHANNEL as u64)?;
-    number(words, keys, at, "size", 1, LONGEST_MESSAGE as u64)?;
+    tell_channel_keys(words, keys, at)?;
     number(words, keys, at, "capacity", 1, MOST_MESSAGES as u64)?;
     tell_end(words, keys, at, "source")?;
     tell_discipline(words, keys, at, "source_discipline")?;

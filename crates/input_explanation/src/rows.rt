@@ -26,10 +26,7 @@ pub fn tell_row_fault(words: &mut Words, fault: RowFault, seq: u64, fields: Opti
             tell_field(words, fields, Column::Sequence);
             words.say(format_args!("; expected {seq}"));
         }
-        RowFault::BadKind => {
-            tell_field(words, fields, Column::Kind);
-            words.say("; expected call, ret, disp or tick");
-        }
+        RowFault::BadKind => tell_expected(words, fields, Column::Kind, "call, ret, disp or tick"),
         RowFault::BadService => {
             tell_field(words, fields, Column::Service);
             if find_service(text(fields, Column::Service)).is_some() {
@@ -42,16 +39,18 @@ pub fn tell_row_fault(words: &mut Words, fault: RowFault, seq: u64, fields: Opti
             tell_field(words, fields, Column::Name);
             words.say(format_args!("; expected 1 to {LONGEST_NAME} bytes from 0x20 to 0x7E"));
         }
-        RowFault::BadOut => {
-            tell_field(words, fields, Column::Outcome);
-            words.say("; expected the name of a code, or in a call also wait or none");
-        }
-        RowFault::BadWoken => {
-            tell_field(words, fields, Column::Woken);
-            words.say(
-                "; expected processes as part:proc in strictly rising order, separated by semicolons, each proc 1 or more",
-            );
-        }
+        RowFault::BadOut => tell_expected(
+            words,
+            fields,
+            Column::Outcome,
+            "the name of a code, or in a call also wait or none",
+        ),
+        RowFault::BadWoken => tell_expected(
+            words,
+            fields,
+            Column::Woken,
+            "processes as part:proc in strictly rising order, separated by semicolons, each proc 1 or more",
+        ),
         RowFault::BadNumber => tell_number(words, fields),
         RowFault::BadHex | RowFault::BadLength => tell_digits(words, fields, fault),
         RowFault::FieldNotForKind => tell_misfit(words, fields),
@@ -59,6 +58,12 @@ pub fn tell_row_fault(words: &mut Words, fault: RowFault, seq: u64, fields: Opti
     }
     words.next_line();
     words.say("the rows: docs/FORMATS.md, Refusals of a row");
+}
+
+// Tells a field and what was expected in it.
+fn tell_expected(words: &mut Words, fields: &ByteRecord, column: Column, expected: &str) {
+    tell_field(words, fields, column);
+    words.say(format_args!("; expected {expected}"));
 }
 
 // Tells a field with what it holds.
