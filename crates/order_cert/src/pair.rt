@@ -3,7 +3,7 @@
 ghost use Rattle.std.specs.Prelude.{◌≡◌, ◌<◌, ◌≤◌, IfOk, OnOk, IfErr, Ok, Err};
 ghost use Rattle.csv.specs.Records.{fields_of};
 ghost use Rattle.apex_types.specs.declared.limits.TheConstants.{PLACE_COUNT};
-ghost use Rattle.order_cert.specs.Row.{IsOfRow, item_of, number_at, pair_of};
+ghost use Rattle.order_cert.specs.Row.{IsOfRow, item_of, number_at};
 
 use crate::fault::CertFault;
 use apex_types::Pair;
@@ -12,6 +12,7 @@ use csv::ByteRecord;
 use csv_rows::read_decimal;
 
 /// The pair that the row of this number is, numbers from 0, or the first fault from left to right. Takes no memory.
+#[tactic(auto, unfolding(crate::specs::Row::pair_of))]
 pub fn read_item(number: u64, fields: &ByteRecord) -> Result<Pair, CertFault>
     ensures value { result ≡ item_of number (fields_of fields.now) }
     ensures refused { IfErr result (λ fault. IsOfRow fault) }
@@ -20,15 +21,6 @@ pub fn read_item(number: u64, fields: &ByteRecord) -> Result<Pair, CertFault>
     if number >= PLACE_COUNT {
         return Err(CertFault::TooMany);
     }
-    read_pair(fields)
-}
-
-// The pair that these fields are.
-#[tactic(auto, unfolding(crate::specs::Row::pair_of))]
-fn read_pair(fields: &ByteRecord) -> Result<Pair, CertFault>
-    ensures value { result ≡ pair_of (fields_of fields.now) }
-    ensures refused { IfErr result (λ fault. IsOfRow fault) }
-{
     if fields.len() != 2 {
         return Err(CertFault::FieldCount);
     }
@@ -47,11 +39,6 @@ fn read_number(fields: &ByteRecord, place: usize) -> Result<u64, CertFault>
     ensures refused { IfErr result (λ fault. fault ≡ CertFault.BadNumber) }
     ensures bound { IfOk result (λ number. number ≤ 0xFFFFFFFF) }
 {
-    match fields.get(place) {
-        Some(text) => match read_decimal(text, 0xFFFF_FFFF) {
-            Some(number) => Ok(number),
-            None => Err(CertFault::BadNumber),
-        },
-        None => Err(CertFault::BadNumber),
-    }
+    let text = fields.get(place).ok_or(CertFault::BadNumber)?;
+    read_decimal(text, 0xFFFF_FFFF).ok_or(CertFault::BadNumber)
 }

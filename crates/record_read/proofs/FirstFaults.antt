@@ -8,7 +8,6 @@ use Rattle.hex.specs.declared.error.FromHexError.{FromHexError}
 use Rattle.csv_rows.specs.Decimal.{decimal, signed_decimal}
 use Rattle.csv_rows.specs.Stream.{Fields}
 use Rattle.apex_types.specs.declared.limits.TheConstants.{GREATEST_CHANNEL, GREATEST_NUMBER, GREATEST_PARTITION, GREATEST_PRIORITY, LONGEST_MESSAGE, MOST_RECORDS}
-use Rattle.apex_types.specs.declared.record.Who.{Who}
 use Rattle.apex_types.specs.declared.service.Service.{Service}
 use Rattle.record_read.specs.declared.column.Column.TheVariants as column
 use Rattle.record_read.specs.declared.fault.RowFault.{RowFault}
@@ -18,18 +17,18 @@ use Rattle.record_read.specs.declared.kind.Kind.{Kind}
 use Rattle.record_read.specs.declared.kind.Kind.TheVariants as kind
 use Rattle.apex_types.specs.Services.{arguments_of}
 use Rattle.record_read.specs.Field.{all_empty, argument, bytes_at, empty, filled, maybe, maybe_number, maybe_signed, number, signed, text_at}
-use Rattle.record_read.specs.FirstFault.{ArgumentFault, CallFault, ClaimFault, DispatchFault, DispatchedFault, FaultOf, HoldsCode, HoldsKind, HoldsNone, HoldsService, IsFirstFault, MessageFault, MustBeBytes, MustBeEmpty, MustBeMessageIf, MustHold, MustHoldIf, NameFault, OtherNumber, ProcessFault, RequestFault, ReturnFault, SentFault, TickFault, ◌or_else◌}
+use Rattle.record_read.specs.FirstFault.{ArgumentFault, CallFault, ClaimFault, DispatchFault, DispatchedFault, FaultOf, HoldsCode, HoldsKind, HoldsNone, IsFirstFault, MessageFault, MustBeBytes, MustBeEmpty, MustBeMessageIf, MustHold, MustHoldIf, NameFault, OtherNumber, ProcessFault, RequestFault, ReturnFault, SentFault, TickFault, ◌or_else◌}
 use Rattle.apex_types.specs.Format.{field_count}
-use Rattle.record_read.specs.Grammar.{GoesWith, HoldsName, HoldsNumber, HoldsOutcome, HoldsProcesses, HoldsSigned, MayHold, columns_of}
+use Rattle.record_read.specs.Grammar.{GoesWith, HoldsName, HoldsNumber, HoldsOutcome, HoldsProcesses, HoldsService, HoldsSigned, MayHold}
 use Rattle.record_read.specs.GrammarLaws.{FirstFaultsDecide}
 use Rattle.record_read.specs.Named.{code_named, code_of, kind_named, kind_of, out_named, out_of, service_in, service_of}
 use Rattle.record_read.specs.Payload.{from_hex, goes_with, maybe_message, message_in, message_of, name_in, name_of}
-use Rattle.record_read.specs.Row.{body_in, call_in, claim_in, dispatch_in, fields_read, proc_of, record_of, request_in, return_in, seq_in, tick_in, who_in}
+use Rattle.record_read.specs.Row.{body_in, call_in, claim_in, dispatch_in, proc_of, record_of, request_in, return_in, tick_in, who_in}
 use Rattle.record_read.specs.Steps.{◌>>=◌, IsOfRow}
 use Rattle.record_read.specs.Woken.{woken_of}
-use Rattle.record_read.proofs.GrammarFields.{argument_holds, holds_argument, holds_maybe_number, holds_maybe_signed, holds_number, holds_signed, maybe_number_holds, maybe_signed_holds, number_holds, same_ok, signed_holds, no_fault}
+use Rattle.record_read.proofs.GrammarFields.{argument_holds, holds_argument, holds_number, holds_signed, maybe_number_holds, number_holds, same_ok, signed_holds, no_fault}
 use Rattle.record_read.proofs.GrammarLists.{hold_processes, processes_hold}
-use Rattle.record_read.proofs.GrammarNames.{code_is, is_code, is_kind, is_outcome, is_service, kind_is, kind_name, outcome_is, service_is}
+use Rattle.record_read.proofs.GrammarNames.{code_is, is_code, is_kind, is_outcome, is_service, kind_is, outcome_is, service_is}
 use Rattle.record_read.proofs.GrammarRows.{all_are_empty, are_all_empty, texts_from}
 use Rattle.record_read.proofs.GrammarTexts.{holds_name, length_decides, name_holds}
 
@@ -43,91 +42,96 @@ pub record FailsAs {A : Type 0} (read : Result A RowFault) (Fault : RowFault →
 same_err : {A : Type 0} (e f : RowFault) → ◌≡◌ {A = Result A RowFault} (Err e) (Err f) → e ≡ f
 same_err e f same = cc
 
--- so where one fault is given that the text of a row can have, each is one
-one_own : {A : Type 0} (bad e : RowFault) → IsOfRow bad → ◌≡◌ {A = Result A RowFault} (Err bad) (Err e) → IsOfRow e
-one_own bad e own same = subst IsOfRow (same_err bad e same) own
-
 -- a value is no fault
 no_value : {A : Type 0} {Goal : Type 0} (x : A) (e : RowFault) → ◌≡◌ {A = Result A RowFault} (Ok x) (Err e) → Goal
 no_value x e same = absurd (let f : ◌≡◌ {A = Result _ RowFault} (Ok x) (Err e) = same in cc)
 
+-- a value, where there is no fault
+value_fails : {A : Type 0} {Fault : RowFault → Type 0} (x : A) → ((e : RowFault) → ¬ Fault e) → FailsAs (Ok x) Fault
+value_fails x none = record { to = λ e same. no_value x e same; from = λ e fault. absurd (none e fault); own = λ e same. no_value x e same }
+
+-- a fault, where it is the only one
+fault_fails : {A : Type 0} {Fault : RowFault → Type 0} (bad : RowFault) → IsOfRow bad → Fault bad → ((e : RowFault) → Fault e → bad ≡ e) → FailsAs {A = A} (Err bad) Fault
+fault_fails {Fault = Fault} bad own is only = record {
+  to = λ e same. subst Fault (same_err bad e same) is;
+  from = λ e fault. ap Err (only e fault);
+  own = λ e same. subst IsOfRow (same_err bad e same) own;
+}
+
+-- the same faults, said in another way
+fails_also : {A : Type 0} {read : Result A RowFault} {Fault : RowFault → Type 0} (Other : RowFault → Type 0) → FailsAs read Fault
+    → ((e : RowFault) → Fault e → Other e) → ((e : RowFault) → Other e → Fault e) → FailsAs read Other
+fails_also Other fails to from = record { to = λ e same. to e (fails.to e same); from = λ e fault. fails.from e (from e fault); own = fails.own }
+
+-- other faults after one that there is not
+fails_after : {A : Type 0} {read : Result A RowFault} {Others : RowFault → Type 0} (First : RowFault → Type 0) → FailsAs read Others
+    → ((e : RowFault) → ¬ First e) → FailsAs read (First or_else Others)
+fails_after {Others = Others} First others none = fails_also (First or_else Others) others (λ e fault. inr (none, fault)) later
+  where
+    later : (e : RowFault) → (First or_else Others) e → Others e
+    later e (inl fault) = absurd (none e fault)
+    later e (inr fault) = fault.1
+
 -- a step, and the steps after it
 step : {A B : Type 0} (read : Result A RowFault) (more : A → Result B RowFault) (First Others : RowFault → Type 0)
     → FailsAs read First → ((x : A) → read ≡ Ok x → FailsAs (more x) Others) → FailsAs (read >>= more) (First or_else Others)
-step {A = A} {B = B} (Ok x) more First Others first others = record {
-  to = λ e same. inr ((λ other fault. no_value x other (first.from other fault)), (others x refl).to e same);
-  from = λ e fault. by e fault;
-  own = (others x refl).own;
-}
+step (Ok x) more First Others first others = fails_after First (others x refl) (λ e fault. no_value x e (first.from e fault))
+step (Err f) more First Others first others = fault_fails f (first.own f refl) (inl (first.to f refl)) only
   where
-    by : (e : RowFault) → (First or_else Others) e → more x ≡ Err e
-    by e (inl fault) = no_value x e (first.from e fault)
-    by e (inr fault) = (others x refl).from e fault.1
-step {A = A} {B = B} (Err f) more First Others first others = record {
-  to = λ e same. inl (first.to e (ap Err (same_err f e same)));
-  from = λ e fault. by e fault;
-  own = λ e same. first.own e (ap Err (same_err f e same));
-}
-  where
-    by : (e : RowFault) → (First or_else Others) e → ◌≡◌ {A = Result B RowFault} (Err f) (Err e)
-    by e (inl fault) = ap Err (same_err f e (first.from e fault))
-    by e (inr fault) = absurd (fault.0 f (first.to f refl))
+    only : (e : RowFault) → (First or_else Others) e → f ≡ e
+    only e (inl fault) = same_err f e (first.from e fault)
+    only e (inr fault) = absurd (fault.0 f (first.to f refl))
 
 -- the last step
 last_step : {A B : Type 0} (read : Result A RowFault) (made : A → B) (First : RowFault → Type 0) → FailsAs read First → FailsAs (read >>= (λ x. Ok (made x))) First
-last_step (Ok x) made First first = record { to = λ e same. no_value (made x) e same; from = λ e fault. no_value x e (first.from e fault); own = λ e same. no_value (made x) e same }
-last_step (Err f) made First first = record { to = λ e same. first.to e (ap Err (same_err f e same)); from = λ e fault. ap Err (same_err f e (first.from e fault)); own = λ e same. first.own e (ap Err (same_err f e same)) }
+last_step (Ok x) made First first = value_fails (made x) (λ e fault. no_value x e (first.from e fault))
+last_step (Err f) made First first = fault_fails f (first.own f refl) (first.to f refl) (λ e fault. same_err f e (first.from e fault))
 
 -- a step of which every fault is the same one, and which gives what the field holds
 none_held : {A : Type 0} (read : Result A RowFault) (bad : RowFault) (Holds : List ℕ → A → Type 0) (text : List ℕ) → IsOfRow bad
     → ((e : RowFault) → read ≡ Err e → e ≡ bad) → ((x : A) → read ≡ Ok x → Holds text x) → ((x : A) → Holds text x → read ≡ Ok x)
     → FailsAs read (HoldsNone bad Holds text)
-none_held (Ok x) bad Holds text own only holds held = record {
-  to = λ e same. no_value x e same;
-  from = λ e fault. absurd (fault.0 x (holds x refl));
-  own = λ e same. no_value x e same;
-}
-none_held (Err f) bad Holds text own only holds held = record {
-  to = λ e same. ((λ x h. no_fault f x (held x h)), only e same);
-  from = λ e fault. ap Err (only f refl ∙ sym fault.1);
-  own = λ e same. subst IsOfRow (sym (only e same)) own;
-}
+none_held (Ok x) bad Holds text own only holds held = value_fails x (λ e fault. fault.0 x (holds x refl))
+none_held (Err f) bad Holds text own only holds held =
+    fault_fails f (subst IsOfRow (sym (only f refl)) own) ((λ x h. no_fault f x (held x h)), only f refl) (λ e fault. only f refl ∙ sym fault.1)
 
 -- the same where an empty field has a fault of its own
 must_hold : {A : Type 0} (read : List ℕ → Result A RowFault) (bad : RowFault) (Holds : List ℕ → A → Type 0) (text : List ℕ) → IsOfRow bad → read [] ≡ Err FieldNotForKind
     → ((b : ℕ) (bs : List ℕ) (e : RowFault) → read (b ∷ bs) ≡ Err e → e ≡ bad) → ((x : A) → read text ≡ Ok x → Holds text x) → ((x : A) → Holds text x → read text ≡ Ok x)
     → FailsAs (read text) (MustHold bad Holds text)
-must_hold read bad Holds [] own none only holds held = record {
-  to = λ e same. inl (refl, same_err e FieldNotForKind (sym same ∙ none));
-  from = λ e fault. by e fault;
-  own = λ e same. one_own FieldNotForKind e tt (sym none ∙ same);
-}
+must_hold read bad Holds [] own none only holds held = rw none (fault_fails FieldNotForKind tt (inl (refl, refl)) empty)
   where
-    by : (e : RowFault) → MustHold bad Holds [] e → read [] ≡ Err e
-    by e (inl fault) = none ∙ ap Err (sym fault.1)
-    by e (inr fault) = absurd (fault.0 refl)
-must_hold read bad Holds (b ∷ bs) own none only holds held = record {
-  to = λ e same. inr ((λ empty. cc), (some.to e same));
-  from = λ e fault. by e fault;
-  own = some.own;
-}
+    empty : (e : RowFault) → MustHold bad Holds [] e → FieldNotForKind ≡ e
+    empty e (inl fault) = sym fault.1
+    empty e (inr fault) = absurd (fault.0 refl)
+must_hold read bad Holds (b ∷ bs) own none only holds held =
+    fails_also (MustHold bad Holds (b ∷ bs)) (none_held (read (b ∷ bs)) bad Holds (b ∷ bs) own (only b bs) holds held) (λ e fault. inr ((λ empty. cc), fault)) filled
   where
-    some : FailsAs (read (b ∷ bs)) (HoldsNone bad Holds (b ∷ bs))
-    some = none_held (read (b ∷ bs)) bad Holds (b ∷ bs) own (only b bs) holds held
+    filled : (e : RowFault) → MustHold bad Holds (b ∷ bs) e → HoldsNone bad Holds (b ∷ bs) e
+    filled e (inl fault) = absurd (let f : b ∷ bs ≡ [] = fault.0 in cc)
+    filled e (inr fault) = fault.1
 
-    by : (e : RowFault) → MustHold bad Holds (b ∷ bs) e → read (b ∷ bs) ≡ Err e
-    by e (inl fault) = absurd (let f : b ∷ bs ≡ [] = fault.0 in cc)
-    by e (inr fault) = some.from e fault.1
+-- the same where the field may be left out
+maybe_fails : {A : Type 0} (read : List ℕ → Result A RowFault) (bad : RowFault) (Holds : List ℕ → A → Type 0) (text : List ℕ)
+    → FailsAs (read text) (MustHold bad Holds text) → FailsAs (maybe (read text) text) (HoldsNone bad (MayHold Holds) text)
+unfolding maybe
+maybe_fails read bad Holds [] fails = value_fails None (λ e fault. fault.0 None refl)
+maybe_fails {A = A} read bad Holds (b ∷ bs) fails =
+    fails_also (HoldsNone bad (MayHold Holds) (b ∷ bs)) (last_step (read (b ∷ bs)) Some (MustHold bad Holds (b ∷ bs)) fails) held
+    (λ e fault. inr ((λ empty. cc), ((λ x h. fault.0 (Some x) h), fault.1)))
+  where
+    none : (e : RowFault) → HoldsNone bad Holds (b ∷ bs) e → (o : Option A) → ¬ MayHold Holds (b ∷ bs) o
+    none e fault None h = let f : b ∷ bs ≡ [] = h in cc
+    none e fault (Some x) h = fault.0 x h
+
+    held : (e : RowFault) → MustHold bad Holds (b ∷ bs) e → HoldsNone bad (MayHold Holds) (b ∷ bs) e
+    held e (inl fault) = absurd (let f : b ∷ bs ≡ [] = fault.0 in cc)
+    held e (inr fault) = (none e fault.1, fault.1.1)
 
 -- an option's want is this fault
 or_bad : {A : Type 0} (found : Option A) (bad e : RowFault) → ok_or found bad ≡ Err e → e ≡ bad
 or_bad (Some x) bad e same = no_value x e same
 or_bad None bad e same = sym (same_err bad e same)
-
--- a value that is made of what a step gave has the step's faults
-made_bad : {A B : Type 0} (read : Result A RowFault) (made : A → B) (bad e : RowFault) → ((f : RowFault) → read ≡ Err f → f ≡ bad) → (read >>= (λ x. Ok (made x))) ≡ Err e → e ≡ bad
-made_bad (Ok x) made bad e only same = no_value (made x) e same
-made_bad (Err f) made bad e only same = sym (same_err f e same) ∙ only f refl
 
 -- a test's fault
 test_bad : {A : Type 0} (test : Bool) (x : A) (bad e : RowFault) → (if test then Ok x else Err bad) ≡ Err e → e ≡ bad
@@ -146,23 +150,12 @@ signed_fails text =
     must_hold signed BadNumber HoldsSigned text tt refl (λ b bs e same. or_bad (signed_decimal (b ∷ bs)) BadNumber e same) (signed_holds text) (holds_signed text)
 
 maybe_number_fails : (greatest : ℕ) (text : List ℕ) → greatest < 2 ^ 64 → FailsAs (maybe_number greatest text) (HoldsNone BadNumber (MayHold (HoldsNumber greatest)) text)
-unfolding maybe_number number maybe filled
-maybe_number_fails greatest text room =
-    none_held (maybe_number greatest text) BadNumber (MayHold (HoldsNumber greatest)) text tt (only text)
-    (λ o. maybe_number_holds greatest text o room) (λ o. holds_maybe_number greatest text o room)
-  where
-    only : (text : List ℕ) (e : RowFault) → maybe_number greatest text ≡ Err e → e ≡ BadNumber
-    only [] e same = no_value None e same
-    only (b ∷ bs) e same = made_bad (number greatest (b ∷ bs)) Some BadNumber e (λ f is. or_bad (decimal greatest (b ∷ bs)) BadNumber f is) same
+unfolding maybe_number
+maybe_number_fails greatest text room = maybe_fails (number greatest) BadNumber (HoldsNumber greatest) text (number_fails greatest text room)
 
 maybe_signed_fails : (text : List ℕ) → FailsAs (maybe_signed text) (HoldsNone BadNumber (MayHold HoldsSigned) text)
-unfolding maybe_signed signed maybe filled
-maybe_signed_fails text =
-    none_held (maybe_signed text) BadNumber (MayHold HoldsSigned) text tt (only text) (maybe_signed_holds text) (holds_maybe_signed text)
-  where
-    only : (text : List ℕ) (e : RowFault) → maybe_signed text ≡ Err e → e ≡ BadNumber
-    only [] e same = no_value None e same
-    only (b ∷ bs) e same = made_bad (signed (b ∷ bs)) Some BadNumber e (λ f is. or_bad (signed_decimal (b ∷ bs)) BadNumber f is) same
+unfolding maybe_signed
+maybe_signed_fails text = maybe_fails signed BadNumber HoldsSigned text (signed_fails text)
 
 -- a field that must be empty, and steps after it, have one fault
 empty_bad : {A : Type 0} (text : List ℕ) (more : Unit {0} → Result A RowFault) (e : RowFault) → (more tt ≡ Err e → e ≡ FieldNotForKind)
@@ -182,25 +175,15 @@ all_empty_fail : (fields : Fields) (place count : ℕ) → FailsAs (all_empty fi
 all_empty_fail fields place count = by (all_empty fields place count) refl
   where
     by : (read : Result (Unit {0}) RowFault) → all_empty fields place count ≡ read → FailsAs read (MustBeEmpty (texts_from fields place count))
-    by (Ok u) is = record {
-      to = λ e same. no_value u e same;
-      from = λ e fault. absurd (fault.0 (all_are_empty fields place count is));
-      own = λ e same. no_value u e same;
-    }
-    by (Err f) is = record {
-      to = λ e same. ((λ empties. no_fault f tt (sym is ∙ are_all_empty fields place count empties)), sym (same_err f e same) ∙ all_empty_bad fields place count f is);
-      from = λ e fault. ap Err (all_empty_bad fields place count f is ∙ sym fault.1);
-      own = λ e same. one_own f e (subst IsOfRow (sym (all_empty_bad fields place count f is)) tt) same;
-    }
+    by (Ok u) is = value_fails u (λ e fault. fault.0 (all_are_empty fields place count is))
+    by (Err f) is =
+        let bad : f ≡ FieldNotForKind = all_empty_bad fields place count f is in
+        fault_fails f (subst IsOfRow (sym bad) tt) ((λ empties. no_fault f tt (sym is ∙ are_all_empty fields place count empties)), bad) (λ e fault. bad ∙ sym fault.1)
 
 -- one field that must be empty, for which a value stands
 unused_fails : {A : Type 0} (text : List ℕ) (unused : A) → FailsAs (empty text >>= (λ u. Ok unused)) (MustBeEmpty (text ∷ []))
-unused_fails [] unused = record { to = λ e same. no_value unused e same; from = λ e fault. absurd (fault.0 (refl, tt)); own = λ e same. no_value unused e same }
-unused_fails (b ∷ bs) unused = record {
-  to = λ e same. ((λ empties. let f : b ∷ bs ≡ [] = empties.0 in cc), sym (same_err FieldNotForKind e same));
-  from = λ e fault. ap Err (sym fault.1);
-  own = λ e same. one_own FieldNotForKind e tt same;
-}
+unused_fails [] unused = value_fails unused (λ e fault. fault.0 (refl, tt))
+unused_fails (b ∷ bs) unused = fault_fails FieldNotForKind tt ((λ empties. let f : b ∷ bs ≡ [] = empties.0 in cc), refl) (λ e fault. sym fault.1)
 
 argument_fails : (taken : Bool) (text : List ℕ) → FailsAs (argument taken text) (MustHoldIf taken BadNumber HoldsSigned text)
 unfolding argument
@@ -217,15 +200,12 @@ name_fails false text = unused_fails text []
 bytes_fail : (decoded : Result (List ℕ) FromHexError) (test : ℕ → Bool) (MayBe : ℕ → Type 0) (text : List ℕ) → decode_of text ≡ decoded
     → ((count : ℕ) → test count ≡ true → MayBe count) → ((count : ℕ) → MayBe count → test count ≡ true)
     → FailsAs (from_hex decoded >>= (λ bytes. if test (length bytes) then Ok bytes else Err BadLength)) (MustBeBytes MayBe text)
-bytes_fail (Err error) test MayBe text is may fits = record {
-  to = λ e same. inl ((λ bytes found. let f : ◌≡◌ {A = Result (List ℕ) FromHexError} (Err error) (Ok bytes) = sym is ∙ found in cc), sym (same_err BadHex e same));
-  from = λ e fault. by e fault;
-  own = λ e same. one_own BadHex e tt same;
-}
+bytes_fail (Err error) test MayBe text is may fits =
+    fault_fails BadHex tt (inl ((λ bytes found. let f : ◌≡◌ {A = Result (List ℕ) FromHexError} (Err error) (Ok bytes) = sym is ∙ found in cc), refl)) only
   where
-    by : (e : RowFault) → MustBeBytes MayBe text e → ◌≡◌ {A = Result (List ℕ) RowFault} (Err BadHex) (Err e)
-    by e (inl fault) = ap Err (sym fault.1)
-    by e (inr fault) = absurd (let f : ◌≡◌ {A = Result (List ℕ) FromHexError} (Err error) (Ok fault.0) = sym is ∙ fault.1 in cc)
+    only : (e : RowFault) → MustBeBytes MayBe text e → BadHex ≡ e
+    only e (inl fault) = sym fault.1
+    only e (inr fault) = absurd (let f : ◌≡◌ {A = Result (List ℕ) FromHexError} (Err error) (Ok fault.0) = sym is ∙ fault.1 in cc)
 bytes_fail (Ok bytes) test MayBe text is may fits = by (test (length bytes)) refl
   where
     same_bytes : (other : List ℕ) → decode_of text ≡ Ok other → bytes ≡ other
@@ -240,21 +220,14 @@ bytes_fail (Ok bytes) test MayBe text is may fits = by (test (length bytes)) ref
     bad e (inr fault) = sym fault.3
 
     by : (fit : Bool) → test (length bytes) ≡ fit → FailsAs (if fit then Ok bytes else Err BadLength) (MustBeBytes MayBe text)
-    by true held = record { to = λ e same. no_value bytes e same; from = λ e fault. absurd (good e held fault); own = λ e same. no_value bytes e same }
-    by false missed = record {
-      to = λ e same. inr (bytes, is, (λ may_be. let f : true ≡ false = sym (fits (length bytes) may_be) ∙ missed in cc), sym (same_err BadLength e same));
-      from = λ e fault. ap Err (bad e fault);
-      own = λ e same. one_own BadLength e tt same;
-    }
+    by true held = value_fails bytes (λ e fault. good e held fault)
+    by false missed = fault_fails BadLength tt (inr (bytes, is, (λ may_be. let f : true ≡ false = sym (fits (length bytes) may_be) ∙ missed in cc), refl)) bad
 
 data_fails : (text : List ℕ) → FailsAs (maybe_message text) (MustBeBytes (λ count. count ≤ LONGEST_MESSAGE) text)
 unfolding maybe_message
 data_fails text =
     bytes_fail (decode_of text) (λ count. nat_le count LONGEST_MESSAGE) (λ count. count ≤ LONGEST_MESSAGE) text refl
-    (λ count is. leb-true count LONGEST_MESSAGE is) (λ count is. le_leb_of count is)
-  where
-    le_leb_of : (count : ℕ) → count ≤ LONGEST_MESSAGE → nat_le count LONGEST_MESSAGE ≡ true
-    le_leb_of count is = le-leb count LONGEST_MESSAGE is
+    (λ count is. leb-true count LONGEST_MESSAGE is) (λ count is. le-leb count LONGEST_MESSAGE is)
 
 message_fails : (taken : Bool) (len : ℤ) (text : List ℕ) → FailsAs (message_in taken len text) (MustBeMessageIf taken len text)
 unfolding message_in message_of
@@ -262,30 +235,15 @@ message_fails true len text =
     bytes_fail (decode_of text) (goes_with len) (GoesWith len) text refl (λ count is. (length_decides len count).0 is) (λ count is. (length_decides len count).1 is)
 message_fails false len text = unused_fails text []
 
--- a field that is read as a kind holds its name
-kind_held : (text : List ℕ) (k : Kind) → kind_of text ≡ Ok k → HoldsKind text k
-kind_held text k is = named k (kind_is text k is)
-  where
-    named : (k : Kind) → text ≡ kind_name k → HoldsKind text k
-    named kind.Call h = h
-    named _ h = h
-
--- and where it holds the name it is read as the kind
-kind_holds : (text : List ℕ) (k : Kind) → HoldsKind text k → kind_of text ≡ Ok k
-kind_holds text kind.Call h = is_kind text kind.Call h
-kind_holds text kind.Ret h = is_kind text kind.Ret h
-kind_holds text kind.Disp h = is_kind text kind.Disp h
-kind_holds text kind.Tick h = is_kind text kind.Tick h
-
 kind_fails : (text : List ℕ) → FailsAs (kind_of text) (MustHold BadKind HoldsKind text)
 unfolding kind_of filled
-kind_fails text = must_hold kind_of BadKind HoldsKind text tt refl (λ b bs e same. or_bad (kind_named (b ∷ bs)) BadKind e same) (kind_held text) (kind_holds text)
+kind_fails text = must_hold kind_of BadKind HoldsKind text tt refl (λ b bs e same. or_bad (kind_named (b ∷ bs)) BadKind e same) (kind_is text) (is_kind text)
 
 service_fails : (format : Format) (text : List ℕ) → FailsAs (service_of format text) (MustHold BadService (HoldsService format) text)
 unfolding service_of service_in filled
 service_fails format text =
     must_hold (service_of format) BadService (HoldsService format) text tt refl (λ b bs e same. or_bad (service_in format (b ∷ bs)) BadService e same)
-    (λ s is. let given = service_is format text s is in record { named = given.0; stands = given.1 }) (λ s h. is_service format text s h.named h.stands)
+    (service_is format text) (is_service format text)
 
 code_fails : (text : List ℕ) → FailsAs (code_of text) (MustHold BadOut HoldsCode text)
 unfolding code_of filled
@@ -306,13 +264,11 @@ woken_fails text = none_held (woken_of text) BadWoken HoldsProcesses text tt (on
 -- what a field's fault depends on is what was read before
 by_service : {A : Type 0} (format : Format) (text : List ℕ) (s : Service) (read : Result A RowFault) (Fault : Service → RowFault → Type 0) → service_of format text ≡ Ok s
     → FailsAs read (Fault s) → FailsAs read (λ e. (other : Service) × HoldsService format text other × Fault other e)
-by_service format text s read Fault is fails = record {
-  to = λ e same. let given = service_is format text s is in (s, record { named = given.0; stands = given.1 }, fails.to e same);
-  from = λ e fault. fails.from e (subst (λ other. Fault other e) (same_ok fault.0 s (sym (is_service format text fault.0 fault.1.named fault.1.stands) ∙ is)) fault.2);
-  own = fails.own;
-}
+by_service format text s read Fault is fails =
+    fails_also (λ e. (other : Service) × HoldsService format text other × Fault other e) fails (λ e fault. (s, service_is format text s is, fault))
+    (λ e fault. subst (λ other. Fault other e) (same_ok fault.0 s (sym (is_service format text fault.0 fault.1) ∙ is)) fault.2)
 
-request_fails : (format : Format) (fields : Fields) → FailsAs (request_in format fields) (RequestFault format (columns_of fields))
+request_fails : (format : Format) (fields : Fields) → FailsAs (request_in format fields) (RequestFault format (text_at fields))
 unfolding request_in
 request_fails format fields =
     step _ _ _ _ (service_fails format (text_at fields column.Service)) (λ s is.
@@ -323,36 +279,31 @@ request_fails format fields =
     last_step _ _ _ (sent s is n2 is2))))))
   where
     numbered : (s : Service) → service_of format (text_at fields column.Service) ≡ Ok s → (place : ℕ) (text : List ℕ)
-        → FailsAs (argument (nat_le place (arguments_of s).numbers) text) (ArgumentFault format (columns_of fields) place text)
+        → FailsAs (argument (nat_le place (arguments_of s).numbers) text) (ArgumentFault format (text_at fields) place text)
     numbered s is place text =
         by_service format (text_at fields column.Service) s _ (λ other. MustHoldIf (nat_le place (arguments_of other).numbers) BadNumber HoldsSigned text) is
         (argument_fails (nat_le place (arguments_of s).numbers) text)
 
-    named : (s : Service) → service_of format (text_at fields column.Service) ≡ Ok s → FailsAs (name_in (arguments_of s).name (text_at fields column.Name)) (NameFault format (columns_of fields))
+    named : (s : Service) → service_of format (text_at fields column.Service) ≡ Ok s → FailsAs (name_in (arguments_of s).name (text_at fields column.Name)) (NameFault format (text_at fields))
     named s is =
         by_service format (text_at fields column.Service) s _ (λ other. MustHoldIf (arguments_of other).name BadName HoldsName (text_at fields column.Name)) is
         (name_fails (arguments_of s).name (text_at fields column.Name))
 
     sent : (s : Service) → service_of format (text_at fields column.Service) ≡ Ok s → (n2 : ℤ) → argument (nat_le 2 (arguments_of s).numbers) (text_at fields column.SecondNumber) ≡ Ok n2
-        → FailsAs (message_in (arguments_of s).message n2 (text_at fields column.Message)) (MessageFault format (columns_of fields))
+        → FailsAs (message_in (arguments_of s).message n2 (text_at fields column.Message)) (MessageFault format (text_at fields))
     sent s is n2 is2 =
-        by_service format (text_at fields column.Service) s _ (λ other. SentFault other (columns_of fields)) is
-        (record {
-          to = λ e same. (n2, argument_holds (nat_le 2 (arguments_of s).numbers) (text_at fields column.SecondNumber) n2 is2, message.to e same);
-          from = λ e fault. message.from e (subst (λ len. MustBeMessageIf (arguments_of s).message len (text_at fields column.Message) e)
-              (same_ok fault.0 n2 (sym (holds_argument (nat_le 2 (arguments_of s).numbers) (text_at fields column.SecondNumber) fault.0 fault.1) ∙ is2)) fault.2);
-          own = message.own;
-        })
-      where
-        message : FailsAs (message_in (arguments_of s).message n2 (text_at fields column.Message)) (MustBeMessageIf (arguments_of s).message n2 (text_at fields column.Message))
-        message = message_fails (arguments_of s).message n2 (text_at fields column.Message)
+        by_service format (text_at fields column.Service) s _ (λ other. SentFault other (text_at fields)) is
+        (fails_also (SentFault s (text_at fields)) (message_fails (arguments_of s).message n2 (text_at fields column.Message))
+        (λ e fault. (n2, argument_holds (nat_le 2 (arguments_of s).numbers) (text_at fields column.SecondNumber) n2 is2, fault))
+        (λ e fault. subst (λ len. MustBeMessageIf (arguments_of s).message len (text_at fields column.Message) e)
+        (same_ok fault.0 n2 (sym (holds_argument (nat_le 2 (arguments_of s).numbers) (text_at fields column.SecondNumber) fault.0 fault.1) ∙ is2)) fault.2))
 
-who_fails : (fields : Fields) → FailsAs (who_in fields) (ProcessFault (columns_of fields))
+who_fails : (fields : Fields) → FailsAs (who_in fields) (ProcessFault (text_at fields))
 unfolding who_in
 who_fails fields =
     step _ _ _ _ (number_fails GREATEST_PARTITION (text_at fields column.Partition) (omega arith)) (λ part is. last_step _ _ _ (number_fails GREATEST_NUMBER (text_at fields column.Process) (omega arith)))
 
-claim_fails : (fields : Fields) → FailsAs (claim_in fields) (ClaimFault (columns_of fields))
+claim_fails : (fields : Fields) → FailsAs (claim_in fields) (ClaimFault (text_at fields))
 unfolding claim_in
 claim_fails fields =
     step _ _ _ _ (number_fails GREATEST_PRIORITY (text_at fields column.Priority) (omega arith)) (λ prio is.
@@ -364,12 +315,12 @@ claim_fails fields =
     step _ _ _ _ (maybe_signed_fails (text_at fields column.SecondValue)) (λ val2 is.
     last_step _ _ _ (maybe_signed_fails (text_at fields column.ThirdValue)))))))))
 
-call_fails : (format : Format) (fields : Fields) → FailsAs (call_in format fields) (CallFault format (columns_of fields))
+call_fails : (format : Format) (fields : Fields) → FailsAs (call_in format fields) (CallFault format (text_at fields))
 unfolding call_in
 call_fails format fields =
     step _ _ _ _ (who_fails fields) (λ who is. step _ _ _ _ (request_fails format fields) (λ request is. last_step _ _ _ (claim_fails fields)))
 
-return_fails : (format : Format) (fields : Fields) → FailsAs (return_in format fields) (ReturnFault format (columns_of fields))
+return_fails : (format : Format) (fields : Fields) → FailsAs (return_in format fields) (ReturnFault format (text_at fields))
 unfolding return_in
 return_fails format fields =
     step _ _ _ _ (who_fails fields) (λ who is.
@@ -383,56 +334,42 @@ return_fails format fields =
     last_step _ _ _ (maybe_signed_fails (text_at fields column.ThirdValue))))))))))
 
 -- the process of a dispatch, by what its partition's field holds
-proc_fails : (fields : Fields) (part : Option ℕ) → maybe_number GREATEST_PARTITION (text_at fields column.Partition) ≡ Ok part → FailsAs (proc_of part (text_at fields column.Process)) (DispatchedFault (columns_of fields))
+proc_fails : (fields : Fields) (part : Option ℕ) → maybe_number GREATEST_PARTITION (text_at fields column.Partition) ≡ Ok part → FailsAs (proc_of part (text_at fields column.Process)) (DispatchedFault (text_at fields))
 unfolding proc_of number filled
 proc_fails fields part is = by part (maybe_number_holds GREATEST_PARTITION (text_at fields column.Partition) part (omega arith) is)
   where
-    by : (part : Option ℕ) → MayHold (HoldsNumber GREATEST_PARTITION) (text_at fields column.Partition) part → FailsAs (proc_of part (text_at fields column.Process)) (DispatchedFault (columns_of fields))
-    by None left_out = record {
-      to = λ e same. inl (left_out, unused.to e same);
-      from = λ e fault. from e fault;
-      own = unused.own;
-    }
+    by : (part : Option ℕ) → MayHold (HoldsNumber GREATEST_PARTITION) (text_at fields column.Partition) part → FailsAs (proc_of part (text_at fields column.Process)) (DispatchedFault (text_at fields))
+    by None left_out = fails_also (DispatchedFault (text_at fields)) (unused_fails (text_at fields column.Process) None) (λ e fault. inl (left_out, fault)) only
       where
-        unused : FailsAs {A = Option Who} (empty (text_at fields column.Process) >>= (λ u. Ok None)) (MustBeEmpty (text_at fields column.Process ∷ []))
-        unused = unused_fails (text_at fields column.Process) None
-
-        from : (e : RowFault) → DispatchedFault (columns_of fields) e → ◌≡◌ {A = Result (Option Who) RowFault} (empty (text_at fields column.Process) >>= (λ u. Ok None)) (Err e)
-        from e (inl fault) = unused.from e fault.1
-        from e (inr fault) = absurd (fault.0 left_out)
-    by (Some n) held = record {
-      to = λ e same. inr (filled, given.to e same);
-      from = λ e fault. from e fault;
-      own = given.own;
-    }
+        only : (e : RowFault) → DispatchedFault (text_at fields) e → MustBeEmpty (text_at fields column.Process ∷ []) e
+        only e (inl fault) = fault.1
+        only e (inr fault) = absurd (fault.0 left_out)
+    by (Some n) held =
+        fails_also (DispatchedFault (text_at fields)) (last_step _ _ _ (number_fails GREATEST_NUMBER (text_at fields column.Process) (omega arith))) (λ e fault. inr (filled, fault)) only
       where
         filled : text_at fields column.Partition ≢ []
         filled none =
             no_fault FieldNotForKind n (subst (λ text. number GREATEST_PARTITION text ≡ Ok n) none (holds_number GREATEST_PARTITION (text_at fields column.Partition) n (omega arith) held))
 
-        given : FailsAs {A = Option Who} (number GREATEST_NUMBER (text_at fields column.Process) >>= (λ proc. Ok (Some (record { part = n; proc = proc })))) (MustHold BadNumber (HoldsNumber GREATEST_NUMBER) (text_at fields column.Process))
-        given = last_step _ _ _ (number_fails GREATEST_NUMBER (text_at fields column.Process) (omega arith))
+        only : (e : RowFault) → DispatchedFault (text_at fields) e → MustHold BadNumber (HoldsNumber GREATEST_NUMBER) (text_at fields column.Process) e
+        only e (inl fault) = absurd (filled fault.0)
+        only e (inr fault) = fault.1
 
-        from : (e : RowFault) → DispatchedFault (columns_of fields) e
-            → ◌≡◌ {A = Result (Option Who) RowFault} (number GREATEST_NUMBER (text_at fields column.Process) >>= (λ proc. Ok (Some (record { part = n; proc = proc })))) (Err e)
-        from e (inl fault) = absurd (filled fault.0)
-        from e (inr fault) = given.from e fault.1
-
-dispatch_fails : (fields : Fields) → FailsAs (dispatch_in fields) (DispatchFault (columns_of fields))
+dispatch_fails : (fields : Fields) → FailsAs (dispatch_in fields) (DispatchFault (text_at fields))
 unfolding dispatch_in
 dispatch_fails fields =
     step _ _ _ _ (maybe_number_fails GREATEST_PARTITION (text_at fields column.Partition) (omega arith)) (λ part is.
     step _ _ _ _ (proc_fails fields part is) (λ who is.
     last_step _ _ _ (all_empty_fail fields _ _)))
 
-tick_fails : (fields : Fields) → FailsAs (tick_in fields) (TickFault (columns_of fields))
+tick_fails : (fields : Fields) → FailsAs (tick_in fields) (TickFault (text_at fields))
 unfolding tick_in
 tick_fails fields =
     step _ _ _ _ (all_empty_fail fields _ _) (λ unused is.
     step _ _ _ _ (woken_fails (text_at fields column.Woken)) (λ woken is.
     last_step _ _ _ (all_empty_fail fields _ _)))
 
-body_fails : (format : Format) (which : Kind) (fields : Fields) → FailsAs (body_in format which fields) (FaultOf which format (columns_of fields))
+body_fails : (format : Format) (which : Kind) (fields : Fields) → FailsAs (body_in format which fields) (FaultOf which format (text_at fields))
 unfolding body_in
 body_fails format kind.Call fields = last_step _ _ _ (call_fails format fields)
 body_fails format kind.Ret fields = last_step _ _ _ (return_fails format fields)
@@ -440,87 +377,49 @@ body_fails format kind.Disp fields = last_step _ _ _ (dispatch_fails fields)
 body_fails format kind.Tick fields = last_step _ _ _ (tick_fails fields)
 
 -- the number of a row
-seq_fails : (next given : ℕ) (fields : Fields) → number (MOST_RECORDS - 1) (text_at fields column.Sequence) ≡ Ok given → FailsAs (seq_in next given) (OtherNumber next (columns_of fields))
-unfolding seq_in
+seq_fails : (next given : ℕ) (fields : Fields) → number (MOST_RECORDS - 1) (text_at fields column.Sequence) ≡ Ok given
+    → FailsAs (if nat_eq given next then Ok given else Err SeqGap) (OtherNumber next (text_at fields))
 seq_fails next given fields is = by (nat_eq given next) refl
   where
-    by : (same : Bool) → nat_eq given next ≡ same → FailsAs (if same then Ok given else Err SeqGap) (OtherNumber next (columns_of fields))
-    by true same = record {
-      to = λ e read. no_value given e read;
-      from = λ e fault.
-          let one : fault.0 ≡ given = same_ok fault.0 given (sym (holds_number (MOST_RECORDS - 1) (text_at fields column.Sequence) fault.0 (omega arith) fault.1) ∙ is) in
-          absurd (fault.2 (one ∙ eqb-true given next same));
-      own = λ e read. no_value given e read;
-    }
-    by false other = record {
-      to = λ e read. (given, number_holds (MOST_RECORDS - 1) (text_at fields column.Sequence) given (omega arith) is, eqb-false given next other, sym (same_err SeqGap e read));
-      from = λ e fault. ap Err (sym fault.3);
-      own = λ e read. one_own SeqGap e tt read;
-    }
-
-fields_fail : (format : Format) (next : ℕ) (fields : Fields)
-    → FailsAs (fields_read format next fields)
-    (MustHold BadNumber (HoldsNumber (MOST_RECORDS - 1)) (columns_of fields).seq
-    or_else OtherNumber next (columns_of fields)
-    or_else MustHold BadKind HoldsKind (columns_of fields).kind
-    or_else (λ fault. (which : Kind) × HoldsKind (columns_of fields).kind which × FaultOf which format (columns_of fields) fault))
-unfolding fields_read
-fields_fail format next fields =
-    step _ _ _ _ (number_fails (MOST_RECORDS - 1) (text_at fields column.Sequence) (omega arith)) (λ given is.
-    step _ _ _ _ (seq_fails next given fields is) (λ seq at.
-    step _ _ _ _ (kind_fails (text_at fields column.Kind)) (λ which named.
-    last_step _ _ _ (after which named))))
-  where
-    after : (which : Kind) → kind_of (text_at fields column.Kind) ≡ Ok which
-        → FailsAs (body_in format which fields) (λ fault. (k : Kind) × HoldsKind (text_at fields column.Kind) k × FaultOf k format (columns_of fields) fault)
-    after which named = record {
-      to = λ e same. (which, kind_held (text_at fields column.Kind) which named, (body_fails format which fields).to e same);
-      from = λ e fault. (body_fails format which fields).from e (subst (λ k. FaultOf k format (columns_of fields) e)
-          (same_ok fault.0 which (sym (kind_holds (text_at fields column.Kind) fault.0 fault.1) ∙ named)) fault.2);
-      own = (body_fails format which fields).own;
-    }
+    by : (same : Bool) → nat_eq given next ≡ same → FailsAs (if same then Ok given else Err SeqGap) (OtherNumber next (text_at fields))
+    by true same =
+        value_fails given (λ e fault.
+        let one : fault.0 ≡ given = same_ok fault.0 given (sym (holds_number (MOST_RECORDS - 1) (text_at fields column.Sequence) fault.0 (omega arith) fault.1) ∙ is) in
+        fault.2 (one ∙ eqb-true given next same))
+    by false other =
+        fault_fails SeqGap tt (given, number_holds (MOST_RECORDS - 1) (text_at fields column.Sequence) given (omega arith) is, eqb-false given next other, refl) (λ e fault. sym fault.3)
 
 -- a test before the steps
 tested : {A : Type 0} (test : Bool) (read : Result A RowFault) (bad : RowFault) (Missed : Type 0) (Others : RowFault → Type 0)
     → IsOfRow bad → (test ≡ true → ¬ Missed) → (test ≡ false → Missed) → FailsAs read Others
     → FailsAs (if test then read else Err bad) ((λ fault. Missed × (fault ≡ bad)) or_else Others)
-tested true read bad Missed Others own hit missed others = record {
-  to = λ e same. inr ((λ other fault. hit refl fault.0), others.to e same);
-  from = λ e fault. by e fault;
-  own = others.own;
-}
+tested true read bad Missed Others own hit missed others = fails_after (λ fault. Missed × (fault ≡ bad)) others (λ e fault. hit refl fault.0)
+tested false read bad Missed Others own hit missed others = fault_fails bad own (inl (missed refl, refl)) only
   where
-    by : (e : RowFault) → ((λ fault. Missed × (fault ≡ bad)) or_else Others) e → read ≡ Err e
-    by e (inl fault) = absurd (hit refl fault.0)
-    by e (inr fault) = others.from e fault.1
-tested {A = A} false read bad Missed Others own hit missed others = record {
-  to = λ e same. inl (missed refl, sym (same_err bad e same));
-  from = λ e fault. by e fault;
-  own = λ e same. one_own bad e own same;
-}
-  where
-    by : (e : RowFault) → ((λ fault. Missed × (fault ≡ bad)) or_else Others) e → ◌≡◌ {A = Result A RowFault} (Err bad) (Err e)
-    by e (inl fault) = ap Err (sym fault.1)
-    by e (inr fault) = absurd (fault.0 bad (missed refl, refl))
+    only : (e : RowFault) → ((λ fault. Missed × (fault ≡ bad)) or_else Others) e → bad ≡ e
+    only e (inl fault) = sym fault.1
+    only e (inr fault) = absurd (fault.0 bad (missed refl, refl))
 
 pub row_fails : (format : Format) (next : ℕ) (fields : Fields) → FailsAs (record_of format next fields) (IsFirstFault format next fields)
 unfolding record_of
 row_fails format next fields =
-    tested (nat_lt next MOST_RECORDS) _ TooMany (MOST_RECORDS ≤ next) _ tt fits full
-    (tested (length fields == field_count format) _ FieldCount (length fields ≢ field_count format) _ tt counted other
-    (fields_fail format next fields))
+    tested (nat_lt next MOST_RECORDS) _ TooMany (MOST_RECORDS ≤ next) _ tt fits (ltb-false next MOST_RECORDS)
+    (tested (length fields == field_count format) _ FieldCount (length fields ≢ field_count format) _ tt
+    (λ is not. not (eqb-true (length fields) (field_count format) is)) (eqb-false (length fields) (field_count format))
+    (step _ _ _ _ (number_fails (MOST_RECORDS - 1) (text_at fields column.Sequence) (omega arith)) (λ given is.
+    step _ _ _ _ (seq_fails next given fields is) (λ seq at.
+    step _ _ _ _ (kind_fails (text_at fields column.Kind)) (λ which named.
+    last_step _ _ _ (after which named))))))
   where
     fits : nat_lt next MOST_RECORDS ≡ true → ¬ (MOST_RECORDS ≤ next)
     fits is over = let below : next < MOST_RECORDS = ltb-true next MOST_RECORDS is in absurd (omega arith)
 
-    full : nat_lt next MOST_RECORDS ≡ false → MOST_RECORDS ≤ next
-    full is = ltb-false next MOST_RECORDS is
-
-    counted : (length fields == field_count format) ≡ true → ¬ (length fields ≢ field_count format)
-    counted is not = not (eqb-true (length fields) (field_count format) is)
-
-    other : (length fields == field_count format) ≡ false → length fields ≢ field_count format
-    other is = eqb-false (length fields) (field_count format) is
+    after : (which : Kind) → kind_of (text_at fields column.Kind) ≡ Ok which
+        → FailsAs (body_in format which fields) (λ fault. (k : Kind) × HoldsKind (text_at fields column.Kind) k × FaultOf k format (text_at fields) fault)
+    after which named =
+        fails_also (λ fault. (k : Kind) × HoldsKind (text_at fields column.Kind) k × FaultOf k format (text_at fields) fault) (body_fails format which fields)
+        (λ e fault. (which, kind_is (text_at fields column.Kind) which named, fault))
+        (λ e fault. subst (λ k. FaultOf k format (text_at fields) e) (same_ok fault.0 which (sym (is_kind (text_at fields column.Kind) fault.0 fault.1) ∙ named)) fault.2)
 
 -- a row that is no record is read with the fault of its first faulty field, and with no other
 pub first_faults_decide : FirstFaultsDecide

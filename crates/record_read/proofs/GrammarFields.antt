@@ -1,7 +1,8 @@
 -- One field: a step of the reader gives a value exactly where the field holds it.
 use Rattle.std.proofs.Common.{◌≡◌, ◌<◌, ◌^◌, ℕ, ℤ, pos, List, [], ◌∷◌, Bool, true, false, Option, Some, None, Result, Ok, Err, refl, sym, ap, subst, if◌then◌else◌}
+use Rattle.std.specs.Prelude.{option_and_then, option_map}
 use Rattle.std.specs.Option.{ok_or}
-use Rattle.std.proofs.lemmas.Option.{none-some}
+use Rattle.std.proofs.lemmas.Option.{none-some, option_and_then_some, same_Some}
 use Rattle.csv_rows.specs.Decimal.{decimal, signed_decimal}
 use Rattle.record_read.specs.declared.fault.RowFault.{RowFault}
 use Rattle.record_read.specs.declared.fault.RowFault.TheVariants.{BadNumber, FieldNotForKind}
@@ -32,6 +33,15 @@ ok_some (Some y) fault x e = ap Some (same_ok y x e)
 pub test_ok : {A : Type 0} (test : Bool) (fault : RowFault) (x y : A) → (if test then Ok x else Err fault) ≡ Ok y → (test ≡ true) × (x ≡ y)
 test_ok true fault x y e = (refl, same_ok x y e)
 test_ok false fault x y e = no_fault fault y e
+
+-- what the first of two finds gives, and the second after it
+pub found_first : {A B : Type 0} (more : A → Option B) (first : Option A) (y : B) → option_and_then more first ≡ Some y → (x : A) × (first ≡ Some x) × (more x ≡ Some y)
+found_first more first y e = option_and_then_some more first y e (λ x is made. (x, is, made))
+
+-- what a find gives, and what is made of it
+pub found_map : {A B : Type 0} (make : A → B) (first : Option A) (y : B) → option_map make first ≡ Some y → (x : A) × (first ≡ Some x) × (make x ≡ y)
+found_map make None y e = absurd (none-some y e)
+found_map make (Some x) y e = (x, refl, same_Some (make x) y e)
 
 -- a number that is read is what the field holds
 pub number_holds : (greatest : ℕ) (text : List ℕ) (n : ℕ) → greatest < 2 ^ 64 → number greatest text ≡ Ok n → HoldsNumber greatest text n

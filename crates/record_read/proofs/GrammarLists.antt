@@ -1,55 +1,38 @@
 -- Lists of processes: the reader's walk over the pieces of a text gives processes exactly where the text is the joining of their texts.
-use Rattle.std.proofs.Common.{◌≡◌, ◌<◌, ◌^◌, ◌∙◌, ◌≤◌, ℕ, List, [], ◌∷◌, ◌++◌, Bool, true, false, Option, Some, None, Ok, refl, sym, ap, map, subst, nat_eq, append_assoc, arith, if◌then◌else◌}
-use Rattle.std.specs.Prelude.{◌≢◌, codes, option_and_then, option_map}
+use Rattle.std.proofs.Common.{◌≡◌, ◌<◌, ◌^◌, ◌∙◌, ◌≤◌, ℕ, List, [], ◌∷◌, ◌++◌, Bool, true, false, Option, Some, None, Ok, refl, sym, ap, map, subst, nat_eq, nat_lt, append_assoc, arith, if◌then◌else◌}
+use Rattle.std.specs.Prelude.{◌≢◌, codes, option_map}
 use Rattle.std.specs.Fmt.{decimal as written}
 use Rattle.std.specs.List.{All, join_by, join_with_byte}
 use Rattle.std.specs.Option.{ok_or}
 use Rattle.std.specs.Str.Parse.{AllDigits}
-use Rattle.std.proofs.lemmas.Bool.{eq-eqb, eqb-false, eqb-true, ne_eqb}
+use Rattle.std.proofs.lemmas.Bool.{eq-eqb, eqb-true, lt-ltb, ltb-true, ne_eqb}
 use Rattle.std.proofs.lemmas.Fmt.{decimal_is_IsNumeral}
 use Rattle.std.proofs.lemmas.List.{append-nil}
-use Rattle.std.proofs.lemmas.List.Elements.{All-cons, All-head, All-nil, All-tail}
-use Rattle.std.proofs.lemmas.Option.{none-some, same_Some}
+use Rattle.std.proofs.lemmas.List.Elements.{All-append, All-cons, All-head, All-nil, All-tail}
+use Rattle.std.proofs.lemmas.List.Splits.{join_with_byte-slice_split, slice_split_at, slice_split_none}
+use Rattle.std.proofs.lemmas.Option.{cond_some, none-some, same_Some}
 use Rattle.std.proofs.lemmas.Str.Parse.{digit_from_value}
 use Rattle.apex_types.specs.declared.limits.TheConstants.{GREATEST_NUMBER, GREATEST_PARTITION}
 use Rattle.apex_types.specs.declared.record.Who.{Who}
 use Rattle.apex_types.specs.Rising.{RisesFrom}
 use Rattle.record_read.specs.declared.fault.RowFault.TheVariants.{BadWoken}
 use Rattle.record_read.specs.Grammar.{HoldsProcesses, IsNameable, process_text}
-use Rattle.record_read.specs.Woken.{front_of, next_process, onto, pieces_of, process, process_of, processes_behind, rest_of, stands_behind, woken_of}
-use Rattle.record_read.proofs.GrammarFields.{ok_some, same_ok}
+use Rattle.record_read.specs.Woken.{front_of, next_process, pieces_of, process, process_of, processes_behind, rest_of, stands_behind, woken_of}
+use Rattle.record_read.proofs.GrammarFields.{found_first, found_map, ok_some, same_ok}
 use Rattle.record_read.proofs.GrammarNumbers.{number_read, number_written}
-use Rattle.record_read.proofs.Pieces.{RisesBehind, pieces_left, pieces_split, rising_behind}
+use Rattle.record_read.proofs.Pieces.{RisesBehind, rising_behind}
 
--- a text in which a byte doesn't stand
-abbrev pub Lacks : ℕ → List ℕ → Type 0
-Lacks separator [] = Unit {0}
-Lacks separator (b ∷ bs) = (nat_eq b separator ≡ false) × Lacks separator bs
+-- another byte than the separator
+abbrev pub IsOther : ℕ → ℕ → Type 0
+IsOther separator b = nat_eq b separator ≡ false
 
--- a byte that stands in neither of two texts stands in no joining of them
-lacks_both : (separator : ℕ) (front back : List ℕ) → Lacks separator front → Lacks separator back → Lacks separator (front ++ back)
-lacks_both separator [] back h k = k
-lacks_both separator (b ∷ bs) back h k = (h.0, lacks_both separator bs back h.1 k)
-
--- the front of a text that was joined at a byte
-front_joined : (separator : ℕ) (front rest : List ℕ) → Lacks separator front → front_of separator (front ++ separator ∷ rest) ≡ front
-front_joined separator [] rest h = rw (eq-eqb separator separator refl) refl
-front_joined separator (b ∷ bs) rest h = rw h.0 (ap (λ found. b ∷ found) (front_joined separator bs rest h.1))
-
--- the rest of a text that was joined at a byte
-rest_joined : (separator : ℕ) (front rest : List ℕ) → Lacks separator front → rest_of separator (front ++ separator ∷ rest) ≡ Some rest
-rest_joined separator [] rest h = rw (eq-eqb separator separator refl) refl
-rest_joined separator (b ∷ bs) rest h = rw h.0 (rest_joined separator bs rest h.1)
-
--- a text in which the byte doesn't stand is its own front
-front_whole : (separator : ℕ) (text : List ℕ) → Lacks separator text → front_of separator text ≡ text
-front_whole separator [] h = refl
-front_whole separator (b ∷ bs) h = rw h.0 (ap (λ found. b ∷ found) (front_whole separator bs h.1))
-
--- and it has no rest
-rest_whole : (separator : ℕ) (text : List ℕ) → Lacks separator text → rest_of separator text ≡ None
-rest_whole separator [] h = refl
-rest_whole separator (b ∷ bs) h = rw h.0 (rest_whole separator bs h.1)
+-- the front and the rest of a text that was joined at the separator
+cut_joined : (separator : ℕ) (front rest : List ℕ) → All (IsOther separator) front
+    → (front_of separator (front ++ separator ∷ rest) ≡ front) × (rest_of separator (front ++ separator ∷ rest) ≡ Some rest)
+cut_joined separator [] rest h = (rw (eq-eqb separator separator refl) refl, rw (eq-eqb separator separator refl) refl)
+cut_joined separator (b ∷ bs) rest h =
+    let other : IsOther separator b = All-head (IsOther separator) b bs h in
+    let more = cut_joined separator bs rest (All-tail (IsOther separator) b bs h) in (rw other (ap (λ found. b ∷ found) more.0), rw other more.1)
 
 -- a text is its front, the byte and its rest
 joined_at : (separator : ℕ) (text rest : List ℕ) → rest_of separator text ≡ Some rest → text ≡ front_of separator text ++ separator ∷ rest
@@ -62,40 +45,25 @@ joined_at separator (b ∷ bs) rest e = by (nat_eq b separator) refl e (joined_a
     by true here e more = rw (eqb-true b separator here, same_Some bs rest e) refl
     by false here e more = ap (λ found. b ∷ found) (more e)
 
--- a byte after the digits doesn't stand in digits
-digits_lack : (separator : ℕ) (text : List ℕ) → 57 < separator → AllDigits 10 text → Lacks separator text
-digits_lack separator [] behind all = tt
+-- digits are other bytes than a separator after them
+digits_lack : (separator : ℕ) (text : List ℕ) → 57 < separator → AllDigits 10 text → All (IsOther separator) text
+digits_lack separator [] behind all = All-nil (IsOther separator)
 digits_lack separator (b ∷ bs) behind all =
     let range = digit_from_value b all.0 in
     let high : b ≤ 57 = range.1 in
-    (ne_eqb b separator (λ same. let e : b ≡ separator = same in omega arith), digits_lack separator bs behind all.1)
+    All-cons (IsOther separator) b bs (ne_eqb b separator (λ same. let e : b ≡ separator = same in omega arith)) (digits_lack separator bs behind all.1)
 
--- nor in what is written for a number
-written_lacks : (separator n : ℕ) → 57 < separator → n < 2 ^ 64 → Lacks separator (written n)
+-- and so is what is written for a number
+written_lacks : (separator n : ℕ) → 57 < separator → n < 2 ^ 64 → All (IsOther separator) (written n)
 written_lacks separator n behind room = digits_lack separator (written n) behind (decimal_is_IsNumeral n room).0.1
-
--- what the first of two finds gives, and the second after it
-found_first : {A B : Type 0} (more : A → Option B) (first : Option A) (y : B) → option_and_then more first ≡ Some y → (x : A) × (first ≡ Some x) × (more x ≡ Some y)
-found_first more None y e = absurd (none-some y e)
-found_first more (Some x) y e = (x, refl, e)
-
--- what a find gives, and what is made of it
-found_map : {A B : Type 0} (make : A → B) (first : Option A) (y : B) → option_map make first ≡ Some y → (x : A) × (first ≡ Some x) × (make x ≡ y)
-found_map make None y e = absurd (none-some y e)
-found_map make (Some x) y e = (x, refl, same_Some (make x) y e)
 
 -- the process of a partition and a number is made of them, and its number is 1 or more
 process_is : (part number : ℕ) (who : Who) → process part number ≡ Some who → (part ≡ who.part) × (number ≡ who.proc) × (1 ≤ who.proc)
-process_is part number who e = by (nat_eq number 0) refl e
-  where
-    by : (zero_number : Bool) → nat_eq number 0 ≡ zero_number → (if zero_number then None else Some (record { part = part; proc = number })) ≡ Some who
-        → (part ≡ who.part) × (number ≡ who.proc) × (1 ≤ who.proc)
-    by true is e = absurd (none-some who e)
-    by false is e =
-        let same : record { part = part; proc = number } ≡ who = same_Some (record { part = part; proc = number }) who e in
-        let proc : number ≡ who.proc = ap (λ (w : Who). w.proc) same in
-        let filled : number ≢ 0 = eqb-false number 0 is in
-        (ap (λ (w : Who). w.part) same, proc, omega (arith, proc, filled))
+process_is part number who e =
+    let made = cond_some (nat_lt 0 number) (record { part = part; proc = number }) who e in
+    let proc : number ≡ who.proc = ap (λ (w : Who). w.proc) made.1 in
+    let filled : 0 < number = ltb-true 0 number made.0 in
+    (ap (λ (w : Who). w.part) made.1, proc, omega (arith, proc, filled))
 
 -- a text of a front and a rest, which are the numbers of a process, is the text of the process
 process_written : (text front rest : List ℕ) (who : Who) → text ≡ front ++ 58 ∷ rest → front ≡ written who.part → rest ≡ written who.proc → text ≡ process_text who
@@ -121,21 +89,13 @@ process_holds text who e =
       },
     )
 
--- a process whose number is 1 or more is made of its partition and its number
-is_process : (who : Who) → 1 ≤ who.proc → process who.part who.proc ≡ Some who
-is_process who created = by (nat_eq who.proc 0) refl
-  where
-    by : (zero_number : Bool) → nat_eq who.proc 0 ≡ zero_number → (if zero_number then None else Some (record { part = who.part; proc = who.proc })) ≡ Some who
-    by true is = let none : who.proc ≡ 0 = eqb-true who.proc 0 is in absurd (omega (arith, none, created))
-    by false is = refl
-
 -- no `;` stands in the text of a process
-process_lacks : (who : Who) → IsNameable who → Lacks 59 (process_text who)
+process_lacks : (who : Who) → IsNameable who → All (IsOther 59) (process_text who)
 process_lacks who h =
     let part : who.part ≤ GREATEST_PARTITION = h.part in
     let proc : who.proc ≤ GREATEST_NUMBER = h.proc in
-    rw append_assoc (lacks_both 59 (written who.part) (58 ∷ written who.proc) (written_lacks 59 who.part (omega arith) (omega arith))
-    (refl, written_lacks 59 who.proc (omega arith) (omega arith)))
+    rw append_assoc (All-append (IsOther 59) (written who.part) (58 ∷ written who.proc) (written_lacks 59 who.part (omega arith) (omega arith))
+    (All-cons (IsOther 59) 58 (written who.proc) refl (written_lacks 59 who.proc (omega arith) (omega arith))))
 
 -- a process that a list can name is read from its text
 holds_process : (who : Who) → IsNameable who → process_of (process_text who) ≡ Some who
@@ -143,12 +103,12 @@ unfolding process_of
 holds_process who h =
     let joined : process_text who ≡ written who.part ++ 58 ∷ written who.proc = append_assoc (written who.part) (codes ":") (written who.proc) in
     let fits : who.part ≤ GREATEST_PARTITION = h.part in
-    let lacks : Lacks 58 (written who.part) = written_lacks 58 who.part (omega arith) (omega arith) in
-    let rest : rest_of 58 (process_text who) ≡ Some (written who.proc) = ap (rest_of 58) joined ∙ rest_joined 58 (written who.part) (written who.proc) lacks in
-    let front : front_of 58 (process_text who) ≡ written who.part = ap (front_of 58) joined ∙ front_joined 58 (written who.part) (written who.proc) lacks in
+    let cut = cut_joined 58 (written who.part) (written who.proc) (written_lacks 58 who.part (omega arith) (omega arith)) in
+    let rest : rest_of 58 (process_text who) ≡ Some (written who.proc) = ap (rest_of 58) joined ∙ cut.1 in
+    let front : front_of 58 (process_text who) ≡ written who.part = ap (front_of 58) joined ∙ cut.0 in
     let part = number_read GREATEST_PARTITION who.part (written who.part) (omega arith) h.part refl in
     let proc = number_read GREATEST_NUMBER who.proc (written who.proc) (omega arith) h.proc refl in
-    rw (rest, front, part, proc) (is_process who h.created)
+    rw (rest, front, part, proc, lt-ltb 0 who.proc h.created) refl
 
 -- the texts of processes joined by `;`
 texts_joined : (named : List Who) → join_with_byte 59 (map process_text named) ≡ join_by process_text (codes ";") named
@@ -159,15 +119,10 @@ texts_joined (who ∷ next ∷ others) = ap (λ rest. process_text who ++ 59 ∷
 -- the pieces of a joining are the texts that were joined
 all_pieces : (who : Who) (others : List Who) → All IsNameable (who ∷ others)
     → pieces_of 59 (join_with_byte 59 (map process_text (who ∷ others))) ≡ map process_text (who ∷ others)
-all_pieces who [] all =
-    let lacks = process_lacks who (All-head IsNameable who [] all) in
-    pieces_split 59 (process_text who) ∙ rw (front_whole 59 (process_text who) lacks, rest_whole 59 (process_text who) lacks) refl
+all_pieces who [] all = slice_split_none (λ b. nat_eq b 59) (process_text who) (process_lacks who (All-head IsNameable who [] all))
 all_pieces who (next ∷ others) all =
-    let rest = join_with_byte 59 (map process_text (next ∷ others)) in
-    let lacks = process_lacks who (All-head IsNameable who (next ∷ others) all) in
-    pieces_split 59 (process_text who ++ 59 ∷ rest)
-    ∙ rw (front_joined 59 (process_text who) rest lacks, rest_joined 59 (process_text who) rest lacks)
-    (ap (λ found. process_text who ∷ found) (all_pieces next others (All-tail IsNameable who (next ∷ others) all)))
+    slice_split_at (λ b. nat_eq b 59) (process_text who) 59 (join_with_byte 59 (map process_text (next ∷ others))) (process_lacks who (All-head IsNameable who (next ∷ others) all)) refl
+    ∙ ap (λ found. process_text who ∷ found) (all_pieces next others (All-tail IsNameable who (next ∷ others) all))
 
 -- the text of a process that comes after the last names it
 next_is_read : (last : Option Who) (who : Who) (others : List Who) → IsNameable who → RisesBehind last (who ∷ others) → next_process last (process_text who) ≡ Some who
@@ -195,11 +150,7 @@ next_holds : (last : Option Who) (text : List ℕ) (who : Who) → next_process 
 unfolding next_process
 next_holds last text who e =
     let found = found_first (λ w. if stands_behind last w then Some w else None) (process_of text) who e in
-    process_holds text who (found.1 ∙ by found.0 (stands_behind last found.0) found.2)
-  where
-    by : (w : Who) (behind : Bool) → (if behind then Some w else None) ≡ Some who → Some w ≡ Some who
-    by w true e = e
-    by w false e = absurd (none-some who e)
+    process_holds text who (found.1 ∙ ap Some (cond_some (stands_behind last found.0) found.0 who found.2).1)
 
 -- equal texts before equal ones
 both_same : (one other : List ℕ) (ones others : List (List ℕ)) → one ≡ other → ones ≡ others → one ∷ ones ≡ other ∷ others
@@ -217,26 +168,6 @@ are_held last (text ∷ texts) named e =
     subst (λ found. (text ∷ texts ≡ map process_text found) × All IsNameable found) others.2
     (both_same text (process_text who.0) texts (map process_text others.0) first.0 rest.0, All-cons IsNameable who.0 others.0 first.1 rest.1)
 
--- a byte in front of the first text of a joining
-join_onto : (b : ℕ) (text : List ℕ) (texts : List (List ℕ)) → join_with_byte 59 ((b ∷ text) ∷ texts) ≡ b ∷ join_with_byte 59 (text ∷ texts)
-join_onto b text [] = refl
-join_onto b text (other ∷ others) = refl
-
--- the pieces of a text joined are the text
-pieces_joined : (text : List ℕ) → join_with_byte 59 (pieces_of 59 text) ≡ text
-pieces_joined [] = refl
-pieces_joined (b ∷ bs) = by (nat_eq b 59) refl (pieces_split 59 bs) (pieces_joined bs)
-  where
-    by : (here : Bool) → nat_eq b 59 ≡ here → pieces_of 59 bs ≡ front_of 59 bs ∷ pieces_left 59 (rest_of 59 bs)
-        → join_with_byte 59 (pieces_of 59 bs) ≡ bs
-        → join_with_byte 59 (if here then [] ∷ pieces_of 59 bs else onto b (pieces_of 59 bs)) ≡ b ∷ bs
-    by true here split more =
-        ap (λ pieces. join_with_byte 59 ([] ∷ pieces)) split ∙ ap (λ text. 59 ∷ text) (ap (join_with_byte 59) (sym split) ∙ more)
-        ∙ ap (λ byte. byte ∷ bs) (sym (eqb-true b 59 here))
-    by false here split more =
-        ap (λ pieces. join_with_byte 59 (onto b pieces)) split ∙ join_onto b (front_of 59 bs) (pieces_left 59 (rest_of 59 bs))
-        ∙ ap (λ text. b ∷ text) (ap (join_with_byte 59) (sym split) ∙ more)
-
 -- a list that is read is what the field holds
 pub processes_hold : (text : List ℕ) (named : List Who) → woken_of text ≡ Ok named → HoldsProcesses text named
 unfolding woken_of
@@ -246,7 +177,7 @@ processes_hold (b ∷ bs) named e =
     let read = ok_some (processes_behind None (pieces_of 59 (b ∷ bs))) BadWoken named e in
     let held = are_held None (pieces_of 59 (b ∷ bs)) named read in
     record {
-      joined = sym (pieces_joined (b ∷ bs)) ∙ ap (join_with_byte 59) held.0 ∙ texts_joined named;
+      joined = sym (join_with_byte-slice_split 59 (b ∷ bs)) ∙ ap (join_with_byte 59) held.0 ∙ texts_joined named;
       each = held.1;
       rising = rising_behind None (pieces_of 59 (b ∷ bs)) named read;
     }

@@ -1,10 +1,10 @@
 -- What is given by its name: a step of the reader gives it exactly where the field is its name.
 use Rattle.std.proofs.Common.{◌≡◌, ◌∙◌, ℕ, List, [], ◌∷◌, Bool, true, false, Option, Some, None, Ok, refl, sym, ap, subst, if◌then◌else◌}
-use Rattle.std.specs.Prelude.{IsTrue, codes, option_and_then, option_map}
-use Rattle.std.specs.List.{list_all}
+use Rattle.std.specs.Prelude.{IsTrue, codes, option_map}
+use Rattle.std.specs.List.{find, list_all}
 use Rattle.std.specs.Str.{bytes_eq}
 use Rattle.std.proofs.lemmas.Bool.{and_parts}
-use Rattle.std.proofs.lemmas.Option.{none-some, same_Some}
+use Rattle.std.proofs.lemmas.Option.{cond_some, none-some, same_Some}
 use Rattle.std.proofs.lemmas.Slice.Eq.{bytes_eq-Decides}
 use Rattle.apex_types.specs.declared.code.Code.{Code}
 use Rattle.apex_types.specs.declared.code.Code.TheVariants as code
@@ -21,9 +21,9 @@ use Rattle.record_read.specs.declared.kind.Kind.{Kind}
 use Rattle.record_read.specs.declared.kind.Kind.TheVariants as kind
 use Rattle.apex_types.specs.Services.{is_in}
 use Rattle.record_read.specs.Field.{filled}
-use Rattle.record_read.specs.Grammar.{HoldsOutcome}
-use Rattle.record_read.specs.Named.{all_codes, code_among, code_named, code_of, kind_named, kind_of, out_named, out_of, service_among, service_in, service_named, service_of}
-use Rattle.record_read.proofs.GrammarFields.{no_fault, ok_some}
+use Rattle.record_read.specs.Grammar.{HoldsOutcome, HoldsService}
+use Rattle.record_read.specs.Named.{all_codes, code_named, code_of, kind_name, kind_named, kind_of, out_named, out_of, service_among, service_in, service_named, service_of}
+use Rattle.record_read.proofs.GrammarFields.{found_first, no_fault, ok_some}
 
 -- the first of two finds: the text has the first name and this is what it names, or the second find gives it
 first_is : {A : Type 0} (name text : List ℕ) (named : A) (others : Option A) (found : A) (Holds : A → Type 0) → (name ≡ text → Holds named)
@@ -33,13 +33,6 @@ first_is name text named others found Holds first more e = by (bytes_eq name tex
     by : (same : Bool) → bytes_eq name text ≡ same → (if same then Some named else others) ≡ Some found → Holds found
     by true same e = subst Holds (same_Some named found e) (first ((bytes_eq-Decides name text).0 same))
     by false same e = more e
-
--- the name of each kind of row
-abbrev pub kind_name : Kind → List ℕ
-kind_name kind.Call = codes "call"
-kind_name kind.Ret = codes "ret"
-kind_name kind.Disp = codes "disp"
-kind_name kind.Tick = codes "tick"
 
 -- a text that names a kind is its name
 kind_named_is : (text : List ℕ) (k : Kind) → kind_named text ≡ Some k → text ≡ kind_name k
@@ -82,41 +75,30 @@ service_named_is : (text : List ℕ) (s : Service) → service_named text ≡ So
 unfolding service_named Services.row_of
 service_named_is text s e = service_among_is SERVICES text s refl e
 
--- a field that is read as a service is its name, and the service stands in the format
-pub service_is : (format : Format) (text : List ℕ) (s : Service) → service_of format text ≡ Ok s → (text ≡ Services.name_of s) × IsTrue (is_in format s)
+-- a field that is read as a service is its name, and the service is in the format
+pub service_is : (format : Format) (text : List ℕ) (s : Service) → service_of format text ≡ Ok s → HoldsService format text s
 unfolding service_of service_in filled
 service_is format [] s e = no_fault FieldNotForKind s e
 service_is format (b ∷ bs) s e =
-    by (service_named (b ∷ bs)) refl (ok_some (service_in format (b ∷ bs)) BadService s e)
-  where
-    of_test : (test : Bool) (found : Service) → is_in format found ≡ test → service_named (b ∷ bs) ≡ Some found → (if test then Some found else None) ≡ Some s
-        → (b ∷ bs ≡ Services.name_of s) × IsTrue (is_in format s)
-    of_test true found stands is e =
-        let same = same_Some found s e in
-        (service_named_is (b ∷ bs) s (is ∙ ap Some same), subst (λ given. IsTrue (is_in format given)) same stands)
-    of_test false found stands is e = absurd (none-some s e)
+    let found = found_first (λ given. if is_in format given then Some given else None) (service_named (b ∷ bs)) s (ok_some (service_in format (b ∷ bs)) BadService s e) in
+    let known = cond_some (is_in format found.0) found.0 s found.2 in
+    record { named = service_named_is (b ∷ bs) s (found.1 ∙ ap Some known.1); in_format = subst (λ given. IsTrue (is_in format given)) known.1 known.0 }
 
-    by : (o : Option Service) → service_named (b ∷ bs) ≡ o → option_and_then (λ found. if is_in format found then Some found else None) o ≡ Some s
-        → (b ∷ bs ≡ Services.name_of s) × IsTrue (is_in format s)
-    by None is e = absurd (none-some s e)
-    by (Some found) is e = of_test (is_in format found) found refl is e
-
--- the name of a service that stands in the format names it, and no service before it
+-- the name of a service of the format names it, and no service before it
 of_service_name : (format : Format) (s : Service) → IsTrue (is_in format s) → service_of format (Services.name_of s) ≡ Ok s
 unfolding service_of service_named service_among Services.row_of service_in filled
-of_service_name format service.CreateProcess stands = rw stands refl
-of_service_name format _ stands = rw stands refl
+of_service_name format service.CreateProcess known = rw known refl
+of_service_name format _ known = rw known refl
 
--- a field that is the name of a service that stands in the format is read as it
-pub is_service : (format : Format) (text : List ℕ) (s : Service) → text ≡ Services.name_of s → IsTrue (is_in format s) → service_of format text ≡ Ok s
-is_service format text s e stands = ap (service_of format) e ∙ of_service_name format s stands
+-- a field that is the name of a service of the format is read as it
+pub is_service : (format : Format) (text : List ℕ) (s : Service) → HoldsService format text s → service_of format text ≡ Ok s
+is_service format text s h = ap (service_of format) h.named ∙ of_service_name format s h.in_format
 
 -- a text that names a code among some is its name
-code_among_is : (cs : List Code) (text : List ℕ) (c : Code) → code_among cs text ≡ Some c → text ≡ CodeName.name_of c
-unfolding code_among
+code_among_is : (cs : List Code) (text : List ℕ) (c : Code) → find (λ other. bytes_eq (CodeName.name_of other) text) cs ≡ Some c → text ≡ CodeName.name_of c
 code_among_is [] text c e = absurd (none-some c e)
 code_among_is (first ∷ others) text c e =
-    first_is (CodeName.name_of first) text first (code_among others text) c (λ found. text ≡ CodeName.name_of found) sym (code_among_is others text c) e
+    first_is (CodeName.name_of first) text first (find (λ other. bytes_eq (CodeName.name_of other) text) others) c (λ found. text ≡ CodeName.name_of found) sym (code_among_is others text c) e
 
 -- a field that is read as a code is its name
 pub code_is : (text : List ℕ) (c : Code) → code_of text ≡ Ok c → text ≡ CodeName.name_of c
@@ -126,7 +108,7 @@ code_is (b ∷ bs) c e = code_among_is all_codes (b ∷ bs) c (ok_some (code_nam
 
 -- the name of a code names it, and no code before it
 of_code_name : (c : Code) → code_of (CodeName.name_of c) ≡ Ok c
-unfolding code_of code_among filled
+unfolding code_of filled
 of_code_name code.NoError = refl
 of_code_name _ = refl
 
@@ -155,22 +137,13 @@ outcome_is (b ∷ bs) o e = out_named_is (b ∷ bs) o (ok_some (out_named (b ∷
 
 -- the name of a code is the outcome with that code
 of_code_outcome : (c : Code) → out_of (CodeName.name_of c) ≡ Ok (out.Answer c)
-unfolding out_of out_named code_among filled
+unfolding out_of out_named filled
 of_code_outcome code.NoError = refl
 of_code_outcome _ = refl
 
--- `wait` is the outcome of a caller that waits
-waits_is : out_of (codes "wait") ≡ Ok out.Waits
-unfolding out_of out_named filled
-waits_is = refl
-
--- `none` is the outcome of a call that does not return
-never_is : out_of (codes "none") ≡ Ok out.Never
-unfolding out_of out_named filled
-never_is = refl
-
 -- a field that holds an outcome is read as it
 pub is_outcome : (text : List ℕ) (o : Out) → HoldsOutcome text o → out_of text ≡ Ok o
-is_outcome text out.Waits e = ap out_of e ∙ waits_is
-is_outcome text out.Never e = ap out_of e ∙ never_is
+unfolding out_of out_named filled
+is_outcome text out.Waits e = ap out_of e
+is_outcome text out.Never e = ap out_of e
 is_outcome text (out.Answer c) e = ap out_of e ∙ of_code_outcome c

@@ -6,7 +6,7 @@ use Rattle.std.specs.Fmt.{decimal, signed_decimal}
 use Rattle.std.specs.Str.Parse.{AllDigits, digits_value, digits_value_after}
 use Rattle.std.proofs.lemmas.Bool.{and_parts, eq-eqb, eqb-true, le-leb, leb-true, ltb-false, ne_eqb}
 use Rattle.std.proofs.lemmas.Fmt.{decimal-digits_value, decimal_digit, decimal_is_IsNumeral, first_decimal}
-use Rattle.std.proofs.lemmas.Option.{none-some, same_Some}
+use Rattle.std.proofs.lemmas.Option.{none-some, option_and_then_some, same_Some}
 use Rattle.std.proofs.lemmas.Str.{digit_value_digit}
 use Rattle.std.proofs.lemmas.Str.Parse.{digit_from_value, numerals_by_value, tells_digits}
 use Rattle.csv_rows.specs.Decimal.{digits_from, negated, decimal as decimal_read, signed_decimal as signed_read}
@@ -113,12 +113,6 @@ signed_written (b ∷ bs) z e = by (b == 45) refl e
     below (suc m) written fits minus e =
         subst (λ y. (b ∷ bs ≡ signed_decimal y) × FitsSigned w64 y) (same_Some (negsuc m) z e) (rw (minus, written) refl, record { sfits = fits })
 
-    negative : (o : Option ℕ) → decimal_read 0x8000000000000000 bs ≡ o → b ≡ 45 → option_and_then negated o ≡ Some z → (b ∷ bs ≡ signed_decimal z) × FitsSigned w64 z
-    negative None is minus e = absurd (none-some z e)
-    negative (Some m) is minus e =
-        let written = number_written 0x8000000000000000 bs m (omega arith) is in
-        below m written.0 written.1 minus e
-
     positive : (o : Option ℕ) → decimal_read 0x7FFFFFFFFFFFFFFF (b ∷ bs) ≡ o → option_map pos o ≡ Some z → (b ∷ bs ≡ signed_decimal z) × FitsSigned w64 z
     positive None is e = absurd (none-some z e)
     positive (Some m) is e =
@@ -129,7 +123,10 @@ signed_written (b ∷ bs) z e = by (b == 45) refl e
     by : (minus : Bool) → (b == 45) ≡ minus
         → (if minus then option_and_then negated (decimal_read 0x8000000000000000 bs) else option_map pos (decimal_read 0x7FFFFFFFFFFFFFFF (b ∷ bs))) ≡ Some z
         → (b ∷ bs ≡ signed_decimal z) × FitsSigned w64 z
-    by true minus e = negative (decimal_read 0x8000000000000000 bs) refl (eqb-true b 45 minus) e
+    by true minus e =
+        option_and_then_some negated (decimal_read 0x8000000000000000 bs) z e (λ m is made.
+        let written = number_written 0x8000000000000000 bs m (omega arith) is in
+        below m written.0 written.1 (eqb-true b 45 minus) made)
     by false minus e = positive (decimal_read 0x7FFFFFFFFFFFFFFF (b ∷ bs)) refl e
 
 -- no minus leads in a number from 0 on

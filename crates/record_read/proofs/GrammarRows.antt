@@ -1,5 +1,5 @@
 -- Whole rows: the reader's steps from left to right give a record exactly where the row is the record's.
-use Rattle.std.proofs.Common.{◌≡◌, ◌+◌, ◌-◌, ◌^◌, ◌<◌, ◌∙◌, ◌≤◌, ℕ, zero, suc, pred, List, [], ◌∷◌, ◌++◌, Bool, true, false, Option, Some, None, Result, Ok, Err, length, refl, sym, ap, subst, nat_le, nat_lt, nat_eq, arith, if◌then◌else◌, ◌==◌}
+use Rattle.std.proofs.Common.{◌≡◌, ◌+◌, ◌-◌, ◌^◌, ◌<◌, ◌∙◌, ◌≤◌, ℕ, zero, suc, pred, List, [], ◌∷◌, Bool, true, false, Option, Some, None, Result, Ok, Err, length, refl, sym, ap, subst, nat_le, nat_lt, nat_eq, arith, if◌then◌else◌, ◌==◌}
 use Rattle.std.specs.Prelude.{codes}
 use Rattle.std.specs.Fmt.{decimal}
 use Rattle.std.proofs.lemmas.Bool.{eq-eqb, eqb-true, lt-ltb}
@@ -25,12 +25,13 @@ use Rattle.apex_types.specs.Services.{arguments_of}
 use Rattle.record_read.specs.Arguments.{request_of}
 use Rattle.record_read.specs.Field.{all_empty, bytes_at, empty, empty_between, maybe_number, text_at}
 use Rattle.apex_types.specs.Format.{field_count}
-use Rattle.record_read.specs.Grammar.{AreEmpty, Dispatches, HoldsClaim, HoldsNumber, HoldsRequest, IsRow, IsRowOf, IsRowOfCall, IsRowOfDispatch, IsRowOfReturn, IsRowOfTick, NamesProcess, columns_of}
+use Rattle.record_read.specs.Grammar.{AreEmpty, Dispatches, HoldsClaim, HoldsNumber, HoldsRequest, IsRow, IsRowOf, IsRowOfCall, IsRowOfDispatch, IsRowOfReturn, IsRowOfTick, NamesProcess}
 use Rattle.record_read.specs.GrammarLaws.{OneRecordOfARow, RowsAreTheGrammar}
-use Rattle.record_read.specs.Row.{body_in, call_in, claim_in, dispatch_in, fields_read, proc_of, record_of, request_in, return_in, seq_in, tick_in, who_in}
+use Rattle.record_read.specs.Named.{kind_name}
+use Rattle.record_read.specs.Row.{body_in, call_in, claim_in, dispatch_in, proc_of, record_of, request_in, return_in, tick_in, who_in}
 use Rattle.record_read.proofs.GrammarFields.{argument_holds, empty_is, holds_argument, holds_maybe_number, holds_maybe_signed, holds_number, maybe_number_holds, maybe_signed_holds, no_fault, number_holds, same_ok, step_ok, test_ok}
 use Rattle.record_read.proofs.GrammarLists.{hold_processes, processes_hold}
-use Rattle.record_read.proofs.GrammarNames.{code_is, is_code, is_kind, is_outcome, is_service, kind_is, kind_name, outcome_is, service_is}
+use Rattle.record_read.proofs.GrammarNames.{code_is, is_code, is_kind, is_outcome, is_service, kind_is, outcome_is, service_is}
 use Rattle.record_read.proofs.GrammarTexts.{data_holds, holds_data, holds_message, holds_name, message_holds, name_holds}
 
 -- so many fields from this place on
@@ -59,39 +60,24 @@ texts_between fields first last = texts_from fields (place_of first) (place_of l
 are_empty_between : (fields : Fields) (first last : Column) → AreEmpty (texts_between fields first last) → empty_between fields first last ≡ Ok tt
 are_empty_between fields first last = are_all_empty fields (place_of first) (place_of last + 1 - place_of first)
 
--- empty fields after empty ones
-both_empty : (front back : List (List ℕ)) → AreEmpty front → AreEmpty back → AreEmpty (front ++ back)
-both_empty [] back h k = k
-both_empty (text ∷ texts) back h k = (h.0, both_empty texts back h.1 k)
-
--- the first of empty fields are empty
-front_empty : (front back : List (List ℕ)) → AreEmpty (front ++ back) → AreEmpty front
-front_empty [] back h = tt
-front_empty (text ∷ texts) back h = (h.0, front_empty texts back h.1)
-
--- and so are the others
-back_empty : (front back : List (List ℕ)) → AreEmpty (front ++ back) → AreEmpty back
-back_empty [] back h = h
-back_empty (text ∷ texts) back h = back_empty texts back h.1
-
 -- a process that is read is the one that the row names
-who_is : (fields : Fields) (who : Who) → who_in fields ≡ Ok who → NamesProcess (columns_of fields) who
+who_is : (fields : Fields) (who : Who) → who_in fields ≡ Ok who → NamesProcess (text_at fields) who
 unfolding who_in
 who_is fields who e =
     let part = step_ok _ _ who e in
     let proc = step_ok _ _ who part.2 in
-    subst (NamesProcess (columns_of fields)) (same_ok (record { part = part.0; proc = proc.0 }) who proc.2) (record {
+    subst (NamesProcess (text_at fields)) (same_ok (record { part = part.0; proc = proc.0 }) who proc.2) (record {
       part = number_holds GREATEST_PARTITION (text_at fields column.Partition) part.0 (omega arith) part.1;
       proc = number_holds GREATEST_NUMBER (text_at fields column.Process) proc.0 (omega arith) proc.1;
     })
 
 -- a process that the row names is read
-is_who : (fields : Fields) (who : Who) → NamesProcess (columns_of fields) who → who_in fields ≡ Ok who
+is_who : (fields : Fields) (who : Who) → NamesProcess (text_at fields) who → who_in fields ≡ Ok who
 unfolding who_in
 is_who fields who h = rw (holds_number GREATEST_PARTITION (text_at fields column.Partition) who.part (omega arith) h.part, holds_number GREATEST_NUMBER (text_at fields column.Process) who.proc (omega arith) h.proc) refl
 
 -- a request that is read is what the row holds
-request_is : (format : Format) (fields : Fields) (request : Request) → request_in format fields ≡ Ok request → HoldsRequest format (columns_of fields) request
+request_is : (format : Format) (fields : Fields) (request : Request) → request_in format fields ≡ Ok request → HoldsRequest format (text_at fields) request
 unfolding request_in
 request_is format fields request e =
     let service = step_ok _ _ request e in
@@ -101,7 +87,6 @@ request_is format fields request e =
     let name = step_ok _ _ request n3.2 in
     let message = step_ok _ _ request name.2 in
     let takes = arguments_of service.0 in
-    let given = service_is format (text_at fields column.Service) service.0 service.1 in
     record {
       service = service.0;
       n1 = n1.0;
@@ -110,8 +95,7 @@ request_is format fields request e =
       name = name.0;
       message = message.0;
       is = sym (same_ok (request_of service.0 n1.0 n2.0 n3.0 name.0 message.0) request message.2);
-      has_service = given.0;
-      stands = given.1;
+      has_service = service_is format (text_at fields column.Service) service.0 service.1;
       has_n1 = argument_holds (nat_le 1 takes.numbers) (text_at fields column.FirstNumber) n1.0 n1.1;
       has_n2 = argument_holds (nat_le 2 takes.numbers) (text_at fields column.SecondNumber) n2.0 n2.1;
       has_n3 = argument_holds (nat_le 3 takes.numbers) (text_at fields column.ThirdNumber) n3.0 n3.1;
@@ -120,12 +104,12 @@ request_is format fields request e =
     }
 
 -- a request that the row holds is read
-is_request : (format : Format) (fields : Fields) (request : Request) → HoldsRequest format (columns_of fields) request → request_in format fields ≡ Ok request
+is_request : (format : Format) (fields : Fields) (request : Request) → HoldsRequest format (text_at fields) request → request_in format fields ≡ Ok request
 unfolding request_in
 is_request format fields request h =
     let takes = arguments_of h.service in
     rw (
-      is_service format (text_at fields column.Service) h.service h.has_service h.stands,
+      is_service format (text_at fields column.Service) h.service h.has_service,
       holds_argument (nat_le 1 takes.numbers) (text_at fields column.FirstNumber) h.n1 h.has_n1,
       holds_argument (nat_le 2 takes.numbers) (text_at fields column.SecondNumber) h.n2 h.has_n2,
       holds_argument (nat_le 3 takes.numbers) (text_at fields column.ThirdNumber) h.n3 h.has_n3,
@@ -134,7 +118,7 @@ is_request format fields request h =
     ) (ap Ok (sym h.is))
 
 -- a claim that is read is what the row holds
-claim_is : (fields : Fields) (claim : Claim) → claim_in fields ≡ Ok claim → HoldsClaim (columns_of fields) claim
+claim_is : (fields : Fields) (claim : Claim) → claim_in fields ≡ Ok claim → HoldsClaim (text_at fields) claim
 unfolding claim_in
 claim_is fields claim e =
     let prio = step_ok _ _ claim e in
@@ -145,7 +129,7 @@ claim_is fields claim e =
     let woken = step_ok _ _ claim chan.2 in
     let val2 = step_ok _ _ claim woken.2 in
     let val3 = step_ok _ _ claim val2.2 in
-    subst (HoldsClaim (columns_of fields))
+    subst (HoldsClaim (text_at fields))
     (same_ok (record { prio = prio.0; out = out.0; val = val.0; val2 = val2.0; val3 = val3.0; bytes = bytes.0; chan = chan.0; woken = woken.0 }) claim val3.2) (record {
       prio = number_holds GREATEST_PRIORITY (text_at fields column.Priority) prio.0 (omega arith) prio.1;
       out = outcome_is (text_at fields column.Outcome) out.0 out.1;
@@ -158,7 +142,7 @@ claim_is fields claim e =
     })
 
 -- a claim that the row holds is read
-is_claim : (fields : Fields) (claim : Claim) → HoldsClaim (columns_of fields) claim → claim_in fields ≡ Ok claim
+is_claim : (fields : Fields) (claim : Claim) → HoldsClaim (text_at fields) claim → claim_in fields ≡ Ok claim
 unfolding claim_in
 is_claim fields claim h =
     rw (
@@ -174,13 +158,13 @@ is_claim fields claim h =
 
 -- a row of this kind that is read as a call is its row
 call_is : (format : Format) (fields : Fields) (call : Call) → text_at fields column.Kind ≡ codes "call" → call_in format fields ≡ Ok call
-    → IsRowOfCall format (columns_of fields) call
+    → IsRowOfCall format (text_at fields) call
 unfolding call_in
 call_is format fields call named e =
     let who = step_ok _ _ call e in
     let request = step_ok _ _ call who.2 in
     let claim = step_ok _ _ call request.2 in
-    subst (IsRowOfCall format (columns_of fields)) (same_ok (record { who = who.0; request = request.0; claim = claim.0 }) call claim.2) (record {
+    subst (IsRowOfCall format (text_at fields)) (same_ok (record { who = who.0; request = request.0; claim = claim.0 }) call claim.2) (record {
       kind = named;
       who = who_is fields who.0 who.1;
       request = request_is format fields request.0 request.1;
@@ -188,13 +172,13 @@ call_is format fields call named e =
     })
 
 -- the row of a call is read as the call
-is_call : (format : Format) (fields : Fields) (call : Call) → IsRowOfCall format (columns_of fields) call → call_in format fields ≡ Ok call
+is_call : (format : Format) (fields : Fields) (call : Call) → IsRowOfCall format (text_at fields) call → call_in format fields ≡ Ok call
 unfolding call_in
 is_call format fields call h = rw (is_who fields call.who h.who, is_request format fields call.request h.request, is_claim fields call.claim h.claim) refl
 
 -- a row of this kind that is read as a return is its row
 return_is : (format : Format) (fields : Fields) (ret : Return) → text_at fields column.Kind ≡ codes "ret" → return_in format fields ≡ Ok ret
-    → IsRowOfReturn format (columns_of fields) ret
+    → IsRowOfReturn format (text_at fields) ret
 unfolding return_in
 return_is format fields ret named e =
     let who = step_ok _ _ ret e in
@@ -206,112 +190,112 @@ return_is format fields ret named e =
     let unused_too = step_ok _ _ ret bytes.2 in
     let val2 = step_ok _ _ ret unused_too.2 in
     let val3 = step_ok _ _ ret val2.2 in
-    let given = service_is format (text_at fields column.Service) service.0 service.1 in
-    subst (IsRowOfReturn format (columns_of fields))
+    subst (IsRowOfReturn format (text_at fields))
     (same_ok (record { who = who.0; service = service.0; code = code.0; val = val.0; val2 = val2.0; val3 = val3.0; bytes = bytes.0 }) ret val3.2) (record {
       kind = named;
       who = who_is fields who.0 who.1;
-      service = given.0;
-      stands = given.1;
+      service = service_is format (text_at fields column.Service) service.0 service.1;
       code = code_is (text_at fields column.Outcome) code.0 code.1;
       val = maybe_signed_holds (text_at fields column.Value) val.0 val.1;
       val2 = maybe_signed_holds (text_at fields column.SecondValue) val2.0 val2.1;
       val3 = maybe_signed_holds (text_at fields column.ThirdValue) val3.0 val3.1;
       bytes = data_holds (text_at fields column.Data) bytes.0 bytes.1;
-      empty = both_empty (texts_between fields column.FirstNumber column.Priority) (texts_between fields column.Channel column.Woken) (all_are_empty fields _ _ unused.1) (all_are_empty fields _ _ unused_too.1);
+      unused = all_are_empty fields _ _ unused.1;
+      unused_too = all_are_empty fields _ _ unused_too.1;
     })
 
 -- the row of a return is read as the return
-is_return : (format : Format) (fields : Fields) (ret : Return) → IsRowOfReturn format (columns_of fields) ret → return_in format fields ≡ Ok ret
+is_return : (format : Format) (fields : Fields) (ret : Return) → IsRowOfReturn format (text_at fields) ret → return_in format fields ≡ Ok ret
 unfolding return_in
 is_return format fields ret h =
     rw (
       is_who fields ret.who h.who,
-      is_service format (text_at fields column.Service) ret.service h.service h.stands,
-      are_empty_between fields column.FirstNumber column.Priority (front_empty (texts_between fields column.FirstNumber column.Priority) (texts_between fields column.Channel column.Woken) h.empty),
+      is_service format (text_at fields column.Service) ret.service h.service,
+      are_empty_between fields column.FirstNumber column.Priority h.unused,
       is_code (text_at fields column.Outcome) ret.code h.code,
       holds_maybe_signed (text_at fields column.Value) ret.val h.val,
       holds_data (text_at fields column.Data) ret.bytes h.bytes,
-      are_empty_between fields column.Channel column.Woken (back_empty (texts_between fields column.FirstNumber column.Priority) (texts_between fields column.Channel column.Woken) h.empty),
+      are_empty_between fields column.Channel column.Woken h.unused_too,
       holds_maybe_signed (text_at fields column.SecondValue) ret.val2 h.val2,
       holds_maybe_signed (text_at fields column.ThirdValue) ret.val3 h.val3,
     ) refl
 
 -- a process of a dispatch that is read, or none, is what the row names
 proc_is : (fields : Fields) (part : Option ℕ) (who : Option Who) → maybe_number GREATEST_PARTITION (text_at fields column.Partition) ≡ Ok part → proc_of part (text_at fields column.Process) ≡ Ok who
-    → Dispatches (columns_of fields) who
+    → Dispatches (text_at fields) who
 unfolding proc_of
 proc_is fields None who p e =
     let unused = step_ok _ _ who e in
-    subst (Dispatches (columns_of fields)) (same_ok None who unused.2)
+    subst (Dispatches (text_at fields)) (same_ok None who unused.2)
     (maybe_number_holds GREATEST_PARTITION (text_at fields column.Partition) None (omega arith) p, (empty_is (text_at fields column.Process) unused.1, tt))
 proc_is fields (Some part) who p e =
     let proc = step_ok _ _ who e in
-    subst (Dispatches (columns_of fields)) (same_ok (Some (record { part = part; proc = proc.0 })) who proc.2)
+    subst (Dispatches (text_at fields)) (same_ok (Some (record { part = part; proc = proc.0 })) who proc.2)
     (record { part = maybe_number_holds GREATEST_PARTITION (text_at fields column.Partition) (Some part) (omega arith) p; proc = number_holds GREATEST_NUMBER (text_at fields column.Process) proc.0 (omega arith) proc.1 })
 
 -- a row of this kind that is read as a dispatch is its row
-dispatch_is : (fields : Fields) (who : Option Who) → text_at fields column.Kind ≡ codes "disp" → dispatch_in fields ≡ Ok who → IsRowOfDispatch (columns_of fields) who
+dispatch_is : (fields : Fields) (who : Option Who) → text_at fields column.Kind ≡ codes "disp" → dispatch_in fields ≡ Ok who → IsRowOfDispatch (text_at fields) who
 unfolding dispatch_in
 dispatch_is fields who named e =
     let part = step_ok _ _ who e in
     let found = step_ok _ _ who part.2 in
     let unused = step_ok _ _ who found.2 in
-    subst (IsRowOfDispatch (columns_of fields)) (same_ok found.0 who unused.2) (record {
+    subst (IsRowOfDispatch (text_at fields)) (same_ok found.0 who unused.2) (record {
       kind = named;
       process = proc_is fields part.0 found.0 part.1 found.1;
-      empty = all_are_empty fields _ _ unused.1;
+      unused = all_are_empty fields _ _ unused.1;
     })
 
 -- the row of a dispatch is read as the dispatch
-is_dispatch : (fields : Fields) (who : Option Who) → IsRowOfDispatch (columns_of fields) who → dispatch_in fields ≡ Ok who
+is_dispatch : (fields : Fields) (who : Option Who) → IsRowOfDispatch (text_at fields) who → dispatch_in fields ≡ Ok who
 unfolding dispatch_in proc_of
 is_dispatch fields None h =
-    rw (holds_maybe_number GREATEST_PARTITION (text_at fields column.Partition) None (omega arith) h.process.0, h.process.1.0, are_empty_between fields column.Service column.ThirdValue h.empty) refl
+    rw (holds_maybe_number GREATEST_PARTITION (text_at fields column.Partition) None (omega arith) h.process.0, h.process.1.0, are_empty_between fields column.Service column.ThirdValue h.unused) refl
 is_dispatch fields (Some who) h =
     rw (
       holds_maybe_number GREATEST_PARTITION (text_at fields column.Partition) (Some who.part) (omega arith) h.process.part,
       holds_number GREATEST_NUMBER (text_at fields column.Process) who.proc (omega arith) h.process.proc,
-      are_empty_between fields column.Service column.ThirdValue h.empty,
+      are_empty_between fields column.Service column.ThirdValue h.unused,
     ) refl
 
 -- a row of this kind that is read as a tick is its row
-tick_is : (fields : Fields) (named : List Who) → text_at fields column.Kind ≡ codes "tick" → tick_in fields ≡ Ok named → IsRowOfTick (columns_of fields) named
+tick_is : (fields : Fields) (named : List Who) → text_at fields column.Kind ≡ codes "tick" → tick_in fields ≡ Ok named → IsRowOfTick (text_at fields) named
 unfolding tick_in
 tick_is fields named is e =
     let unused = step_ok _ _ named e in
     let woken = step_ok _ _ named unused.2 in
     let unused_too = step_ok _ _ named woken.2 in
-    subst (IsRowOfTick (columns_of fields)) (same_ok woken.0 named unused_too.2) (record {
+    subst (IsRowOfTick (text_at fields)) (same_ok woken.0 named unused_too.2) (record {
       kind = is;
       woken = processes_hold (text_at fields column.Woken) woken.0 woken.1;
-      empty = both_empty (texts_between fields column.Partition column.Channel) (texts_between fields column.SecondValue column.ThirdValue) (all_are_empty fields _ _ unused.1) (all_are_empty fields _ _ unused_too.1);
+      unused = all_are_empty fields _ _ unused.1;
+      unused_too = all_are_empty fields _ _ unused_too.1;
     })
 
 -- the row of a tick is read as the tick
-is_tick : (fields : Fields) (named : List Who) → IsRowOfTick (columns_of fields) named → tick_in fields ≡ Ok named
+is_tick : (fields : Fields) (named : List Who) → IsRowOfTick (text_at fields) named → tick_in fields ≡ Ok named
 unfolding tick_in
 is_tick fields named h =
     rw (
-      are_empty_between fields column.Partition column.Channel (front_empty (texts_between fields column.Partition column.Channel) (texts_between fields column.SecondValue column.ThirdValue) h.empty),
+      are_empty_between fields column.Partition column.Channel h.unused,
       hold_processes (text_at fields column.Woken) named h.woken,
-      are_empty_between fields column.SecondValue column.ThirdValue (back_empty (texts_between fields column.Partition column.Channel) (texts_between fields column.SecondValue column.ThirdValue) h.empty),
+      are_empty_between fields column.SecondValue column.ThirdValue h.unused_too,
     ) refl
 
 -- a row of a kind that is read as something recorded is its row
-body_is : (format : Format) (fields : Fields) (k : Kind) (b : Body) → text_at fields column.Kind ≡ kind_name k → body_in format k fields ≡ Ok b → IsRowOf format (columns_of fields) b
+body_is : (format : Format) (fields : Fields) (k : Kind) (b : Body) → text_at fields column.Kind ≡ kind_name k → body_in format k fields ≡ Ok b → IsRowOf format (text_at fields) b
 unfolding body_in
 body_is format fields kind.Call b named e =
-    let call = step_ok _ _ b e in subst (IsRowOf format (columns_of fields)) (same_ok (body.Call call.0) b call.2) (call_is format fields call.0 named call.1)
+    let call = step_ok _ _ b e in subst (IsRowOf format (text_at fields)) (same_ok (body.Call call.0) b call.2) (call_is format fields call.0 named call.1)
 body_is format fields kind.Ret b named e =
-    let ret = step_ok _ _ b e in subst (IsRowOf format (columns_of fields)) (same_ok (body.Ret ret.0) b ret.2) (return_is format fields ret.0 named ret.1)
+    let ret = step_ok _ _ b e in subst (IsRowOf format (text_at fields)) (same_ok (body.Ret ret.0) b ret.2) (return_is format fields ret.0 named ret.1)
 body_is format fields kind.Disp b named e =
-    let who = step_ok _ _ b e in subst (IsRowOf format (columns_of fields)) (same_ok (body.Disp who.0) b who.2) (dispatch_is fields who.0 named who.1)
+    let who = step_ok _ _ b e in subst (IsRowOf format (text_at fields)) (same_ok (body.Disp who.0) b who.2) (dispatch_is fields who.0 named who.1)
 body_is format fields kind.Tick b named e =
-    let woken = step_ok _ _ b e in subst (IsRowOf format (columns_of fields)) (same_ok (body.Tick woken.0) b woken.2) (tick_is fields woken.0 named woken.1)
+    let woken = step_ok _ _ b e in subst (IsRowOf format (text_at fields)) (same_ok (body.Tick woken.0) b woken.2) (tick_is fields woken.0 named woken.1)
 
 -- the row of something recorded has a kind, and is read as a row of that kind
-is_body : (format : Format) (fields : Fields) (b : Body) → IsRowOf format (columns_of fields) b
+is_body : (format : Format) (fields : Fields) (b : Body) → IsRowOf format (text_at fields) b
     → (k : Kind) × (text_at fields column.Kind ≡ kind_name k) × (body_in format k fields ≡ Ok b)
 unfolding body_in
 is_body format fields (body.Call call) h = (kind.Call, h.kind, rw (is_call format fields call h) refl)
@@ -324,55 +308,43 @@ test_then : {A : Type 0} (test : Bool) (fault : RowFault) (read : Result A RowFa
 test_then true fault read y e = (refl, e)
 test_then false fault read y e = no_fault fault y e
 
--- the fields of a row of its format that are read as a record are its row
-fields_are : (format : Format) (next : ℕ) (fields : Fields) (rec : Record) → length fields ≡ field_count format → fields_read format next fields ≡ Ok rec → IsRow format next fields rec
-unfolding fields_read seq_in
-fields_are format next fields rec count e =
-    let room : pred MOST_RECORDS < 2 ^ 64 = omega arith in
-    let given = step_ok _ _ rec e in
+-- a row that is read as a record is its row
+row_is : (format : Format) (next : ℕ) (fields : Fields) (rec : Record) → record_of format next fields ≡ Ok rec → IsRow format next fields rec
+unfolding record_of
+row_is format next fields rec e =
+    let small : pred MOST_RECORDS < 2 ^ 64 = omega arith in
+    let room = test_then (nat_lt next MOST_RECORDS) TooMany _ rec e in
+    let count = test_then (length fields == field_count format) FieldCount _ rec room.1 in
+    let given = step_ok _ _ rec count.1 in
     let seq = step_ok _ _ rec given.2 in
     let k = step_ok _ _ rec seq.2 in
     let found = step_ok _ _ rec k.2 in
     let test = test_ok (nat_eq given.0 next) SeqGap given.0 seq.0 seq.1 in
-    let number = number_holds (pred MOST_RECORDS) (text_at fields column.Sequence) given.0 room given.1 in
+    let number = number_holds (pred MOST_RECORDS) (text_at fields column.Sequence) given.0 small given.1 in
     let bound : given.0 ≤ pred MOST_RECORDS = number.bound in
     subst (IsRow format next fields) (same_ok (record { seq = seq.0; body = found.0 }) rec found.2) (record {
-      count = count;
+      count = eqb-true (length fields) (field_count format) count.0;
       number = sym test.1 ∙ eqb-true given.0 next test.0;
       bound = subst (λ n. n < MOST_RECORDS) test.1 (omega arith);
       seq = number.written ∙ ap decimal test.1;
       body = body_is format fields k.0 found.0 (kind_is (text_at fields column.Kind) k.0 k.1) found.1;
     })
 
--- the fields of the row of a record are read as the record
-are_fields : (format : Format) (next : ℕ) (fields : Fields) (rec : Record) → IsRow format next fields rec → fields_read format next fields ≡ Ok rec
-unfolding fields_read seq_in
-are_fields format next fields rec h =
+-- the row of a record is read as the record
+is_row : (format : Format) (next : ℕ) (fields : Fields) (rec : Record) → IsRow format next fields rec → record_of format next fields ≡ Ok rec
+unfolding record_of
+is_row format next fields rec h =
     let b = is_body format fields rec.body h.body in
     let bound : rec.seq < MOST_RECORDS = h.bound in
     let seq : HoldsNumber (pred MOST_RECORDS) (text_at fields column.Sequence) rec.seq = record { written = h.seq; bound = omega arith } in
     rw (
+      lt-ltb next MOST_RECORDS (subst (λ n. n < MOST_RECORDS) h.number h.bound),
+      eq-eqb (length fields) (field_count format) h.count,
       holds_number (pred MOST_RECORDS) (text_at fields column.Sequence) rec.seq (omega arith) seq,
       eq-eqb rec.seq next h.number,
       is_kind (text_at fields column.Kind) b.0 b.1,
       b.2,
     ) refl
-
--- a row that is read as a record is its row
-row_is : (format : Format) (next : ℕ) (fields : Fields) (rec : Record) → record_of format next fields ≡ Ok rec → IsRow format next fields rec
-unfolding record_of
-row_is format next fields rec e =
-    let room = test_then (nat_lt next MOST_RECORDS) TooMany _ rec e in
-    let count = test_then (length fields == field_count format) FieldCount (fields_read format next fields) rec room.1 in
-    fields_are format next fields rec (eqb-true (length fields) (field_count format) count.0) count.1
-
--- the row of a record is read as the record
-is_row : (format : Format) (next : ℕ) (fields : Fields) (rec : Record) → IsRow format next fields rec → record_of format next fields ≡ Ok rec
-unfolding record_of
-is_row format next fields rec h =
-    let bound : next < MOST_RECORDS = subst (λ n. n < MOST_RECORDS) h.number h.bound in
-    let room : nat_lt next MOST_RECORDS ≡ true = lt-ltb next MOST_RECORDS bound in
-    rw (room, eq-eqb (length fields) (field_count format) h.count) (are_fields format next fields rec h)
 
 -- a row is read as a record exactly where it is the record's row
 pub rows_are_the_grammar : RowsAreTheGrammar

@@ -12,6 +12,7 @@ use Rattle.record_read.specs.declared.fault.RowFault.{RowFault}
 use Rattle.record_read.specs.declared.fault.RowFault.TheVariants.{BadHex, BadLength, BadName, FieldNotForKind}
 use Rattle.record_read.specs.Grammar.{GoesWith, HoldsData, HoldsIf, HoldsMessage, HoldsName, IsMessageLength}
 use Rattle.record_read.specs.Payload.{from_hex, goes_with, is_printable, maybe_message, message_in, message_of, name_in, name_of}
+use Rattle.record_read.specs.Steps.{◌>>=◌}
 use Rattle.record_read.proofs.GrammarFields.{is_unused, no_fault, step_ok, test_ok, unused_is}
 
 -- a filled field that is read as a name holds it
@@ -77,14 +78,19 @@ length_decides (pos (suc n)) count = by (nat_le (suc n) LONGEST_MESSAGE) refl
         let over : LONGEST_MESSAGE < suc n = leb-false (suc n) LONGEST_MESSAGE long in
         none_goes (pos (suc n)) count (λ h. let short : suc n ≤ LONGEST_MESSAGE = h.1 in absurd (omega arith))
 
+-- bytes that are read under a test of how many they are
+bytes_are : (test : ℕ → Bool) (text bytes : List ℕ) → (from_hex (decode_of text) >>= (λ found. if test (length found) then Ok found else Err BadLength)) ≡ Ok bytes
+    → (decode_of text ≡ Ok bytes) × (test (length bytes) ≡ true)
+bytes_are test text bytes e =
+    let s = step_ok (from_hex (decode_of text)) (λ found. if test (length found) then Ok found else Err BadLength) bytes e in
+    let t = test_ok (test (length s.0)) BadLength s.0 bytes s.2 in
+    (hex_is (decode_of text) s.0 s.1 ∙ ap Ok t.1, subst (λ given. test (length given) ≡ true) t.1 t.0)
+
 -- a message that is read is what the field holds, or stands for the empty field
 pub message_holds : (taken : Bool) (len : ℤ) (text bytes : List ℕ) → message_in taken len text ≡ Ok bytes → HoldsIf taken [] (HoldsMessage len) text bytes
 unfolding message_in message_of
 message_holds true len text bytes e =
-    let s = step_ok (from_hex (decode_of text)) (λ found. if goes_with len (length found) then Ok found else Err BadLength) bytes e in
-    let t = test_ok (goes_with len (length s.0)) BadLength s.0 bytes s.2 in
-    let digits : decode_of text ≡ Ok bytes = hex_is (decode_of text) s.0 s.1 ∙ ap Ok t.1 in
-    record { digits = digits; count = subst (λ given. GoesWith len (length given)) t.1 ((length_decides len (length s.0)).0 t.0) }
+    let read = bytes_are (goes_with len) text bytes e in record { digits = read.0; count = (length_decides len (length bytes)).0 read.1 }
 message_holds false len text bytes e = unused_is text [] bytes e
 
 -- a message that the field holds, or that stands for the empty field, is read
@@ -97,10 +103,7 @@ holds_message false len text bytes h = is_unused text [] bytes h
 pub data_holds : (text bytes : List ℕ) → maybe_message text ≡ Ok bytes → HoldsData text bytes
 unfolding maybe_message
 data_holds text bytes e =
-    let s = step_ok (from_hex (decode_of text)) (λ found. if nat_le (length found) LONGEST_MESSAGE then Ok found else Err BadLength) bytes e in
-    let t = test_ok (nat_le (length s.0) LONGEST_MESSAGE) BadLength s.0 bytes s.2 in
-    let digits : decode_of text ≡ Ok bytes = hex_is (decode_of text) s.0 s.1 ∙ ap Ok t.1 in
-    record { digits = digits; count = subst (λ given. length given ≤ LONGEST_MESSAGE) t.1 (leb-true (length s.0) LONGEST_MESSAGE t.0) }
+    let read = bytes_are (λ count. nat_le count LONGEST_MESSAGE) text bytes e in record { digits = read.0; count = leb-true (length bytes) LONGEST_MESSAGE read.1 }
 
 -- a message that a service gives and that the field holds is read
 pub holds_data : (text bytes : List ℕ) → HoldsData text bytes → maybe_message text ≡ Ok bytes

@@ -10,4 +10,3 @@ pub mod GrammarTexts
 pub mod Hexadecimal
 pub mod Memory
 pub mod Pieces
-pub mod RowFaults

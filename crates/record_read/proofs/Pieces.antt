@@ -1,16 +1,14 @@
 -- The pieces of a text, one after another, and the processes that they name.
-use Rattle.std.proofs.Common.{◌≡◌, ◌∙◌, ℕ, List, [], ◌∷◌, ◌++◌, ◌-◌, Bool, true, false, Option, Some, None, Result, Ok, Err, ◌≤◌, length, refl, sym, ap, subst, nat_eq, append_assoc, arith, if◌then◌else◌}
-use Rattle.std.specs.Prelude.{◌≢◌, is_some, option_and_then, option_map}
-use Rattle.std.specs.List.{slice_get}
-use Rattle.std.specs.Option.{ok_or}
-use Rattle.std.specs.Result.{result_unwrap_or}
+use Rattle.std.proofs.Common.{◌≡◌, ◌∙◌, ℕ, List, [], ◌∷◌, ◌++◌, ◌-◌, Bool, true, false, Option, Some, None, ◌≤◌, length, refl, sym, ap, subst, nat_eq, append_assoc, arith, if◌then◌else◌}
+use Rattle.std.specs.Prelude.{◌≢◌, is_some, option_map}
+use Rattle.std.specs.List.{onto_first, slice_get}
 use Rattle.std.proofs.lemmas.List.{append-nil, length-append}
-use Rattle.std.proofs.lemmas.Option.{none-some, same_Some}
+use Rattle.std.proofs.lemmas.Option.{cond_some, same_Some}
 use Rattle.apex_types.specs.declared.record.Who.{Who}
 use Rattle.apex_types.specs.Rising.{IsRising, RisesFrom}
-use Rattle.record_read.specs.declared.fault.RowFault.{RowFault}
 use Rattle.record_read.specs.declared.fault.RowFault.TheVariants.{BadWoken}
-use Rattle.record_read.specs.Woken.{IsList, front_of, rest_of, onto, pieces_of, process_of, next_process, processes_behind, processes_in, stands_behind, woken_of}
+use Rattle.record_read.specs.Woken.{IsList, front_of, rest_of, pieces_of, process_of, next_process, processes_behind, processes_in, stands_behind, woken_of}
+use Rattle.record_read.proofs.GrammarFields.{found_first, found_map, ok_some}
 
 -- the pieces of what is left, if anything is
 abbrev pub pieces_left : ℕ → Option (List ℕ) → List (List ℕ)
@@ -22,10 +20,10 @@ pieces_split separator [] = refl
 pieces_split separator (b ∷ bs) = by (nat_eq b separator) (pieces_split separator bs)
   where
     by : (t : Bool) → pieces_of separator bs ≡ front_of separator bs ∷ pieces_left separator (rest_of separator bs)
-        → (if t then [] ∷ pieces_of separator bs else onto b (pieces_of separator bs))
+        → (if t then [] ∷ pieces_of separator bs else onto_first b (pieces_of separator bs))
         ≡ (if t then [] else b ∷ front_of separator bs) ∷ pieces_left separator (if t then Some bs else rest_of separator bs)
     by true more = refl
-    by false more = ap (onto b) more
+    by false more = ap (onto_first b) more
 
 -- a piece that names the next process, and one that names none
 pub behind_more : (last : Option Who) (left : List ℕ) (who : Who) → next_process last (front_of 59 left) ≡ Some who
@@ -95,26 +93,18 @@ named_none text named left e h = h ∙ ap (option_map (λ more. named ++ more)) 
 pub some_named : (text : List ℕ) (named : List Who) → processes_behind None (pieces_of 59 text) ≡ Some named → named ≢ []
 unfolding processes_behind
 some_named text named h none =
-    by (next_process None (front_of 59 text)) (ap (processes_behind None) (sym (pieces_split 59 text)) ∙ h)
-  where
-    from : (who : Who) (o : Option (List Who)) → option_map (λ more. who ∷ more) o ≡ Some named → ⊥
-    from who None e = cc
-    from who (Some ws) e = let f : ◌≡◌ {A = Option (List Who)} (Some (who ∷ ws)) (Some named) = e in let g : who ∷ ws ≡ named = cc in cc
-
-    by : (o : Option Who) → option_and_then (λ who. option_map (λ more. who ∷ more) (processes_behind (Some who) (pieces_left 59 (rest_of 59 text)))) o ≡ Some named → ⊥
-    by None e = cc
-    by (Some who) e = from who (processes_behind (Some who) (pieces_left 59 (rest_of 59 text))) e
+    let pieces = pieces_left 59 (rest_of 59 text) in
+    let all : processes_behind None (front_of 59 text ∷ pieces) ≡ Some named = subst (λ found. processes_behind None found ≡ Some named) (pieces_split 59 text) h in
+    let who = found_first (λ w. option_map (λ more. w ∷ more) (processes_behind (Some w) pieces)) (next_process None (front_of 59 text)) named all in
+    let rest = found_map (λ more. who.0 ∷ more) (processes_behind (Some who.0) pieces) named who.2 in
+    let e : who.0 ∷ rest.0 ≡ [] = rest.2 ∙ none in cc
 
 -- a list in a field that is filled names processes
 pub list_filled : (text : List ℕ) → 1 ≤ length text → IsList text → processes_in text ≢ []
 unfolding woken_of
 list_filled [] long list none = absurd (omega arith)
-list_filled (b ∷ bs) long list none = by (processes_behind None (pieces_of 59 (b ∷ bs))) refl list none
-  where
-    by : (o : Option (List Who)) → processes_behind None (pieces_of 59 (b ∷ bs)) ≡ o → ok_or o BadWoken ≡ Ok (result_unwrap_or (ok_or o BadWoken) [])
-        → result_unwrap_or (ok_or o BadWoken) [] ≡ [] → ⊥
-    by None e l n = let f : ◌≡◌ {A = Result (List Who) RowFault} (Err BadWoken) (Ok []) = l in cc
-    by (Some ws) e l n = some_named (b ∷ bs) ws e n
+list_filled (b ∷ bs) long list none =
+    some_named (b ∷ bs) (processes_in (b ∷ bs)) (ok_some (processes_behind None (pieces_of 59 (b ∷ bs))) BadWoken (processes_in (b ∷ bs)) list) none
 
 -- the next process, from what the code read of it
 pub next_is : (last result : Option Who) (lent named : List Who) (front left : List ℕ) → result ≡ next_process last front
@@ -128,15 +118,10 @@ RisesBehind (Some last) named = RisesFrom last named
 
 next_behind : (last : Option Who) (text : List ℕ) (who : Who) → next_process last text ≡ Some who → stands_behind last who ≡ true
 unfolding next_process
-next_behind last text who e = by (process_of text) e
-  where
-    of_test : (test : Bool) (found : Who) → test ≡ stands_behind last found → (if test then Some found else None) ≡ Some who → stands_behind last who ≡ true
-    of_test true found t e = subst (λ other. stands_behind last other ≡ true) (same_Some found who e) (sym t)
-    of_test false found t e = absurd (none-some who e)
-
-    by : (o : Option Who) → option_and_then (λ found. if stands_behind last found then Some found else None) o ≡ Some who → stands_behind last who ≡ true
-    by (Some found) e = of_test (stands_behind last found) found refl e
-    by None e = absurd (none-some who e)
+next_behind last text who e =
+    let found = found_first (λ w. if stands_behind last w then Some w else None) (process_of text) who e in
+    let after = cond_some (stands_behind last found.0) found.0 who found.2 in
+    subst (λ w. stands_behind last w ≡ true) after.1 after.0
 
 rises_with : (last : Option Who) (who : Who) (more : List Who) → stands_behind last who ≡ true → RisesFrom who more → RisesBehind last (who ∷ more)
 rises_with None who more behind rises = rises
@@ -147,14 +132,7 @@ pub rising_behind : (last : Option Who) (pieces : List (List ℕ)) (named : List
 unfolding processes_behind
 rising_behind None [] named e = subst IsRising (same_Some [] named e) tt
 rising_behind (Some w) [] named e = subst (RisesFrom w) (same_Some [] named e) tt
-rising_behind last (piece ∷ pieces) named e = by (λ who. rising_behind (Some who) pieces) (next_process last piece) refl e
-  where
-    with_more : (who : Who) → stands_behind last who ≡ true → ((rest : List Who) → processes_behind (Some who) pieces ≡ Some rest → RisesFrom who rest)
-        → (o : Option (List Who)) → processes_behind (Some who) pieces ≡ o → option_map (λ rest. who ∷ rest) o ≡ Some named → RisesBehind last named
-    with_more who behind rises (Some rest) is e = subst (RisesBehind last) (same_Some (who ∷ rest) named e) (rises_with last who rest behind (rises rest is))
-    with_more who behind rises None is e = absurd (none-some named e)
-
-    by : ((who : Who) (rest : List Who) → processes_behind (Some who) pieces ≡ Some rest → RisesFrom who rest) → (o : Option Who) → next_process last piece ≡ o
-        → option_and_then (λ who. option_map (λ rest. who ∷ rest) (processes_behind (Some who) pieces)) o ≡ Some named → RisesBehind last named
-    by rises (Some who) is e = with_more who (next_behind last piece who is) (rises who) (processes_behind (Some who) pieces) refl e
-    by rises None is e = absurd (none-some named e)
+rising_behind last (piece ∷ pieces) named e =
+    let who = found_first (λ w. option_map (λ more. w ∷ more) (processes_behind (Some w) pieces)) (next_process last piece) named e in
+    let rest = found_map (λ more. who.0 ∷ more) (processes_behind (Some who.0) pieces) named who.2 in
+    subst (RisesBehind last) rest.2 (rises_with last who.0 rest.0 (next_behind last piece who.0 who.1) (rising_behind (Some who.0) pieces rest.0 rest.1))

@@ -1,5 +1,5 @@
 -- The grammar of rows: which rows are the row of a call, of a return, of a dispatch and of a tick, by what their fields hold.
-use Rattle.std.specs.Prelude.{◌≡◌, ◌≢◌, ◌⊎◌, ◌≤◌, ◌<◌, ℕ, ℤ, pos, negsuc, List, [], ◌∷◌, ◌++◌, Bool, true, false, Option, Some, None, Ok, IsTrue, codes, length, nat_le, FitsSigned}
+use Rattle.std.specs.Prelude.{◌≡◌, ◌≢◌, ◌⊎◌, ◌≤◌, ◌<◌, ℕ, ℤ, pos, negsuc, List, [], ◌∷◌, ◌++◌, Bool, true, false, Option, Some, None, Ok, IsTrue, codes, length, map, nat_le, FitsSigned}
 use Rattle.std.specs.Fmt.{decimal, signed_decimal}
 use Rattle.std.specs.Int.{w64}
 use Rattle.std.specs.List.{All, AllPass, join_by}
@@ -22,6 +22,7 @@ use Rattle.apex_types.specs.declared.request.Request.{Request}
 use Rattle.apex_types.specs.declared.service.Service.{Service}
 use Rattle.apex_types.specs.declared.format.Format.{Format}
 use Rattle.apex_types.specs.Services.{arguments_of, is_in}
+use Rattle.record_read.specs.declared.column.Column.{Column}
 use Rattle.record_read.specs.declared.column.Column.TheVariants as column
 use Rattle.record_read.specs.Arguments.{request_of}
 use Rattle.record_read.specs.Field.{text_at}
@@ -50,6 +51,11 @@ abbrev pub HoldsOutcome : List ℕ → Out → Type 0
 HoldsOutcome text out.Waits = text ≡ codes "wait"
 HoldsOutcome text out.Never = text ≡ codes "none"
 HoldsOutcome text (out.Answer code) = text ≡ CodeName.name_of code
+
+-- the name of a service of the format
+pub record HoldsService (format : Format) (text : List ℕ) (service : Service) : Type 0 where
+  pub named : text ≡ Services.name_of service
+  pub in_format : IsTrue (is_in format service)
 
 -- a name: 1 to 32 bytes, all printable
 pub record HoldsName (text name : List ℕ) : Type 0 where
@@ -95,49 +101,9 @@ pub record HoldsProcesses (text : List ℕ) (named : List Who) : Type 0 where
 
 -- what a row holds
 
--- the texts of a row's fields, by the fields' names; in format 1 a row has no val2 and no val3, for which the empty text stands
-pub record Columns : Type 0 where
-  pub seq : List ℕ
-  pub kind : List ℕ
-  pub part : List ℕ
-  pub proc : List ℕ
-  pub service : List ℕ
-  pub n1 : List ℕ
-  pub n2 : List ℕ
-  pub n3 : List ℕ
-  pub name : List ℕ
-  pub msg : List ℕ
-  pub prio : List ℕ
-  pub out : List ℕ
-  pub val : List ℕ
-  pub «data» : List ℕ
-  pub chan : List ℕ
-  pub woken : List ℕ
-  pub val2 : List ℕ
-  pub val3 : List ℕ
-
--- the fields from the first to the last
-abbrev pub columns_of : Fields → Columns
-columns_of fields = record {
-  seq = text_at fields column.Sequence;
-  kind = text_at fields column.Kind;
-  part = text_at fields column.Partition;
-  proc = text_at fields column.Process;
-  service = text_at fields column.Service;
-  n1 = text_at fields column.FirstNumber;
-  n2 = text_at fields column.SecondNumber;
-  n3 = text_at fields column.ThirdNumber;
-  name = text_at fields column.Name;
-  msg = text_at fields column.Message;
-  prio = text_at fields column.Priority;
-  out = text_at fields column.Outcome;
-  val = text_at fields column.Value;
-  «data» = text_at fields column.Data;
-  chan = text_at fields column.Channel;
-  woken = text_at fields column.Woken;
-  val2 = text_at fields column.SecondValue;
-  val3 = text_at fields column.ThirdValue;
-}
+-- a row is the text of each column; in format 1 it has no second and no third value, for which the empty text stands
+abbrev pub Row : Type 0
+Row = Column → List ℕ
 
 -- all these fields are empty
 abbrev pub AreEmpty : List (List ℕ) → Type 0
@@ -154,12 +120,12 @@ abbrev pub HoldsArgument : Service → ℕ → List ℕ → ℤ → Type 0
 HoldsArgument service place text number = HoldsIf (nat_le place (arguments_of service).numbers) (pos 0) HoldsSigned text number
 
 -- the process of a call, of a return or of a dispatch
-pub record NamesProcess (row : Columns) (who : Who) : Type 0 where
-  pub part : HoldsNumber GREATEST_PARTITION row.part who.part
-  pub proc : HoldsNumber GREATEST_NUMBER row.proc who.proc
+pub record NamesProcess (row : Row) (who : Who) : Type 0 where
+  pub part : HoldsNumber GREATEST_PARTITION (row column.Partition) who.part
+  pub proc : HoldsNumber GREATEST_NUMBER (row column.Process) who.proc
 
 -- the request of a call: a service of the format by its name, and just the arguments that this service takes
-pub record HoldsRequest (format : Format) (row : Columns) (request : Request) : Type 0 where
+pub record HoldsRequest (format : Format) (row : Row) (request : Request) : Type 0 where
   pub service : Service
   pub n1 : ℤ
   pub n2 : ℤ
@@ -167,64 +133,64 @@ pub record HoldsRequest (format : Format) (row : Columns) (request : Request) : 
   pub name : List ℕ
   pub message : List ℕ
   pub is : request ≡ request_of service n1 n2 n3 name message
-  pub has_service : row.service ≡ Services.name_of service
-  pub stands : IsTrue (is_in format service)
-  pub has_n1 : HoldsArgument service 1 row.n1 n1
-  pub has_n2 : HoldsArgument service 2 row.n2 n2
-  pub has_n3 : HoldsArgument service 3 row.n3 n3
-  pub has_name : HoldsIf (arguments_of service).name [] HoldsName row.name name
-  pub has_message : HoldsIf (arguments_of service).message [] (HoldsMessage n2) row.msg message
+  pub has_service : HoldsService format (row column.Service) service
+  pub has_n1 : HoldsArgument service 1 (row column.FirstNumber) n1
+  pub has_n2 : HoldsArgument service 2 (row column.SecondNumber) n2
+  pub has_n3 : HoldsArgument service 3 (row column.ThirdNumber) n3
+  pub has_name : HoldsIf (arguments_of service).name [] HoldsName (row column.Name) name
+  pub has_message : HoldsIf (arguments_of service).message [] (HoldsMessage n2) (row column.Message) message
 
 -- what a call claims: the priority and the outcome, and what may be left out
-pub record HoldsClaim (row : Columns) (claim : Claim) : Type 0 where
-  pub prio : HoldsNumber GREATEST_PRIORITY row.prio claim.prio
-  pub out : HoldsOutcome row.out claim.out
-  pub val : MayHold HoldsSigned row.val claim.val
-  pub val2 : MayHold HoldsSigned row.val2 claim.val2
-  pub val3 : MayHold HoldsSigned row.val3 claim.val3
-  pub bytes : HoldsData row.«data» claim.bytes
-  pub chan : MayHold (HoldsNumber GREATEST_CHANNEL) row.chan claim.chan
-  pub woken : HoldsProcesses row.woken claim.woken
+pub record HoldsClaim (row : Row) (claim : Claim) : Type 0 where
+  pub prio : HoldsNumber GREATEST_PRIORITY (row column.Priority) claim.prio
+  pub out : HoldsOutcome (row column.Outcome) claim.out
+  pub val : MayHold HoldsSigned (row column.Value) claim.val
+  pub val2 : MayHold HoldsSigned (row column.SecondValue) claim.val2
+  pub val3 : MayHold HoldsSigned (row column.ThirdValue) claim.val3
+  pub bytes : HoldsData (row column.Data) claim.bytes
+  pub chan : MayHold (HoldsNumber GREATEST_CHANNEL) (row column.Channel) claim.chan
+  pub woken : HoldsProcesses (row column.Woken) claim.woken
 
 -- the row of a call
-pub record IsRowOfCall (format : Format) (row : Columns) (call : Call) : Type 0 where
-  pub kind : row.kind ≡ codes "call"
+pub record IsRowOfCall (format : Format) (row : Row) (call : Call) : Type 0 where
+  pub kind : row column.Kind ≡ codes "call"
   pub who : NamesProcess row call.who
   pub request : HoldsRequest format row call.request
   pub claim : HoldsClaim row call.claim
 
 -- the row of a return: a service of the format without arguments, and a code
-pub record IsRowOfReturn (format : Format) (row : Columns) (ret : Return) : Type 0 where
-  pub kind : row.kind ≡ codes "ret"
+pub record IsRowOfReturn (format : Format) (row : Row) (ret : Return) : Type 0 where
+  pub kind : row column.Kind ≡ codes "ret"
   pub who : NamesProcess row ret.who
-  pub service : row.service ≡ Services.name_of ret.service
-  pub stands : IsTrue (is_in format ret.service)
-  pub code : row.out ≡ CodeName.name_of ret.code
-  pub val : MayHold HoldsSigned row.val ret.val
-  pub val2 : MayHold HoldsSigned row.val2 ret.val2
-  pub val3 : MayHold HoldsSigned row.val3 ret.val3
-  pub bytes : HoldsData row.«data» ret.bytes
-  pub empty : AreEmpty (row.n1 ∷ row.n2 ∷ row.n3 ∷ row.name ∷ row.msg ∷ row.prio ∷ row.chan ∷ row.woken ∷ [])
+  pub service : HoldsService format (row column.Service) ret.service
+  pub code : row column.Outcome ≡ CodeName.name_of ret.code
+  pub val : MayHold HoldsSigned (row column.Value) ret.val
+  pub val2 : MayHold HoldsSigned (row column.SecondValue) ret.val2
+  pub val3 : MayHold HoldsSigned (row column.ThirdValue) ret.val3
+  pub bytes : HoldsData (row column.Data) ret.bytes
+  pub unused : AreEmpty (map row (column.FirstNumber ∷ column.SecondNumber ∷ column.ThirdNumber ∷ column.Name ∷ column.Message ∷ column.Priority ∷ []))
+  pub unused_too : AreEmpty (row column.Channel ∷ row column.Woken ∷ [])
 
 -- a dispatch names a process, or leaves both fields empty
-abbrev pub Dispatches : Columns → Option Who → Type 0
-Dispatches row None = AreEmpty (row.part ∷ row.proc ∷ [])
+abbrev pub Dispatches : Row → Option Who → Type 0
+Dispatches row None = AreEmpty (row column.Partition ∷ row column.Process ∷ [])
 Dispatches row (Some who) = NamesProcess row who
 
 -- the row of a dispatch
-pub record IsRowOfDispatch (row : Columns) (who : Option Who) : Type 0 where
-  pub kind : row.kind ≡ codes "disp"
+pub record IsRowOfDispatch (row : Row) (who : Option Who) : Type 0 where
+  pub kind : row column.Kind ≡ codes "disp"
   pub process : Dispatches row who
-  pub empty : AreEmpty (row.service ∷ row.n1 ∷ row.n2 ∷ row.n3 ∷ row.name ∷ row.msg ∷ row.prio ∷ row.out ∷ row.val ∷ row.«data» ∷ row.chan ∷ row.woken ∷ row.val2 ∷ row.val3 ∷ [])
+  pub unused : AreEmpty (map row (column.Service ∷ column.FirstNumber ∷ column.SecondNumber ∷ column.ThirdNumber ∷ column.Name ∷ column.Message ∷ column.Priority ∷ column.Outcome ∷ column.Value ∷ column.Data ∷ column.Channel ∷ column.Woken ∷ column.SecondValue ∷ column.ThirdValue ∷ []))
 
 -- the row of a tick
-pub record IsRowOfTick (row : Columns) (named : List Who) : Type 0 where
-  pub kind : row.kind ≡ codes "tick"
-  pub woken : HoldsProcesses row.woken named
-  pub empty : AreEmpty (row.part ∷ row.proc ∷ row.service ∷ row.n1 ∷ row.n2 ∷ row.n3 ∷ row.name ∷ row.msg ∷ row.prio ∷ row.out ∷ row.val ∷ row.«data» ∷ row.chan ∷ row.val2 ∷ row.val3 ∷ [])
+pub record IsRowOfTick (row : Row) (named : List Who) : Type 0 where
+  pub kind : row column.Kind ≡ codes "tick"
+  pub woken : HoldsProcesses (row column.Woken) named
+  pub unused : AreEmpty (map row (column.Partition ∷ column.Process ∷ column.Service ∷ column.FirstNumber ∷ column.SecondNumber ∷ column.ThirdNumber ∷ column.Name ∷ column.Message ∷ column.Priority ∷ column.Outcome ∷ column.Value ∷ column.Data ∷ column.Channel ∷ []))
+  pub unused_too : AreEmpty (row column.SecondValue ∷ row column.ThirdValue ∷ [])
 
 -- one case for each kind of row
-abbrev pub IsRowOf : Format → Columns → Body → Type 0
+abbrev pub IsRowOf : Format → Row → Body → Type 0
 IsRowOf format row (body.Call call) = IsRowOfCall format row call
 IsRowOf format row (body.Ret ret) = IsRowOfReturn format row ret
 IsRowOf format row (body.Disp who) = IsRowOfDispatch row who
@@ -236,5 +202,5 @@ pub record IsRow (format : Format) (next : ℕ) (fields : Fields) (rec : Record)
   pub count : length fields ≡ field_count format
   pub number : rec.seq ≡ next
   pub bound : rec.seq < MOST_RECORDS
-  pub seq : (columns_of fields).seq ≡ decimal rec.seq
-  pub body : IsRowOf format (columns_of fields) rec.body
+  pub seq : text_at fields column.Sequence ≡ decimal rec.seq
+  pub body : IsRowOf format (text_at fields) rec.body

@@ -1,5 +1,6 @@
 -- What is given by its name: kinds of rows, services, codes and outcomes.
 use Rattle.std.specs.Prelude.{ℕ, List, [], ◌∷◌, Option, Some, None, Result, codes, length, map, option_and_then, option_map, if◌then◌else◌}
+use Rattle.std.specs.List.{find}
 use Rattle.std.specs.Str.{bytes_eq}
 use Rattle.apex_types.specs.declared.code.Code.{Code}
 use Rattle.apex_types.specs.declared.code.Code.TheVariants as code
@@ -17,6 +18,13 @@ use Rattle.record_read.specs.declared.fault.RowFault.TheVariants.{BadKind, BadSe
 use Rattle.apex_types.specs.Services.{is_in}
 use Rattle.record_read.specs.Field.{filled}
 
+-- the name of each kind of rows
+abbrev pub kind_name : Kind → List ℕ
+kind_name kind.Call = codes "call"
+kind_name kind.Ret = codes "ret"
+kind_name kind.Disp = codes "disp"
+kind_name kind.Tick = codes "tick"
+
 -- the kinds of rows are `call`, `ret`, `disp` and `tick`
 unfoldable pub kind_named : List ℕ → Option Kind
 kind_named text =
@@ -26,18 +34,13 @@ kind_named text =
     else if bytes_eq text (codes "tick") then Some kind.Tick
     else None
 
--- the first of these codes that has this name
-unfoldable pub code_among : List Code → List ℕ → Option Code
-code_among [] text = None
-code_among (c ∷ cs) text = if bytes_eq (CodeName.name_of c) text then Some c else code_among cs text
-
 -- the codes   (RETURN_CODE_TYPE, section 3)
 abbrev pub all_codes : List Code
 all_codes = code.NoError ∷ code.NoAction ∷ code.NotAvailable ∷ code.InvalidParam ∷ code.InvalidConfig ∷ code.InvalidMode ∷ code.TimedOut ∷ []
 
 -- the code of this name
 abbrev pub code_named : List ℕ → Option Code
-code_named text = code_among all_codes text
+code_named text = find (λ c. bytes_eq (CodeName.name_of c) text) all_codes
 
 -- the service of the first of these rows that has this name
 unfoldable pub service_among : {Name : Type 0} → (Name → List ℕ) → List (ServiceRow Name) → List ℕ → Option Service

@@ -109,23 +109,14 @@ body_in format kind.Ret fields = return_in format fields >>= (λ ret. Ok (body.R
 body_in format kind.Disp fields = dispatch_in fields >>= (λ who. Ok (body.Disp who))
 body_in format kind.Tick fields = tick_in fields >>= (λ woken. Ok (body.Tick woken))
 
--- a row's number is the next one
-unfoldable pub seq_in : ℕ → ℕ → Result ℕ RowFault
-seq_in next seq = if nat_eq seq next then Ok seq else Err SeqGap
-
--- a row that has the fields of its format
-unfoldable pub fields_read : Format → ℕ → Fields → Result Record RowFault
-fields_read format next fields = do
-  given ← number (MOST_RECORDS - 1) (text_at fields column.Sequence)
-  seq ← seq_in next given
-  kind ← kind_of (text_at fields column.Kind)
-  body ← body_in format kind fields
-  Ok (record { seq = seq; body = body })
-
 -- the row of this number, from 0, in a recording of this format; a recording has at most 4,294,967,295 rows
 unfoldable pub record_of : Format → ℕ → Fields → Result Record RowFault
-record_of format next fields =
-    if nat_lt next MOST_RECORDS then (if length fields == field_count format then fields_read format next fields else Err FieldCount) else Err TooMany
+record_of format next fields = if nat_lt next MOST_RECORDS then (if length fields == field_count format then (do
+  given ← number (MOST_RECORDS - 1) (text_at fields column.Sequence)
+  seq ← if nat_eq given next then Ok given else Err SeqGap
+  kind ← kind_of (text_at fields column.Kind)
+  body ← body_in format kind fields
+  Ok (record { seq = seq; body = body })) else Err FieldCount) else Err TooMany
 
 -- a record, or why a row is none
 abbrev pub Item : Type 0

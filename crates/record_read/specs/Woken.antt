@@ -1,5 +1,6 @@
 -- Lists of processes, `part:proc` joined by `;`.
-use Rattle.std.specs.Prelude.{◌≡◌, ℕ, List, [], ◌∷◌, Bool, true, Option, Some, None, Result, Ok, nat_eq, if◌then◌else◌, option_map, option_and_then}
+use Rattle.std.specs.Prelude.{◌≡◌, ℕ, List, [], ◌∷◌, Bool, true, Option, Some, None, Result, Ok, nat_eq, nat_lt, if◌then◌else◌, option_map, option_and_then}
+use Rattle.std.specs.List.{slice_split}
 use Rattle.std.specs.Option.{ok_or}
 use Rattle.std.specs.Result.{result_unwrap_or}
 use Rattle.csv_rows.specs.Decimal.{decimal}
@@ -19,19 +20,13 @@ abbrev pub rest_of : ℕ → List ℕ → Option (List ℕ)
 rest_of separator [] = None
 rest_of separator (b ∷ bs) = if nat_eq b separator then Some bs else rest_of separator bs
 
--- a text with one byte more in front of its first piece
-abbrev pub onto : ℕ → List (List ℕ) → List (List ℕ)
-onto b [] = (b ∷ []) ∷ []
-onto b (piece ∷ pieces) = (b ∷ piece) ∷ pieces
-
 -- the pieces of a text between its separators
 abbrev pub pieces_of : ℕ → List ℕ → List (List ℕ)
-pieces_of separator [] = [] ∷ []
-pieces_of separator (b ∷ bs) = if nat_eq b separator then [] ∷ pieces_of separator bs else onto b (pieces_of separator bs)
+pieces_of separator text = slice_split (λ b. nat_eq b separator) text
 
 -- the process of a partition from 0 to 31 and a number from 1 to 2,147,483,647
 abbrev pub process : ℕ → ℕ → Option Who
-process part number = if nat_eq number 0 then None else Some (record { part = part; proc = number })
+process part number = if nat_lt 0 number then Some (record { part = part; proc = number }) else None
 
 -- a process: the decimals of its partition and of its number around a `:`
 unfoldable pub process_of : List ℕ → Option Who

@@ -12,8 +12,8 @@ ghost use Rattle.record_read.specs.Woken.{IsList, processes_in};
 
 use crate::column::Column;
 use crate::fault::RowFault;
-use crate::field::{optional_number, optional_signed, required_number, text};
-use crate::named::read_out;
+use crate::field::{optional_number, optional_signed, required, required_number, text};
+use crate::named::find_out;
 use crate::payload::{copy_message, judge_data};
 use crate::request::{judge_request, make_request};
 use crate::woken::{copy_woken, judge_woken};
@@ -72,7 +72,7 @@ pub fn read_who(fields: &ByteRecord) -> Result<Who, RowFault>
 }
 
 // Judges what a call claims.
-#[tactic(auto, unfolding(crate::specs::Row::claim_in))]
+#[tactic(auto, unfolding(crate::specs::Row::claim_in, crate::specs::Named::out_of))]
 fn judge_claim(fields: &ByteRecord) -> Result<PlainClaim, RowFault>
     ensures value { IfOk result (λ plain. claim_in (fields_of fields.now) ≡ Ok (record { prio = plain.prio; out = plain.out; val = plain.val; val2 = plain.val2; val3 = plain.val3; bytes = hex_bytes (text_at (fields_of fields.now) Column.Data); chan = plain.chan; woken = processes_in (text_at (fields_of fields.now) Column.Woken) })) }
     ensures hex { OnOk result (IsHex (text_at (fields_of fields.now) Column.Data)) }
@@ -81,7 +81,8 @@ fn judge_claim(fields: &ByteRecord) -> Result<PlainClaim, RowFault>
     ensures own { IfErr result (λ fault. IsOfRow fault) }
 {
     let prio = required_number(text(fields, Column::Priority), GREATEST_PRIORITY as u64)?;
-    let out = read_out(text(fields, Column::Outcome))?;
+    let out = text(fields, Column::Outcome);
+    let out = required(out, find_out(out), RowFault::BadOut)?;
     let val = optional_signed(text(fields, Column::Value))?;
     judge_data(text(fields, Column::Data))?;
     let chan = read_channel(text(fields, Column::Channel))?;

@@ -1,6 +1,6 @@
 // The rows of dispatches and ticks.
 
-ghost use Rattle.std.specs.Prelude.{◌≡◌, IfOk, IfErr, Ok, Err};
+ghost use Rattle.std.specs.Prelude.{◌≡◌, IfOk, IfErr, Ok};
 ghost use Rattle.csv.specs.Records.{fields_of};
 ghost use Rattle.record_read.specs.Memory.{TickNeeds};
 ghost use Rattle.record_read.specs.Row.{dispatch_in, proc_of, tick_in};
@@ -57,8 +57,5 @@ pub fn read_tick(alloc: Global, fields: &ByteRecord) -> Result<Woken, RowFault>
     let list = text(fields, Column::Woken);
     judge_woken(list)?;
     expect_empty_between(fields, Column::SecondValue, Column::ThirdValue)?;
-    match copy_woken(alloc, list) {
-        Ok(woken) => Ok(woken),
-        Err(_) => Err(RowFault::Memory),
-    }
+    copy_woken(alloc, list).map_err(|_| RowFault::Memory)
 }

@@ -22,10 +22,7 @@ pub fn text(fields: &ByteRecord, column: Column) -> &[u8]
 fn bytes(fields: &ByteRecord, place: usize) -> &[u8]
     ensures { result.now ≡ bytes_at (fields_of fields.now) place }
 {
-    match fields.get(place) {
-        Some(text) => text,
-        None => b"",
-    }
+    fields.get(place).unwrap_or(b"")
 }
 
 /// Sees that a field is empty.
@@ -53,7 +50,7 @@ pub fn expect_empty_between(
 }
 
 // Sees that so many fields from this place on are empty.
-#[tactic(auto, unfolding(crate::specs::Field::all_empty))]
+#[tactic(auto, using(crate::proofs::Empty::next_empty), unfolding(crate::specs::Field::all_empty))]
 fn expect_all_empty(fields: &ByteRecord, place: usize, count: usize) -> Result<(), RowFault>
     requires { place + count ≤ 18 }
     ensures value { result ≡ all_empty (fields_of fields.now) place count }

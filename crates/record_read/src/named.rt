@@ -1,13 +1,14 @@
-// Services, codes and outcomes by their names.
+// Kinds of rows, services, codes and outcomes by their names.
 
 ghost use Rattle.std.specs.Prelude.{◌≡◌, ◌≤◌, ◌==◌, IfErr, IsTrue, drop, length, not, take};
 ghost use Rattle.std.specs.List.{list_all};
 ghost use Rattle.std.specs.Str.{bytes_eq};
-ghost use Rattle.record_read.specs.Named.{code_among, code_named, code_of, name_lengths, out_named, out_of, service_among, service_in, service_named, service_of};
+ghost use Rattle.record_read.specs.Named.{code_named, kind_named, name_lengths, out_named, service_among, service_in, service_named, service_of};
 ghost use Rattle.record_read.specs.Steps.{IsOfRow};
 
 use crate::fault::RowFault;
 use crate::field::required;
+use crate::kind::Kind;
 use apex_types::{Code, Format, Out, SERVICES, Service, ServiceRow};
 
 // All codes, the most frequent one first.
@@ -20,6 +21,24 @@ const CODES: [Code; 7] = [
     Code::InvalidMode,
     Code::TimedOut,
 ];
+
+/// The kind that rows give by this name, if there is one. Takes no memory.
+#[tactic(auto, unfolding(crate::specs::Named::kind_named))]
+pub fn find_kind(text: &[u8]) -> Option<Kind>
+    ensures { result ≡ kind_named text.now }
+{
+    if text == b"call".as_slice() {
+        Some(Kind::Call)
+    } else if text == b"ret".as_slice() {
+        Some(Kind::Ret)
+    } else if text == b"disp".as_slice() {
+        Some(Kind::Disp)
+    } else if text == b"tick".as_slice() {
+        Some(Kind::Tick)
+    } else {
+        None
+    }
+}
 
 /// The service in a field that must be filled, in a row of this format.
 #[tactic(auto, unfolding(crate::specs::Named::service_of))]
@@ -43,24 +62,6 @@ fn find_service_in(format: Format, text: &[u8]) -> Option<Service>
     }
 }
 
-/// The code in a field that must be filled.
-#[tactic(auto, unfolding(crate::specs::Named::code_of))]
-pub fn read_code(text: &[u8]) -> Result<Code, RowFault>
-    ensures value { result ≡ code_of text.now }
-    ensures own { IfErr result (λ fault. IsOfRow fault) }
-{
-    required(text, find_code(text), RowFault::BadOut)
-}
-
-/// The outcome in a field that must be filled.
-#[tactic(auto, unfolding(crate::specs::Named::out_of))]
-pub fn read_out(text: &[u8]) -> Result<Out, RowFault>
-    ensures value { result ≡ out_of text.now }
-    ensures own { IfErr result (λ fault. IsOfRow fault) }
-{
-    required(text, find_out(text), RowFault::BadOut)
-}
-
 /// The outcome that rows give by this name, if there is one. Takes no memory.
 #[tactic(auto, unfolding(crate::specs::Named::out_named))]
 pub fn find_out(text: &[u8]) -> Option<Out>
@@ -72,30 +73,14 @@ pub fn find_out(text: &[u8]) -> Option<Out>
     if text == b"none".as_slice() {
         return Some(Out::Never);
     }
-    match find_code(text) {
-        Some(code) => Some(Out::Answer(code)),
-        None => None,
-    }
+    find_code(text).map(Out::Answer)
 }
 
-// The code of this name.
-fn find_code(text: &[u8]) -> Option<Code>
+/// The code of this name.
+pub fn find_code(text: &[u8]) -> Option<Code>
     ensures { result ≡ code_named text.now }
 {
-    code_in(text, &CODES)
-}
-
-// The first of these codes that has this name.
-#[tactic(auto, unfolding(crate::specs::Named::code_among))]
-fn code_in(text: &[u8], codes: &[Code]) -> Option<Code>
-    ensures { result ≡ code_among codes.now text.now }
-{
-    for code in codes {
-        if code.name() == text {
-            return Some(*code);
-        }
-    }
-    None
+    CODES.iter().copied().find(|code| code.name() == text)
 }
 
 /// The service that rows give by this name, if there is one. Takes no memory.

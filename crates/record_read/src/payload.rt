@@ -59,12 +59,7 @@ pub fn copy_name(alloc: Global, text: &[u8]) -> Result<Name, AllocError>
 fn all_printable(text: &[u8]) -> bool
     ensures { result ≡ list_all is_printable text.now }
 {
-    for byte in text {
-        if *byte < 0x20 || *byte > 0x7E {
-            return false;
-        }
-    }
-    true
+    text.iter().all(|byte| 0x20 <= *byte && *byte <= 0x7E)
 }
 
 /// Judges the message in a field, which may be left out.
@@ -168,10 +163,5 @@ fn is_hexadecimal(text: &[u8]) -> bool
 fn all_digits(text: &[u8]) -> bool
     ensures { result ≡ list_all is_hex_digit text.now }
 {
-    for byte in text {
-        if !matches!(*byte, b'0'..=b'9' | b'A'..=b'F' | b'a'..=b'f') {
-            return false;
-        }
-    }
-    true
+    text.iter().all(|byte| matches!(*byte, b'0'..=b'9' | b'A'..=b'F' | b'a'..=b'f'))
 }

@@ -2,7 +2,7 @@
 
 ghost use Rattle.std.specs.Prelude.{◌≡◌, ◌≢◌, ◌⊎◌, [], true, IfOk, IfErr, OnErr, Ok, Err};
 ghost use Rattle.csv.specs.Records.{fields_of};
-ghost use Rattle.apex_types.specs.Requested.{creation_service};
+ghost use Rattle.apex_types.specs.Requested.{services_of};
 ghost use Rattle.apex_types.specs.Services.{arguments_of};
 ghost use Rattle.record_read.specs.Arguments.{request_of};
 ghost use Rattle.record_read.specs.Payload.{IsHex, hex_bytes};
@@ -178,7 +178,7 @@ fn fill_request(
 // The request that creates one of a kind, from its name and its numbers.
 #[tactic(auto, unfolding(crate::specs::Arguments::request_of))]
 fn create(kind: ObjectKind, name: Name, n1: i64, n2: i64, n3: i64) -> Request
-    ensures { result ≡ request_of (creation_service kind) n1 n2 n3 name [] }
+    ensures { result ≡ request_of (services_of kind).creation n1 n2 n3 name [] }
 {
     let object = match kind {
         ObjectKind::Buffer => NewObject::Buffer {

@@ -25,18 +25,14 @@ pub fn judge_woken(text: &[u8]) -> Result<(), RowFault>
     ensures refused { IfErr result (λ fault. woken_of text.now ≡ Err fault) }
     ensures own { IfErr result (λ fault. IsOfRow fault) }
 {
-    match text {
-        [] => Ok(()),
-        _ => {
-            if !are_processes(text) {
-                return Err(RowFault::BadWoken);
-            }
-            Ok(())
-        }
+    if !text.is_empty() && !are_processes(text) {
+        return Err(RowFault::BadWoken);
     }
+    Ok(())
 }
 
 // Whether the pieces of a text name processes, each after the one before.
+#[tactic(auto, using(crate::proofs::Pieces::judged_more, crate::proofs::Pieces::judged_none))]
 fn are_processes(text: &[u8]) -> bool
     ensures { result ≡ is_some (processes_behind None (pieces_of 59 text.now)) }
 {
@@ -54,7 +50,7 @@ fn are_processes(text: &[u8]) -> bool
 }
 
 /// The processes of a list, in its order. Memory is refused only where there are any.
-#[tactic(auto, unfolding(crate::specs::Woken::woken_of))]
+#[tactic(auto, using(crate::proofs::Pieces::list_filled), unfolding(crate::specs::Woken::woken_of))]
 pub fn copy_woken(alloc: Global, text: &[u8]) -> Result<Woken, AllocError>
     requires { IsList text.now }
     ensures value { IfOk result (λ woken. woken ≡ processes_in text.now) }
@@ -67,6 +63,7 @@ pub fn copy_woken(alloc: Global, text: &[u8]) -> Result<Woken, AllocError>
 }
 
 // The processes that the pieces of a text name.
+#[tactic(auto, using(crate::proofs::Pieces::next_is, crate::proofs::Pieces::named_more, crate::proofs::Pieces::named_none, crate::proofs::Pieces::named_end))]
 fn copy_processes(alloc: Global, text: &[u8]) -> Result<Vec<Who>, AllocError>
     requires { IsSome (processes_behind None (pieces_of 59 text.now)) }
     ensures value { IfOk result (λ named. processes_behind None (pieces_of 59 text.now) ≡ Some named.items) }
