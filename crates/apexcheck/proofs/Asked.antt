@@ -1,12 +1,13 @@
 -- What is made of a command line that the parser takes is what the words of it give.
-use Rattle.std.proofs.Common.{◌≡◌, ◌∙◌, ℕ, List, Option, Some, None, Ok, Err, true, ap, ap₂, codes, inl, inr, option_and_then, refl, subst, sym}
+use Rattle.std.proofs.Common.{◌≡◌, ◌∙◌, ℕ, List, Option, Some, None, Ok, Err, true, ap, ap₂, codes, inl, inr, option_and_then, option_map, refl, subst, sym}
 use Rattle.std.specs.Option.{ok_or}
 use Rattle.std.specs.Prelude.{IfErr, IsErrAnd, Result}
 use Rattle.clap.proofs.OnLiterals.{clap_on_literals}
 use Rattle.clap.proofs.WalkLemmas.{first_value-rows, one_text-rows, raw_values-rows}
+use Rattle.clap.specs.Matches.{raw_values}
 use Rattle.clap.specs.Simple.{HasMatchesOf}
 use Rattle.clap.specs.Walk.{rows_of}
-use Rattle.clap.specs.Words.{Row, all_of, app_of, first_of, first_value, found_of, is_simple, matches_of, one_of, one_text}
+use Rattle.clap.specs.Words.{Row, all_of, app_of, first_of, first_value, found_of, is_simple, matched_of, matches_of, one_of, one_text}
 use Rattle.clap.specs.declared.builder.command.Command.{Command}
 use Rattle.clap.specs.declared.parser.matches.ArgMatches.{ArgMatches}
 use Rattle.rule_options.specs.Options.{values_of}
@@ -31,64 +32,60 @@ value_of : {A E : Type 0} (given : Option A) (fault : E) (value : A) → Ok valu
 value_of None fault value is = cc
 value_of (Some found) fault value is = cc
 
--- what each part is found to be is what the rows of the command line give
-pub asks_for : (matches : ArgMatches) (given : List Row) (asked : FilesAsked) → rows_of (found_of matches) ≡ given
-    → AreNamed (found_of matches) asked.names
-    → Ok asked.options ≡ ok_or (values_of (first_value (found_of matches) (codes "max-elapsed")) (first_value (found_of matches) (codes "forbid"))) UsageFault.Usage
-    → Ok asked.settings
-    ≡ ok_or (option_and_then (λ workers. settings_of workers (first_value (found_of matches) (codes "depth"))) (first_value (found_of matches) (codes "workers"))) UsageFault.Usage
-    → Tells (one_text (found_of matches) (codes "last")) asked.last → Tells (one_text (found_of matches) (codes "quiet")) asked.quiet
-    → AsksFor given asked
-asks_for matches given asked is names options settings last quiet = record {
-  config = names.config ∙ first (codes "config");
-  rules = names.rules ∙ first (codes "rules");
-  order = names.order ∙ first (codes "order");
-  cores = names.cores ∙ raw_values-rows (found_of matches) (codes "core") ∙ ap (all_of (codes "core")) is;
-  options = value_of _ UsageFault.Usage asked.options options ∙ ap₂ values_of (first (codes "max-elapsed")) (first (codes "forbid"));
-  settings = value_of _ UsageFault.Usage asked.settings settings
-      ∙ ap₂ (λ depth text. option_and_then (λ workers. settings_of workers depth) text) (first (codes "depth")) (first (codes "workers"));
-  last = subst (λ text. Tells text asked.last) (one (codes "last")) last;
-  quiet = subst (λ text. Tells text asked.quiet) (one (codes "quiet")) quiet;
-}
-  where
-    first : (id : List ℕ) → first_value (found_of matches) id ≡ first_of id given
-    first id = first_value-rows (found_of matches) id ∙ ap (first_of id) is
-
-    one : (id : List ℕ) → one_text (found_of matches) id ≡ one_of id given
-    one id = one_text-rows (found_of matches) id ∙ ap (one_of id) is
-
 -- an option's want is no value
 none_of : {A E : Type 0} (given : Option A) (fault e : E) → Err e ≡ ok_or given fault → given ≡ None
 none_of None fault e is = refl
 none_of (Some found) fault e is = cc
 
--- a file that the parser did not find is none of the words
-pub lacks_files : (matches : ArgMatches) (given : List Row) → rows_of (found_of matches) ≡ given → LacksFiles (found_of matches) → IsIncomplete given
-lacks_files matches given is (inl config) = inl (sym (first_value-rows (found_of matches) (codes "config") ∙ ap (first_of (codes "config")) is) ∙ config)
-lacks_files matches given is (inr (inl order)) = inr (inl (sym (first_value-rows (found_of matches) (codes "order") ∙ ap (first_of (codes "order")) is) ∙ order))
-lacks_files matches given is (inr (inr cores)) = inr (inr (inl (sym (raw_values-rows (found_of matches) (codes "core") ∙ ap (all_of (codes "core")) is) ∙ cores)))
+module _ (matches : ArgMatches) (given : List Row) (is : rows_of (found_of matches) ≡ given) where
+  first : (id : List ℕ) → first_value (found_of matches) id ≡ first_of id given
+  first id = first_value-rows (found_of matches) id ∙ ap (first_of id) is
 
--- nor are values that the rules' options cannot have
-pub lacks_options : (matches : ArgMatches) (given : List Row) (fault : UsageFault) → rows_of (found_of matches) ≡ given
-    → Err fault ≡ ok_or (values_of (first_value (found_of matches) (codes "max-elapsed")) (first_value (found_of matches) (codes "forbid"))) UsageFault.Usage
-    → IsIncomplete given
-lacks_options matches given fault is refused =
-    inr (inr (inr (inl (sym (ap₂ values_of (first (codes "max-elapsed")) (first (codes "forbid"))) ∙ none_of _ UsageFault.Usage fault refused))))
-  where
-    first : (id : List ℕ) → first_value (found_of matches) id ≡ first_of id given
-    first id = first_value-rows (found_of matches) id ∙ ap (first_of id) is
+  one : (id : List ℕ) → one_text (found_of matches) id ≡ one_of id given
+  one id = one_text-rows (found_of matches) id ∙ ap (one_of id) is
 
--- nor are values that the settings cannot have
-pub lacks_settings : (matches : ArgMatches) (given : List Row) (fault : UsageFault) → rows_of (found_of matches) ≡ given
-    → Err fault
-    ≡ ok_or (option_and_then (λ workers. settings_of workers (first_value (found_of matches) (codes "depth"))) (first_value (found_of matches) (codes "workers"))) UsageFault.Usage
-    → IsIncomplete given
-lacks_settings matches given fault is refused =
-    inr (inr (inr (inr (sym (ap₂ (λ depth text. option_and_then (λ workers. settings_of workers depth) text) (first (codes "depth")) (first (codes "workers")))
-    ∙ none_of _ UsageFault.Usage fault refused))))
-  where
-    first : (id : List ℕ) → first_value (found_of matches) id ≡ first_of id given
-    first id = first_value-rows (found_of matches) id ∙ ap (first_of id) is
+  all : (id : List ℕ) → option_map raw_values (matched_of (found_of matches) id) ≡ all_of id given
+  all id = raw_values-rows (found_of matches) id ∙ ap (all_of id) is
+
+  -- what each part is found to be is what the rows of the command line give
+  pub asks_for : (asked : FilesAsked) → AreNamed (found_of matches) asked.names
+      → Ok asked.options ≡ ok_or (values_of (first_value (found_of matches) (codes "max-elapsed")) (first_value (found_of matches) (codes "forbid"))) UsageFault.Usage
+      → Ok asked.settings
+      ≡ ok_or (option_and_then (λ workers. settings_of workers (first_value (found_of matches) (codes "depth"))) (first_value (found_of matches) (codes "workers"))) UsageFault.Usage
+      → Tells (one_text (found_of matches) (codes "last")) asked.last → Tells (one_text (found_of matches) (codes "quiet")) asked.quiet
+      → AsksFor given asked
+  asks_for asked names options settings last quiet = record {
+    config = names.config ∙ first (codes "config");
+    rules = names.rules ∙ first (codes "rules");
+    order = names.order ∙ first (codes "order");
+    cores = names.cores ∙ all (codes "core");
+    options = value_of _ UsageFault.Usage asked.options options ∙ ap₂ values_of (first (codes "max-elapsed")) (first (codes "forbid"));
+    settings = value_of _ UsageFault.Usage asked.settings settings
+        ∙ ap₂ (λ depth text. option_and_then (λ workers. settings_of workers depth) text) (first (codes "depth")) (first (codes "workers"));
+    last = subst (λ text. Tells text asked.last) (one (codes "last")) last;
+    quiet = subst (λ text. Tells text asked.quiet) (one (codes "quiet")) quiet;
+  }
+
+  -- a file that the parser did not find is none of the words
+  pub lacks_files : LacksFiles (found_of matches) → IsIncomplete given
+  lacks_files (inl config) = inl (sym (first (codes "config")) ∙ config)
+  lacks_files (inr (inl order)) = inr (inl (sym (first (codes "order")) ∙ order))
+  lacks_files (inr (inr cores)) = inr (inr (inl (sym (all (codes "core")) ∙ cores)))
+
+  -- nor are values that the rules' options cannot have
+  pub lacks_options : (fault : UsageFault)
+      → Err fault ≡ ok_or (values_of (first_value (found_of matches) (codes "max-elapsed")) (first_value (found_of matches) (codes "forbid"))) UsageFault.Usage
+      → IsIncomplete given
+  lacks_options fault refused =
+      inr (inr (inr (inl (sym (ap₂ values_of (first (codes "max-elapsed")) (first (codes "forbid"))) ∙ none_of _ UsageFault.Usage fault refused))))
+
+  -- nor are values that the settings cannot have
+  pub lacks_settings : (fault : UsageFault) → Err fault
+      ≡ ok_or (option_and_then (λ workers. settings_of workers (first_value (found_of matches) (codes "depth"))) (first_value (found_of matches) (codes "workers"))) UsageFault.Usage
+      → IsIncomplete given
+  lacks_settings fault refused =
+      inr (inr (inr (inr (sym (ap₂ (λ depth text. option_and_then (λ workers. settings_of workers depth) text) (first (codes "depth")) (first (codes "workers")))
+      ∙ none_of _ UsageFault.Usage fault refused))))
 
 -- what holds of the error that a result has
 pub of_error : {Value Fault : Type 0} (Same Fact : Fault → Type 0) → ((fault : Fault) → Same fault → Fact fault) → (result : Result Value Fault) → IsErrAnd result Same

@@ -1,3 +1,2 @@
 mod Asked
-pub mod Behind
 pub mod Longest

@@ -1,12 +1,9 @@
 -- How a run of the program ends: its exit status and its text.
-use Rattle.std.specs.Prelude.{ℕ, List, [], ◌++◌, Option, Some, None, Result, Ok, Err, codes, decimal}
-use Rattle.verdict_merge.specs.declared.verdict.Verdict.{Verdict}
-use Rattle.verdict_merge.specs.declared.verdict.Verdict.TheVariants.{Yes, No, Broken}
-use Rattle.report.specs.declared.fault.CheckFault.{CheckFault}
+use Rattle.std.specs.Prelude.{ℕ, List, [], ◌++◌, Option, Some, None, Err, codes, decimal}
 use Rattle.report.specs.declared.fault.CheckFault.TheVariants as fault
 use Rattle.report.specs.declared.last.LastItem.{LastItem}
 use Rattle.report.specs.Last.{last_lines}
-use Rattle.report.specs.Text.{report_of}
+use Rattle.report.specs.Text.{outcome_status_of, report_of}
 use Rattle.rules_file.specs.declared.fault.RuleFault.{RuleFault}
 use Rattle.rules_file.specs.declared.fault.RuleFault.TheVariants as rule
 use Rattle.rules_file.specs.declared.fault.RulesFault.{RulesFault}
@@ -16,24 +13,11 @@ use Rattle.apexcheck.specs.declared.usage.UsageFault.{UsageFault}
 use Rattle.apexcheck.specs.declared.usage.UsageFault.TheVariants as usage
 use Rattle.apexcheck.specs.declared.ending.Ending.TheVariants.{Checked, BadUsage, Unopened, BadRules, BadRule, Version}
 
--- 0 for a Yes, 1 for a No, 3 for want of memory, and 2 for every other refusal
-abbrev pub outcome_status_of : Result Verdict CheckFault → ℕ
-outcome_status_of (Ok (Yes records)) = 0
-outcome_status_of (Ok (No pos piece cause)) = 1
-outcome_status_of (Ok (Broken pos rule)) = 1
-outcome_status_of (Err fault.Memory) = 3
-outcome_status_of (Err (fault.Arguments which)) = 2
-outcome_status_of (Err (fault.Config which)) = 2
-outcome_status_of (Err (fault.Input which)) = 2
-
 -- that of an outcome, 0 for the version, and 2 for what kept the check from being made
 abbrev pub exit_status_of : Ending → ℕ
 exit_status_of (Checked outcome last) = outcome_status_of outcome
-exit_status_of BadUsage = 2
-exit_status_of Unopened = 2
-exit_status_of (BadRules which) = 2
-exit_status_of (BadRule number which) = 2
 exit_status_of Version = 0
+exit_status_of _ = 2
 
 -- the name of a fault of a rule, or of a text of rules
 abbrev pub rule_fault_name : RuleFault → List ℕ

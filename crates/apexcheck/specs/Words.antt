@@ -5,7 +5,7 @@ use Rattle.clap.specs.Words.{Row, all_of, first_of, first_value, matched_of, one
 use Rattle.clap.specs.declared.parser.matches.Found.{Found}
 use Rattle.rule_options.specs.Options.{values_of}
 use Rattle.apexcheck.specs.declared.usage.Asked.{Asked}
-use Rattle.apexcheck.specs.declared.usage.Asked.TheVariants.{StoredRun, Version, Files}
+use Rattle.apexcheck.specs.declared.usage.Asked.TheVariants.{Files}
 use Rattle.apexcheck.specs.declared.usage.FileNames.{FileNames}
 use Rattle.apexcheck.specs.declared.usage.FilesAsked.{FilesAsked}
 use Rattle.apexcheck.specs.Settings.{settings_of}
@@ -43,5 +43,4 @@ pub record AsksFor (given : List Row) (asked : FilesAsked) : Type 0 where
 -- a run over files is asked for, the one that the words give
 abbrev pub AsksForFiles : List Row → Asked → Type 0
 AsksForFiles given (Files asked) = AsksFor given asked
-AsksForFiles given StoredRun = ⊥
-AsksForFiles given Version = ⊥
+AsksForFiles given _ = ⊥

@@ -3,12 +3,12 @@
 ghost use Rattle.std.specs.Prelude.{◌≡◌, ◌≢◌, ◌<◌, ◌++◌, OnErr, OnOk};
 ghost use Rattle.report.specs.Text.{report_of};
 ghost use Rattle.apexcheck.specs.declared.ending.Ending.TheVariants.{BadRule, BadRules};
-ghost use Rattle.apexcheck.specs.Endings.{exit_status_of, lines_behind, out_of_memory, outcome_status_of, text_of, refused_by, refused_words, rule_fault_name};
+ghost use Rattle.apexcheck.specs.Endings.{exit_status_of, lines_behind, out_of_memory, text_of, refused_by, refused_words, rule_fault_name};
 ghost use Rattle.sink.specs.Written.{IsCut, IsWritten};
 
 use crate::usage::UsageFault;
 use itoa::Buffer;
-use report::{CheckFault, Last, Verdict, write_last, write_report};
+use report::{CheckFault, Last, Verdict, status_of_outcome, write_last, write_report};
 use rules_file::{RuleFault, RulesFault};
 use sink::{Sink, WriteFault, WriterSink, put_all, put_parts};
 use std::io::Write;
@@ -48,18 +48,6 @@ pub fn status_of(ending: &Ending) -> u8
         Ending::Checked { outcome, .. } => status_of_outcome(outcome),
         Ending::Version => 0,
         Ending::BadUsage | Ending::Unopened | Ending::BadRules(_) | Ending::BadRule { .. } => 2,
-    }
-}
-
-// The exit status of an outcome of the check.
-fn status_of_outcome(outcome: &Result<Verdict, CheckFault>) -> u8
-    ensures { result ≡ outcome_status_of outcome.now }
-{
-    match outcome {
-        Ok(Verdict::Yes { .. }) => 0,
-        Ok(Verdict::No { .. } | Verdict::Broken { .. }) => 1,
-        Err(CheckFault::Memory) => 3,
-        Err(_) => 2,
     }
 }
 

@@ -35,8 +35,10 @@ pub fn explain<R: Env + Files<File = F> + Eprint + AllocGlobal, F: Read + Drop>(
         Ok(Asked::Files(asked)) => {
             tell(rt, explainer.noted());
             if !asked.quiet {
-                tell(rt, &unknown_keys(alloc, &asked.names, explainer));
-                if let Some(words) = words_of(rt, alloc, &asked.names, ending, explainer) {
+                let names = &asked.names;
+                tell(rt, &unknown_keys(alloc, names, explainer));
+                let files = RunFiles { rt, alloc, names };
+                if let Some(words) = files.words_of(ending, explainer) {
                     tell(rt, &words);
                 }
             }
@@ -67,100 +69,111 @@ fn unknown_keys(alloc: Global, names: &FileNames, explainer: &Explainer) -> Word
     words
 }
 
-// Why the answer is no Yes.
-fn words_of<R: Files<File = F>, F: Read + Drop>(
-    rt: &R,
+// The files of a run, which an explanation reads once more.
+#[derive(Drop)]
+struct RunFiles<'a, R> {
+    rt: &'a R,
     alloc: Global,
-    names: &FileNames,
-    ending: &Ending,
-    explainer: &Explainer,
-) -> Option<Words> {
-    let Ending::Checked { outcome, .. } = ending else {
-        return None;
-    };
-    match outcome {
-        Ok(Verdict::Yes { .. }) => None,
-        Ok(Verdict::No { .. } | Verdict::Broken { .. }) => {
-            words_of_record(rt, alloc, names, explainer.explanation())
-        }
-        Err(CheckFault::Memory) => {
-            let mut words = Words::new(alloc);
-            words.say("out of memory: the records were not judged to their end");
-            Some(words)
-        }
-        Err(CheckFault::Arguments(fault)) => {
-            Some(words_of_arguments(alloc, *fault, names.cores.len()))
-        }
-        Err(CheckFault::Config(fault)) => {
-            Some(words_of_configuration(rt, alloc, &names.config, *fault))
-        }
-        Err(CheckFault::Input(fault)) => words_of_input(rt, alloc, names, fault),
-    }
+    names: &'a FileNames,
 }
 
-// Where a refused certificate, order or recording is wrong, and what is wrong with it.
-fn words_of_input<R: Files<File = F>, F: Read + Drop>(
-    rt: &R,
-    alloc: Global,
-    names: &FileNames,
-    fault: &InputFault,
-) -> Option<Words> {
-    let mut words = Words::new(alloc);
-    match fault {
-        InputFault::Cert { place, fault } => {
-            let found = say_place(rt, alloc, &mut words, &names.order, *place);
-            tell_certificate(&mut words, *fault, fields_of(alloc, &found).as_ref());
+impl<'a, R: Files<File = F>, F: Read + Drop> RunFiles<'a, R> {
+    // Why the answer is no Yes.
+    fn words_of(&self, ending: &Ending, explainer: &Explainer) -> Option<Words> {
+        let Ending::Checked { outcome, .. } = ending else {
+            return None;
+        };
+        match outcome {
+            Ok(Verdict::Yes { .. }) => None,
+            Ok(Verdict::No { .. } | Verdict::Broken { .. }) => {
+                self.words_of_record(explainer.explanation())
+            }
+            Err(CheckFault::Memory) => {
+                let mut words = Words::new(self.alloc);
+                words.say("out of memory: the records were not judged to their end");
+                Some(words)
+            }
+            Err(CheckFault::Arguments(fault)) => {
+                Some(words_of_arguments(self.alloc, *fault, self.names.cores.len()))
+            }
+            Err(CheckFault::Config(fault)) => Some(self.words_of_configuration(*fault)),
+            Err(CheckFault::Input(fault)) => self.words_of_input(fault),
         }
-        InputFault::Order { place, core, fault } => {
-            let found = say_place(rt, alloc, &mut words, &names.order, *place);
-            tell_order(&mut words, *fault, *core, number_named(alloc, &found));
+    }
+
+    // Where a refused certificate, order or recording is wrong, and what is wrong with it.
+    fn words_of_input(&self, fault: &InputFault) -> Option<Words> {
+        let mut words = Words::new(self.alloc);
+        match fault {
+            InputFault::Cert { place, fault } => {
+                let found = self.say_place(&mut words, &self.names.order, *place);
+                tell_certificate(&mut words, *fault, fields_of(self.alloc, &found).as_ref());
+            }
+            InputFault::Order { place, core, fault } => {
+                let found = self.say_place(&mut words, &self.names.order, *place);
+                tell_order(&mut words, *fault, *core, number_named(self.alloc, &found));
+            }
+            InputFault::Row { core, seq, fault } => {
+                let name = name_of_core(self.names, *core)?;
+                let found = self.say_place(&mut words, name, *seq);
+                let fields = fields_of(self.alloc, &found);
+                tell_row_fault(&mut words, *fault, *seq, fields.as_ref());
+            }
         }
-        InputFault::Row { core, seq, fault } => {
-            let name = name_of_core(names, *core)?;
-            let found = say_place(rt, alloc, &mut words, name, *seq);
-            tell_row_fault(&mut words, *fault, *seq, fields_of(alloc, &found).as_ref());
+        Some(words)
+    }
+
+    // What the record at the place of a No says.
+    fn words_of_record(&self, explanation: &Explanation) -> Option<Words> {
+        let RecordNumber { core, seq } = explanation.record()?;
+        let name = name_of_core(self.names, u32::from(core.number()))?;
+        let mut words = Words::new(self.alloc);
+        self.say_place(&mut words, name, u64::from(seq));
+        words.append(explanation.words());
+        Some(words)
+    }
+
+    // What is wrong with the configuration.
+    fn words_of_configuration(&self, fault: ConfigFault) -> Words {
+        let name = &self.names.config;
+        let mut words = Words::new(self.alloc);
+        words.say(format_args!("{name}: "));
+        let text = if self.is_regular(name) {
+            open_text(self.rt, self.alloc, name).ok()
+        } else {
+            None
+        };
+        tell_configuration(&mut words, self.alloc, fault, text.as_deref());
+        words
+    }
+
+    // Says where a row is: its file and its line, or its number where it is not found once more. Gives the row, where it is.
+    fn say_place(&self, words: &mut Words, name: &str, number: u64) -> Option<FoundRow> {
+        let found = self.row_of(name, number);
+        match &found {
+            Some(row) => words.say(format_args!("{name}, line {}: ", row.line)),
+            None => words.say(format_args!("{name}, row {number}, counted from 0: ")),
+        }
+        found
+    }
+
+    // The row of this number in the file of this name, read once more. None where it is no regular file: a pipe gives its text once.
+    fn row_of(&self, name: &str, number: u64) -> Option<FoundRow> {
+        if !self.is_regular(name) {
+            return None;
+        }
+        match open(self.rt, name) {
+            Ok(file) => find_row(self.alloc, file, number),
+            Err(_) => None,
         }
     }
-    Some(words)
-}
 
-// Says where a row is: its file and its line, or its number where it is not found once more. Gives the row, where it is.
-fn say_place<R: Files<File = F>, F: Read + Drop>(
-    rt: &R,
-    alloc: Global,
-    words: &mut Words,
-    name: &str,
-    number: u64,
-) -> Option<FoundRow> {
-    let found = row_of(rt, alloc, name, number);
-    match &found {
-        Some(row) => words.say(format_args!("{name}, line {}: ", row.line)),
-        None => words.say(format_args!("{name}, row {number}, counted from 0: ")),
-    }
-    found
-}
-
-// The row of this number in the file of this name, read once more. None where it is no regular file: a pipe gives its text once.
-fn row_of<R: Files<File = F>, F: Read + Drop>(
-    rt: &R,
-    alloc: Global,
-    name: &str,
-    number: u64,
-) -> Option<FoundRow> {
-    if !is_regular(rt, name) {
-        return None;
-    }
-    match open(rt, name) {
-        Ok(file) => find_row(alloc, file, number),
-        Err(_) => None,
-    }
-}
-
-// Whether a file can be read once more.
-fn is_regular<R: Files<File = F>, F: Read + Drop>(rt: &R, name: &str) -> bool {
-    match fs::metadata(rt, name) {
-        Ok(metadata) => metadata.is_file(),
-        Err(_) => false,
+    // Whether a file can be read once more.
+    fn is_regular(&self, name: &str) -> bool {
+        match fs::metadata(self.rt, name) {
+            Ok(metadata) => metadata.is_file(),
+            Err(_) => false,
+        }
     }
 }
 
@@ -186,39 +199,6 @@ fn name_of_core(names: &FileNames, core: u32) -> Option<&str>
         Some(name) => Some(name.as_str()),
         None => None,
     }
-}
-
-// What the record at the place of a No says.
-fn words_of_record<R: Files<File = F>, F: Read + Drop>(
-    rt: &R,
-    alloc: Global,
-    names: &FileNames,
-    explanation: &Explanation,
-) -> Option<Words> {
-    let RecordNumber { core, seq } = explanation.record()?;
-    let name = name_of_core(names, u32::from(core.number()))?;
-    let mut words = Words::new(alloc);
-    say_place(rt, alloc, &mut words, name, u64::from(seq));
-    words.append(explanation.words());
-    Some(words)
-}
-
-// What is wrong with the configuration in the file of this name.
-fn words_of_configuration<R: Files<File = F>, F: Read + Drop>(
-    rt: &R,
-    alloc: Global,
-    name: &str,
-    fault: ConfigFault,
-) -> Words {
-    let mut words = Words::new(alloc);
-    words.say(format_args!("{name}: "));
-    let text = if is_regular(rt, name) {
-        open_text(rt, alloc, name).ok()
-    } else {
-        None
-    };
-    tell_configuration(&mut words, alloc, fault, text.as_deref());
-    words
 }
 
 // What is wrong with the arguments of a check.

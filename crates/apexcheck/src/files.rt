@@ -27,17 +27,13 @@ use std::thread::Threads;
 ///
 /// The explainer receives what explains the end: which file can't be opened or read and why, why the rules file is refused,
 /// which rule is broken, the record at the place of a No, and the keys of the configuration that are not known.
-pub fn check_files<R, F>(
-    rt: &R,
-    alloc: Global,
-    asked: &FilesAsked,
-    explainer: &mut Explainer,
-) -> Ending
+pub fn check_files<R, F>(rt: &R, asked: &FilesAsked, explainer: &mut Explainer) -> Ending
 where
     R: Files<File = F> + AllocGlobal + Threads + Wait + Sync + Copy + Send + 'static,
     F: Read + Drop + Send + 'static,
     ensures { IsOfFiles ⟦<Watched<F> as TextSource>⟧.remaining ⟦<Watched<F> as TextSource>⟧.can_fail asked.now result }
 {
+    let alloc = rt.alloc();
     match Opened::open(rt, alloc, &asked.names, explainer) {
         Ok(opened) => opened.check(rt, alloc, asked, explainer),
         Err(fault) => end_by(fault),
@@ -65,7 +61,7 @@ struct Opened<S> {
 }
 
 impl<F: Read + Drop + Send + 'static> Opened<Watched<F>> {
-    fn open<R: Files<File = F> + AllocGlobal>(
+    fn open<R: Files<File = F>>(
         rt: &R,
         alloc: Global,
         names: &FileNames,

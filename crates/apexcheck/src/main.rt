@@ -82,7 +82,7 @@ where
             last: None,
         },
         Ok(Asked::Version) => Ending::Version,
-        Ok(Asked::Files(asked)) => files::check_files(rt, alloc, asked, explainer),
+        Ok(Asked::Files(asked)) => files::check_files(rt, asked, explainer),
         Err(fault) => refused_words(*fault),
     }
 }

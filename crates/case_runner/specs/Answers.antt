@@ -1,30 +1,18 @@
 -- What answers a case, and what has to.
-use Rattle.std.specs.Prelude.{◌≡◌, ◌↔◌, ◌++◌, ◌∷◌, [], ℕ, Bool, false, List, Option, IfSome, Result, Ok, Err}
+use Rattle.std.specs.Prelude.{◌≡◌, ◌↔◌, ◌++◌, ◌∷◌, [], ℕ, Bool, false, List, Option, IfSome, Result}
 use Rattle.verdict_merge.specs.declared.verdict.Verdict.{Verdict}
-use Rattle.verdict_merge.specs.declared.verdict.Verdict.TheVariants.{Yes, No, Broken}
 use Rattle.placement.specs.Reading.{CanFail}
 use Rattle.report.specs.declared.fault.CheckFault.{CheckFault}
-use Rattle.report.specs.declared.fault.CheckFault.TheVariants as fault
 use Rattle.report.specs.declared.settings.Settings.{Settings}
 use Rattle.report.specs.declared.last.LastItem.{LastItem}
 use Rattle.report.specs.Answers.{IsAnswer}
 use Rattle.report.specs.Inputs.{Texts}
 use Rattle.report.specs.Last.{last_lines}
-use Rattle.report.specs.Text.{report_of}
+use Rattle.report.specs.Text.{outcome_status_of, report_of}
 use Rattle.rule_options.specs.declared.option.RuleOption.{RuleOption}
 use Rattle.rule_options.specs.Options.{SayInTurn}
 use Rattle.user_rules.specs.declared.relation.Relation.{Relation}
 use Rattle.case_runner.specs.declared.manner.Named.{Named}
-
--- 0 for a Yes, 1 for a No, 3 for want of memory, and 2 for every other refusal
-abbrev pub exit_status_of : Result Verdict CheckFault → ℕ
-exit_status_of (Ok (Yes records)) = 0
-exit_status_of (Ok (No pos piece cause)) = 1
-exit_status_of (Ok (Broken pos rule)) = 1
-exit_status_of (Err fault.Memory) = 3
-exit_status_of (Err (fault.Arguments which)) = 2
-exit_status_of (Err (fault.Config which)) = 2
-exit_status_of (Err (fault.Input which)) = 2
 
 -- what came of a check: the line without its line feed, the lines of the last records with theirs, and the exit status
 pub record Reported : Type 0 where
@@ -62,7 +50,7 @@ pub record IsReportOf (settings : Settings) (texts : Texts) (options : List Rule
   pub answer : IsAnswer settings texts in_memory relations outcome items
   pub line : found.line ++ 10 ∷ [] ≡ report_of outcome
   pub last : found.last ≡ last_lines items
-  pub status : found.status ≡ exit_status_of outcome
+  pub status : found.status ≡ outcome_status_of outcome
 
 -- the texts of a case
 abbrev pub texts_of : List ℕ → List (List ℕ) → List ℕ → Texts

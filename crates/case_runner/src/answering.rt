@@ -3,13 +3,13 @@
 ghost use Rattle.std.specs.Prelude.{◌≡◌, ◌↔◌, ◌++◌, ◌∷◌, [], IfOk, IfSome, IsTrue, Some, length, map, option_map};
 ghost use Rattle.std.specs.Io.Cursor.{cursor_remaining};
 ghost use Rattle.report.specs.Text.{report_of};
-ghost use Rattle.case_runner.specs.Answers.{IsReportOf, IsWanted, exit_status_of, texts_of, reported_by, wanted_by};
+ghost use Rattle.case_runner.specs.Answers.{IsReportOf, IsWanted, texts_of, reported_by, wanted_by};
 
 use crate::fields::LINE_FEED;
 use crate::manner::Manner;
 use report::{
-    CheckFault, Inputs, Last, Nobody, Open, Options, Verdict, check_relations, write_last,
-    write_report,
+    CheckFault, Inputs, Last, Nobody, Open, Options, Verdict, check_relations, status_of_outcome,
+    write_last, write_report,
 };
 use rule_options::{RuleOption, relations_of};
 use sink::{FailureCount, Sink, SinkFault};
@@ -102,7 +102,7 @@ where
     Ok(Answer {
         line: line_of(alloc, &outcome)?,
         last: lines.taken,
-        status: status_of(&outcome),
+        status: u64::from(status_of_outcome(&outcome)),
     })
 }
 
@@ -139,18 +139,6 @@ fn reader_of(alloc: Global, recording: &[u8]) -> Result<Cursor<Vec<u8>>, AllocEr
     ensures { IfOk result (λ reader. cursor_remaining (λ text. Some text.items) reader ≡ Some recording.now) }
 {
     Ok(Cursor::new(Vec::from_slice(alloc, recording)?))
-}
-
-/// The exit status of an outcome: 0 yes, 1 no, 2 refused, 3 out of memory.
-pub fn status_of(outcome: &Result<Verdict, CheckFault>) -> u64
-    ensures { result ≡ exit_status_of outcome.now }
-{
-    match outcome {
-        Ok(Verdict::Yes { .. }) => 0,
-        Ok(Verdict::No { .. } | Verdict::Broken { .. }) => 1,
-        Err(CheckFault::Memory) => 3,
-        Err(_) => 2,
-    }
 }
 
 // A sink that keeps what it takes.

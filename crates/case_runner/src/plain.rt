@@ -4,13 +4,13 @@ ghost use Rattle.std.specs.Prelude.{◌≤◌, IfOk, length};
 ghost use Rattle.apex_types.specs.declared.limits.TheConstants.{MOST_CORES};
 ghost use Rattle.apex_machine.specs.Runs.{ArePlaced, AreOfCores};
 
-use crate::answering::{Answer, Texts, line_of, readers_of, status_of};
+use crate::answering::{Answer, Texts, line_of, readers_of};
 use apex_types::{Ordered, View};
 use core_intake::Intake;
 use module_config::Config;
 use order_cert::CertSource;
 use placement::{Filled, Placer};
-use report::Verdict;
+use report::{Verdict, status_of_outcome};
 use rule_options::{RuleOption, relations_of};
 use std::alloc::{AllocError, Global};
 use std::io::Cursor;
@@ -50,7 +50,7 @@ where
     Ok(Answer {
         line: line_of(alloc, &outcome)?,
         last: Vec::new(alloc),
-        status: status_of(&outcome),
+        status: u64::from(status_of_outcome(&outcome)),
     })
 }
 

@@ -1,5 +1,5 @@
 -- The pieces of a round, and what became of them.
-use Rattle.std.proofs.Common.{◌≡◌, ◌<◌, ◌+◌, ◌∙◌, ℕ, zero, suc, List, [], ◌∷◌, ◌++◌, Option, Some, length, get_or, refl, ap, sym, subst, arith, append_assoc}
+use Rattle.std.proofs.Common.{◌≡◌, ◌<◌, ◌+◌, ◌∙◌, ℕ, zero, suc, List, [], ◌∷◌, ◌++◌, Option, Some, length, get_or, refl, ap, sym, subst, arith, append_assoc, below_more}
 use Rattle.std.proofs.lemmas.List.{get_or_append_left, length-append, length-map}
 use Rattle.std.proofs.Math.Seq.{get_or-append_seam}
 use Rattle.apex_types.specs.declared.record.Ordered.{Ordered}
@@ -11,7 +11,6 @@ use Rattle.verdict_merge.specs.declared.outcome.Lent.{Lent}
 use Rattle.verdict_merge.specs.Rounds.{AreJudgedOver, AreGoing, HasRunOver, IsGoing, IsJudgedOver, holding_at}
 use Rattle.verdict_merge.specs.Views.{AreSeen, up_to as up_to_refusal}
 use Rattle.verdict_merge.specs.declared.judged.Judged.{Judged}
-use Rattle.verdict_merge.proofs.Splits.{up_to}
 use Rattle.partition_workers.specs.declared.log.Event.{Event}
 use Rattle.partition_workers.specs.Boards.{IsBoard, IsPlaced}
 use Rattle.partition_workers.specs.Contents.{AreGoingFrom, AreJudged, Content, IsJudged, content_of, part_at, parts_held}
@@ -85,7 +84,7 @@ pub judged_more : (content : Content) (judged : List Judged) (new : Judged) (cou
     → ((number : ℕ) → number < count → HasJudgedOver content judged number) → IsJudged content count new
     → (number : ℕ) → number < count + 1 → HasJudgedOver content (judged ++ new ∷ []) number
 judged_more content judged new count counted each last =
-    up_to (HasJudgedOver content (judged ++ new ∷ [])) count
+    below_more (HasJudgedOver content (judged ++ new ∷ [])) count
     (λ number less one is. each number less one (is ∙ get_or_append_left judged (new ∷ []) one number (omega (arith, less, counted))))
     (λ one is. subst (IsJudged content count) (sym (is ∙ ap (λ n. get_or (judged ++ new ∷ []) n one) (sym counted) ∙ get_or-append_seam judged new [] one)) last)
 

@@ -4,8 +4,7 @@ use Rattle.std.proofs.lemmas.Bool.Decides.{nat_tests}
 use Rattle.std.proofs.lemmas.List.{append-nil}
 use Rattle.partition_workers.specs.declared.log.Event.{Event}
 use Rattle.partition_workers.specs.declared.log.Event.TheVariants.{Claim, Post}
-use Rattle.partition_workers.specs.declared.fault.PostRefusal.TheVariants.{Foreign, Repeated}
-use Rattle.partition_workers.specs.Logs.{MayAllFollow, MayFollow, claimant, is_posted, refusal_by, refusal_of}
+use Rattle.partition_workers.specs.Logs.{MayAllFollow, MayFollow, claimant, is_posted}
 
 -- the first of two that there is
 abbrev or_else : Option ℕ → Option ℕ → Option ℕ
@@ -87,17 +86,3 @@ pub legal_on : (count : ℕ) (before log : List Event) (event : Event) → MayAl
 legal_on count before [] event legal may = (subst (λ all. MayFollow count all event) (append-nil before) may, tt)
 legal_on count before (first ∷ others) event legal may =
     (legal.0, legal_on count (before ++ first ∷ []) others event legal.1 (subst (λ all. MayFollow count all event) (sym (append_assoc before (first ∷ []) others)) may))
-
--- a post that is not refused is by the worker that has claimed the piece, and the first of it
-pub not_refused : (log : List Event) (worker piece : ℕ) → refusal_of log worker piece ≡ None → (claimant log piece ≡ Some worker) × (is_posted log piece ≡ false)
-not_refused log worker piece none = by (claimant log piece) refl none
-  where
-    by : (one : Option ℕ) → claimant log piece ≡ one → refusal_by one (is_posted log piece) worker ≡ None → (claimant log piece ≡ Some worker) × (is_posted log piece ≡ false)
-    by None is none = absurd (cc none)
-    by (Some other) is none = by_worker (other == worker) refl (is_posted log piece) refl none
-      where
-        by_worker : (own : Bool) → (other == worker) ≡ own → (posted : Bool) → is_posted log piece ≡ posted
-            → cond own (cond posted (Some Repeated) None) (Some Foreign) ≡ None → (claimant log piece ≡ Some worker) × (is_posted log piece ≡ false)
-        by_worker false own posted is_so none = absurd (cc none)
-        by_worker true own true is_so none = absurd (cc none)
-        by_worker true own false is_so none = let same : other ≡ worker = grind (arith, nat_tests) in (is ∙ ap Some same, is_so)

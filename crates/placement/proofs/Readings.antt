@@ -32,9 +32,6 @@ fault_read can_fail failure memory fault items left other (inr (rest, e)) = (res
 pub put-here : {A : Type 0} (f : ℕ → A) (core : ℕ) (x : A) → put f core x core ≡ x
 put-here f core x = rw (eq-eqb core core refl) refl
 
-pub same_or : (a b : ℕ) → (a ≡ b) ⊎ (a ≢ b)
-same_or = cases_eq
-
 pub put-other : {A : Type 0} (f : ℕ → A) (core other : ℕ) (x : A) → other ≢ core → put f core x other ≡ f other
 put-other f core other x apart = rw (ne_eqb other core apart) refl
 

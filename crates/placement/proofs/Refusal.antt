@@ -24,7 +24,7 @@ use Rattle.placement.proofs.Readings.{put-here, put-other}
 
 -- values without a fault, and the items after them
 
-front : {Value Fault : Type 0} (good : List Value) (more : List (Result Value Fault)) → take (length good) (map Ok good ++ more) ≡ map Ok good
+pub front : {Value Fault : Type 0} (good : List Value) (more : List (Result Value Fault)) → take (length good) (map Ok good ++ more) ≡ map Ok good
 front [] more = refl
 front {Value} {Fault} (g ∷ good) more = ap (λ (list : List (Result Value Fault)). Ok g ∷ list) (front good more)
 
@@ -100,37 +100,35 @@ lawful_before cores ps qs h = record {
 
 -- why a pair may not stand next, or that it fits
 
-record Fits (cores : ℕ) (pairs : List Pair) (pair : Pair) : Type 0 where
+pub record Fits (cores : ℕ) (taken : ℕ → ℕ) (pair : Pair) : Type 0 where
   pub known : pair.core < cores
-  pub seq : pair.seq ≡ taken_by pairs pair.core
+  pub seq : pair.seq ≡ taken pair.core
   pub below : pair.seq < MOST_RECORDS
 
-abbrev IsAbove : List Pair → Pair → Type 0
-IsAbove pairs pair = (taken_by pairs pair.core < pair.seq) ⊎ ((pair.seq ≡ taken_by pairs pair.core) × (MOST_RECORDS ≤ pair.seq))
+abbrev pub IsAbove : (ℕ → ℕ) → Pair → Type 0
+IsAbove taken pair = (taken pair.core < pair.seq) ⊎ ((pair.seq ≡ taken pair.core) × (MOST_RECORDS ≤ pair.seq))
 
-abbrev IsWhy : ℕ → List Pair → Pair → Option OrderFault → Type 0
-IsWhy cores pairs pair None = Fits cores pairs pair
-IsWhy cores pairs pair (Some NoSuchCore) = cores ≤ pair.core
-IsWhy cores pairs pair (Some Repeated) = (pair.core < cores) × (pair.seq < taken_by pairs pair.core)
-IsWhy cores pairs pair (Some Skipped) = (pair.core < cores) × IsAbove pairs pair
-IsWhy cores pairs pair (Some Absent) = ⊥
-IsWhy cores pairs pair (Some Missing) = ⊥
+abbrev pub IsWhy : ℕ → (ℕ → ℕ) → Pair → Option OrderFault → Type 0
+IsWhy cores taken pair None = Fits cores taken pair
+IsWhy cores taken pair (Some NoSuchCore) = cores ≤ pair.core
+IsWhy cores taken pair (Some Repeated) = (pair.core < cores) × (pair.seq < taken pair.core)
+IsWhy cores taken pair (Some Skipped) = (pair.core < cores) × IsAbove taken pair
+IsWhy cores taken pair (Some Absent) = ⊥
+IsWhy cores taken pair (Some Missing) = ⊥
 
-why : (cores : ℕ) (pairs : List Pair) (pair : Pair) → IsWhy cores pairs pair (misplaced cores (taken_by pairs) pair)
-why cores pairs pair = by (nat_lt pair.core cores) (nat_lt pair.seq taken) (nat_lt taken pair.seq) (nat_le MOST_RECORDS pair.seq) refl refl refl refl
+pub why : (cores : ℕ) (taken : ℕ → ℕ) (pair : Pair) → IsWhy cores taken pair (misplaced cores taken pair)
+why cores taken pair =
+    by (nat_lt pair.core cores) (nat_lt pair.seq (taken pair.core)) (nat_lt (taken pair.core) pair.seq) (nat_le MOST_RECORDS pair.seq) refl refl refl refl
   where
-    taken : ℕ
-    taken = taken_by pairs pair.core
-
-    by : (a b c d : Bool) → nat_lt pair.core cores ≡ a → nat_lt pair.seq taken ≡ b → nat_lt taken pair.seq ≡ c → nat_le MOST_RECORDS pair.seq ≡ d
-        → IsWhy cores pairs pair (if a then (if b then Some Repeated else (if c || d then Some Skipped else None)) else Some NoSuchCore)
+    by : (a b c d : Bool) → nat_lt pair.core cores ≡ a → nat_lt pair.seq (taken pair.core) ≡ b → nat_lt (taken pair.core) pair.seq ≡ c
+        → nat_le MOST_RECORDS pair.seq ≡ d → IsWhy cores taken pair (if a then (if b then Some Repeated else (if c || d then Some Skipped else None)) else Some NoSuchCore)
     by false b c d x y z w = grind (arith, nat_tests)
     by true true c d x y z w = (grind (arith, nat_tests), grind (arith, nat_tests))
     by true false true d x y z w = (grind (arith, nat_tests), inl (grind (arith, nat_tests)))
     by true false false true x y z w = (grind (arith, nat_tests), inr (grind (arith, nat_tests), grind (arith, nat_tests)))
     by true false false false x y z w = record { known = grind (arith, nat_tests); seq = grind (arith, nat_tests); below = grind (arith, nat_tests) }
 
-fits_pass : (cores : ℕ) (pairs : List Pair) (pair : Pair) → Fits cores pairs pair → misplaced cores (taken_by pairs) pair ≡ None
+fits_pass : (cores : ℕ) (pairs : List Pair) (pair : Pair) → Fits cores (taken_by pairs) pair → misplaced cores (taken_by pairs) pair ≡ None
 fits_pass cores pairs pair f = grind (arith, nat_tests, f.known, f.seq, f.below)
 
 unknown_fails : (cores : ℕ) (pairs : List Pair) (pair : Pair) → cores ≤ pair.core → misplaced cores (taken_by pairs) pair ≡ Some NoSuchCore
@@ -140,17 +138,17 @@ repeated_fails : (cores : ℕ) (pairs : List Pair) (pair : Pair) → pair.core <
     → misplaced cores (taken_by pairs) pair ≡ Some Repeated
 repeated_fails cores pairs pair known low = grind (arith, nat_tests)
 
-skipped_fails : (cores : ℕ) (pairs : List Pair) (pair : Pair) → pair.core < cores → IsAbove pairs pair → misplaced cores (taken_by pairs) pair ≡ Some Skipped
+skipped_fails : (cores : ℕ) (pairs : List Pair) (pair : Pair) → pair.core < cores → IsAbove (taken_by pairs) pair → misplaced cores (taken_by pairs) pair ≡ Some Skipped
 skipped_fails cores pairs pair known (inl high) = grind (arith, nat_tests)
 skipped_fails cores pairs pair known (inr (same, most)) = grind (arith, nat_tests)
 
 -- how the recordings end: each has ended, or the least core that has not decides
-abbrev Decides : ℕ → ℕ → (ℕ → ℕ) → (ℕ → List Item) → Result (Unit {0}) InputFault → Type 0
+abbrev pub Decides : ℕ → ℕ → (ℕ → ℕ) → (ℕ → List Item) → Result (Unit {0}) InputFault → Type 0
 Decides cores place taken left (Ok ended) = (core : ℕ) → core < cores → left core ≡ []
 Decides cores place taken left (Err fault) =
     (core : ℕ) × (core < cores) × ((below : ℕ) → below < core → left below ≡ []) × (end_of place core (taken core) (left core) ≡ Err fault)
 
-ends_decide : (cores place : ℕ) (taken : ℕ → ℕ) (left : ℕ → List Item) → Decides cores place taken left (ends_of cores place taken left)
+pub ends_decide : (cores place : ℕ) (taken : ℕ → ℕ) (left : ℕ → List Item) → Decides cores place taken left (ends_of cores place taken left)
 ends_decide zero place taken left = λ core within. absurd (omega arith)
 ends_decide (suc cores) place taken left = by (ends_of cores place taken left) (left cores) refl (ends_decide cores place taken left)
   where
@@ -202,7 +200,7 @@ module _ {cores : ℕ} {whole : ℕ → List Item} {certificate : List CertItem}
       ap (λ l. slice_get l (taken_by pairs core)) (t.recorded core within)
       ∙ ap (slice_get (map Ok (t.recordings core) ++ left core)) (sym (t.counts core within)) ∙ after (t.recordings core) (left core)
 
-  lawful_fits : (pair : Pair) → IsPrefixOfLawful cores (pairs ++ pair ∷ []) → Fits cores pairs pair
+  lawful_fits : (pair : Pair) → IsPrefixOfLawful cores (pairs ++ pair ∷ []) → Fits cores (taken_by pairs) pair
   lawful_fits pair lawful =
       let n = next_from_prefix t.kept pairs pair t.follows (subst (λ n. IsPrefixOfLawful n (pairs ++ pair ∷ [])) (sym t.cores_are) lawful) in
       record { known = omega (arith, n.known, t.cores_are); seq = n.seq ∙ t.follows.counts pair.core; below = n.below }
@@ -237,10 +235,10 @@ module _ {cores : ℕ} {whole : ℕ → List Item} {certificate : List CertItem}
 
 module _ {cores : ℕ} {whole : ℕ → List Item} {certificate : List CertItem} {pairs : List Pair} {left : ℕ → List Item} {rest : List CertItem}
     (pair : Pair) (t : Taken cores whole certificate pairs left (Ok pair ∷ rest)) where
-  unlawful : ¬ Fits cores pairs pair → ¬ IsPrefixOfLawful cores (pairs ++ pair ∷ [])
+  unlawful : ¬ Fits cores (taken_by pairs) pair → ¬ IsPrefixOfLawful cores (pairs ++ pair ∷ [])
   unlawful misfit lawful = misfit (lawful_fits t pair lawful)
 
-  order_fault : (fault : OrderFault) → IsWhy cores pairs pair (Some fault) → IsOrderFault cores whole certificate pairs pair.core fault
+  order_fault : (fault : OrderFault) → IsWhy cores (taken_by pairs) pair (Some fault) → IsOrderFault cores whole certificate pairs pair.core fault
   order_fault NoSuchCore high = (pair.seq, (row_is t, unlawful (λ f. absurd (omega (arith, f.known)))), high)
   order_fault Repeated (known, low) = (pair.seq, (row_is t, unlawful (λ f. absurd (omega (arith, f.seq)))), known, low)
   order_fault Skipped (known, inl high) = (pair.seq, (row_is t, unlawful (λ f. absurd (omega (arith, f.seq)))), known, inl high)
@@ -249,7 +247,7 @@ module _ {cores : ℕ} {whole : ℕ → List Item} {certificate : List CertItem}
   order_fault Missing none = absurd none
 
 module _ {cores : ℕ} {whole : ℕ → List Item} {certificate : List CertItem} {pairs : List Pair} {left : ℕ → List Item} {rest : List CertItem}
-    (pair : Pair) (t : Taken cores whole certificate pairs left (Ok pair ∷ rest)) (fits : Fits cores pairs pair) where
+    (pair : Pair) (t : Taken cores whole certificate pairs left (Ok pair ∷ rest)) (fits : Fits cores (taken_by pairs) pair) where
   next_kept : Kept
   next_kept = record { cores = t.kept.cores; counts = set t.kept.counts pair.core (taken_of t.kept pair.core + 1) }
 
@@ -317,14 +315,14 @@ scan_refused cores whole certificate pairs left [] t =
     at_end t (ends_of cores (length pairs) (taken_by pairs) left) (ends_decide cores (length pairs) (taken_by pairs) left) refl
 scan_refused cores whole certificate pairs left (Err fault ∷ rest) t = stopped t (input.Cert (length pairs) fault) (refl, row_is t)
 scan_refused cores whole certificate pairs left (Ok pair ∷ rest) t =
-    step (misplaced cores (taken_by pairs) pair) (why cores pairs pair) (left pair.core) refl
+    step (misplaced cores (taken_by pairs) pair) (why cores (taken_by pairs) pair) (left pair.core) refl
     (λ more next. subst (Refused cores whole certificate (pairs ++ pair ∷ [])) (sym (next_scan cores pairs pair (put left pair.core more) rest))
     (scan_refused cores whole certificate (pairs ++ pair ∷ []) (put left pair.core more) rest next))
   where
     later : List Item → Scan
     later more = scan cores (put (taken_by pairs) pair.core (suc (taken_by pairs pair.core))) (suc (length pairs)) (put left pair.core more) rest
 
-    step : (wrong : Option OrderFault) → IsWhy cores pairs pair wrong → (items : List Item) → left pair.core ≡ items
+    step : (wrong : Option OrderFault) → IsWhy cores (taken_by pairs) pair wrong → (items : List Item) → left pair.core ≡ items
         → ((more : List Item) → Taken cores whole certificate (pairs ++ pair ∷ []) (put left pair.core more) rest
         → Refused cores whole certificate (pairs ++ pair ∷ []) (later more))
         → Refused cores whole certificate pairs (keeping wrong (length pairs) pair (taking (length pairs) pair items (λ rec more. later more)))
@@ -414,7 +412,7 @@ module _ {cores : ℕ} {whole : ℕ → List Item} {certificate : List CertItem}
 
 -- the next pair of those that are taken stands next, and its record is there
 record Passes (cores : ℕ) (pairs : List Pair) (left : ℕ → List Item) (rest : List CertItem) (pair : Pair) : Type 0 where
-  pub fits : Fits cores pairs pair
+  pub fits : Fits cores (taken_by pairs) pair
   pub later : List CertItem
   pub row : rest ≡ Ok pair ∷ later
   pub rec : Record
@@ -436,7 +434,7 @@ next_passes {cores} {whole} {certificate} {before} {left} {rest} pair more t a =
     all : List Pair
     all = before ++ pair ∷ more
 
-    fits : Fits cores before pair
+    fits : Fits cores (taken_by before) pair
     fits = lawful_fits t pair
         (lawful_before cores (before ++ pair ∷ []) more (subst (IsPrefixOfLawful cores) (sym (append_assoc before (pair ∷ []) more)) a.lawful))
 

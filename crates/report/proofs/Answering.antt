@@ -19,7 +19,7 @@ use Rattle.verdict_merge.specs.Verdicts.{IsRunWhereYes, IsVerdict}
 use Rattle.report.specs.declared.fault.ArgumentFault.{ArgumentFault}
 use Rattle.report.specs.declared.fault.ArgumentFault.TheVariants.{ReaderCount}
 use Rattle.report.specs.declared.fault.CheckFault.{CheckFault}
-use Rattle.report.specs.declared.fault.CheckFault.TheVariants.{Arguments, Config, Input, Memory}
+use Rattle.report.specs.declared.fault.CheckFault.TheVariants.{Arguments, Config, Memory}
 use Rattle.report.specs.declared.last.LastItem.{LastItem}
 use Rattle.report.specs.declared.settings.Settings.{Settings}
 use Rattle.report.specs.Answers.{IsAnswer}
@@ -27,7 +27,7 @@ use Rattle.report.specs.Inputs.{Readings, Texts, given_of_certificate, given_of_
 use Rattle.report.specs.Last.{last_of, settled}
 use Rattle.report.specs.Outcome.{IsJudged, IsOutcome, IsOutcomeBy, IsOutcomeWith, answer_with, argument_fault_of, config_refusal_of}
 use Rattle.report.specs.Refused.{IsFirstOf, RefusalMeansFault}
-use Rattle.report.proofs.Lawful.{last_means, no_means, yes_means}
+use Rattle.report.proofs.Lawful.{no_means, yes_means}
 use Rattle.report.proofs.Whole.{other_count, outcome_under, read_so}
 
 -- the first fault of the input, where a scan ends with it
@@ -37,39 +37,24 @@ first_of texts readings fault is =
     (pairs, taken, first)
 
 -- a refusal of the input is for its first fault
-refusal_means : (texts : Texts) (readings : Readings) (verdict : Verdict) (end : Result (Unit {0}) InputFault) → (scan_of texts readings).end ≡ end
+pub refusal_means : (texts : Texts) (readings : Readings) (verdict : Verdict) (end : Result (Unit {0}) InputFault) → (scan_of texts readings).end ≡ end
     → RefusalMeansFault texts readings (answer_with verdict end)
-refusal_means texts readings (No pos piece cause) end is = tt
-refusal_means texts readings (Broken pos rule) end is = tt
-refusal_means texts readings (Yes records) (Ok ended) is = tt
 refusal_means texts readings (Yes records) (Err fault) is = first_of texts readings fault is
+refusal_means texts readings _ _ is = tt
 
--- a refusal of another kind says nothing of the input
-abbrev IsOfNoText : CheckFault → Type 0
-IsOfNoText (Arguments fault) = Unit {0}
-IsOfNoText (Config fault) = Unit {0}
-IsOfNoText Memory = Unit {0}
-IsOfNoText (Input fault) = ⊥
+-- a refusal is no Yes and no No, where there are no last records
+refused : {settings : Settings} {texts : Texts} {can_fail : CanFail} {relations : List Relation} {last : List LastItem} (fault : CheckFault) → last ≡ [] → RefusalMeansFault texts whole (Err fault)
+    → IsOutcome settings texts whole relations (Err fault) → IsAnswer settings texts can_fail relations (Err fault) last
+refused fault none means is = record { readings = whole; read = record { recordings = λ cannot core. refl; certificate = λ cannot. refl }; outcome = is; yes = tt; no = tt; refusal = means; last_records = none }
 
-nothing_refused : (texts : Texts) (fault : CheckFault) → IsOfNoText fault → RefusalMeansFault texts whole (Err fault)
-nothing_refused texts (Arguments fault) is = tt
-nothing_refused texts (Config fault) is = tt
-nothing_refused texts Memory is = tt
-nothing_refused texts (Input fault) is = absurd is
-
--- such a refusal is no Yes and no No, and leaves no last records
-refused : (settings : Settings) (texts : Texts) (can_fail : CanFail) (relations : List Relation) (fault : CheckFault) → IsOfNoText fault → IsOutcome settings texts whole relations (Err fault)
-    → IsAnswer settings texts can_fail relations (Err fault) []
-refused settings texts can_fail relations fault kind is = record { readings = whole; read = record { recordings = λ cannot core. refl; certificate = λ cannot. refl }; outcome = is; yes = tt; no = tt; refusal = nothing_refused texts fault kind; last_records = refl }
-
-pub want_of_memory : (settings : Settings) (texts : Texts) (can_fail : CanFail) (relations : List Relation) → IsAnswer settings texts can_fail relations (Err Memory) []
-want_of_memory settings texts can_fail relations = refused settings texts can_fail relations Memory tt (inl refl)
+pub want_of_memory : {settings : Settings} {texts : Texts} {can_fail : CanFail} {relations : List Relation} {last : List LastItem} → last ≡ [] → IsAnswer settings texts can_fail relations (Err Memory) last
+want_of_memory none = refused Memory none tt (inl refl)
 
 -- the refusal of the settings
-pub refused_settings : (settings : Settings) (texts : Texts) (can_fail : CanFail) (relations : List Relation) (fault : ArgumentFault) → argument_fault_of settings ≡ Some fault
-    → IsAnswer settings texts can_fail relations (Err (Arguments fault)) []
-refused_settings settings texts can_fail relations fault is =
-    refused settings texts can_fail relations (Arguments fault) tt (inr (subst (λ found. IsOutcomeWith found texts whole relations (Err (Arguments fault))) (sym is) refl))
+pub refused_settings : {settings : Settings} {texts : Texts} {can_fail : CanFail} {relations : List Relation} {last : List LastItem} (fault : ArgumentFault) → last ≡ []
+    → argument_fault_of settings ≡ Some fault → IsAnswer settings texts can_fail relations (Err (Arguments fault)) last
+refused_settings {settings} {texts} {can_fail} {relations} {last} fault none is =
+    refused (Arguments fault) none tt (inr (subst (λ found. IsOutcomeWith found texts whole relations (Err (Arguments fault))) (sym is) refl))
 
 -- where nothing is wrong with the settings, the outcome is that of the texts
 with_settings : (settings : Settings) (texts : Texts) (readings : Readings) (relations : List Relation) (result : Result Verdict CheckFault) → argument_fault_of settings ≡ None
@@ -82,20 +67,21 @@ config_reported config.Memory = inl refl
 config_reported fault = inr ((λ e. cc), refl)
 
 -- the refusal of the configuration
-pub refused_configuration : (settings : Settings) (texts : Texts) (can_fail : CanFail) (relations : List Relation) (fault : ConfigFault) → argument_fault_of settings ≡ None
-    → (fault ≢ config.Memory → configuration_of texts.config ≡ Err fault) → IsAnswer settings texts can_fail relations (Err (config_refusal_of fault)) []
-refused_configuration settings texts can_fail relations fault none read = elim (config_reported fault) [
-  | inl memory ↦ subst (λ one. IsAnswer settings texts can_fail relations (Err (config_refusal_of one)) []) (sym memory) (want_of_memory settings texts can_fail relations)
-  | inr (other, is) ↦ subst (λ one. IsAnswer settings texts can_fail relations (Err one) []) (sym is)
-      (refused settings texts can_fail relations (Config fault) tt (with_settings settings texts whole relations (Err (Config fault)) none
+pub refused_configuration : {settings : Settings} {texts : Texts} {can_fail : CanFail} {relations : List Relation} {last : List LastItem} (fault : ConfigFault) → last ≡ []
+    → argument_fault_of settings ≡ None → (fault ≢ config.Memory → configuration_of texts.config ≡ Err fault) → IsAnswer settings texts can_fail relations (Err (config_refusal_of fault)) last
+refused_configuration {settings} {texts} {can_fail} {relations} {last} fault none right read = elim (config_reported fault) [
+  | inl memory ↦ subst (λ one. IsAnswer settings texts can_fail relations (Err (config_refusal_of one)) last) (sym memory) (want_of_memory none)
+  | inr (other, is) ↦ subst (λ one. IsAnswer settings texts can_fail relations (Err one) last) (sym is)
+      (refused (Config fault) none tt (with_settings settings texts whole relations (Err (Config fault)) right
       (subst (λ reading. IsOutcomeBy reading texts whole relations (Err (Config fault))) (sym (read other)) refl)))
 ]
 
 -- the refusal of the number of readers
-pub refused_count : (settings : Settings) (texts : Texts) (can_fail : CanFail) (relations : List Relation) (configuration : Configuration) → argument_fault_of settings ≡ None
-    → configuration_of texts.config ≡ Ok configuration → length texts.recordings ≢ configuration.cores → IsAnswer settings texts can_fail relations (Err (Arguments ReaderCount)) []
-refused_count settings texts can_fail relations configuration none read apart =
-    refused settings texts can_fail relations (Arguments ReaderCount) tt (with_settings settings texts whole relations (Err (Arguments ReaderCount)) none
+pub refused_count : {settings : Settings} {texts : Texts} {can_fail : CanFail} {relations : List Relation} {last : List LastItem} (configuration : Configuration) → last ≡ []
+    → argument_fault_of settings ≡ None → configuration_of texts.config ≡ Ok configuration → length texts.recordings ≢ configuration.cores
+    → IsAnswer settings texts can_fail relations (Err (Arguments ReaderCount)) last
+refused_count {settings} {texts} {can_fail} {relations} {last} configuration none right read apart =
+    refused (Arguments ReaderCount) none tt (with_settings settings texts whole relations (Err (Arguments ReaderCount)) right
     (subst (λ reading. IsOutcomeBy reading texts whole relations (Err (Arguments ReaderCount))) (sym read)
     (other_count configuration texts whole relations (Err (Arguments ReaderCount)) apart refl)))
 
@@ -115,18 +101,19 @@ pub answered : (settings : Settings) (texts : Texts) (can_fail : CanFail) (relat
     → (result ≡ Err Memory) ⊎ IsEnded configuration texts can_fail relations result last
     → IsAnswer settings texts can_fail relations result (settled result last)
 answered settings texts can_fail relations configuration result last none read count means (inl memory) =
-    subst (λ one. IsAnswer settings texts can_fail relations one (settled one last)) (sym memory) (want_of_memory settings texts can_fail relations)
+    subst (λ one. IsAnswer settings texts can_fail relations one (settled one last)) (sym memory) (want_of_memory refl)
 answered settings texts can_fail relations configuration result last none read count means (inr ended) =
     let (verdict, found, is) = ended.judged in
     let runs = means ended.scanned verdict ended.scan found in
     let so = read_so can_fail texts ended.scanned ended.scan in
+    let no = no_means can_fail texts relations configuration ended.scanned read count ended.scan verdict result last runs.1 is ended.reported in
     record {
       readings = so.readings;
       read = so.read;
       outcome = with_settings settings texts so.readings relations result none
           (subst (λ reading. IsOutcomeBy reading texts so.readings relations result) (sym read) (outcome_under configuration texts so.readings relations result ended.scanned count so.scan ended.judged));
-      yes = yes_means can_fail texts relations configuration ended.scanned verdict result read count ended.scan runs.0 is;
-      no = no_means can_fail texts relations configuration ended.scanned verdict result read count ended.scan runs.1 is;
+      yes = yes_means can_fail texts relations configuration ended.scanned read count ended.scan verdict result runs.0 is;
+      no = no.0;
       refusal = subst (RefusalMeansFault texts so.readings) (sym is) (refusal_means texts so.readings verdict ended.scanned.end (ap (λ one. one.end) so.scan));
-      last_records = last_means can_fail texts relations configuration ended.scanned verdict result last read count ended.scan runs.1 is ended.reported;
+      last_records = no.1;
     }

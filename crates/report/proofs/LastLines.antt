@@ -1,21 +1,17 @@
 -- The lines of the last records go out one after another.
-use Rattle.std.proofs.Common.{◌≡◌, ◌<◌, ◌+◌, ◌∙◌, ℕ, zero, suc, List, [], ◌∷◌, ◌++◌, Option, Some, None, drop, length, take, arith, refl, sym, ap, append_assoc}
+use Rattle.std.proofs.Common.{◌≡◌, ◌<◌, ◌+◌, ◌∙◌, ℕ, zero, suc, List, [], ◌∷◌, ◌++◌, Option, Some, None, drop, length, take, arith, refl, sym, ap, subst, append_assoc}
 use Rattle.std.proofs.lemmas.List.{append-nil}
+use Rattle.std.proofs.lemmas.Option.{slice_get_cases}
 use Rattle.std.specs.Prelude.{slice_get}
 use Rattle.sink.specs.Taken.{with_more}
 use Rattle.sink.specs.Written.{IsCut, IsWritten}
 use Rattle.report.specs.declared.last.LastItem.{LastItem}
 use Rattle.report.specs.Last.{last_line, last_lines}
-
-with_more_twice : (known : Option (List ℕ)) (first second : List ℕ) → with_more (with_more known first) second ≡ with_more known (first ++ second)
-with_more_twice None first second = refl
-with_more_twice (Some bytes) first second = ap (λ list. Some list) (append_assoc bytes first second)
+use Rattle.report.proofs.Onward.{first_cut, second_cut, with_more_twice}
 
 -- there is an item at each index
 pub some_item : (items : List LastItem) (index : ℕ) → index < length items → ◌≡◌ {A = Option LastItem} (slice_get items index) None → ⊥
-some_item [] index within none = absurd (omega (arith, within))
-some_item (one ∷ items) zero within none = let some : ◌≡◌ {A = Option LastItem} (Some one) None = none in cc
-some_item (one ∷ items) (suc index) within none = some_item items index (omega (arith, within)) none
+some_item items index within none = grind (arith, slice_get_cases)
 
 -- the lines up to an item and its own
 line_by_line : (items : List LastItem) (index : ℕ) (item : LastItem) → slice_get items index ≡ Some item → last_lines (take (suc index) items) ≡ last_lines (take index items) ++ last_line item
@@ -41,12 +37,8 @@ line_out before now after items index item is out more =
 -- a line that is cut cuts them all
 pub line_cut : (before now after : Option (List ℕ)) (items : List LastItem) (index : ℕ) (item : LastItem) → slice_get items index ≡ Some item → IsWritten before (last_lines (take index items)) now
     → IsCut now (last_line item) after → IsCut before (last_lines items) after
-line_cut before now after items index item is out (front, back, split, put) =
-    let out_now = last_lines (take index items) in
-    let rest = last_lines (drop (suc index) items) in (
-      out_now ++ front,
-      back ++ rest,
-      all_lines items (suc index) ∙ ap (λ list. list ++ rest) (line_by_line items index item is ∙ ap (λ list. out_now ++ list) split)
-          ∙ append_assoc out_now (front ++ back) rest ∙ ap (λ list. out_now ++ list) (append_assoc front back rest) ∙ sym (append_assoc out_now front (back ++ rest)),
-      put ∙ ap (λ known. with_more known front) out ∙ with_more_twice before out_now front,
-    )
+line_cut before now after items index item is out cut =
+    let up_to = last_lines (take index items) in
+    let rest = last_lines (drop (suc index) items) in
+    subst (λ lines. IsCut before lines after) (ap (λ list. list ++ rest) (sym (line_by_line items index item is)) ∙ sym (all_lines items (suc index)))
+    (first_cut before after (up_to ++ last_line item) rest (second_cut before now after up_to (last_line item) out cut))

@@ -1,5 +1,6 @@
 -- The last records that were taken in are the last before the place of an answer.
-use Rattle.std.proofs.Common.{◌≡◌, ◌⊎◌, ◌≤◌, ◌<◌, ◌+◌, ◌-◌, ◌∙◌, ℕ, zero, suc, List, [], ◌∷◌, ◌++◌, Result, Ok, Err, length, map, take, drop, refl, sym, ap, subst, inl, inr, arith, append_assoc}
+use Rattle.std.proofs.Common.{◌≡◌, ◌≤◌, ◌+◌, ◌-◌, ◌∙◌, ℕ, suc, List, [], ◌∷◌, ◌++◌, Result, Ok, Err, length, map, take, drop, refl, sym, ap, subst, inl, inr, arith, append_assoc}
+use Rattle.std.proofs.lemmas.Bool.{cases_lt}
 use Rattle.std.proofs.lemmas.List.{drop-map, length-append, length-drop, length-map, map-append, take-append-le}
 use Rattle.std.proofs.Math.Seq.{drop-append-add, take-append-add}
 use Rattle.apex_types.specs.declared.record.Ordered.{Ordered}
@@ -24,23 +25,11 @@ use Rattle.report.specs.Last.{item_of, kept_behind, last_before, last_of, most_l
 pub all_kept : {X : Type 0} (n : ℕ) (list : List X) → length list ≤ n → keep_last n list ≡ list
 all_kept n list short = ap (λ k. drop k list) (let e : length list - n ≡ 0 = omega (arith, short) in e)
 
--- no more are kept than that
-pub kept_few : {X : Type 0} (n : ℕ) (list : List X) → length (keep_last n list) ≤ n
-kept_few n list = omega (arith, length-drop (length list - n) list)
-
 -- a list after another that is as long as what is kept hides the other
 kept_alone : {X : Type 0} (n : ℕ) (front back : List X) → n ≤ length back → keep_last n (front ++ back) ≡ keep_last n back
 kept_alone n front back long =
     ap (λ k. drop k (front ++ back)) (let e : length (front ++ back) - n ≡ length front + (length back - n) = omega (arith, long, length-append front back) in e)
     ∙ drop-append-add front back (length back - n)
-
-compare : (a b : ℕ) → (a ≤ b) ⊎ (b < a)
-compare zero b = inl (omega arith)
-compare (suc a) zero = inr (omega arith)
-compare (suc a) (suc b) = elim (compare a b) [
-  | inl less ↦ inl (omega (arith, less))
-  | inr more ↦ inr (omega (arith, more))
-]
 
 -- the first of a long list is not kept
 shed : {X : Type 0} (n : ℕ) (one : X) (list : List X) → n ≤ length list → keep_last n (one ∷ list) ≡ keep_last n list
@@ -49,18 +38,16 @@ shed n one list long = ap (λ k. drop k (one ∷ list)) (let e : suc (length lis
 -- what was kept of the first list is enough
 pub kept_on : {X : Type 0} (n : ℕ) (front back : List X) → keep_last n (keep_last n front ++ back) ≡ keep_last n (front ++ back)
 kept_on n [] back = ap (λ list. keep_last n (list ++ back)) (all_kept n [] (omega arith))
-kept_on n (one ∷ front) back = elim (compare (suc (length front)) n) [
-  | inl short ↦ ap (λ list. keep_last n (list ++ back)) (all_kept n (one ∷ front) short)
-  | inr more ↦
-      let long : n ≤ length front = omega (arith, more) in
-      ap (λ list. keep_last n (list ++ back)) (shed n one front long) ∙ kept_on n front back ∙ sym (shed n one (front ++ back) (omega (arith, long, length-append front back)))
+kept_on n (one ∷ front) back = elim (cases_lt (length front) n) [
+  | inl short ↦ ap (λ list. keep_last n (list ++ back)) (all_kept n (one ∷ front) (omega (arith, short)))
+  | inr long ↦ ap (λ list. keep_last n (list ++ back)) (shed n one front long) ∙ kept_on n front back ∙ sym (shed n one (front ++ back) (omega (arith, long, length-append front back)))
 ]
 
 -- and so is what is kept of the second
 pub kept_behind_on : {X : Type 0} (n : ℕ) (front back : List X) → keep_last n (front ++ keep_last n back) ≡ keep_last n (front ++ back)
-kept_behind_on n front back = elim (compare (length back) n) [
-  | inl short ↦ ap (λ list. keep_last n (front ++ list)) (all_kept n back short)
-  | inr more ↦
+kept_behind_on n front back = elim (cases_lt n (length back)) [
+  | inr short ↦ ap (λ list. keep_last n (front ++ list)) (all_kept n back short)
+  | inl more ↦
       let size : length (keep_last n back) ≡ n = omega (arith, more, length-drop (length back - n) back) in
       kept_alone n front (keep_last n back) (omega (arith, size)) ∙ all_kept n (keep_last n back) (omega (arith, size)) ∙ sym (kept_alone n front back (omega (arith, more)))
 ]
@@ -78,8 +65,7 @@ late_enough n kept records =
 abbrev pub IsWithin : Result Verdict CheckFault → ℕ → List Ordered → Type 0
 IsWithin (Ok (No pos piece cause)) first records = (first ≤ pos) × (pos - first ≤ length records)
 IsWithin (Ok (Broken pos rule)) first records = (first ≤ pos) × (pos - first ≤ length records)
-IsWithin (Ok (Yes count)) first records = Unit {0}
-IsWithin (Err fault) first records = Unit {0}
+IsWithin _ first records = Unit {0}
 
 kept_before : (first place : ℕ) (before records more : List Ordered) → first ≡ length before → first ≤ place → place - first ≤ length records
     → keep_last most_last (keep_last most_last (map item_of before) ++ map item_of (take (place - first) records)) ≡ last_before place ((before ++ records) ++ more)
@@ -96,8 +82,7 @@ pub kept_is_last : (answer : Result Verdict CheckFault) (first : ℕ) (before re
     → kept_behind answer first (keep_last most_last (map item_of before)) records ≡ last_of answer ((before ++ records) ++ more)
 kept_is_last (Ok (No pos piece cause)) first before records more count (least, most) = kept_before first pos before records more count least most
 kept_is_last (Ok (Broken pos rule)) first before records more count (least, most) = kept_before first pos before records more count least most
-kept_is_last (Ok (Yes all)) first before records more count within = refl
-kept_is_last (Err fault) first before records more count within = refl
+kept_is_last _ first before records more count within = refl
 
 -- a verdict over records stands among them
 pub verdict_within : (configuration : Configuration) (relations : List Relation) (parts : ℕ → Part) (first : ℕ) (records : List Ordered) (verdict : Verdict) → ArePlaced first records

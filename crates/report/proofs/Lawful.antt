@@ -1,18 +1,16 @@
 -- What a Yes, a No and a broken rule mean, from the scan of the texts and the verdict over the records placed.
-use Rattle.std.proofs.Common.{◌≡◌, ◌≢◌, ◌<◌, ℕ, zero, suc, List, [], ◌∷◌, ◌++◌, Bool, true, false, Option, Some, None, Result, Ok, Err, length, map, take, refl, sym, ap, ◌∙◌, subst, inl, inr, arith, nat_eq, nat_lt, nat_le, ◌||◌, eqb-true, eq-eqb}
+use Rattle.std.proofs.Common.{◌≡◌, ◌≢◌, ◌<◌, ℕ, suc, List, [], ◌∷◌, ◌++◌, Bool, true, false, Option, Some, None, Result, Ok, Err, length, map, take, refl, sym, ap, ◌∙◌, subst, inl, inr, nat_eq, eqb-true, eq-eqb}
 use Rattle.std.specs.Prelude.{if◌then◌else◌}
-use Rattle.std.proofs.lemmas.Bool.Decides.{nat_tests}
+use Rattle.std.proofs.lemmas.Bool.{cases_eq}
 use Rattle.std.proofs.lemmas.List.{append-nil}
 use Rattle.apex_machine.specs.Configuration.{Configuration}
 use Rattle.apex_machine.specs.Runs.{ArePlaced}
 use Rattle.apex_types.specs.declared.record.Ordered.{Ordered}
-use Rattle.apex_types.specs.declared.limits.TheConstants.{MOST_RECORDS}
 use Rattle.apex_types.specs.declared.record.Pair.{Pair}
 use Rattle.apex_types.specs.declared.record.Record.{Record}
 use Rattle.module_config.specs.Reading.{configuration_of}
 use Rattle.order_cert.specs.declared.fault.CertFault.TheVariants as cert
 use Rattle.order_cert.specs.declared.fault.OrderFault.{OrderFault}
-use Rattle.order_cert.specs.declared.fault.OrderFault.TheVariants.{NoSuchCore, Skipped, Repeated}
 use Rattle.order_cert.specs.declared.fault.OrderFault.TheVariants as order
 use Rattle.order_cert.specs.Kept.{none_taken, put}
 use Rattle.order_cert.specs.Order.{AllKnown, following, misplaced, numbers_of}
@@ -21,8 +19,9 @@ use Rattle.placement.specs.declared.fault.InputFault.{InputFault}
 use Rattle.placement.specs.declared.fault.InputFault.TheVariants as input
 use Rattle.placement.specs.Lanes.{IsScanOf}
 use Rattle.placement.specs.Reading.{CanFail, Reads}
-use Rattle.placement.specs.Scan.{Scan, and_then, end_of, ends_of, ends_so, keeping, led_by, placed_at, scan, taking}
-use Rattle.placement.proofs.Readings.{put-here, put-other, put-back, same_or}
+use Rattle.placement.specs.Scan.{Scan, ends_of, ends_so, keeping, led_by, placed_at, scan, taking}
+use Rattle.placement.proofs.Readings.{put-here, put-other, put-back}
+use Rattle.placement.proofs.Refusal.{Decides, Fits, IsWhy, ends_decide, front, why}
 use Rattle.record_read.specs.declared.fault.RowFault.TheVariants as row
 use Rattle.record_read.specs.Row.{Item}
 use Rattle.user_rules.specs.declared.relation.Relation.{Relation}
@@ -41,11 +40,7 @@ use Rattle.report.specs.Yes.{AreInOrder, YesMeansRun}
 -- a reading that begins with no fault is of items that begin so
 reads_begun : {Value Fault : Type 0} (can_fail : Bool) (failure : Fault) (items : List (Result Value Fault)) (good : List Value) (more given : List (Result Value Fault))
     → given ≡ map Ok good ++ more → Reads can_fail failure items given → take (length good) items ≡ map Ok good
-reads_begun {Value} {Fault} can_fail failure items good more given e (inl f) = ap (take (length good)) (sym f ∙ e) ∙ front good
-  where
-    front : (good : List Value) → take (length good) (map Ok good ++ more) ≡ map Ok good
-    front [] = refl
-    front (g ∷ gs) = ap (λ (list : List (Result Value Fault)). Ok g ∷ list) (front gs)
+reads_begun can_fail failure items good more given e (inl f) = ap (take (length good)) (sym f ∙ e) ∙ front good more
 reads_begun {Value} {Fault} can_fail failure items good more given e (inr (can, before, rest, f, h)) = ap (take (length good)) f ∙ within before good (sym h ∙ e)
   where
     within : (before good : List Value) → map Ok before ++ Err failure ∷ [] ≡ map Ok good ++ more → take (length good) (map Ok before ++ rest) ≡ map Ok good
@@ -67,25 +62,6 @@ reads_good {Value} {Fault} can_fail failure items good given e (inr (can, before
     no_fault (x ∷ xs) [] e = cc
     no_fault (x ∷ xs) (g ∷ gs) e = no_fault xs gs (cc)
 
--- recordings that ended well have nothing left
-ends_of-good : (cores place : ℕ) (taken : ℕ → ℕ) (left : ℕ → List Item) → ends_of cores place taken left ≡ Ok tt → (core : ℕ) → core < cores → left core ≡ []
-ends_of-good zero place taken left e core within = absurd (omega arith)
-ends_of-good (suc cores) place taken left e core within =
-    let both = by (ends_of cores place taken left) (end_of place cores (taken cores) (left cores)) e in
-    elim (same_or core cores) [
-      | inl s ↦ subst (λ j. left j ≡ []) (sym s) (ended (left cores) both.1)
-      | inr apart ↦ ends_of-good cores place taken left both.0 core (omega arith)
-    ]
-  where
-    by : (a b : Result (Unit {0}) InputFault) → and_then a b ≡ Ok tt → (a ≡ Ok tt) × (b ≡ Ok tt)
-    by (Ok u) b e = (refl, e)
-    by (Err f) b e = cc
-
-    ended : (items : List Item) → end_of place cores (taken cores) items ≡ Ok tt → items ≡ []
-    ended [] e = refl
-    ended (Ok rec ∷ rest) e = cc
-    ended (Err fault ∷ rest) e = cc
-
 -- what a scan has placed, from this place on: the first pairs name the first records of each core; after a scan that ends well
 -- nothing is left
 record Placed (cores : ℕ) (taken : ℕ → ℕ) (place : ℕ) (scanned : Scan) (left : ℕ → List Item) (items : List CertItem) : Type 0 where
@@ -100,24 +76,8 @@ record Placed (cores : ℕ) (taken : ℕ → ℕ) (place : ℕ) (scanned : Scan)
   pub ordered : AreInOrder cores place pairs recordings scanned.placed
   pub ended : scanned.end ≡ Ok tt → (later_pairs ≡ []) × ((core : ℕ) → core < cores → later_records core ≡ [])
 
-some_fault : (fault : OrderFault) → ◌≡◌ {A = Option OrderFault} (Some fault) None → ⊥
-some_fault fault e = cc
-
-fits_tells : (cores : ℕ) (taken : ℕ → ℕ) (pair : Pair) → misplaced cores taken pair ≡ None → (pair.core < cores) × (pair.seq ≡ taken pair.core)
-fits_tells cores taken pair e =
-    by (nat_lt pair.core cores) (nat_lt pair.seq (taken pair.core)) (nat_lt (taken pair.core) pair.seq) (nat_le MOST_RECORDS pair.seq) refl refl refl e
-  where
-    by : (a b c d : Bool) → nat_lt pair.core cores ≡ a → nat_lt pair.seq (taken pair.core) ≡ b → nat_lt (taken pair.core) pair.seq ≡ c
-        → (if a then (if b then Some Repeated else (if c || d then Some Skipped else None)) else Some NoSuchCore) ≡ None
-        → (pair.core < cores) × (pair.seq ≡ taken pair.core)
-    by false b c d x y z h = absurd (some_fault NoSuchCore h)
-    by true true c d x y z h = absurd (some_fault Repeated h)
-    by true false true d x y z h = absurd (some_fault Skipped h)
-    by true false false true x y z h = absurd (some_fault Skipped h)
-    by true false false false x y z h = (grind (arith, nat_tests), grind (arith, nat_tests))
-
 one_more : (cores : ℕ) (taken : ℕ → ℕ) (place : ℕ) (scanned : Scan) (left : ℕ → List Item) (pair : Pair) (rec : Record) (more : List Item) (rest : List CertItem)
-    → (pair.core < cores) × (pair.seq ≡ taken pair.core) → left pair.core ≡ Ok rec ∷ more
+    → Fits cores taken pair → left pair.core ≡ Ok rec ∷ more
     → Placed cores (put taken pair.core (suc (taken pair.core))) (suc place) scanned (put left pair.core more) rest
     → Placed cores taken place (led_by (placed_at place pair.core rec ∷ []) scanned) left (Ok pair ∷ rest)
 one_more cores taken place scanned left pair rec more rest fits here r = record {
@@ -126,18 +86,18 @@ one_more cores taken place scanned left pair rec more rest fits here r = record 
   recordings = put r.recordings pair.core (rec ∷ r.recordings pair.core);
   later_records = r.later_records;
   items_are = ap (λ l. Ok pair ∷ l) r.items_are;
-  left_is = λ core h. elim (same_or core pair.core) [
-    | inl s ↦ rw (s, put-here r.recordings pair.core (rec ∷ r.recordings pair.core)) (here ∙ ap (λ l. Ok rec ∷ l) (sym (put-here left pair.core more) ∙ r.left_is pair.core fits.0))
+  left_is = λ core h. elim (cases_eq core pair.core) [
+    | inl s ↦ rw (s, put-here r.recordings pair.core (rec ∷ r.recordings pair.core)) (here ∙ ap (λ l. Ok rec ∷ l) (sym (put-here left pair.core more) ∙ r.left_is pair.core fits.known))
     | inr d ↦ sym (put-other left pair.core core more d) ∙ r.left_is core h ∙ ap (λ l. map Ok l ++ r.later_records core) (sym (put-other r.recordings pair.core core (rec ∷ r.recordings pair.core) d))
   ];
-  numbers = λ core h. elim (same_or pair.core core) [
+  numbers = λ core h. elim (cases_eq pair.core core) [
     | inl s ↦ subst (λ j. numbers_of j (pair ∷ r.pairs) ≡ following (taken j) (length (put r.recordings pair.core (rec ∷ r.recordings pair.core) j))) s
         (rw (put-here r.recordings pair.core (rec ∷ r.recordings pair.core), eq-eqb pair.core pair.core refl)
-        (ap (λ n. n ∷ numbers_of pair.core r.pairs) fits.1 ∙ ap (λ l. taken pair.core ∷ l)
-        (r.numbers pair.core fits.0 ∙ ap (λ n. following n (length (r.recordings pair.core))) (put-here taken pair.core (suc (taken pair.core))))))
+        (ap (λ n. n ∷ numbers_of pair.core r.pairs) fits.seq ∙ ap (λ l. taken pair.core ∷ l)
+        (r.numbers pair.core fits.known ∙ ap (λ n. following n (length (r.recordings pair.core))) (put-here taken pair.core (suc (taken pair.core))))))
     | inr d ↦ apart core h d (nat_eq pair.core core) refl
   ];
-  known = (fits.0, r.known);
+  known = (fits.known, r.known);
   ordered = (
     rec,
     r.recordings pair.core,
@@ -186,32 +146,26 @@ step_placed cores taken place left pair rest (Some fault) a items b later = stop
 step_placed cores taken place left pair rest None a [] b later = stopped cores taken place (Err (input.Order place pair.core order.Absent)) left (Ok pair ∷ rest) (λ e. no_good_end _ e)
 step_placed cores taken place left pair rest None a (Err fault ∷ more) b later = stopped cores taken place (Err (input.Row pair.core pair.seq fault)) left (Ok pair ∷ rest) (λ e. no_good_end _ e)
 step_placed cores taken place left pair rest None a (Ok rec ∷ more) b later =
-    one_more cores taken place (scan cores (put taken pair.core (suc (taken pair.core))) (suc place) (put left pair.core more) rest) left pair rec more rest (fits_tells cores taken pair a) b (later more)
+    one_more cores taken place (scan cores (put taken pair.core (suc (taken pair.core))) (suc place) (put left pair.core more) rest) left pair rec more rest (subst (IsWhy cores taken pair) a (why cores taken pair)) b (later more)
 
 scan_places_first : (cores : ℕ) (taken : ℕ → ℕ) (place : ℕ) (left : ℕ → List Item) (items : List CertItem) → Placed cores taken place (scan cores taken place left items) left items
 unfolding scan
-scan_places_first cores taken place left [] = stopped cores taken place (ends_of cores place taken left) left [] (λ e. (refl, ends_of-good cores place taken left e))
+scan_places_first cores taken place left [] = stopped cores taken place (ends_of cores place taken left) left [] (λ e. (refl, subst (Decides cores place taken left) e (ends_decide cores place taken left)))
 scan_places_first cores taken place left (Err fault ∷ rest) = stopped cores taken place (Err (input.Cert place fault)) left (Err fault ∷ rest) (λ e. no_good_end _ e)
 scan_places_first cores taken place left (Ok pair ∷ rest) =
     step_placed cores taken place left pair rest (misplaced cores taken pair) refl (left pair.core) refl
     (λ more. scan_places_first cores (put taken pair.core (suc (taken pair.core))) (suc place) (put left pair.core more) rest)
 
--- the records of a scan stand at this place and those after it
+-- records in order stand at this place and those after it
+in_order_placed : (cores place : ℕ) (pairs : List Pair) (rest : ℕ → List Record) (records : List Ordered) → AreInOrder cores place pairs rest records → ArePlaced place records
+in_order_placed cores place [] rest records (is, none) = subst (ArePlaced place) (sym is) tt
+in_order_placed cores place (pair ∷ pairs) rest records (rec, more, later, here, is, on) =
+    subst (ArePlaced place) (sym is) (refl, in_order_placed cores (suc place) pairs (put rest pair.core more) later on)
+
+-- and so do those of a scan
 pub scan_places : (cores : ℕ) (taken : ℕ → ℕ) (place : ℕ) (left : ℕ → List Item) (items : List CertItem) → ArePlaced place (scan cores taken place left items).placed
-unfolding scan
-scan_places cores taken place left [] = tt
-scan_places cores taken place left (Err fault ∷ rest) = tt
-scan_places cores taken place left (Ok pair ∷ rest) = step (misplaced cores taken pair) (left pair.core)
-    (λ more. scan_places cores (put taken pair.core (suc (taken pair.core))) (suc place) (put left pair.core more) rest)
-  where
-    step : (wrong : Option OrderFault) (items : List Item)
-        → ((more : List Item) → ArePlaced (suc place) (scan cores (put taken pair.core (suc (taken pair.core))) (suc place) (put left pair.core more) rest).placed)
-        → ArePlaced place (keeping wrong place pair (taking place pair items (λ rec more.
-        scan cores (put taken pair.core (suc (taken pair.core))) (suc place) (put left pair.core more) rest))).placed
-    step (Some fault) items later = tt
-    step None [] later = tt
-    step None (Err fault ∷ more) later = tt
-    step None (Ok rec ∷ more) later = (refl, later more)
+scan_places cores taken place left items =
+    let placed = scan_places_first cores taken place left items in in_order_placed cores place placed.pairs placed.recordings (scan cores taken place left items).placed placed.ordered
 
 pub scan_placed : (can_fail : CanFail) (cores : ℕ) (items : ℕ → List Item) (certificate : List CertItem) (scanned : Scan) → IsScanOf can_fail cores none_taken 0 items certificate scanned → ArePlaced 0 scanned.placed
 scan_placed can_fail cores items certificate scanned (left, pairs, reads, certs, is) = subst (λ one. ArePlaced 0 one.placed) is (scan_places cores none_taken 0 left pairs)
@@ -227,93 +181,75 @@ placed_of configuration scanned left items cores count is =
 
 yes_of : (verdict : Verdict) (end : Result (Unit {0}) InputFault) (count : ℕ) → ◌≡◌ {A = Result Verdict CheckFault} (Ok (Yes count)) (answer_with verdict end)
     → (verdict ≡ Yes count) × (end ≡ Ok tt)
-yes_of (No pos piece cause) end count e = cc
-yes_of (Broken pos rule) end count e = cc
 yes_of (Yes records) (Ok u) count e = (cc, refl)
-yes_of (Yes records) (Err fault) count e = cc
-
-pub yes_means : (can_fail : CanFail) (texts : Texts) (relations : List Relation) (configuration : Configuration) (scanned : Scan) (verdict : Verdict) (result : Result Verdict CheckFault)
-    → configuration_of texts.config ≡ Ok configuration → length texts.recordings ≡ configuration.cores
-    → IsScanOf can_fail (length texts.recordings) none_taken 0 (items_at texts.recordings) (pairs_of texts.certificate) scanned → IsRunWhereYes configuration relations scanned.placed verdict → result ≡ answer_with verdict scanned.end
-    → YesMeansRun texts relations result
-yes_means can_fail texts relations configuration scanned verdict (Err fault) read count scan run e = tt
-yes_means can_fail texts relations configuration scanned verdict (Ok (No pos piece cause)) read count scan run e = tt
-yes_means can_fail texts relations configuration scanned verdict (Ok (Broken pos rule)) read count scan run e = tt
-yes_means can_fail texts relations configuration scanned verdict (Ok (Yes records)) read count (left, items, reads, certs, is) run e =
-    let yes = yes_of verdict scanned.end records e in
-    let p = placed_of configuration scanned left items (length texts.recordings) count is in
-    let none = p.ended yes.1 in
-    let final = subst (IsRunWhereYes configuration relations scanned.placed) yes.0 run in
-    record {
-      configuration = configuration;
-      configured = read;
-      readers = count;
-      pairs = p.pairs;
-      proposed = reads_good can_fail.certificate cert.Read (pairs_of texts.certificate) p.pairs items (p.items_are ∙ ap (λ list. map Ok p.pairs ++ list) none.0 ∙ append-nil (map Ok p.pairs)) certs;
-      recordings = p.recordings;
-      recorded = λ core h. reads_good can_fail.recordings row.Read (items_at texts.recordings core) (p.recordings core) (left core)
-          (p.left_is core h ∙ ap (λ list. map Ok (p.recordings core) ++ list) (none.1 core h) ∙ append-nil (map Ok (p.recordings core))) (reads core);
-      lawful = record { numbers = p.numbers; known = p.known };
-      records = scanned.placed;
-      ordered = p.ordered;
-      final = final.0;
-      run = final.1;
-      meets = final.2;
-      counted = final.3;
-    }
-
--- a fact about the records that were placed is one about the first records of the recordings, in the order of the certificate
-lawful_up_to : (can_fail : CanFail) (texts : Texts) (Fact : Configuration → List Ordered → Type 0) (configuration : Configuration) (scanned : Scan)
-    → configuration_of texts.config ≡ Ok configuration → length texts.recordings ≡ configuration.cores
-    → IsScanOf can_fail (length texts.recordings) none_taken 0 (items_at texts.recordings) (pairs_of texts.certificate) scanned → Fact configuration scanned.placed → IsLawfulUpTo texts Fact
-lawful_up_to can_fail texts Fact configuration scanned read count (left, items, reads, certs, is) holds =
-    let p = placed_of configuration scanned left items (length texts.recordings) count is in
-    record {
-      configuration = configuration;
-      configured = read;
-      readers = count;
-      pairs = p.pairs;
-      proposed = reads_begun can_fail.certificate cert.Read (pairs_of texts.certificate) p.pairs p.later_pairs items p.items_are certs;
-      recordings = p.recordings;
-      recorded = λ core h. reads_begun can_fail.recordings row.Read (items_at texts.recordings core) (p.recordings core) (p.later_records core) (left core) (p.left_is core h) (reads core);
-      lawful = record { numbers = p.numbers; known = p.known };
-      records = scanned.placed;
-      ordered = p.ordered;
-      holds = holds;
-    }
+yes_of _ _ count e = cc
 
 -- a No and a broken rule are answered as they were found
 found_of : (verdict found : Verdict) (end : Result (Unit {0}) InputFault) → ((count : ℕ) → ¬ (found ≡ Yes count)) → ◌≡◌ {A = Result Verdict CheckFault} (Ok found) (answer_with verdict end) → verdict ≡ found
-found_of (No pos piece cause) found end other e = cc
-found_of (Broken pos rule) found end other e = cc
 found_of (Yes records) found (Ok u) other e = absurd (other records (cc))
-found_of (Yes records) found (Err fault) other e = cc
+found_of _ found _ other e = cc
 
-pub no_means : (can_fail : CanFail) (texts : Texts) (relations : List Relation) (configuration : Configuration) (scanned : Scan) (verdict : Verdict) (result : Result Verdict CheckFault)
-    → configuration_of texts.config ≡ Ok configuration → length texts.recordings ≡ configuration.cores
-    → IsScanOf can_fail (length texts.recordings) none_taken 0 (items_at texts.recordings) (pairs_of texts.certificate) scanned → IsRunUpToNo configuration relations scanned.placed verdict → result ≡ answer_with verdict scanned.end
-    → NoMeansRefusal texts relations result
-no_means can_fail texts relations configuration scanned verdict (Err fault) read count scan run e = tt
-no_means can_fail texts relations configuration scanned verdict (Ok (Yes records)) read count scan run e = tt
-no_means can_fail texts relations configuration scanned verdict (Ok (No place piece cause)) read count scan run e =
-    let is = found_of verdict (No place piece cause) scanned.end (λ count yes. cc) e in
-    lawful_up_to can_fail texts (λ one records. IsRefusedAt one relations records place) configuration scanned read count scan (subst (IsRunUpToNo configuration relations scanned.placed) is run)
-no_means can_fail texts relations configuration scanned verdict (Ok (Broken place rule)) read count scan run e =
-    let is = found_of verdict (Broken place rule) scanned.end (λ count yes. cc) e in
-    lawful_up_to can_fail texts (λ one records. IsBrokenAt one relations records place rule) configuration scanned read count scan (subst (IsRunUpToNo configuration relations scanned.placed) is run)
+module _ (can_fail : CanFail) (texts : Texts) (relations : List Relation) (configuration : Configuration) (scanned : Scan)
+    (read : configuration_of texts.config ≡ Ok configuration) (count : length texts.recordings ≡ configuration.cores)
+    (scan_is : IsScanOf can_fail (length texts.recordings) none_taken 0 (items_at texts.recordings) (pairs_of texts.certificate) scanned)
+    (verdict : Verdict) where
+  pub yes_means : (result : Result Verdict CheckFault) → IsRunWhereYes configuration relations scanned.placed verdict → result ≡ answer_with verdict scanned.end → YesMeansRun texts relations result
+  yes_means (Ok (Yes records)) run e =
+      let (left, items, reads, certs, is) = scan_is in
+      let yes = yes_of verdict scanned.end records e in
+      let p = placed_of configuration scanned left items (length texts.recordings) count is in
+      let none = p.ended yes.1 in
+      let final = subst (IsRunWhereYes configuration relations scanned.placed) yes.0 run in
+      record {
+        configuration = configuration;
+        configured = read;
+        readers = count;
+        pairs = p.pairs;
+        proposed = reads_good can_fail.certificate cert.Read (pairs_of texts.certificate) p.pairs items (p.items_are ∙ ap (λ list. map Ok p.pairs ++ list) none.0 ∙ append-nil (map Ok p.pairs)) certs;
+        recordings = p.recordings;
+        recorded = λ core h. reads_good can_fail.recordings row.Read (items_at texts.recordings core) (p.recordings core) (left core)
+            (p.left_is core h ∙ ap (λ list. map Ok (p.recordings core) ++ list) (none.1 core h) ∙ append-nil (map Ok (p.recordings core))) (reads core);
+        lawful = record { numbers = p.numbers; known = p.known };
+        records = scanned.placed;
+        ordered = p.ordered;
+        final = final.0;
+        run = final.1;
+        meets = final.2;
+        counted = final.3;
+      }
+  yes_means _ run e = tt
 
--- what is reported after an answer over what was scanned is of the records that its meaning is about
-pub last_means : (can_fail : CanFail) (texts : Texts) (relations : List Relation) (configuration : Configuration) (scanned : Scan) (verdict : Verdict) (result : Result Verdict CheckFault)
-    (last : List LastItem) → configuration_of texts.config ≡ Ok configuration → length texts.recordings ≡ configuration.cores
-    → IsScanOf can_fail (length texts.recordings) none_taken 0 (items_at texts.recordings) (pairs_of texts.certificate) scanned → IsRunUpToNo configuration relations scanned.placed verdict → result ≡ answer_with verdict scanned.end
-    → last ≡ last_of result scanned.placed → IsLastOf texts relations result (settled result last)
-last_means can_fail texts relations configuration scanned verdict (Err fault) last read count scan run e reported = refl
-last_means can_fail texts relations configuration scanned verdict (Ok (Yes records)) last read count scan run e reported = reported
-last_means can_fail texts relations configuration scanned verdict (Ok (No place piece cause)) last read count scan run e reported =
-    let is = found_of verdict (No place piece cause) scanned.end (λ count yes. cc) e in
-    lawful_up_to can_fail texts (λ one records. IsRefusedAt one relations records place × (last ≡ last_before place records)) configuration scanned read count scan
-    (subst (IsRunUpToNo configuration relations scanned.placed) is run, reported)
-last_means can_fail texts relations configuration scanned verdict (Ok (Broken place rule)) last read count scan run e reported =
-    let is = found_of verdict (Broken place rule) scanned.end (λ count yes. cc) e in
-    lawful_up_to can_fail texts (λ one records. IsBrokenAt one relations records place rule × (last ≡ last_before place records)) configuration scanned read count scan
-    (subst (IsRunUpToNo configuration relations scanned.placed) is run, reported)
+  -- a fact about the records that were placed is one about the first records of the recordings, in the order of the certificate
+  lawful_up_to : (Fact : Configuration → List Ordered → Type 0) → Fact configuration scanned.placed → IsLawfulUpTo texts Fact
+  lawful_up_to Fact holds =
+      let (left, items, reads, certs, is) = scan_is in
+      let p = placed_of configuration scanned left items (length texts.recordings) count is in
+      record {
+        configuration = configuration;
+        configured = read;
+        readers = count;
+        pairs = p.pairs;
+        proposed = reads_begun can_fail.certificate cert.Read (pairs_of texts.certificate) p.pairs p.later_pairs items p.items_are certs;
+        recordings = p.recordings;
+        recorded = λ core h. reads_begun can_fail.recordings row.Read (items_at texts.recordings core) (p.recordings core) (p.later_records core) (left core) (p.left_is core h) (reads core);
+        lawful = record { numbers = p.numbers; known = p.known };
+        records = scanned.placed;
+        ordered = p.ordered;
+        holds = holds;
+      }
+
+  -- what a No and a broken rule mean, and that the last records that are reported are of the records that they are about
+  pub no_means : (result : Result Verdict CheckFault) (last : List LastItem) → IsRunUpToNo configuration relations scanned.placed verdict → result ≡ answer_with verdict scanned.end
+      → last ≡ last_of result scanned.placed → NoMeansRefusal texts relations result × IsLastOf texts relations result (settled result last)
+  no_means (Err fault) last run e reported = (tt, refl)
+  no_means (Ok (Yes records)) last run e reported = (tt, reported)
+  no_means (Ok (No place piece cause)) last run e reported =
+      let no = subst (IsRunUpToNo configuration relations scanned.placed) (found_of verdict (No place piece cause) scanned.end (λ count yes. cc) e) run in (
+        lawful_up_to (λ one records. IsRefusedAt one relations records place) no,
+        lawful_up_to (λ one records. IsRefusedAt one relations records place × (last ≡ last_before place records)) (no, reported),
+      )
+  no_means (Ok (Broken place rule)) last run e reported =
+      let no = subst (IsRunUpToNo configuration relations scanned.placed) (found_of verdict (Broken place rule) scanned.end (λ count yes. cc) e) run in (
+        lawful_up_to (λ one records. IsBrokenAt one relations records place rule) no,
+        lawful_up_to (λ one records. IsBrokenAt one relations records place rule × (last ≡ last_before place records)) (no, reported),
+      )

@@ -4,4 +4,5 @@ pub mod Failures
 pub mod Answering
 pub mod Going
 pub mod LastOnes
+pub mod Onward
 pub mod LastLines

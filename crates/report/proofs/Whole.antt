@@ -11,6 +11,7 @@ use Rattle.order_cert.specs.Row.{pairs_of}
 use Rattle.order_cert.specs.Kept.{none_taken, place_of, taken_of}
 use Rattle.placement.specs.Lanes.{AreLeft, IsAhead, IsScanOf, Placing}
 use Rattle.placement.specs.Reading.{CanFail, Reads}
+use Rattle.placement.proofs.Refusal.{front}
 use Rattle.core_intake.specs.Answered.{answered}
 use Rattle.placement.specs.Scan.{Scan, scan}
 use Rattle.record_read.specs.declared.fault.RowFault.TheVariants as row
@@ -74,11 +75,7 @@ given_so : {Value Fault : Type 0} (can_fail : Bool) (failure : Fault) (items giv
 unfolding failure_of
 given_so can_fail failure items gives (inl whole) = sym whole
 given_so {Value} {Fault} can_fail failure items gives (inr (can, before, rest, e, f)) =
-    ap (λ (list : List (Result Value Fault)). list ++ Err failure ∷ []) (ap (take (length before)) e ∙ front before) ∙ sym f
-  where
-    front : (good : List Value) → take (length good) (map Ok good ++ rest) ≡ map Ok good
-    front [] = refl
-    front (one ∷ good) = ap (λ (list : List (Result Value Fault)). Ok one ∷ list) (front good)
+    ap (λ (list : List (Result Value Fault)). list ++ Err failure ∷ []) (ap (take (length before)) e ∙ front before rest) ∙ sym f
 
 -- readings of these texts, and their scan
 pub record IsReadSo (can_fail : CanFail) (texts : Texts) (scanned : Scan) : Type 0 where

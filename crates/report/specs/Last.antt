@@ -6,9 +6,10 @@ use Rattle.apex_types.specs.declared.record.Ordered.{Ordered}
 use Rattle.circular_buffer.specs.Buffer.{keep_last}
 use Rattle.record_read.specs.declared.kind.Kind.{Kind}
 use Rattle.record_read.specs.declared.kind.Kind.TheVariants as kind
+use Rattle.record_read.specs.Named.{kind_name}
 use Rattle.user_rules.specs.declared.relation.Relation.{Relation}
 use Rattle.verdict_merge.specs.declared.verdict.Verdict.{Verdict}
-use Rattle.verdict_merge.specs.declared.verdict.Verdict.TheVariants.{Yes, No, Broken}
+use Rattle.verdict_merge.specs.declared.verdict.Verdict.TheVariants.{No, Broken}
 use Rattle.verdict_merge.specs.Refusals.{IsBrokenAt, IsRefusedAt}
 use Rattle.report.specs.declared.fault.CheckFault.{CheckFault}
 use Rattle.report.specs.declared.last.LastItem.{LastItem}
@@ -38,15 +39,13 @@ last_before place records = keep_last most_last (map item_of (take place records
 abbrev pub last_of : Result Verdict CheckFault → List Ordered → List LastItem
 last_of (Ok (No pos piece cause)) records = last_before pos records
 last_of (Ok (Broken pos rule)) records = last_before pos records
-last_of (Ok (Yes count)) records = []
-last_of (Err fault) records = []
+last_of _ records = []
 
 -- what is kept after an answer, where these were kept before, and the records that come next begin at this place
 abbrev pub kept_behind : Result Verdict CheckFault → ℕ → List LastItem → List Ordered → List LastItem
 kept_behind (Ok (No pos piece cause)) first kept records = keep_last most_last (kept ++ map item_of (take (pos - first) records))
 kept_behind (Ok (Broken pos rule)) first kept records = keep_last most_last (kept ++ map item_of (take (pos - first) records))
-kept_behind (Ok (Yes count)) first kept records = []
-kept_behind (Err fault) first kept records = []
+kept_behind _ first kept records = []
 
 -- what stays of these after an answer: nothing after a refusal and want of memory
 abbrev pub settled : Result Verdict CheckFault → List LastItem → List LastItem
@@ -59,17 +58,9 @@ IsLastOf texts relations (Ok (No pos piece cause)) last =
     IsLawfulUpTo texts (λ configuration records. IsRefusedAt configuration relations records pos × (last ≡ last_before pos records))
 IsLastOf texts relations (Ok (Broken pos rule)) last =
     IsLawfulUpTo texts (λ configuration records. IsBrokenAt configuration relations records pos rule × (last ≡ last_before pos records))
-IsLastOf texts relations (Ok (Yes count)) last = last ≡ []
-IsLastOf texts relations (Err fault) last = last ≡ []
+IsLastOf texts relations _ last = last ≡ []
 
 -- the text of the last records, a line for each
-
--- the name of a kind
-abbrev pub kind_name : Kind → List ℕ
-kind_name kind.Call = codes "call"
-kind_name kind.Ret = codes "ret"
-kind_name kind.Disp = codes "disp"
-kind_name kind.Tick = codes "tick"
 
 -- the line of one record
 abbrev pub last_line : LastItem → List ℕ

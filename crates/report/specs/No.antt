@@ -1,5 +1,5 @@
 -- What a No and a broken rule mean.
-use Rattle.std.specs.Prelude.{◌≡◌, ◌<◌, ℕ, List, Result, Ok, Err, map, length, take}
+use Rattle.std.specs.Prelude.{◌≡◌, ◌<◌, ℕ, List, Result, Ok, map, length, take}
 use Rattle.apex_machine.specs.Configuration.{Configuration}
 use Rattle.apex_types.specs.declared.record.Ordered.{Ordered}
 use Rattle.apex_types.specs.declared.record.Pair.{Pair}
@@ -9,7 +9,7 @@ use Rattle.order_cert.specs.Order.{IsLawfulOrder}
 use Rattle.order_cert.specs.Row.{pairs_of}
 use Rattle.user_rules.specs.declared.relation.Relation.{Relation}
 use Rattle.verdict_merge.specs.declared.verdict.Verdict.{Verdict}
-use Rattle.verdict_merge.specs.declared.verdict.Verdict.TheVariants.{Yes, No, Broken}
+use Rattle.verdict_merge.specs.declared.verdict.Verdict.TheVariants.{No, Broken}
 use Rattle.verdict_merge.specs.Refusals.{IsBrokenAt, IsRefusedAt}
 use Rattle.report.specs.declared.fault.CheckFault.{CheckFault}
 use Rattle.report.specs.Inputs.{Texts, items_at}
@@ -38,5 +38,4 @@ NoMeansRefusal texts relations (Ok (No pos piece cause)) =
     IsLawfulUpTo texts (λ configuration records. IsRefusedAt configuration relations records pos)
 NoMeansRefusal texts relations (Ok (Broken pos rule)) =
     IsLawfulUpTo texts (λ configuration records. IsBrokenAt configuration relations records pos rule)
-NoMeansRefusal texts relations (Ok (Yes records)) = Unit {0}
-NoMeansRefusal texts relations (Err fault) = Unit {0}
+NoMeansRefusal texts relations _ = Unit {0}

@@ -13,7 +13,7 @@ use Rattle.placement.specs.Scan.{Scan}
 use Rattle.record_read.specs.declared.fault.RowFault.TheVariants as row
 use Rattle.user_rules.specs.declared.relation.Relation.{Relation}
 use Rattle.verdict_merge.specs.declared.verdict.Verdict.{Verdict}
-use Rattle.verdict_merge.specs.declared.verdict.Verdict.TheVariants.{Yes, No, Broken}
+use Rattle.verdict_merge.specs.declared.verdict.Verdict.TheVariants.{Yes}
 use Rattle.verdict_merge.specs.Verdicts.{IsVerdict}
 use Rattle.report.specs.declared.fault.ArgumentFault.{ArgumentFault}
 use Rattle.report.specs.declared.fault.ArgumentFault.TheVariants.{NoWorkers, TooManyWorkers, NoDepth, TooDeep, ReaderCount}
@@ -29,10 +29,8 @@ config_refusal_of fault = Config fault
 
 -- a No and a broken rule stand at a place before the end of the input, so they decide; a Yes needs an input without a fault
 abbrev pub answer_with : Verdict → Result (Unit {0}) InputFault → Result Verdict CheckFault
-answer_with (No pos piece cause) end = Ok (No pos piece cause)
-answer_with (Broken pos rule) end = Ok (Broken pos rule)
-answer_with (Yes records) (Ok ended) = Ok (Yes records)
 answer_with (Yes records) (Err fault) = Err (Input fault)
+answer_with verdict end = Ok verdict
 
 -- the records that were placed are judged, and the input's end with them
 abbrev pub IsJudged : Configuration → List Relation → Scan → Result Verdict CheckFault → Type 0
@@ -50,17 +48,15 @@ IsOutcomeBy (Err fault) texts readings relations result = result ≡ Err (Config
 IsOutcomeBy (Ok configuration) texts readings relations result =
     IsOutcomeUnder (nat_eq (length texts.recordings) configuration.cores) configuration texts readings relations result
 
--- what is wrong with the number of workers: 1 to the most may judge
-abbrev pub worker_fault_of : ℕ → Option ArgumentFault
-worker_fault_of workers = if nat_eq workers 0 then Some NoWorkers else if nat_lt MOST_WORKERS workers then Some TooManyWorkers else None
+-- what is wrong with a number that must be from 1 to this most: it is 0, or more
+abbrev pub range_fault_of : ℕ → ArgumentFault → ArgumentFault → ℕ → Option ArgumentFault
+range_fault_of most none too_many number = if nat_eq number 0 then Some none else if nat_lt most number then Some too_many else None
 
--- what is wrong with the depth: 1 record of a core may be read ahead, up to the greatest depth
-abbrev pub depth_fault_of : ℕ → Option ArgumentFault
-depth_fault_of depth = if nat_eq depth 0 then Some NoDepth else if nat_lt GREATEST_DEPTH depth then Some TooDeep else None
-
--- what is wrong with the settings of a check, the workers first
+-- what is wrong with the settings of a check, the workers first: from 1 to the most may judge, and from 1 record of a core to the
+-- greatest depth may be read ahead
 abbrev pub argument_fault_of : Settings → Option ArgumentFault
-argument_fault_of settings = option_or (worker_fault_of settings.workers) (depth_fault_of settings.depth)
+argument_fault_of settings =
+    option_or (range_fault_of MOST_WORKERS NoWorkers TooManyWorkers settings.workers) (range_fault_of GREATEST_DEPTH NoDepth TooDeep settings.depth)
 
 -- the outcome of these texts, by what is wrong with the settings: where nothing is, it is the same for all settings
 abbrev pub IsOutcomeWith : Option ArgumentFault → Texts → Readings → List Relation → Result Verdict CheckFault → Type 0
@@ -97,11 +93,7 @@ OneOutcome =
 abbrev pub TellsNoFailure : Result Verdict CheckFault → Type 0
 TellsNoFailure (Err (Input (input.Cert place fault))) = fault ≢ cert.Read
 TellsNoFailure (Err (Input (input.Row core seq fault))) = fault ≢ row.Read
-TellsNoFailure (Err (Arguments fault)) = Unit {0}
-TellsNoFailure (Err (Config fault)) = Unit {0}
-TellsNoFailure (Err (Input (input.Order place core fault))) = Unit {0}
-TellsNoFailure (Err Memory) = Unit {0}
-TellsNoFailure (Ok verdict) = Unit {0}
+TellsNoFailure _ = Unit {0}
 
 -- where no reader failed, no outcome is a failure of one
 abbrev pub WholeReadingsTellNoFailure : Type 0

@@ -1,11 +1,11 @@
 -- What a refusal of the input means.
-use Rattle.std.specs.Prelude.{List, Result, Ok, Err, length}
+use Rattle.std.specs.Prelude.{List, Result, Err, length}
 use Rattle.apex_types.specs.declared.record.Pair.{Pair}
 use Rattle.placement.specs.declared.fault.InputFault.{InputFault}
 use Rattle.placement.specs.Refusal.{AreTaken, IsFirstFault}
 use Rattle.verdict_merge.specs.declared.verdict.Verdict.{Verdict}
 use Rattle.report.specs.declared.fault.CheckFault.{CheckFault}
-use Rattle.report.specs.declared.fault.CheckFault.TheVariants.{Arguments, Config, Input, Memory}
+use Rattle.report.specs.declared.fault.CheckFault.TheVariants.{Input}
 use Rattle.report.specs.Inputs.{Readings, Texts, given_of_certificate, given_of_core}
 
 -- this is the first fault of the recordings and the certificate, as far as they are read: all before its place is good
@@ -17,7 +17,4 @@ IsFirstOf texts readings fault =
 -- where the recordings, the certificate or the order are refused, they are for their first fault
 abbrev pub RefusalMeansFault : Texts → Readings → Result Verdict CheckFault → Type 0
 RefusalMeansFault texts readings (Err (Input fault)) = IsFirstOf texts readings fault
-RefusalMeansFault texts readings (Err (Arguments fault)) = Unit {0}
-RefusalMeansFault texts readings (Err (Config fault)) = Unit {0}
-RefusalMeansFault texts readings (Err Memory) = Unit {0}
-RefusalMeansFault texts readings (Ok verdict) = Unit {0}
+RefusalMeansFault texts readings _ = Unit {0}

@@ -1,4 +1,4 @@
--- The text of an outcome: one line, whose numbers are decimal.
+-- The text of an outcome, one line, whose numbers are decimal; and its exit status.
 use Rattle.std.specs.Prelude.{ℕ, List, ◌++◌, Result, Ok, Err, codes, decimal}
 use Rattle.apex_types.specs.declared.cause.Cause.{Cause}
 use Rattle.apex_types.specs.declared.cause.Cause.TheVariants as cause
@@ -107,3 +107,11 @@ report_of (Err (Input (input.Order place core fault))) =
 report_of (Err (Input (input.Row core seq fault))) =
     codes "REFUSED row core=" ++ (decimal core ++ (codes " seq=" ++ (decimal seq ++ (codes " fault=" ++ (row_fault_name fault ++ codes "\n")))))
 report_of (Err Memory) = codes "MEMORY\n"
+
+-- 0 for a Yes, 1 for a No and a broken rule, 3 for want of memory, and 2 for every other refusal
+abbrev pub outcome_status_of : Result Verdict CheckFault → ℕ
+outcome_status_of (Ok (Yes records)) = 0
+outcome_status_of (Ok (No pos piece cause)) = 1
+outcome_status_of (Ok (Broken pos rule)) = 1
+outcome_status_of (Err Memory) = 3
+outcome_status_of (Err _) = 2

@@ -1,5 +1,5 @@
 -- What a Yes means.
-use Rattle.std.specs.Prelude.{◌≡◌, ◌<◌, ℕ, suc, List, [], ◌∷◌, Result, Ok, Err, map, length}
+use Rattle.std.specs.Prelude.{◌≡◌, ◌<◌, ℕ, suc, List, [], ◌∷◌, Result, Ok, map, length}
 use Rattle.std.specs.List.{All}
 use Rattle.apex_machine.specs.Configuration.{Configuration}
 use Rattle.apex_machine.specs.State.{State, cold_state}
@@ -16,7 +16,7 @@ use Rattle.placement.specs.Scan.{placed_at}
 use Rattle.user_rules.specs.declared.relation.Relation.{Relation}
 use Rattle.user_rules.specs.FirstBroken.{MeetsAll}
 use Rattle.verdict_merge.specs.declared.verdict.Verdict.{Verdict}
-use Rattle.verdict_merge.specs.declared.verdict.Verdict.TheVariants.{Yes, No, Broken}
+use Rattle.verdict_merge.specs.declared.verdict.Verdict.TheVariants.{Yes}
 use Rattle.report.specs.declared.fault.CheckFault.{CheckFault}
 use Rattle.report.specs.Inputs.{Texts, items_at}
 
@@ -50,6 +50,4 @@ pub record IsLawfulRun (texts : Texts) (relations : List Relation) (count : ℕ)
 -- where the answer is Yes, the recordings are lawful in the order of the certificate, and every relation holds in their run
 abbrev pub YesMeansRun : Texts → List Relation → Result Verdict CheckFault → Type 0
 YesMeansRun texts relations (Ok (Yes records)) = IsLawfulRun texts relations records
-YesMeansRun texts relations (Ok (No pos piece cause)) = Unit {0}
-YesMeansRun texts relations (Ok (Broken pos rule)) = Unit {0}
-YesMeansRun texts relations (Err fault) = Unit {0}
+YesMeansRun texts relations _ = Unit {0}

@@ -12,6 +12,7 @@ use crate::options::Options;
 use crate::rounds::judge_all;
 use crate::settings::Settings;
 use crate::witness::{Nobody, Witness};
+use apex_types::View;
 use apex_types::limits::LARGEST_ROUND;
 use core_intake::Intake;
 use csv_rows::TextSource;
@@ -22,7 +23,7 @@ use placement::Placer;
 use std::alloc::Global;
 use std::sync::Wait;
 use std::thread::Threads;
-use user_rules::Rule;
+use user_rules::{Relation, Rule, Test};
 use verdict_merge::Verdict;
 
 /// Checks the recordings against the configuration, the order that the certificate proposes, and the user's rules.
@@ -103,6 +104,44 @@ where
     placer.close(&rt);
     last.settle(&answer);
     answer
+}
+
+/// What `check_inputs` answers under the rules of these relations, each of which is its own test, and what it leaves.
+///
+/// Memory also where it is refused for the tests.
+#[tactic(auto, using(crate::proofs::Answering::want_of_memory))]
+pub fn check_relations<T, R, C, G, V>(
+    rt: T,
+    alloc: Global,
+    inputs: Inputs<'_, R, C>,
+    relations: Vec<Relation>,
+    options: Options<'_, G>,
+    last: &mut Last,
+    witness: &mut V,
+) -> Result<Verdict, CheckFault>
+where
+    T: Threads + Wait + Sync + Copy + Send + 'static,
+    R: TextSource + Drop + Send + 'static,
+    C: TextSource + Drop,
+    G: Gate + Sync,
+    V: Witness,
+    ensures { AnswersWith inputs.entry relations.items options.entry.settings result last.new }
+{
+    last.clear();
+    let mut rules = Vec::new(alloc);
+    for relation in relations {
+        let Ok(tested) = relation.clone() else {
+            return Err(CheckFault::Memory);
+        };
+        let Ok(test) = Box::new(alloc, move |view: &View| tested.holds(view)) else {
+            return Err(CheckFault::Memory);
+        };
+        let test: Test = test;
+        if rules.push(Rule::new(relation, test)).is_err() {
+            return Err(CheckFault::Memory);
+        }
+    }
+    check_inputs(rt, alloc, inputs, &rules, options, last, witness)
 }
 
 /// The same check, without the last records and without a witness.

@@ -2,11 +2,11 @@
 
 ghost use Rattle.std.specs.Prelude.{◌≡◌, ◌<◌, OnErr, OnOk};
 ghost use Rattle.sink.specs.Written.{IsCut, IsWritten};
-ghost use Rattle.report.specs.Last.{kind_name, last_line, last_lines};
+ghost use Rattle.report.specs.Last.{last_line, last_lines};
 
 use crate::last::{Last, LastItem};
+use crate::names::name_of_kind;
 use itoa::Buffer;
-use record_read::Kind;
 use sink::{Sink, WriteFault, put_parts};
 
 /// Puts out the last records, one line each, the earliest first. Takes no memory.
@@ -51,16 +51,4 @@ fn write_item<W: Sink>(w: &mut W, item: &LastItem) -> Result<(), WriteFault>
             b"\n",
         ],
     )
-}
-
-// The name of a kind.
-fn name_of_kind(kind: Kind) -> &'static [u8]
-    ensures { result.now ≡ kind_name kind }
-{
-    match kind {
-        Kind::Call => b"call",
-        Kind::Ret => b"ret",
-        Kind::Disp => b"disp",
-        Kind::Tick => b"tick",
-    }
 }

@@ -1,9 +1,9 @@
 // How a check is carried out.
 
 ghost use Rattle.std.specs.Prelude.{◌≡◌};
-ghost use Rattle.report.specs.Outcome.{argument_fault_of, depth_fault_of, worker_fault_of};
+ghost use Rattle.report.specs.Outcome.{argument_fault_of, range_fault_of};
 
-use crate::fault::ArgumentFault;
+use crate::fault::ArgumentFault::{self, NoDepth, NoWorkers, TooDeep, TooManyWorkers};
 use apex_types::limits::{GREATEST_DEPTH, MOST_WORKERS};
 
 /// How a check is carried out. What it answers is the same for all settings that are not refused.
@@ -20,28 +20,24 @@ impl Settings {
     pub fn fault(&self) -> Option<ArgumentFault>
         ensures { result ≡ argument_fault_of self.now }
     {
-        worker_fault(self.workers).or(depth_fault(self.depth))
+        let workers = range_fault(self.workers, MOST_WORKERS, NoWorkers, TooManyWorkers);
+        let depth = range_fault(self.depth, GREATEST_DEPTH, NoDepth, TooDeep);
+        workers.or(depth)
     }
 }
 
-// What is wrong with the number of workers, if anything is.
-fn worker_fault(workers: usize) -> Option<ArgumentFault>
-    ensures { result ≡ worker_fault_of workers }
+// What is wrong with a number that must be from 1 to this most, if anything is.
+fn range_fault(
+    number: usize,
+    most: usize,
+    none: ArgumentFault,
+    too_many: ArgumentFault,
+) -> Option<ArgumentFault>
+    ensures { result ≡ range_fault_of most none too_many number }
 {
-    match workers {
-        0 => Some(ArgumentFault::NoWorkers),
-        1..=MOST_WORKERS => None,
-        _ => Some(ArgumentFault::TooManyWorkers),
-    }
-}
-
-// What is wrong with the depth, if anything is.
-fn depth_fault(depth: usize) -> Option<ArgumentFault>
-    ensures { result ≡ depth_fault_of depth }
-{
-    match depth {
-        0 => Some(ArgumentFault::NoDepth),
-        1..=GREATEST_DEPTH => None,
-        _ => Some(ArgumentFault::TooDeep),
+    match number {
+        0 => Some(none),
+        _ if number > most => Some(too_many),
+        _ => None,
     }
 }

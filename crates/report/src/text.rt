@@ -1,9 +1,9 @@
-// The text of an outcome.
+// The text of an outcome, and its exit status.
 
 ghost use Rattle.std.specs.Prelude.{◌≡◌, ◌<◌, ℕ, List, OnOk, OnErr};
 ghost use Rattle.sink.specs.Written.{IsCut, IsWritten};
 ghost use Rattle.report.specs.declared.fault.CheckFault.TheVariants.{Input};
-ghost use Rattle.report.specs.Text.{report_of};
+ghost use Rattle.report.specs.Text.{outcome_status_of, report_of};
 
 use crate::fault::CheckFault;
 use crate::names::{
@@ -30,6 +30,18 @@ pub fn write_report<W: Sink>(
     match outcome {
         Ok(verdict) => write_verdict(w, verdict),
         Err(fault) => write_refusal(w, fault),
+    }
+}
+
+/// The exit status of an outcome: 0 yes, 1 no, 2 refused, 3 out of memory. Takes no memory.
+pub fn status_of_outcome(outcome: &Result<Verdict, CheckFault>) -> u8
+    ensures { result ≡ outcome_status_of outcome.now }
+{
+    match outcome {
+        Ok(Verdict::Yes { .. }) => 0,
+        Ok(Verdict::No { .. } | Verdict::Broken { .. }) => 1,
+        Err(CheckFault::Memory) => 3,
+        Err(_) => 2,
     }
 }
 

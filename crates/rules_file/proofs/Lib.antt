@@ -1,4 +1,3 @@
 pub mod Counts
 pub mod Relations
-pub mod Texts
 pub mod Fronts

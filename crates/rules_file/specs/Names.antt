@@ -1,5 +1,5 @@
 -- The names of fields, and the names that stand for numbers in them.
-use Rattle.std.specs.Prelude.{ℕ, ℤ, pos, List, [], ◌∷◌, Option, Some, None, codes, option_map, if◌then◌else◌}
+use Rattle.std.specs.Prelude.{ℕ, ℤ, pos, List, [], ◌∷◌, Option, None, codes, find, option_map}
 use Rattle.std.specs.Str.{bytes_eq}
 use Rattle.apex_types.specs.declared.view.Field.{Field}
 use Rattle.apex_types.specs.declared.view.Field.TheVariants as field
@@ -9,34 +9,16 @@ use Rattle.record_read.specs.declared.kind.Kind.{Kind}
 use Rattle.record_read.specs.declared.kind.Kind.TheVariants as kind
 use Rattle.record_read.specs.Named.{kind_named, out_named, service_named}
 
--- the name of a field
-abbrev pub name_of : Field → List ℕ
-name_of field.Kind = codes "kind"
-name_of field.Core = codes "core"
-name_of field.Time = codes "time"
-name_of field.Part = codes "part"
-name_of field.Proc = codes "proc"
-name_of field.Service = codes "service"
-name_of field.Prio = codes "prio"
-name_of field.Out = codes "out"
-name_of field.Val = codes "val"
-name_of field.Elapsed = codes "elapsed"
-name_of field.Woken = codes "woken"
-
--- all fields
-abbrev pub all_fields : List Field
-all_fields =
-    field.Kind ∷ field.Core ∷ field.Time ∷ field.Part ∷ field.Proc ∷ field.Service ∷ field.Prio ∷ field.Out ∷ field.Val
-    ∷ field.Elapsed ∷ field.Woken ∷ []
-
--- the first of these fields that has this name
-unfoldable pub field_among : List Field → List ℕ → Option Field
-field_among [] text = None
-field_among (first ∷ others) text = if bytes_eq (name_of first) text then Some first else field_among others text
+-- the fields, each with its name
+abbrev pub field_names : List (List ℕ × Field)
+field_names =
+    (codes "kind", field.Kind) ∷ (codes "core", field.Core) ∷ (codes "time", field.Time) ∷ (codes "part", field.Part) ∷ (codes "proc", field.Proc)
+    ∷ (codes "service", field.Service) ∷ (codes "prio", field.Prio) ∷ (codes "out", field.Out) ∷ (codes "val", field.Val)
+    ∷ (codes "elapsed", field.Elapsed) ∷ (codes "woken", field.Woken) ∷ []
 
 -- the field of this name
 abbrev pub field_named : List ℕ → Option Field
-field_named text = field_among all_fields text
+field_named text = option_map (λ found. found.1) (find (λ one. bytes_eq text one.0) field_names)
 
 -- the number of a kind of records, as views tell it
 abbrev pub kind_number : Kind → ℕ

@@ -5,7 +5,7 @@ ghost use Rattle.toml.specs.View.{view};
 ghost use Rattle.apex_types.specs.Numbers.{out_number};
 ghost use Rattle.apex_types.specs.Services.{service_number};
 ghost use Rattle.record_read.specs.Named.{kind_named, out_named, service_named};
-ghost use Rattle.rules_file.specs.Names.{field_among, field_named, kind_number, name_of, number_named};
+ghost use Rattle.rules_file.specs.Names.{field_named, kind_number, number_named};
 ghost use Rattle.rules_file.specs.Relations.{field_in, number_in};
 
 use crate::fault::RuleFault;
@@ -14,68 +14,34 @@ use apex_types::Field;
 use record_read::{Kind, find_kind, find_out, find_service};
 use toml::Value;
 
-// All fields.
-const FIELDS: [Field; 11] = [
-    Field::Kind,
-    Field::Core,
-    Field::Time,
-    Field::Part,
-    Field::Proc,
-    Field::Service,
-    Field::Prio,
-    Field::Out,
-    Field::Val,
-    Field::Elapsed,
-    Field::Woken,
-];
-
 /// The field whose name a value is.
 pub(crate) fn read_field(value: &Value) -> Result<Field, RuleFault>
     ensures { result ≡ field_in (view value.now) }
 {
     let name = text(value)?;
-    match find_field(name.as_bytes()) {
+    match find_field(name) {
         Some(field) => Ok(field),
         None => Err(RuleFault::UnknownField),
     }
 }
 
 // The field of this name.
-fn find_field(text: &[u8]) -> Option<Field>
-    ensures { result ≡ field_named text.now }
+fn find_field(name: &str) -> Option<Field>
+    ensures { result ≡ field_named name.now }
 {
-    field_among(text, &FIELDS)
-}
-
-// The first of these fields that has this name.
-#[tactic(auto, unfolding(crate::specs::Names::field_among))]
-fn field_among(text: &[u8], fields: &[Field]) -> Option<Field>
-    ensures { result ≡ field_among fields.now text.now }
-{
-    for field in fields {
-        if name_of(*field) == text {
-            return Some(*field);
-        }
-    }
-    None
-}
-
-// The name of a field.
-fn name_of(field: Field) -> &'static [u8]
-    ensures { result.now ≡ name_of field }
-{
-    match field {
-        Field::Kind => b"kind",
-        Field::Core => b"core",
-        Field::Time => b"time",
-        Field::Part => b"part",
-        Field::Proc => b"proc",
-        Field::Service => b"service",
-        Field::Prio => b"prio",
-        Field::Out => b"out",
-        Field::Val => b"val",
-        Field::Elapsed => b"elapsed",
-        Field::Woken => b"woken",
+    match name {
+        "kind" => Some(Field::Kind),
+        "core" => Some(Field::Core),
+        "time" => Some(Field::Time),
+        "part" => Some(Field::Part),
+        "proc" => Some(Field::Proc),
+        "service" => Some(Field::Service),
+        "prio" => Some(Field::Prio),
+        "out" => Some(Field::Out),
+        "val" => Some(Field::Val),
+        "elapsed" => Some(Field::Elapsed),
+        "woken" => Some(Field::Woken),
+        _ => None,
     }
 }
 

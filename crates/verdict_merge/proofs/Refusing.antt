@@ -1,10 +1,9 @@
 -- What a No and a broken rule mean: up to there all pieces run, so the machine does.
-use Rattle.std.proofs.Common.{◌≡◌, ◌<◌, ◌≤◌, ◌-◌, ◌∙◌, ℕ, zero, suc, List, [], ◌∷◌, ◌++◌, true, false, Some, IsTrue, get_or, length, map, nat_eq, eq-eqb, refl, sym, ap, subst, inl, inr, arith}
-use Rattle.std.specs.Prelude.{if◌then◌else◌, is_some}
+use Rattle.std.proofs.Common.{◌≡◌, ◌<◌, ◌≤◌, ◌-◌, ◌∙◌, ℕ, zero, suc, List, [], ◌∷◌, ◌++◌, Some, IsTrue, length, refl, sym, ap, subst, inl, inr, arith}
 use Rattle.std.proofs.lemmas.Bool.{cases_lt}
 use Rattle.apex_types.specs.declared.record.Ordered.{Ordered}
 use Rattle.apex_machine.specs.Channels.{EndsAreApart, channel_numbers}
-use Rattle.apex_machine.specs.Configuration.{Configuration, PartitionLimits, WindowsAreConfigured, limits_among}
+use Rattle.apex_machine.specs.Configuration.{Configuration, WindowsAreConfigured}
 use Rattle.apex_machine.specs.Pieces.{is_configured, part, pieces}
 use Rattle.apex_machine.specs.Runs.{ArePlaced, PieceRun}
 use Rattle.apex_machine.specs.State.{State, cold_state}
@@ -12,7 +11,7 @@ use Rattle.apex_machine.specs.Step.{Run, Step}
 use Rattle.apex_laws.proofs.Joins.{runs_join}
 use Rattle.apex_laws.proofs.Runs.{run_of_each}
 use Rattle.apex_laws.proofs.Stays.{stays_tied}
-use Rattle.module_config.proofs.Numbers.{number-at}
+use Rattle.module_config.proofs.Numbers.{number-at, numbered-at}
 use Rattle.piece_check.proofs.Numbering.{length-pieces, piece_at_channel, piece_at_partition}
 use Rattle.piece_check.specs.Parts.{piece_at}
 use Rattle.user_rules.specs.declared.broken.Broken.{Broken as BrokenView}
@@ -32,16 +31,6 @@ use Rattle.verdict_merge.proofs.ViewedRun.{views_are_of_the_run}
 
 -- each piece that has a number is configured
 
-partition_there : (partitions : List PartitionLimits) (index : ℕ) → index < length partitions
-    → is_some (limits_among (get_or (map (λ limits. limits.number) partitions) index 0) partitions) ≡ true
-partition_there [] index within = absurd (omega (arith, within))
-partition_there (first ∷ others) zero within = rw (eq-eqb first.number first.number refl) refl
-partition_there (first ∷ others) (suc index) within =
-    by (get_or (map (λ limits. limits.number) others) index 0) (partition_there others index (omega (arith, within)))
-  where
-    by : (number : ℕ) → is_some (limits_among number others) ≡ true → is_some (limits_among number (first ∷ others)) ≡ true
-    by number later = elim (nat_eq first.number number) as (λ same. is_some (if same then Some first else limits_among number others) ≡ true) [ true ↦ refl | false ↦ later ]
-
 channel_at : (configuration : Configuration) (index : ℕ) → suc index < length (pieces configuration) → length configuration.partitions ≤ index
     → IsTrue (is_configured configuration (piece_at configuration (suc index)))
 channel_at configuration index within past =
@@ -55,7 +44,7 @@ configured_at configuration zero within = refl
 configured_at configuration (suc index) within = elim (cases_lt index (length configuration.partitions)) [
   | inl below ↦
       rw (piece_at_partition configuration (suc index) (omega arith) (omega (arith, below)))
-      (partition_there configuration.partitions (suc index - 1) (omega (arith, below)))
+      (numbered-at (λ limits. limits.number) configuration.partitions (suc index - 1) 0 (omega (arith, below)))
   | inr past ↦ channel_at configuration index within past
 ]
 

@@ -1,19 +1,20 @@
 -- Where all pieces run over the records, these are a run of the machine.
-use Rattle.std.proofs.Common.{◌≡◌, ◌<◌, ◌+◌, ◌-◌, ◌∙◌, ℕ, suc, List, [], ◌∷◌, Bool, true, false, Some, get_or, length, map, nat_eq, ap, refl, sym, subst, true≢false, eqb-true, arith}
-use Rattle.std.specs.Prelude.{IsTrue, is_some, if◌then◌else◌}
+use Rattle.std.proofs.Common.{◌≡◌, ◌<◌, ◌+◌, ◌-◌, ◌∙◌, ℕ, suc, List, [], Bool, true, false, get_or, length, map, nat_eq, ap, refl, sym, subst, true≢false, eqb-true, arith}
+use Rattle.std.specs.Prelude.{IsTrue}
+use Rattle.std.specs.List.{list_any}
 use Rattle.std.proofs.lemmas.List.{get_or_default, length-map}
 use Rattle.std.proofs.lemmas.List.Folds.{Any-from_list_any}
 use Rattle.apex_machine.specs.Step.{Run}
 use Rattle.apex_types.specs.declared.record.Ordered.{Ordered}
 use Rattle.apex_machine.specs.Channels.{channel_numbers}
-use Rattle.apex_machine.specs.Configuration.{Configuration, PartitionLimits, WindowsAreConfigured, limits_among}
+use Rattle.apex_machine.specs.Configuration.{Configuration, PartitionLimits, WindowsAreConfigured}
 use Rattle.apex_machine.specs.Pieces.{Piece, Part, part, pieces, is_configured}
 use Rattle.apex_machine.specs.Pieces.Piece.{Module, OfChannel, OfPartition}
 use Rattle.apex_machine.specs.Runs.{ArePlaced, PieceRun}
 use Rattle.apex_machine.specs.State.{State, cold_state}
 use Rattle.apex_laws.proofs.Runs.{one_run}
 use Rattle.apex_laws.proofs.Stays.{stays_tied}
-use Rattle.module_config.proofs.Numbers.{number-configured}
+use Rattle.module_config.proofs.Numbers.{any-numbered, number-configured}
 use Rattle.piece_check.proofs.Numbering.{length-pieces, piece_at_channel, piece_at_partition}
 use Rattle.piece_check.specs.Parts.{piece_at}
 use Rattle.verdict_merge.specs.Rounds.{Runs, cold_parts}
@@ -22,15 +23,11 @@ use Rattle.verdict_merge.specs.Rounds.{Runs, cold_parts}
 abbrev IsListed : ℕ → List ℕ → Type 0
 IsListed number numbers = (index : ℕ) × (index < length numbers) × (get_or numbers index 0 ≡ number)
 
--- the number of a partition is among those of all partitions
-partition_listed : (number : ℕ) (partitions : List PartitionLimits) → is_some (limits_among number partitions) ≡ true → IsListed number (map (λ limits. limits.number) partitions)
-partition_listed number [] has = absurd (true≢false (sym has))
-partition_listed number (first ∷ others) has = by (nat_eq first.number number) refl has (λ later. partition_listed number others later)
-  where
-    by : (same : Bool) → nat_eq first.number number ≡ same → is_some (if same then Some first else limits_among number others) ≡ true
-        → (is_some (limits_among number others) ≡ true → IsListed number (map (λ limits. limits.number) others)) → IsListed number (map (λ limits. limits.number) (first ∷ others))
-    by true same has more = (0, omega arith, eqb-true first.number number same)
-    by false other has more = let rest = more has in (suc rest.0, omega (arith, rest.1), rest.2)
+-- a number that is one of a list's is at an index
+listed : (number : ℕ) (numbers : List ℕ) → list_any (λ other. nat_eq other number) numbers ≡ true → IsListed number numbers
+listed number numbers has =
+    let at = Any-from_list_any (λ other. nat_eq other number) numbers has in
+    (at.0, at.2, get_or_default numbers at.0 0 at.1 at.2 ∙ at.3 ∙ eqb-true at.1 number at.4)
 
 -- a configured piece has a number
 pub numbered : (configuration : Configuration) (piece : Piece) → is_configured configuration piece ≡ true
@@ -38,7 +35,7 @@ pub numbered : (configuration : Configuration) (piece : Piece) → is_configured
 numbered configuration Module has = (0, omega arith, refl)
 numbered configuration (OfPartition number) has =
     let numbers = map (λ (limits : PartitionLimits). limits.number) configuration.partitions in
-    let at = partition_listed number configuration.partitions has in
+    let at = listed number numbers (any-numbered (λ limits. limits.number) number configuration.partitions ∙ has) in
     let below : at.0 < length configuration.partitions = omega (arith, at.1, length-map configuration.partitions (λ limits. limits.number)) in
     let there : suc at.0 - 1 ≡ at.0 = omega arith in
     let is : get_or numbers (suc at.0 - 1) 0 ≡ number = ap (λ n. get_or numbers n 0) there ∙ at.2 in (
@@ -48,14 +45,13 @@ numbered configuration (OfPartition number) has =
     )
 numbered configuration (OfChannel number) has =
     let numbers = channel_numbers configuration in
-    let at = Any-from_list_any (nat_eq number) numbers (number-configured configuration number ∙ has) in
+    let at = listed number numbers (number-configured configuration number ∙ has) in
     let index : ℕ = suc (length configuration.partitions + at.0) in
     let there : index - 1 - length configuration.partitions ≡ at.0 = omega arith in
-    let is : get_or numbers (index - 1 - length configuration.partitions) 0 ≡ number =
-    ap (λ n. get_or numbers n 0) there ∙ get_or_default numbers at.0 0 at.1 at.2 ∙ at.3 ∙ sym (eqb-true number at.1 at.4) in (
+    let is : get_or numbers (index - 1 - length configuration.partitions) 0 ≡ number = ap (λ n. get_or numbers n 0) there ∙ at.2 in (
       index,
-      omega (arith, at.2, length-pieces configuration),
-      piece_at_channel configuration index (omega arith) (omega arith) (omega (arith, at.2)) ∙ ap OfChannel is,
+      omega (arith, at.1, length-pieces configuration),
+      piece_at_channel configuration index (omega arith) (omega arith) (omega (arith, at.1)) ∙ ap OfChannel is,
     )
 
 -- the run of a piece, if it is configured

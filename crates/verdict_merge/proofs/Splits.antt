@@ -1,5 +1,5 @@
 -- Lists that are split in two ways, and the places of records in them.
-use Rattle.std.proofs.Common.{below_more, Some, ◌-◌, ◌≡◌, ◌<◌, ◌≤◌, ◌+◌, ◌∙◌, ℕ, suc, List, [], ◌∷◌, ◌++◌, length, refl, sym, ap, arith, append_assoc}
+use Rattle.std.proofs.Common.{Some, ◌-◌, ◌≡◌, ◌<◌, ◌≤◌, ◌+◌, ◌∙◌, ℕ, suc, List, [], ◌∷◌, ◌++◌, length, refl, sym, ap, arith, append_assoc}
 use Rattle.std.specs.Prelude.{slice_get}
 use Rattle.std.proofs.lemmas.List.{length-append}
 use Rattle.std.proofs.lemmas.Option.{get_or_from_slice_get, slice_get_within}
@@ -32,10 +32,6 @@ place_behind first (one ∷ before) ordered after placed = omega (arith, place_b
 pub placed_front : (first : ℕ) (front back : List Ordered) → ArePlaced first (front ++ back) → ArePlaced first front
 placed_front first [] back placed = tt
 placed_front first (one ∷ front) back placed = (placed.0, placed_front (suc first) front back placed.1)
-
--- a fact about all numbers below one more
-pub up_to : (Fact : ℕ → Type 0) (count : ℕ) → ((number : ℕ) → number < count → Fact number) → Fact count → (number : ℕ) → number < count + 1 → Fact number
-up_to = below_more
 
 -- the last of some records stands right before what comes after them
 pub last_place : (first : ℕ) (records : List Ordered) (last : Ordered) → ArePlaced first records → slice_get records (length records - 1) ≡ Some last → last.pos + 1 ≡ first + length records

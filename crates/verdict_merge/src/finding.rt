@@ -42,24 +42,14 @@ fn precedes(first: &Refused, second: &Refused) -> bool
         || (first.pos.number() == second.pos.number() && first.piece < second.piece)
 }
 
-// The lesser of the least refusal so far and the next one.
-fn lesser(least: Option<Refused>, next: Refused) -> Refused
-    ensures { IsLesser Precedes least next result }
-{
-    let Some(found) = least else {
-        return next;
-    };
-    let sooner = precedes(&next, &found);
-    if sooner { next } else { found }
-}
-
 // The lesser of the least refusal so far and what was found next, if anything was.
 pub(crate) fn least_with(least: Option<Refused>, found: Option<Refused>) -> Option<Refused>
     ensures { IsLeastWith least found result }
 {
-    match found {
-        None => least,
-        Some(next) => Some(lesser(least, next)),
+    match (least, found) {
+        (Some(least), Some(next)) => Some(if precedes(&next, &least) { next } else { least }),
+        (least, None) => least,
+        (None, next) => next,
     }
 }
 

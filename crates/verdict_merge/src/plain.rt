@@ -1,19 +1,16 @@
 // The verdict over one order of records, on one thread.
 
-ghost use Rattle.std.specs.Prelude.{◌≡◌, ◌<◌, ℕ, List, IfOk, length};
-ghost use Rattle.apex_machine.specs.Pieces.{pieces};
+ghost use Rattle.std.specs.Prelude.{IfOk};
 ghost use Rattle.apex_machine.specs.Runs.{ArePlaced, AreOfCores};
-ghost use Rattle.piece_check.specs.Parts.{Holding};
 ghost use Rattle.user_rules.specs.Rules.{relations_of};
 ghost use Rattle.verdict_merge.specs.Refusals.{IsRunUpToNo};
-ghost use Rattle.verdict_merge.specs.Rounds.{IsSurveyed, cold_parts, parts_in};
 ghost use Rattle.verdict_merge.specs.Verdicts.{IsRunWhereYes, IsVerdict};
 
 use crate::fault::Memory;
 use crate::judged::judge_in_turn;
 use crate::outcome::Lent;
 use crate::start::start_pieces;
-use crate::survey::{Survey, gather_round};
+use crate::survey::gather_round;
 use crate::verdict::Verdict;
 use apex_types::Ordered;
 use module_config::Config;
@@ -43,26 +40,6 @@ pub fn check_plain(
     ensures no { IfOk result (IsRunUpToNo config.now (relations_of rules.now) records.now) }
 {
     config.keeps_limits();
-    let surveyed = survey_all(alloc, config, records, rules)?;
-    match Verdict::against(records, surveyed.found, surveyed.breach) {
-        Some(verdict) => Ok(verdict),
-        None => Ok(Verdict::Yes {
-            records: records.len() as u64,
-        }),
-    }
-}
-
-// All pieces go over all the records in one round, one piece after another.
-fn survey_all(
-    alloc: Global,
-    config: &Config,
-    records: &[Ordered],
-    rules: &[Rule],
-) -> Result<Survey, Memory>
-    requires placed { ArePlaced 0 records.now }
-    requires cores { AreOfCores config.now.cores records.now }
-    ensures { IfOk result (λ survey. (cold : List Holding) × ((number : ℕ) → number < length (pieces config.now) → parts_in cold number ≡ cold_parts config.now number) × IsSurveyed config.now 0 records.now (relations_of rules.now) cold survey) }
-{
     let pieces = start_pieces(alloc, config)?;
     let Ok(mut touched) = Touched::new(alloc) else {
         return Err(Memory);
@@ -70,7 +47,14 @@ fn survey_all(
     if touched.sort_out(config, records).is_err() {
         return Err(Memory);
     }
+    // All pieces go over all the records in one round, one piece after another.
     let lent = Lent::new(config, 0, records, &touched);
     let judged = judge_in_turn(alloc, &lent, rules, pieces)?;
-    gather_round(alloc, &lent, judged)
+    let surveyed = gather_round(alloc, &lent, judged)?;
+    match Verdict::against(records, surveyed.found, surveyed.breach) {
+        Some(verdict) => Ok(verdict),
+        None => Ok(Verdict::Yes {
+            records: records.len() as u64,
+        }),
+    }
 }

@@ -4,7 +4,7 @@ use Rattle.report.specs.Text.{report_of}
 use Rattle.sink.specs.Written.{IsCut, IsWritten}
 use Rattle.sink.specs.declared.written.WriteFault.{WriteFault}
 use Rattle.apexcheck.specs.Endings.{lines_behind}
-use Rattle.apexcheck.proofs.Behind.{first_cut, second_cut}
+use Rattle.report.proofs.Onward.{first_cut, second_cut}
 use Rattle.apexcheck.proofs.ending.write_outcome.Goals as goal
 
 pub returns-in_err-write_report-clause-cut : goal.returns-in_err-write_report-clause-cut

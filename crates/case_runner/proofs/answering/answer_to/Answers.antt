@@ -23,5 +23,5 @@ returns g c =
       answer = answers (map (λ recording. recording.items) c.args.texts.recordings.now) c.args.texts.order.now c.in_ok-readers.ensures.bytes refl;
       line = c.in_ok-line_of.ensures;
       last = written;
-      status = c.status_of.ensures;
+      status = search rules;
     }

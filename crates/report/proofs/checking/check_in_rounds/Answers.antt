@@ -1,4 +1,4 @@
-use Rattle.std.proofs.Common.{◌∙◌, [], map, subst}
+use Rattle.std.proofs.Common.{◌∙◌, [], map, refl, subst}
 use Rattle.report.specs.declared.settings.Settings.{Settings}
 use Rattle.report.specs.Answers.{AnswersWith, Given, given_by}
 use Rattle.report.proofs.Answering.{want_of_memory}
@@ -6,7 +6,7 @@ use Rattle.user_rules.specs.Rules.{relations_of}
 use Rattle.report.proofs.checking.check_in_rounds.Goals as goal
 
 pub returns-in_default : goal.returns-in_default
-returns-in_default g c = ([], λ recordings certificate e is. want_of_memory c.args.settings _ _ (relations_of c.args.rules.now))
+returns-in_default g c = ([], λ recordings certificate e is. want_of_memory refl)
 
 pub returns : goal.returns
 returns g c =

@@ -1,11 +1,9 @@
-use Rattle.std.proofs.Common.{◌≡◌, ◌≢◌, ◌∙◌, [], None, Ok, Err, length, sym, ap, arith, inl, inr, subst}
+use Rattle.std.proofs.Common.{◌≡◌, ◌∙◌, None, Ok, Err, length, sym, ap, arith, inl, inr, subst}
 use Rattle.module_config.specs.Reading.{configuration_of}
 use Rattle.order_cert.specs.Kept.{none_taken}
 use Rattle.order_cert.specs.Row.{pairs_of}
 use Rattle.placement.specs.Lanes.{IsScanOf}
 use Rattle.placement.specs.Reading.{CanFail}
-use Rattle.report.specs.declared.fault.ArgumentFault.TheVariants.{ReaderCount}
-use Rattle.report.specs.declared.fault.CheckFault.TheVariants.{Arguments, Memory}
 use Rattle.report.specs.Answers.{IsAnswer}
 use Rattle.report.specs.Inputs.{Texts, items_at}
 use Rattle.report.specs.Outcome.{argument_fault_of}
@@ -18,44 +16,24 @@ use Rattle.verdict_merge.proofs.Ruled.{run_where_yes}
 use Rattle.report.proofs.checking.check_inputs.Goals as goal
 
 pub returns-in-Some : goal.returns-in-Some
-returns-in-Some g c = λ recordings certificate e is.
-    let texts : Texts = record { config = c.args.inputs.config; recordings = recordings; certificate = certificate } in
-    let relations = relations_of c.args.rules.now in
-    subst (IsAnswer c.args.options.settings texts c.args.inputs.can_fail relations (Err (Arguments c.in-Some.fault))) (sym c.clear.ensures)
-    (refused_settings c.args.options.settings texts c.args.inputs.can_fail relations c.in-Some.fault (sym c.fault.ensures ∙ c.in-Some.is))
+returns-in-Some g c = λ recordings certificate e is. refused_settings c.in-Some.fault c.clear.ensures (sym c.fault.ensures ∙ c.in-Some.is)
 
 pub returns-in-Err : goal.returns-in-Err
 returns-in-Err g c = λ recordings certificate e is.
-    let texts : Texts = record { config = c.args.inputs.config; recordings = recordings; certificate = certificate } in
-    let relations = relations_of c.args.rules.now in
-    let none : argument_fault_of c.args.options.settings ≡ None = sym c.fault.ensures ∙ c.in_default.is in
-    subst (IsAnswer c.args.options.settings texts c.args.inputs.can_fail relations (Err c.config_refusal.result)) (sym c.clear.ensures)
-    (subst (λ fault. IsAnswer c.args.options.settings texts c.args.inputs.can_fail relations (Err fault) []) (sym c.config_refusal.ensures)
-    (refused_configuration c.args.options.settings texts c.args.inputs.can_fail relations c.in-Err.fault none (λ other. subst (λ given. configuration_of given.config ≡ Err c.in-Err.fault) c.inputs.view_is (c.in-Err.ensures.value other))))
+    rw c.config_refusal.ensures (refused_configuration c.in-Err.fault c.clear.ensures (sym c.fault.ensures ∙ c.in_default.is)
+    (λ other. subst (λ given. configuration_of given.config ≡ Err c.in-Err.fault) c.inputs.view_is (c.in-Err.ensures.value other)))
 
 pub returns-then-len-cores : goal.returns-then-len-cores
 returns-then-len-cores g c = λ recordings certificate e is.
-    let texts : Texts = record { config = c.args.inputs.config; recordings = recordings; certificate = certificate } in
-    let relations = relations_of c.args.rules.now in
-    let none : argument_fault_of c.args.options.settings ≡ None = sym c.fault.ensures ∙ c.in_default.is in
     let lanes = known_lanes (λ reader. g.R.TextSource.remaining reader) c.inputs.inside.recordings.items recordings (ap (λ given. given.recordings) c.inputs.view_is ∙ e) in
-    let apart : length recordings ≢ c.in-Ok.config.cores = λ same. omega (arith, same, lanes.0) in
-    subst (IsAnswer c.args.options.settings texts c.args.inputs.can_fail relations (Err (Arguments ReaderCount))) (sym c.clear.ensures)
-    (refused_count c.args.options.settings texts c.args.inputs.can_fail relations c.in-Ok.config none (subst (λ given. configuration_of given.config ≡ Ok c.in-Ok.config) c.inputs.view_is c.in-Ok.ensures.value) apart)
+    refused_count c.in-Ok.config c.clear.ensures (sym c.fault.ensures ∙ c.in_default.is)
+    (subst (λ given. configuration_of given.config ≡ Ok c.in-Ok.config) c.inputs.view_is c.in-Ok.ensures.value) (λ same. omega (arith, same, lanes.0))
 
 pub returns-in_default-new : goal.returns-in_default-new
-returns-in_default-new g c = λ recordings certificate e is.
-    let texts : Texts = record { config = c.args.inputs.config; recordings = recordings; certificate = certificate } in
-    let relations = relations_of c.args.rules.now in
-    subst (IsAnswer c.args.options.settings texts c.args.inputs.can_fail relations (Err Memory)) (sym c.clear.ensures)
-    (want_of_memory c.args.options.settings texts c.args.inputs.can_fail relations)
+returns-in_default-new g c = λ recordings certificate e is. want_of_memory c.clear.ensures
 
 pub returns-in_default-open : goal.returns-in_default-open
-returns-in_default-open g c = λ recordings certificate e is.
-    let texts : Texts = record { config = c.args.inputs.config; recordings = recordings; certificate = certificate } in
-    let relations = relations_of c.args.rules.now in
-    subst (IsAnswer c.args.options.settings texts c.args.inputs.can_fail relations (Err Memory)) (sym c.clear.ensures)
-    (want_of_memory c.args.options.settings texts c.args.inputs.can_fail relations)
+returns-in_default-open g c = λ recordings certificate e is. want_of_memory c.clear.ensures
 
 pub returns : goal.returns
 returns g c = λ recordings certificate e is.

@@ -1,4 +1,4 @@
-use Rattle.std.proofs.Common.{◌≡◌, ◌⊎◌, ◌++◌, ◌∙◌, List, Some, None, Ok, Err, ap, map, subst, sym, arith}
+use Rattle.std.proofs.Common.{◌≡◌, ◌++◌, ◌∙◌, List, Some, None, ap, map, subst, sym, arith}
 use Rattle.std.proofs.lemmas.List.{map-append}
 use Rattle.apex_types.specs.declared.record.Ordered.{Ordered}
 use Rattle.apex_machine.specs.Runs.{ArePlaced, AreOfCores}
@@ -6,28 +6,19 @@ use Rattle.circular_buffer.specs.Buffer.{keep_last}
 use Rattle.placement.specs.Lanes.{AreHonest, IsFilled, Lead}
 use Rattle.placement.specs.Reading.{CanFail}
 use Rattle.user_rules.specs.Rules.{relations_of}
-use Rattle.report.specs.declared.fault.CheckFault.TheVariants.{Memory}
-use Rattle.report.specs.declared.last.LastItem.{LastItem}
-use Rattle.report.specs.Last.{item_of, kept_behind, most_last}
+use Rattle.report.specs.Last.{item_of, most_last}
 use Rattle.report.specs.Rounds.{IsDecided}
-use Rattle.report.proofs.Going.{IsReportedOf, behind_on, decided_on, filled_on, last_on}
+use Rattle.report.proofs.Going.{behind_on, decided_on, filled_on, last_on}
 use Rattle.report.proofs.LastOnes.{kept_on}
 use Rattle.report.proofs.rounds.judge_all.Goals as goal
 
 pub returns-in-Ended : goal.returns-in-Ended
-returns-in-Ended g c =
+returns-in-Ended g c = λ honest.
     let can_fail : CanFail = record { recordings = g.R.TextSource.can_fail; certificate = g.C.TextSource.can_fail } in
-    let config = c.args.config.now in
-    let relations = relations_of c.args.rules.now in
     let outcome = c.rounds.invariant.outcome in
     let round : List Ordered = c.rounds.round.items in
-    let kept : List LastItem = keep_last most_last (map item_of outcome.0) in
-    let last : c.keep_behind.new.self ≡ kept_behind c.judge_last-answer.result c.rounds.judge.count kept round =
-    rw c.deref-in-Ended.ensures.value at c.keep_behind.ensures
-    ∙ ap (λ first. kept_behind c.judge_last-answer.result first c.rounds.last round) c.count-first.ensures
-    ∙ ap (λ before. kept_behind c.judge_last-answer.result c.rounds.judge.count before round) outcome.3 in λ honest.
-    subst (λ reported. (c.judge_last-answer.result ≡ Err Memory) ⊎ IsReportedOf can_fail config relations c.args.placer.now c.judge_last-answer.result reported) (sym last)
-    (last_on can_fail config relations c.args.placer.now c.rounds.placer c.rounds.judge outcome.0 round c.in-Ended.end c.judge_last-answer.result
+    rw (rw (c.deref-in-Ended.ensures.value, c.count-first.ensures, outcome.3) at c.keep_behind.ensures)
+    (last_on can_fail c.args.config.now (relations_of c.args.rules.now) c.args.placer.now c.rounds.placer c.rounds.judge outcome.0 round c.in-Ended.end c.judge_last-answer.result
     (subst (λ filled. IsFilled can_fail c.args.placer.now (outcome.0 ++ round) filled c.rounds.placer) c.in-Ended.is (outcome.1 honest)) outcome.2 c.rounds.invariant.may.placed
     (rw c.deref.ensures.value at c.judge_last-answer.ensures))
 
@@ -38,17 +29,12 @@ returns-in-Ok-Some g c =
     let relations = relations_of c.args.rules.now in
     let outcome = c.rounds.invariant.outcome in
     let round : List Ordered = c.rounds.round.items in
-    let kept : List LastItem = keep_last most_last (map item_of outcome.0) in
     let verdict = c.in-Ok-Some.verdict in
     let lead : AreHonest can_fail.recordings c.rounds.placer.lanes → Lead can_fail c.args.placer.now (outcome.0 ++ round) c.rounds.placer =
     λ honest. subst (λ filled. IsFilled can_fail c.args.placer.now (outcome.0 ++ round) filled c.rounds.placer) c.in-Full.is (outcome.1 honest) in
     let decided : IsDecided config relations c.rounds.judge round (Some verdict) c.judge_and_fill-decided.new.judge =
-    rw c.in-Ok-Some.field-0-is at (rw c.in-Ok-Some.is at (rw c.deref-in-rounds.ensures.value at c.judge_and_fill-decided.ensures.decided)) in
-    let last : c.keep_behind-in-Ok-Some.new.self ≡ kept_behind (Ok verdict) c.rounds.judge.count kept round =
-    rw c.deref-in-Ok-Some.ensures.value at c.keep_behind-in-Ok-Some.ensures
-    ∙ ap (λ first. kept_behind (Ok verdict) first c.rounds.last round) c.count-first.ensures
-    ∙ ap (λ before. kept_behind (Ok verdict) c.rounds.judge.count before round) outcome.3 in λ honest.
-    subst (λ reported. (Ok verdict ≡ Err Memory) ⊎ IsReportedOf can_fail config relations c.args.placer.now (Ok verdict) reported) (sym last)
+    rw c.in-Ok-Some.field-0-is at (rw c.in-Ok-Some.is at (rw c.deref-in-rounds.ensures.value at c.judge_and_fill-decided.ensures.decided)) in λ honest.
+    rw (rw (c.deref-in-Ok-Some.ensures.value, c.count-first.ensures, outcome.3) at c.keep_behind-in-Ok-Some.ensures)
     (decided_on can_fail config relations c.args.placer.now c.rounds.placer c.rounds.judge c.judge_and_fill-decided.new.judge outcome.0 round verdict
     (lead (c.judge_and_fill-decided.ensures.placed.honest honest)) outcome.2 c.rounds.invariant.may.placed decided)
 

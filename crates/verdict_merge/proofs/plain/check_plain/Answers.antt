@@ -8,14 +8,17 @@ use Rattle.verdict_merge.proofs.plain.check_plain.Goals as goal
 
 pub against-requires : goal.against-requires
 against-requires g c =
-    let is = c.in_ok-surveyed.ensures in
-    let surveyed = c.in_ok-surveyed.surveyed in
-    breach_within c.args.config.now (relations_of c.args.rules.now) (parts_in is.0) c.args.records.now surveyed.found surveyed.breach is.2.tested
+    let pieces = c.in_ok-pieces.pieces.items in
+    let surveyed = rw (c.new-lent.ensures.config, c.new-lent.ensures.first, c.new-lent.ensures.records) at
+    (c.in_ok-surveyed.ensures (relations_of c.args.rules.now) pieces (rw (c.new-lent.ensures.config, c.new-lent.ensures.first) c.in_ok-pieces.ensures.going) c.in_ok-judged.ensures) in
+    breach_within c.args.config.now (relations_of c.args.rules.now) (parts_in pieces) c.args.records.now c.in_ok-surveyed.surveyed.found c.in_ok-surveyed.surveyed.breach surveyed.tested
 
 pub returns-in-Some-clause-verdict : goal.returns-in-Some-clause-verdict
 returns-in-Some-clause-verdict g c =
-    let is = c.in_ok-surveyed.ensures in
-    plain_verdict c.args.config.now (relations_of c.args.rules.now) c.args.records.now is.0 c.in_ok-surveyed.surveyed (Some c.in-Some.verdict) c.requires.placed is.1 is.2
+    let pieces = c.in_ok-pieces.pieces.items in
+    let surveyed = rw (c.new-lent.ensures.config, c.new-lent.ensures.first, c.new-lent.ensures.records) at
+    (c.in_ok-surveyed.ensures (relations_of c.args.rules.now) pieces (rw (c.new-lent.ensures.config, c.new-lent.ensures.first) c.in_ok-pieces.ensures.going) c.in_ok-judged.ensures) in
+    plain_verdict c.args.config.now (relations_of c.args.rules.now) c.args.records.now pieces c.in_ok-surveyed.surveyed (Some c.in-Some.verdict) c.requires.placed c.in_ok-pieces.ensures.cold surveyed
     (sym (c.in-Some.ensures 0 c.requires.placed))
 
 pub returns-in-Some-clause-run : goal.returns-in-Some-clause-run
@@ -30,8 +33,10 @@ returns-in-Some-clause-no g c =
 
 pub returns-clause-verdict : goal.returns-clause-verdict
 returns-clause-verdict g c =
-    let is = c.in_ok-surveyed.ensures in
-    plain_verdict c.args.config.now (relations_of c.args.rules.now) c.args.records.now is.0 c.in_ok-surveyed.surveyed None c.requires.placed is.1 is.2
+    let pieces = c.in_ok-pieces.pieces.items in
+    let surveyed = rw (c.new-lent.ensures.config, c.new-lent.ensures.first, c.new-lent.ensures.records) at
+    (c.in_ok-surveyed.ensures (relations_of c.args.rules.now) pieces (rw (c.new-lent.ensures.config, c.new-lent.ensures.first) c.in_ok-pieces.ensures.going) c.in_ok-judged.ensures) in
+    plain_verdict c.args.config.now (relations_of c.args.rules.now) c.args.records.now pieces c.in_ok-surveyed.surveyed None c.requires.placed c.in_ok-pieces.ensures.cold surveyed
     (sym (c.against.ensures 0 c.requires.placed) ∙ c.in-None.is)
 
 pub returns-clause-run : goal.returns-clause-run

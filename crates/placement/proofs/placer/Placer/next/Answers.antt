@@ -2,12 +2,10 @@ use Rattle.std.proofs.Common.{◌≡◌, Option, Result, ◌∙◌, ◌∷◌, [
 use Rattle.std.specs.Result.{IsErrAnd}
 use Rattle.apex_types.specs.declared.record.Ordered.{Ordered}
 use Rattle.order_cert.specs.Kept.{place_of, put, taken_of}
-use Rattle.order_cert.specs.declared.fault.OrderFault.TheVariants.{Absent}
-use Rattle.placement.specs.declared.fault.InputFault.TheVariants as input
 use Rattle.placement.specs.declared.fault.PlacingFault.{PlacingFault}
 use Rattle.placement.specs.Lanes.{IsAhead, IsEnded, IsNext, OnEnd, Placing, left_at}
 use Rattle.placement.specs.Reading.{CanFail}
-use Rattle.placement.specs.Scan.{Scan, cert_fault, ends_so, led_by, row_fault}
+use Rattle.placement.specs.Scan.{Scan, cert_fault, led_by, row_fault}
 use Rattle.placement.proofs.Ahead.{AreAhead, EndsSo, cert_ends, none_next, pair_refused, record_absent, record_leads, row_ends}
 use Rattle.placement.proofs.placer.Placer.next.Goals as goal
 
@@ -48,25 +46,23 @@ returns-in-Err-clause-next g c =
     (subst (λ placing. EndsSo can placing (Err (cert_fault (place_of old.kept) c.in-Err.fault))) c.self.view_is (cert_ends can old c.next.new.self.left c.in-Err.fault (c.in-Err.ensures.gives going)))
 
 pub returns-in-Err-take-clause-next : goal.returns-in-Err-take-clause-next
-returns-in-Err-take-clause-next g c =
-    let can : CanFail = record { recordings = g.R.TextSource.can_fail; certificate = g.C.TextSource.can_fail } in
+returns-in-Err-take-clause-next g c = λ honest.
     let inside = c.self.inside in
     let going = c.self.invariant.2 (ap (λ placing. placing.ended) c.self.view_is ∙ c.requires.going) in
     let gives = rw c.in-Ok-Some.field-0-is at (c.in-Ok-Some.ensures.gives going) in
-    λ honest. rw (c.order_fault.ensures, c.place-place.ensures) (subst (λ placing. IsAhead can placing (ends_so (Err (input.Order (place_of inside.keeper) c.in-Ok-Some.pair.core c.in-Err-take.fault)))) c.self.view_is
-    (pair_refused can (length inside.intake) inside.intake inside.pairs.left c.next.new.self.left (taken_of inside.keeper) (place_of inside.keeper) c.in-Ok-Some.pair c.in-Err-take.fault gives
-    (rw c.self.invariant.0 at c.in-Err-take.ensures.refused)))
+    rw (c.order_fault.ensures, c.place-place.ensures, sym c.self.view_is)
+    (pair_refused _ (length inside.intake) inside.intake inside.pairs.left c.next.new.self.left (taken_of inside.keeper) (place_of inside.keeper) c.in-Ok-Some.pair c.in-Err-take.fault gives
+    (rw c.self.invariant.0 at c.in-Err-take.ensures.refused))
 
 pub returns-in-Ok-None-next_of-clause-next : goal.returns-in-Ok-None-next_of-clause-next
-returns-in-Ok-None-next_of-clause-next g c =
-    let can : CanFail = record { recordings = g.R.TextSource.can_fail; certificate = g.C.TextSource.can_fail } in
+returns-in-Ok-None-next_of-clause-next g c = λ honest.
     let inside = c.self.inside in
     let going = c.self.invariant.2 (ap (λ placing. placing.ended) c.self.view_is ∙ c.requires.going) in
     let gives = rw c.in-Ok-Some.field-0-is at (c.in-Ok-Some.ensures.gives going) in
-    λ honest. rw (c.order_fault-in-Ok-None-next_of.ensures, c.place-place.ensures) (subst (λ placing. IsAhead can placing (ends_so (Err (input.Order (place_of inside.keeper) c.in-Ok-Some.pair.core Absent)))) c.self.view_is
-    (record_absent can (length inside.intake) inside.intake inside.pairs.left c.next.new.self.left (taken_of inside.keeper) (place_of inside.keeper) c.in-Ok-Some.pair
+    rw (c.order_fault-in-Ok-None-next_of.ensures, c.place-place.ensures, sym c.self.view_is)
+    (record_absent _ (length inside.intake) inside.intake inside.pairs.left c.next.new.self.left (taken_of inside.keeper) (place_of inside.keeper) c.in-Ok-Some.pair
     (left_at c.next_of.new.intake c.in-Ok-Some.pair.core) gives
-    (rw c.self.invariant.0 at c.in-Ok.ensures.fits) (rw c.in-Ok-None-next_of.field-0-is at (c.in-Ok-None-next_of.ensures.gives honest))))
+    (rw c.self.invariant.0 at c.in-Ok.ensures.fits) (rw c.in-Ok-None-next_of.field-0-is at (c.in-Ok-None-next_of.ensures.gives honest)))
 
 pub returns-in-Err-next_of-clause-next : goal.returns-in-Err-next_of-clause-next
 returns-in-Err-next_of-clause-next g c =

@@ -3,13 +3,9 @@ use Rattle.std.proofs.Common.{◌≡◌, ◌∙◌, ℕ, List, ◌++◌, Option,
 use Rattle.sink.specs.Taken.{with_more}
 use Rattle.sink.specs.Written.{IsCut, IsWritten}
 
-with_more_twice : (known : Option (List ℕ)) (first second : List ℕ) → with_more (with_more known first) second ≡ with_more known (first ++ second)
+pub with_more_twice : (known : Option (List ℕ)) (first second : List ℕ) → with_more (with_more known first) second ≡ with_more known (first ++ second)
 with_more_twice None first second = refl
 with_more_twice (Some bytes) first second = ap (λ list. Some list) (append_assoc bytes first second)
-
--- both are whole
-pub both_written : (before now after : Option (List ℕ)) (first second : List ℕ) → IsWritten before first now → IsWritten now second after → IsWritten before (first ++ second) after
-both_written before now after first second out more = more ∙ ap (λ known. with_more known second) out ∙ with_more_twice before first second
 
 -- the first is cut
 pub first_cut : (before after : Option (List ℕ)) (first second : List ℕ) → IsCut before first after → IsCut before (first ++ second) after
