@@ -1,0 +1,11 @@
+#!/usr/bin/env bash
+# Checks a campaign as a Slurm job array, in which each task has a share of the recordings:
+#
+#     sbatch tools/campaign.sbatch
+#
+# A recording needs about two processors; see docs/CAMPAIGNS.md.
+#SBATCH --job-name=apexcheck
+#SBATCH --array=0-19
+#SBATCH --cpus-per-task=4
+set -euo pipefail
+exec make -f tools/campaign.mk -j "$(((SLURM_CPUS_PER_TASK + 1) / 2))" SHARES="$SLURM_ARRAY_TASK_COUNT" SHARE="$SLURM_ARRAY_TASK_ID"
