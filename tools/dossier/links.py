@@ -1,0 +1,274 @@
+"""Links each rule to its definitions, laws, clauses, cases and wrong bodies."""
+import re
+from collections.abc import Callable
+from dataclasses import dataclass, field
+from functools import cache
+
+from cases import cases_of, services_of
+from contracts import Clause, Code, Function, WrongBody, code_of
+from definitions import Definition, Index
+from exercises import Exercise, exercises_of, services_in, services_of_objects
+from hand import Hand, Link
+from rules import Rule, rules_of
+
+FACTS = re.compile(r"Facts$|^WorkedRun$")
+MOST_STEPS = 6
+# a clause that cites a definition further away is no news where there is a nearer one
+MOST_OF_SEVERAL = 4
+BESIDE_THE_PROGRAM = {"apex_laws", "explanation", "input_explanation", "wording", "part_tests", "intake_tests", "crate_tests"}
+Goal = Callable[[str], bool]
+
+
+@dataclass
+class Law:
+    """A law, the function whose contract it is, and how a definition is reached from it."""
+    definition: Definition
+    function: Function
+    path: list[str]
+
+
+@dataclass
+class Carried:
+    """A clause that cites a definition: by itself, or by way of definitions that rest on it."""
+    function: Function
+    clause: Clause
+    cited: Definition
+    path: list[str]
+
+
+@dataclass
+class Row:
+    """A rule with all its partners. `how` says whether it names its definitions, the rule above does, or they are linked by hand."""
+    rule: Rule
+    definitions: list[Definition] = field(default_factory=list)
+    how: str = ""
+    laws: list[Law] = field(default_factory=list)
+    carried: list[Carried] = field(default_factory=list)
+    exercises: list[Exercise] = field(default_factory=list)
+    bodies: list[tuple[WrongBody, str]] = field(default_factory=list)
+    explains: bool = False
+    is_law: bool = False
+    services: list[str] = field(default_factory=list)
+    known_as: str = ""
+
+    @property
+    def is_plain(self) -> bool:
+        """Whether a rule names plain types alone, of which no law and no clause speaks by itself."""
+        return bool(self.definitions) and all(it.path.endswith(".rt") for it in self.definitions)
+
+    @property
+    def missing(self) -> list[str]:
+        """The kinds of partner that a rule has none of. A law is proved of all recordings, and has no code to be wrong."""
+        have = {"definition": self.definitions, "law": self.laws, "clause": self.carried, "case": self.exercises, "wrong body": self.bodies}
+        if self.explains or self.is_plain:
+            return []
+        asked = ("definition", "law") if self.is_law or self.rule.part == "13" else tuple(have)
+        return [name for name in asked if not have[name]]
+
+
+class Dossier:
+    """All rules with their partners, and what has none."""
+
+    def __init__(self, index: Index, hand: Hand) -> None:
+        self.index, self.hand = index, hand
+        self.said: list[str] = []
+        self.code: Code = code_of(index)
+        self.services = services_of(index.root)
+        self.cases = cases_of(index.root, hand.set_up)
+        self.rules = rules_of(index, hand)
+        self.users: dict[str, set[str]] = {}
+        for definition in index.all.values():
+            for key in definition.mentions:
+                self.users.setdefault(key, set()).add(definition.key)
+        self.citing: dict[str, list[tuple[Function, Clause]]] = {}
+        self.law_of: dict[str, Function] = {}
+        self._read_clauses()
+        self.in_function = {key: [body for body in self.code.bodies if key in body.functions] for key in self.code.functions}
+        self.callers = self.callers_of()
+        self._drop_unknown()
+        self.rows = [self._row(rule) for rule in self.rules]
+
+    def _drop_unknown(self) -> None:
+        """Takes out of the links by hand what there is not, and notes it as a fault."""
+        bodies = {body.name for body in self.code.bodies}
+        laws = {self.index.all[key].name for key in self.law_of}
+        cases = {file.name for file in self.cases}
+        cases |= {f"{file.name}: {case.name}" for file in self.cases for case in file.cases}
+        for link in self.hand.links:
+            for what, there in (("definitions", self.index.all), ("bodies", bodies), ("laws", laws), ("cases", cases)):
+                named = getattr(link, what)
+                self.said += [f"links.toml has {it} under {what}, which there is not: {link.rule}" for it in named if it not in there]
+                setattr(link, what, [it for it in named if it in there])
+
+    def _read_clauses(self) -> None:
+        """Notes which clauses cite a definition, and which definitions are laws: those of functions without code."""
+        for function in self.code.functions.values():
+            for clause in function.clauses:
+                for key in clause.cites:
+                    definition = self.index.all[key]
+                    if function.empty and clause.word == "ensures" and definition.path.endswith(".antt"):
+                        self.law_of.setdefault(key, function)
+                    elif function.crate not in BESIDE_THE_PROGRAM:
+                        self.citing.setdefault(key, []).append((function, clause))
+
+    def callers_of(self) -> dict[str, list[str]]:
+        """For each function the functions of its crate whose body calls one of its name, where the crate has one of that name."""
+        by_name: dict[tuple[str, str], list[Function]] = {}
+        for function in self.code.functions.values():
+            by_name.setdefault((function.crate, function.last), []).append(function)
+        found: dict[str, list[str]] = {}
+        for caller in self.code.functions.values():
+            for name in sorted(caller.calls):
+                called = by_name.get((caller.crate, name), [])
+                if len(called) == 1:
+                    found.setdefault(called[0].key, []).append(caller.key)
+        return found
+
+    def promised_callers(self, keys: list[str]) -> list[str]:
+        """The nearest functions with a promise that call one of these, or are one of these."""
+        level, seen = list(keys), set(keys)
+        for _ in range(MOST_STEPS):
+            found = [key for key in level if self.code.functions[key].promises]
+            if found or not level:
+                return sorted(set(found))
+            level = [caller for key in level for caller in self.callers.get(key, ()) if caller not in seen]
+            seen |= set(level)
+        return []
+
+    def whole(self, definition: Definition) -> Definition:
+        """The definition itself, or the one of which it is a case or a field."""
+        if not definition.parent:
+            return definition
+        return next(it for it in self.index.named[definition.parent] if it.path == definition.path)
+
+    def nearest(self, start: Definition, is_goal: Goal) -> list[list[str]]:
+        """The shortest ways from a definition up through those that mention it to goals, as lists of keys."""
+        level, seen = [[start.key]], {start.key}
+        for _ in range(MOST_STEPS):
+            found = [path for path in level if is_goal(path[-1])]
+            if found:
+                return sorted(found)
+            level = [path + [user] for path in level for user in sorted(self.users.get(path[-1], ())) if user not in seen]
+            level = list({path[-1]: path for path in reversed(level)}.values())
+            seen |= {path[-1] for path in level}
+        return sorted(path for path in level if is_goal(path[-1]))
+
+    @cache
+    def laws_of(self, key: str) -> list[Law]:
+        """The laws nearest to a definition; a worked fact only where there is no other."""
+        start = self.index.all[key]
+        if start.kind in ("type", "constant"):
+            return []
+        of_rules = lambda key: key in self.law_of and not FACTS.search(self.index.all[key].name)
+        paths = self.nearest(start, of_rules) or self.nearest(start, lambda key: key in self.law_of)
+        return [Law(self.index.all[path[-1]], self.law_of[path[-1]], path[::-1]) for path in paths]
+
+    def is_promised(self, key: str) -> bool:
+        """Whether a clause of a promised call cites a definition."""
+        return any(function.promises and clause.word == "ensures" for function, clause in self.citing.get(key, ()))
+
+    @cache
+    def clauses_of(self, key: str) -> list[Carried]:
+        """The clauses that cite a definition. Where no promised call has one, also the nearest of promised calls above it."""
+        start = self.index.all[key]
+        if start.kind in ("type", "constant"):
+            return []
+        found = [Carried(function, clause, start, [key]) for function, clause in self.citing.get(key, ())]
+        paths = [] if self.is_promised(key) else self.nearest(start, self.is_promised)
+        return found + [it for path in paths for it in self.promised_at(path)]
+
+    def promised_at(self, path: list[str]) -> list[Carried]:
+        """The clauses of promised calls that cite the last definition of a way."""
+        cited = self.index.all[path[-1]]
+        there = [it for it in self.citing[cited.key] if it[0].promises and it[1].word == "ensures"]
+        return [Carried(function, clause, cited, path) for function, clause in there]
+
+    @cache
+    def clauses_by_law(self, key: str) -> list[Carried]:
+        """The clauses of a sentence that only laws mention: those of the definitions with which its nearest laws compare it."""
+        found = []
+        for law in self.laws_of(key):
+            others = sorted(it for it in law.definition.mentions if self.index.all[it].kind == "definition" and "/apex_laws/" not in it)
+            ways = [path for it in others for path in self.nearest(self.index.all[it], self.is_promised)]
+            found += [it for path in ways for it in self.promised_at(law.path[::-1] + path)]
+        return found
+
+    def carried_by(self, row: Row) -> list[Carried]:
+        """The clauses that carry a rule. Those of a law are of the function whose contract it is."""
+        if row.is_law:
+            return [Carried(law.function, law.function.clauses[0], law.definition, [law.definition.key]) for law in row.laws]
+        keys = list(dict.fromkeys(self.whole(it).key for it in row.definitions))
+        found = [carried for key in keys for carried in self.clauses_of(key)]
+        found = found or [carried for key in keys for carried in self.clauses_by_law(key)]
+        most = max(MOST_OF_SEVERAL, min((len(it.path) for it in found), default=0))
+        found = [it for it in found if len(it.path) <= most]
+        found = list({(it.function.key, it.clause.line): it for it in reversed(found)}.values())
+        return sorted(found, key=lambda it: (not it.function.promises, len(it.path), it.function.key, it.clause.line))
+
+    def link_of(self, rule: Rule) -> Link | None:
+        """The link by hand of a rule."""
+        found = [link for link in self.hand.links if rule.text.startswith(link.rule)]
+        return found[0] if found else None
+
+    def _row(self, rule: Rule) -> Row:
+        """A rule with its partners."""
+        link = self.link_of(rule) or Link(rule.text)
+        row = Row(rule, explains=any(rule.text.startswith(it) for it in self.hand.explains), known_as=link.known_as)
+        inherited = [it for it in rule.inherited() if it.key not in self.law_of]
+        row.is_law = not inherited and bool(rule.named)
+        inherited = inherited or rule.named
+        by_hand = [self.index.all[key] for key in link.definitions]
+        row.definitions = list({it.key: it for it in inherited + by_hand}.values())
+        row.how = "named" if rule.named else "of the rule that it is under" if inherited else ""
+        row.how = f"{row.how}, others by hand" if row.how and by_hand else row.how or ("by hand" if by_hand else "")
+        named = [it for it in rule.inherited() if it.key in self.law_of]
+        named += [it for key in link.laws for it in self.index.named[key] if it.key in self.law_of]
+        row.laws = [Law(it, self.law_of[it.key], [it.key]) for it in named]
+        found = [law for it in row.definitions for law in self.laws_of(self.whole(it).key) if not named]
+        fewest = min((len(law.path) for law in found), default=0)
+        row.laws += [law for law in found if len(law.path) == fewest]
+        row.laws = list({law.definition.key: law for law in reversed(row.laws)}.values())[::-1]
+        row.services = services_in(self.services, rule, link)
+        if row.explains:
+            return row
+        row.carried = self.carried_by(row)
+        row.exercises = exercises_of(self.cases, self.hand, rule, row.services, services_of_objects(self.services, rule), link)
+        row.bodies = self.bodies_of(row, link)
+        return row
+
+    def bodies_of(self, row: Row, link: Link) -> list[tuple[WrongBody, str]]:
+        """The wrong bodies of a rule: of the functions whose clause cites its definitions; else of those that carry it by way of
+        others; else of the files of these functions."""
+        by_name = {body.name: body for body in self.code.bodies}
+        found = {name: (by_name[name], "by hand") for name in link.bodies}
+        cited = [it.function.key for it in row.carried if len(it.path) == 1 and it.clause.word == "ensures"]
+        direct = [body for key in cited for body in self.in_function[key]]
+        by_way = [body for it in row.carried for body in self.in_function[it.function.key]]
+        in_file = [body for it in row.carried for body in self.code.bodies if it.function.path in body.files]
+        ways = [("in a function whose clause cites a definition of the rule", direct),
+                ("in a function that carries the rule by way of other definitions", by_way), ("in the file of such a function", in_file)]
+        why, bodies = next((way for way in ways if way[1]), ("", []))
+        for body in bodies if direct or not link.bodies else []:
+            found.setdefault(body.name, (body, why))
+        return sorted(found.values(), key=lambda it: it[0].path)
+
+    def faults(self) -> list[str]:
+        """What of the links by hand fits nothing, or more than one rule, and which names of a rule mean none or several."""
+        said = list(self.said)
+        for text in [link.rule for link in self.hand.links] + self.hand.explains:
+            count = sum(rule.text.startswith(text) for rule in self.rules)
+            if count != 1:
+                said.append(f"{count} rules begin with: {text}")
+        for rule in self.rules:
+            said += [f"{rule.number} names {name}, which is no definition" for name in rule.unknown]
+            said += [f"{rule.number} may mean one of several: {name}" for name in rule.ambiguous]
+        return said
+
+
+def reverse_of(rows: list[Row], keys: Callable[[Row], list[str]]) -> dict[str, list[str]]:
+    """For each partner the numbers of the rules that need it."""
+    found: dict[str, list[str]] = {}
+    for row in rows:
+        for key in dict.fromkeys(keys(row)):
+            found.setdefault(key, []).append(row.rule.number)
+    return found
