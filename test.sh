@@ -1,10 +1,11 @@
 #!/usr/bin/env bash
 # All tests, after the line of the kit that runs them: that each wrong body applies; that docs/FORMATS.md lists the services of
-# the table; the program on one example through real files; every proof, every wrong body of the gate's set, every test and the
-# program as two compilers build it; the program as its users run it, and on hostile texts and files; each allocation refused in
-# turn that a waiting set makes for its first entry; and so each of the program's, without rules, with options that ask for
-# rules, with a rules file, with a message between partitions, and with several who wait at a blackboard. At the end come the
-# costs of each crate. The last line is `N passed, 0 failed`.
+# the table; that the dossier is what the sources give; the program on one example through real files; every proof, every wrong
+# body of the gate's set, every test and the program as two compilers build it; the program as its users run it, on hostile
+# texts and files, installed and packed, and on many recordings; each allocation refused in turn that a waiting set makes for
+# its first entry; and so each of the program's, without rules, with options that ask for rules, with a rules file, with a
+# message between partitions, and with several who wait at a blackboard. At the end come the costs of each crate. The last line
+# is `N passed, 0 failed`.
 #
 # `bash test.sh quick` shows without a proof, in minutes, that everything works. `bash audit.sh` tries all wrong bodies.
 set -euo pipefail
@@ -17,6 +18,7 @@ esac
 rt version
 .ci/wrong_bodies_apply
 .ci/services_are_listed
+python3 tools/dossier --check
 report=$(bash examples/run timed_wait)
 echo "$report"
 if [ "$report" != "$(cat examples/timed_wait/expected.txt)" ]; then
@@ -35,6 +37,8 @@ bash .ci/run_wrong_cases crates/case_runner/out/case_runner
 bash .ci/run_examples "$program"
 bash .ci/run_explanations "$program"
 bash .ci/run_hostile "$program"
+bash .ci/run_packaging "$program"
+.ci/run_campaign "$program"
 bash .ci/refuse_in_test crates/part_tests/out/part_tests_tests queuing::a_refused_entry_comes_back 2
 bash .ci/refuse_allocations "$program"
 late=examples/return_too_late
