@@ -37,15 +37,7 @@ pub record Creates {Object : Type 0} (before after : List (ℕ × Object)) (clai
 -- the services of objects, by the objects of the partition before and after, where no error condition holds
 abbrev pub IsObjectCall : Configuration → Who → Option ℤ → Request → Partition → Answer → Partition → Type 0
 IsObjectCall configuration who claimed (request.Create name (NewObject.Buffer size capacity discipline)) partition answer next =
-    (next ≡ record partition { buffers = next.buffers }) × Creates partition.buffers next.buffers claimed (record {
-      name = name;
-      size = natural_of size;
-      capacity = natural_of capacity;
-      discipline = discipline_given discipline;
-      messages = [];
-      senders = [];
-      receivers = [];
-    }) answer
+    (next ≡ record partition { buffers = next.buffers }) × Creates partition.buffers next.buffers claimed (record { name = name; size = natural_of size; capacity = natural_of capacity; discipline = discipline_given discipline; messages = []; senders = []; receivers = [] }) answer
 IsObjectCall configuration who claimed (request.Buffer buffer (BufferOperation.Send length time_out message)) partition answer next =
     (next ≡ record partition { buffers = next.buffers }) × Operates partition.buffers next.buffers buffer (λ found. IsSending found.capacity message time_out found.discipline found.receivers found.messages)
     (λ found messages. record found { messages = messages }) answer
@@ -61,13 +53,7 @@ IsObjectCall configuration who claimed (request.Blackboard blackboard (Blackboar
 IsObjectCall configuration who claimed (request.Blackboard blackboard BlackboardOperation.Clear) partition answer next =
     (next ≡ record partition { blackboards = next.blackboards }) × Operates partition.blackboards next.blackboards blackboard (λ found effect. IsClearing effect) (λ found message. record found { message = message }) answer
 IsObjectCall configuration who claimed (request.Create name (NewObject.Semaphore value maximum discipline)) partition answer next =
-    (next ≡ record partition { semaphores = next.semaphores }) × Creates partition.semaphores next.semaphores claimed (record {
-      name = name;
-      maximum = natural_of maximum;
-      discipline = discipline_given discipline;
-      value = natural_of value;
-      waiters = [];
-    }) answer
+    (next ≡ record partition { semaphores = next.semaphores }) × Creates partition.semaphores next.semaphores claimed (record { name = name; maximum = natural_of maximum; discipline = discipline_given discipline; value = natural_of value; waiters = [] }) answer
 IsObjectCall configuration who claimed (request.Semaphore semaphore (SemaphoreOperation.Wait time_out)) partition answer next =
     (next ≡ record partition { semaphores = next.semaphores }) × Operates partition.semaphores next.semaphores semaphore (λ found. IsSemaphoreWait time_out found.value) (λ found value. record found { value = value }) answer
 IsObjectCall configuration who claimed (request.Semaphore semaphore SemaphoreOperation.Signal) partition answer next =
@@ -82,14 +68,7 @@ IsObjectCall configuration who claimed (request.Event event EventOperation.Reset
 IsObjectCall configuration who claimed (request.Event event (EventOperation.Wait time_out)) partition answer next =
     (next ≡ record partition { events = next.events }) × Operates partition.events next.events event (λ found. IsEventWait time_out found.up) (λ found up. record found { up = up }) answer
 IsObjectCall configuration who claimed (request.Create name (NewObject.Mutex priority discipline)) partition answer next =
-    (next ≡ record partition { mutexes = next.mutexes }) × Creates partition.mutexes next.mutexes claimed (record {
-      name = name;
-      priority = natural_of priority;
-      discipline = discipline_given discipline;
-      owner = None;
-      count = 0;
-      waiters = [];
-    }) answer
+    (next ≡ record partition { mutexes = next.mutexes }) × Creates partition.mutexes next.mutexes claimed (record { name = name; priority = natural_of priority; discipline = discipline_given discipline; owner = None; count = 0; waiters = [] }) answer
 IsObjectCall configuration who claimed (request.Mutex mutex (MutexOperation.Acquire time_out)) partition answer next =
     (next ≡ record partition { mutexes = next.mutexes }) × Operates partition.mutexes next.mutexes mutex (λ found. IsAcquiring who.proc time_out found) (λ found changed. changed) answer
 IsObjectCall configuration who claimed (request.Mutex mutex MutexOperation.Release) partition answer next =

@@ -102,18 +102,12 @@ RefusedLeavesObjects =
 
 -- the partition with one waiting set of its objects changed; a channel's is no partition's
 abbrev pub with_set : WaitingSet → (List Entry → List Entry) → Partition → Partition
-with_set (set.BufferSenders number) change partition =
-    record partition { buffers = change_at number (λ found. record found { senders = change found.senders }) partition.buffers }
-with_set (set.BufferReceivers number) change partition =
-    record partition { buffers = change_at number (λ found. record found { receivers = change found.receivers }) partition.buffers }
-with_set (set.BlackboardReaders number) change partition =
-    record partition { blackboards = change_at number (λ found. record found { readers = change found.readers }) partition.blackboards }
-with_set (set.SemaphoreWaiters number) change partition =
-    record partition { semaphores = change_at number (λ found. record found { waiters = change found.waiters }) partition.semaphores }
-with_set (set.EventWaiters number) change partition =
-    record partition { events = change_at number (λ found. record found { waiters = change found.waiters }) partition.events }
-with_set (set.MutexWaiters number) change partition =
-    record partition { mutexes = change_at number (λ found. record found { waiters = change found.waiters }) partition.mutexes }
+with_set (set.BufferSenders number) change partition = record partition { buffers = change_at number (λ found. record found { senders = change found.senders }) partition.buffers }
+with_set (set.BufferReceivers number) change partition = record partition { buffers = change_at number (λ found. record found { receivers = change found.receivers }) partition.buffers }
+with_set (set.BlackboardReaders number) change partition = record partition { blackboards = change_at number (λ found. record found { readers = change found.readers }) partition.blackboards }
+with_set (set.SemaphoreWaiters number) change partition = record partition { semaphores = change_at number (λ found. record found { waiters = change found.waiters }) partition.semaphores }
+with_set (set.EventWaiters number) change partition = record partition { events = change_at number (λ found. record found { waiters = change found.waiters }) partition.events }
+with_set (set.MutexWaiters number) change partition = record partition { mutexes = change_at number (λ found. record found { waiters = change found.waiters }) partition.mutexes }
 with_set (set.ChannelSenders channel) change partition = partition
 with_set (set.ChannelReceivers channel) change partition = partition
 

@@ -1,13 +1,14 @@
 //! The plain types of a recording: numbers, codes, services and their arguments, records, causes, and views of records.
 //!
-//! Promises: a number reads back as it was made; a text, a message and a list of processes are seen by contracts as
-//! lists; a place is below the number of records that sixteen cores can give.
+//! Promises: a number reads back as it was made; a request is that of its service and its arguments' values; a text, a message
+//! and a list of processes are seen by contracts as lists; a place is below the number of records that sixteen cores can give.
 #![tactic(auto)]
 
 mod cause;
 mod code;
 mod discipline;
 mod format;
+mod laws;
 pub mod limits;
 mod number;
 mod object_kind;
@@ -22,6 +23,7 @@ pub use cause::Cause;
 pub use code::Code;
 pub use discipline::Discipline;
 pub use format::Format;
+pub use laws::direction_and_discipline_are_one_number;
 pub use number::{ChanId, CoreId, PartId, Place, ProcId};
 pub use object_kind::{KindServices, ObjectKind};
 pub use operation::{
@@ -29,7 +31,7 @@ pub use operation::{
     NewObject, ProcessOperation, QueuingOperation, SamplingOperation, SemaphoreOperation,
 };
 pub use record::{Body, Call, Claim, Ordered, Out, Pair, Record, Return, Who, Woken};
-pub use request::Request;
+pub use request::{ArgumentValues, Request};
 pub use service::{Arguments, SERVICES, Service, ServiceRow};
 pub use text::{Message, Name};
 pub use view::{Field, View};

@@ -1,7 +1,9 @@
 // A request: a service with the arguments that its caller gave.
 
-ghost use Rattle.std.specs.Prelude.{◌≡◌};
+ghost use Rattle.std.specs.Prelude.{◌≡◌, []};
+ghost use Rattle.apex_types.specs.Arguments.{request_of};
 ghost use Rattle.apex_types.specs.Requested as requested;
+ghost use Rattle.apex_types.specs.Requested.{services_of};
 
 use crate::object_kind::ObjectKind;
 use crate::operation::{
@@ -9,7 +11,7 @@ use crate::operation::{
     NewObject, ProcessOperation, QueuingOperation, SamplingOperation, SemaphoreOperation,
 };
 use crate::service::Service;
-use crate::text::Name;
+use crate::text::{Message, Name};
 
 /// A service with its arguments, by what it is about. Where it is about a process, an object or a port, the first is the
 /// number of that. Numbers are as the caller gave them, in range or not; times are in ticks, sizes and lengths in bytes.
@@ -41,7 +43,132 @@ pub enum Request {
     GetStatus(ObjectKind, i64),
 }
 
+/// The values of a service's arguments, as a record gives them.
+#[derive(Debug, Drop)]
+pub struct ArgumentValues {
+    pub n1: i64,
+    pub n2: i64,
+    pub n3: i64,
+    pub name: Name,
+    pub message: Message,
+}
+
 impl Request {
+    /// The request of a service from the values of its arguments. What the service does not take is not used.
+    #[tactic(auto, unfolding(crate::specs::Arguments::request_of))]
+    pub fn new(service: Service, values: ArgumentValues) -> Request
+        ensures { result ≡ request_of service values.n1 values.n2 values.n3 values.name values.message }
+    {
+        let ArgumentValues {
+            n1,
+            n2,
+            n3,
+            name,
+            message,
+        } = values;
+        match service {
+            Service::CreateProcess => Request::CreateProcess {
+                name,
+                priority: n1,
+                period: n2,
+            },
+            Service::InitializeProcessCoreAffinity => Request::Process(
+                n1,
+                ProcessOperation::InitializeCoreAffinity { core: n2 },
+            ),
+            Service::Start => Request::Process(n1, ProcessOperation::Start),
+            Service::Stop => Request::Process(n1, ProcessOperation::Stop),
+            Service::StopSelf => Request::Caller(CallerOperation::StopSelf),
+            Service::Suspend => Request::Process(n1, ProcessOperation::Suspend),
+            Service::SuspendSelf => Request::Caller(CallerOperation::SuspendSelf { time_out: n1 }),
+            Service::Resume => Request::Process(n1, ProcessOperation::Resume),
+            Service::SetPriority => Request::Process(
+                n1,
+                ProcessOperation::SetPriority { priority: n2 },
+            ),
+            Service::GetMyId => Request::Caller(CallerOperation::GetMyId),
+            Service::TimedWait => Request::Caller(CallerOperation::TimedWait { delay: n1 }),
+            Service::PeriodicWait => Request::Caller(CallerOperation::PeriodicWait),
+            Service::GetTime => Request::Caller(CallerOperation::GetTime),
+            Service::SetPartitionMode => Request::SetPartitionMode(n1),
+            Service::CreateBuffer => create(ObjectKind::Buffer, name, n1, n2, n3),
+            Service::SendBuffer => Request::Buffer(
+                n1,
+                BufferOperation::Send {
+                    length: n2,
+                    time_out: n3,
+                    message,
+                },
+            ),
+            Service::ReceiveBuffer => Request::Buffer(
+                n1,
+                BufferOperation::Receive { time_out: n2 },
+            ),
+            Service::CreateBlackboard => create(ObjectKind::Blackboard, name, n1, n2, n3),
+            Service::DisplayBlackboard => Request::Blackboard(
+                n1,
+                BlackboardOperation::Display {
+                    length: n2,
+                    message,
+                },
+            ),
+            Service::ReadBlackboard => Request::Blackboard(
+                n1,
+                BlackboardOperation::Read { time_out: n2 },
+            ),
+            Service::ClearBlackboard => Request::Blackboard(n1, BlackboardOperation::Clear),
+            Service::CreateSemaphore => create(ObjectKind::Semaphore, name, n1, n2, n3),
+            Service::WaitSemaphore => Request::Semaphore(
+                n1,
+                SemaphoreOperation::Wait { time_out: n2 },
+            ),
+            Service::SignalSemaphore => Request::Semaphore(n1, SemaphoreOperation::Signal),
+            Service::CreateEvent => create(ObjectKind::Event, name, n1, n2, n3),
+            Service::SetEvent => Request::Event(n1, EventOperation::Set),
+            Service::ResetEvent => Request::Event(n1, EventOperation::Reset),
+            Service::WaitEvent => Request::Event(n1, EventOperation::Wait { time_out: n2 }),
+            Service::CreateMutex => create(ObjectKind::Mutex, name, n1, n2, n3),
+            Service::AcquireMutex => Request::Mutex(n1, MutexOperation::Acquire { time_out: n2 }),
+            Service::ReleaseMutex => Request::Mutex(n1, MutexOperation::Release),
+            Service::CreateSamplingPort => create(ObjectKind::SamplingPort, name, n1, n2, n3),
+            Service::WriteSamplingMessage => Request::SamplingPort(
+                n1,
+                SamplingOperation::Write {
+                    length: n2,
+                    message,
+                },
+            ),
+            Service::ReadSamplingMessage => Request::SamplingPort(n1, SamplingOperation::Read),
+            Service::CreateQueuingPort => create(ObjectKind::QueuingPort, name, n1, n2, n3),
+            Service::SendQueuingMessage => Request::QueuingPort(
+                n1,
+                QueuingOperation::Send {
+                    length: n2,
+                    time_out: n3,
+                    message,
+                },
+            ),
+            Service::ReceiveQueuingMessage => Request::QueuingPort(
+                n1,
+                QueuingOperation::Receive { time_out: n2 },
+            ),
+            Service::GetBufferId => Request::GetId(ObjectKind::Buffer, name),
+            Service::GetBufferStatus => Request::GetStatus(ObjectKind::Buffer, n1),
+            Service::GetBlackboardId => Request::GetId(ObjectKind::Blackboard, name),
+            Service::GetBlackboardStatus => Request::GetStatus(ObjectKind::Blackboard, n1),
+            Service::GetSemaphoreId => Request::GetId(ObjectKind::Semaphore, name),
+            Service::GetSemaphoreStatus => Request::GetStatus(ObjectKind::Semaphore, n1),
+            Service::GetEventId => Request::GetId(ObjectKind::Event, name),
+            Service::GetEventStatus => Request::GetStatus(ObjectKind::Event, n1),
+            Service::GetMutexId => Request::GetId(ObjectKind::Mutex, name),
+            Service::GetMutexStatus => Request::GetStatus(ObjectKind::Mutex, n1),
+            Service::GetSamplingPortId => Request::GetId(ObjectKind::SamplingPort, name),
+            Service::GetSamplingPortStatus => Request::GetStatus(ObjectKind::SamplingPort, n1),
+            Service::GetQueuingPortId => Request::GetId(ObjectKind::QueuingPort, name),
+            Service::GetQueuingPortStatus => Request::GetStatus(ObjectKind::QueuingPort, n1),
+        }
+    }
+
     /// The service that is requested.
     pub fn service(&self) -> Service
         ensures { result ≡ requested.service_of self.now }
@@ -63,4 +190,41 @@ impl Request {
             Request::GetStatus(kind, _) => kind.services().status,
         }
     }
+}
+
+// The request that creates one of a kind, from its name and its numbers.
+#[tactic(auto, unfolding(crate::specs::Arguments::request_of))]
+fn create(kind: ObjectKind, name: Name, n1: i64, n2: i64, n3: i64) -> Request
+    ensures { result ≡ request_of (services_of kind).creation n1 n2 n3 name [] }
+{
+    let object = match kind {
+        ObjectKind::Buffer => NewObject::Buffer {
+            size: n1,
+            capacity: n2,
+            discipline: n3,
+        },
+        ObjectKind::Blackboard => NewObject::Blackboard { size: n1 },
+        ObjectKind::Semaphore => NewObject::Semaphore {
+            value: n1,
+            maximum: n2,
+            discipline: n3,
+        },
+        ObjectKind::Event => NewObject::Event,
+        ObjectKind::Mutex => NewObject::Mutex {
+            priority: n1,
+            discipline: n2,
+        },
+        ObjectKind::SamplingPort => NewObject::SamplingPort {
+            size: n1,
+            direction: n2,
+            refresh: n3,
+        },
+        ObjectKind::QueuingPort => NewObject::QueuingPort {
+            size: n1,
+            capacity: n2,
+            direction: n3.rem_euclid(2),
+            discipline: n3.div_euclid(2),
+        },
+    };
+    Request::Create(name, object)
 }

@@ -13,9 +13,11 @@ ghost use Rattle.partition_state.specs.Calls.{created_demands};
 
 use crate::creations::{new_blackboard, new_buffer, new_event, new_mutex, new_semaphore};
 use crate::state::PartitionState;
-use apex_types::{Claim, Name, NewObject, Who};
+use apex_machine::Direction;
+use apex_types::{ChanId, Claim, Name, NewObject, Who};
 use module_config::Config;
 use object_table::ObjectTable;
+use ports::PortSettings;
 use wait_set::ObjFault;
 
 impl PartitionState {
@@ -70,8 +72,20 @@ impl PartitionState {
                 let made = new_mutex(alloc, name, *priority, *discipline);
                 add_created(&mut self.mutexes, claim, made)
             }
-            NewObject::SamplingPort { .. } => self.create_sampling_port(config, part, claim, name),
-            NewObject::QueuingPort { .. } => self.create_queuing_port(config, part, claim, name),
+            NewObject::SamplingPort { .. } => {
+                let Some(port) = config.sampling_port(part, name) else {
+                    unreachable!()
+                };
+                let settings = settings_of(port.size, port.direction, port.channel);
+                self.sampling_ports.create(alloc, name, settings, claim)
+            }
+            NewObject::QueuingPort { .. } => {
+                let Some(port) = config.queuing_port(part, name) else {
+                    unreachable!()
+                };
+                let settings = settings_of(port.size, port.direction, port.channel);
+                self.queuing_ports.create(alloc, name, settings, claim)
+            }
         }
     }
 }
@@ -92,4 +106,15 @@ fn add_created<Object: Drop>(
 {
     objects.judge_creation(claim)?;
     objects.add(claim.val, made?)
+}
+
+// The settings of a port of this size, direction and channel.
+fn settings_of(size: u16, direction: Direction, channel: ChanId) -> PortSettings
+    ensures { result ≡ record { size = size; direction = direction; channel = channel } }
+{
+    PortSettings {
+        size,
+        direction,
+        channel,
+    }
 }

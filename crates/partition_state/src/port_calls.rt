@@ -1,20 +1,12 @@
-// Ports: their creation, to which channel a call through one goes, and what a read leaves with its port.
+// Ports: to which channel a call through one goes, and what a read leaves with its port.
 
-ghost use Rattle.std.specs.Prelude.{◌≡◌, ◌≢◌, ◌++◌, None, IfErr, OnErr, OnOk};
-ghost use Rattle.apex_machine.specs.After.{new_queuing_port, new_sampling_port};
-ghost use Rattle.apex_machine.specs.Channels.{queuing_port, sampling_port};
-ghost use Rattle.apex_machine.specs.Demands.{AllHold};
+ghost use Rattle.std.specs.Prelude.{◌≡◌};
 ghost use Rattle.apex_machine.specs.Ports.{channel_of};
-ghost use Rattle.wait_set.specs.Actors.{Refuses};
-ghost use Rattle.partition_state.specs.Calls.{ReadsAtPort, created_demands, objects_noted};
+ghost use Rattle.partition_state.specs.Calls.{ReadsAtPort, objects_noted};
 
 use crate::state::PartitionState;
-use apex_machine::Direction;
-use apex_types::{Call, ChanId, Claim, Name, ObjectKind, PartId, Request, SamplingOperation};
-use module_config::Config;
-use ports::PortSettings;
+use apex_types::{Call, ChanId, ObjectKind, Request, SamplingOperation};
 use process_state::is_done;
-use wait_set::ObjFault;
 
 impl PartitionState {
     /// The channel to which a request goes, or None where it goes through no port that is created.
@@ -41,64 +33,5 @@ impl PartitionState {
                 self.sampling_ports.note_read(*port, call.claim.val);
             }
         }
-    }
-
-    /// CREATE_SAMPLING_PORT of a port that is configured: it is so, under the number that is claimed.
-    ///
-    /// Refused, with nothing changed, where the claim is not what a creation gives, or where memory is refused.
-    pub(crate) fn create_sampling_port(
-        &mut self,
-        config: &Config,
-        part: PartId,
-        claim: &Claim,
-        name: &Name,
-    ) -> Result<(), ObjFault>
-        requires configured { sampling_port config.now part name.now ≢ None }
-        ensures ok { OnOk result (AllHold (created_demands self.old.sampling_ports claim.now)) }
-        ensures after { OnOk result (self.new ≡ record self.old { sampling_ports = self.old.sampling_ports ++ new_sampling_port name.now claim.now.val (sampling_port config.now part name.now) }) }
-        ensures refused { IfErr result (Refuses (created_demands self.old.sampling_ports claim.now)) }
-        ensures unchanged { OnErr result (self.new ≡ self.old) }
-    {
-        let Some(port) = config.sampling_port(part, name) else {
-            unreachable!()
-        };
-        let settings = settings_of(port.size, port.direction, port.channel);
-        let alloc = self.alloc;
-        self.sampling_ports.create(alloc, name, settings, claim)
-    }
-
-    /// CREATE_QUEUING_PORT of a port that is configured: it is so, under the number that is claimed.
-    ///
-    /// Refused, with nothing changed, where the claim is not what a creation gives, or where memory is refused.
-    pub(crate) fn create_queuing_port(
-        &mut self,
-        config: &Config,
-        part: PartId,
-        claim: &Claim,
-        name: &Name,
-    ) -> Result<(), ObjFault>
-        requires configured { queuing_port config.now part name.now ≢ None }
-        ensures ok { OnOk result (AllHold (created_demands self.old.queuing_ports claim.now)) }
-        ensures after { OnOk result (self.new ≡ record self.old { queuing_ports = self.old.queuing_ports ++ new_queuing_port name.now claim.now.val (queuing_port config.now part name.now) }) }
-        ensures refused { IfErr result (Refuses (created_demands self.old.queuing_ports claim.now)) }
-        ensures unchanged { OnErr result (self.new ≡ self.old) }
-    {
-        let Some(port) = config.queuing_port(part, name) else {
-            unreachable!()
-        };
-        let settings = settings_of(port.size, port.direction, port.channel);
-        let alloc = self.alloc;
-        self.queuing_ports.create(alloc, name, settings, claim)
-    }
-}
-
-// The settings of a port of this size, direction and channel.
-fn settings_of(size: u16, direction: Direction, channel: ChanId) -> PortSettings
-    ensures { result ≡ record { size = size; direction = direction; channel = channel } }
-{
-    PortSettings {
-        size,
-        direction,
-        channel,
     }
 }

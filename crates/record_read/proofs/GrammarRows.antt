@@ -22,7 +22,7 @@ use Rattle.apex_types.specs.declared.format.Format.{Format}
 use Rattle.record_read.specs.declared.kind.Kind.{Kind}
 use Rattle.record_read.specs.declared.kind.Kind.TheVariants as kind
 use Rattle.apex_types.specs.Services.{arguments_of}
-use Rattle.record_read.specs.Arguments.{request_of}
+use Rattle.apex_types.specs.Arguments.{request_of}
 use Rattle.record_read.specs.Field.{all_empty, bytes_at, empty, empty_between, maybe_number, text_at}
 use Rattle.apex_types.specs.Format.{field_count}
 use Rattle.record_read.specs.Grammar.{AreEmpty, Dispatches, HoldsClaim, HoldsNumber, HoldsRequest, IsRow, IsRowOf, IsRowOfCall, IsRowOfDispatch, IsRowOfReturn, IsRowOfTick, NamesProcess}

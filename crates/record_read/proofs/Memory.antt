@@ -5,7 +5,7 @@ use Rattle.apex_types.specs.declared.service.Service.{Service}
 use Rattle.apex_types.specs.declared.service.Service.TheVariants as service
 use Rattle.apex_types.specs.Requested.{service_of}
 use Rattle.apex_types.specs.Services.{arguments_of}
-use Rattle.record_read.specs.Arguments.{request_of}
+use Rattle.apex_types.specs.Arguments.{request_of}
 use Rattle.record_read.specs.Memory.{TakesText}
 
 -- a request is of its service

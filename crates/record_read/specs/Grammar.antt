@@ -24,7 +24,7 @@ use Rattle.apex_types.specs.declared.format.Format.{Format}
 use Rattle.apex_types.specs.Services.{arguments_of, is_in}
 use Rattle.record_read.specs.declared.column.Column.{Column}
 use Rattle.record_read.specs.declared.column.Column.TheVariants as column
-use Rattle.record_read.specs.Arguments.{request_of}
+use Rattle.apex_types.specs.Arguments.{request_of}
 use Rattle.record_read.specs.Field.{text_at}
 use Rattle.apex_types.specs.Format.{field_count}
 use Rattle.record_read.specs.Payload.{is_printable}

@@ -5,7 +5,6 @@ pub mod Format
 pub mod Named
 pub mod Payload
 pub mod Woken
-pub mod Arguments
 pub mod Row
 pub mod Memory
 pub mod Grammar

@@ -19,7 +19,7 @@ use Rattle.record_read.specs.declared.kind.Kind.TheVariants as kind
 use Rattle.record_read.specs.declared.fault.RowFault.{RowFault}
 use Rattle.record_read.specs.declared.fault.RowFault.TheVariants.{TooMany, FieldCount, SeqGap}
 use Rattle.apex_types.specs.Services.{arguments_of}
-use Rattle.record_read.specs.Arguments.{request_of}
+use Rattle.apex_types.specs.Arguments.{request_of}
 use Rattle.record_read.specs.Field.{argument, empty, empty_between, maybe_number, maybe_signed, number, text_at}
 use Rattle.apex_types.specs.Format.{field_count}
 use Rattle.record_read.specs.Format.{format_of}

@@ -1,6 +1,5 @@
 // The laws of rows. Each is the contract of a function without code.
 
-ghost use Rattle.record_read.specs.Arguments.{DirectionAndDisciplineAreOneNumber};
 ghost use Rattle.record_read.specs.GrammarLaws.{FaultsAreOfRows, FirstFaultsDecide, OneRecordOfARow, RowsAreTheGrammar};
 
 /// A row is read as a record exactly where the grammar says that it is the record's row.
@@ -21,9 +20,4 @@ pub fn faults_are_of_rows()
 /// A row that is no record is refused with the fault of its first faulty field from left to right, and with no other.
 pub fn first_faults_decide()
     ensures { FirstFaultsDecide }
-{}
-
-/// The third number of CREATE_QUEUING_PORT is the direction that is read from it, 0 or 1, and twice the discipline.
-pub fn direction_and_discipline_are_one_number()
-    ensures { DirectionAndDisciplineAreOneNumber }
 {}

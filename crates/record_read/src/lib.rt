@@ -27,8 +27,7 @@ pub use fault::RowFault;
 pub use field::text;
 pub use kind::Kind;
 pub use laws::{
-    direction_and_discipline_are_one_number, faults_are_of_rows, first_faults_decide,
-    one_record_of_a_row, rows_are_the_grammar,
+    faults_are_of_rows, first_faults_decide, one_record_of_a_row, rows_are_the_grammar,
 };
 pub use named::{find_kind, find_out, find_service};
 pub use source::RowSource;

@@ -2,8 +2,8 @@ use Rattle.std.proofs.Common.{◌≡◌, ◌<◌, ℕ, zero, suc, pos, negsuc, r
 use Rattle.std.specs.Prelude.{◌⊎◌}
 use Rattle.std.proofs.Math.Nat.{div-add-mod}
 use Rattle.std.proofs.lemmas.Int.{ints}
-use Rattle.record_read.specs.Arguments.{DirectionAndDisciplineAreOneNumber}
-use Rattle.record_read.proofs.laws.direction_and_discipline_are_one_number.Goals as goal
+use Rattle.apex_types.specs.Arguments.{DirectionAndDisciplineAreOneNumber}
+use Rattle.apex_types.proofs.laws.direction_and_discipline_are_one_number.Goals as goal
 
 below_two : (n : ℕ) → n < 2 → (pos n ≡ pos 0) ⊎ (pos n ≡ pos 1)
 below_two zero h = inl refl
