@@ -115,6 +115,12 @@ fn tell_key(words: &mut Words, at: At, key: &str, value: Option<&Value>, wanted:
     words.say(format_args!("; expected {wanted}"));
 }
 
+// Tells a key whose value is refused, or which is missing.
+fn refused(words: &mut Words, keys: &Table, at: At, key: &str, wanted: &str) -> Option<()> {
+    tell_key(words, at, key, keys.get(key), wanted);
+    None
+}
+
 // The number under a key; none where it is not from `least` to `most`, which is reported.
 fn number(
     words: &mut Words,
@@ -148,32 +154,22 @@ fn tell_module_keys(words: &mut Words, keys: &Table) -> Option<()> {
     number(words, keys, MODULE, "skew", 1, GREATEST_SPAN as u64)?;
     let partitions = list(words, keys, MODULE, "partition")?;
     if partitions.is_empty() || keys.get("partition").is_none() {
-        tell_key(
+        return refused(
             words,
+            keys,
             MODULE,
             "partition",
-            keys.get("partition"),
             "a list of one or more tables",
         );
-        return None;
     }
     for index in 0..partitions.len() {
-        tell_partition_keys(
-            words,
-            item(partitions, index)?,
-            place("partition", index),
-            cores,
-        )?;
+        let table = item(partitions, index)?;
+        tell_partition_keys(words, table, place("partition", index), cores)?;
     }
     let windows = list(words, keys, MODULE, "window")?;
     for index in 0..windows.len() {
-        tell_window_keys(
-            words,
-            item(windows, index)?,
-            place("window", index),
-            cores,
-            frame,
-        )?;
+        let table = item(windows, index)?;
+        tell_window_keys(words, table, place("window", index), cores, frame)?;
     }
     let sampling = list(words, keys, MODULE, "sampling")?;
     for index in 0..sampling.len() {
@@ -286,14 +282,7 @@ fn tell_sampling_keys(words: &mut Words, keys: &Table, at: At) -> Option<()> {
     tell_end(words, keys, at, "source")?;
     let ends = list(words, keys, at, "destinations")?;
     if ends.is_empty() || ends.len() > MOST_DESTINATIONS {
-        tell_key(
-            words,
-            at,
-            "destinations",
-            keys.get("destinations"),
-            "a list of 1 to 32 tables",
-        );
-        return None;
+        return refused(words, keys, at, "destinations", "a list of 1 to 32 tables");
     }
     for index in 0..ends.len() {
         let end = At {

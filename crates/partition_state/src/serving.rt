@@ -3,7 +3,7 @@
 ghost use Rattle.std.specs.Prelude.{◌≡◌, ◌≢◌, ℕ, List, None, IfErr, IfOk, OnErr, OnOk};
 ghost use Rattle.apex_types.specs.declared.operation.NewObject.{NewObject};
 ghost use Rattle.apex_types.specs.declared.request.Request.TheVariants as request;
-ghost use Rattle.apex_machine.specs.After.{own_partition};
+ghost use Rattle.apex_machine.specs.After.{own_partition, partition_called};
 ghost use Rattle.apex_machine.specs.Demands.{AllHold, Judges, own_call_demands};
 ghost use Rattle.apex_machine.specs.State.{time_of};
 ghost use Rattle.apex_machine.specs.Waiting.{restart_of as restarted_by};
@@ -28,7 +28,6 @@ impl PartitionState {
     /// it claims is judged by what its service gives, and where the two agree it is carried out. A restart takes no memory.
     ///
     /// Refused, with nothing changed, where the claim is another, or where memory is refused.
-    #[tactic(auto, using(crate::proofs::Served::refuses_or_wants))]
     pub fn serve(
         &mut self,
         config: &Config,
@@ -44,11 +43,34 @@ impl PartitionState {
         ensures refused { IfErr result (RefusesOrWants (served_demands now self.old call.now)) }
         ensures unchanged { OnErr result (self.new ≡ self.old) }
     {
-        if let Some(mode) = restart_of(call) {
-            judge_outcome(Out::Never, &call.claim).map_err(ObjFault::Unlawful)?;
-            self.restart(mode, config.first_core(call.who.part), moment.place);
-            return Ok(());
+        match restart_of(call) {
+            Some(mode) => {
+                judge_outcome(Out::Never, &call.claim).map_err(ObjFault::Unlawful)?;
+                self.restart(mode, config.first_core(call.who.part), moment.place);
+                Ok(())
+            }
+            None => self.carry_out(config, now, moment, call),
         }
+    }
+
+    // The same for a call that does not restart the partition.
+    #[tactic(auto, using(crate::proofs::Served::refuses_or_wants))]
+    fn carry_out(
+        &mut self,
+        config: &Config,
+        now: u64,
+        moment: &Moment<'_>,
+        call: &Call,
+    ) -> Result<(), ObjFault>
+        requires goes_on { restarted_by call.now ≡ None }
+        requires clear { IsClear config.now moment.now.cores.now moment.now.place moment.now.core self.old call.now }
+        requires times { TimesFit moment.now.cores.now }
+        requires now { now ≡ time_of moment.now.cores.now moment.now.core }
+        ensures ok { OnOk result (AllHold (served_demands now self.old call.now)) }
+        ensures after { OnOk result (self.new ≡ partition_called config.now moment.now.cores.now moment.now.place moment.now.core call.now self.old) }
+        ensures refused { IfErr result (RefusesOrWants (served_demands now self.old call.now)) }
+        ensures unchanged { OnErr result (self.new ≡ self.old) }
+    {
         config.keeps_limits();
         self.keep_numbers();
         let _place = moment.place.number();
