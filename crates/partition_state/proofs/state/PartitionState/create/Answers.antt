@@ -71,14 +71,14 @@ returns-in-Mutex-clause-after c =
     rw (← c.self.view_is, c.in-Mutex.is)
     (on_ok c.add_created-in-Mutex.result _ _ (ap (λ mutexes. record (the_view c.self.inside) { mutexes = mutexes })) (c.add_created-in-Mutex.ensures.after _ (simp to_z-of_z at c.new_mutex-made.ensures.made)))
 
-pub returns-in-SamplingPort-clause-ok : goal.returns-in-SamplingPort-clause-ok
-returns-in-SamplingPort-clause-ok c = rw c.in-SamplingPort.is c.create_sampling_port.ensures.ok
+pub returns-in-Some-clause-ok : goal.returns-in-Some-clause-ok
+returns-in-Some-clause-ok c = rw (← c.self.view_is, c.in-SamplingPort.is) c.create.ensures.ok
 
-pub returns-in-SamplingPort-clause-refused : goal.returns-in-SamplingPort-clause-refused
-returns-in-SamplingPort-clause-refused c = rw c.in-SamplingPort.is c.create_sampling_port.ensures.refused
+pub returns-in-Some-clause-refused : goal.returns-in-Some-clause-refused
+returns-in-Some-clause-refused c = rw (← c.self.view_is, c.in-SamplingPort.is) c.create.ensures.refused
 
-pub returns-in-QueuingPort-clause-ok : goal.returns-in-QueuingPort-clause-ok
-returns-in-QueuingPort-clause-ok c = rw c.in-QueuingPort.is c.create_queuing_port.ensures.ok
+pub returns-in-Some-queuing_port-clause-ok : goal.returns-in-Some-queuing_port-clause-ok
+returns-in-Some-queuing_port-clause-ok c = rw (← c.self.view_is, c.in-QueuingPort.is) c.create-in-QueuingPort.ensures.ok
 
-pub returns-in-QueuingPort-clause-refused : goal.returns-in-QueuingPort-clause-refused
-returns-in-QueuingPort-clause-refused c = rw c.in-QueuingPort.is c.create_queuing_port.ensures.refused
+pub returns-in-Some-queuing_port-clause-refused : goal.returns-in-Some-queuing_port-clause-refused
+returns-in-Some-queuing_port-clause-refused c = rw (← c.self.view_is, c.in-QueuingPort.is) c.create-in-QueuingPort.ensures.refused
