@@ -2,7 +2,6 @@
 use Rattle.std.proofs.Common.{◌≡◌, ◌⊎◌, ℕ, ◌+◌, ◌<◌, ◌≤◌, List, [], ◌∷◌, ◌++◌, Bool, true, false, cond, nat_eq, nat_lt, ◌&&◌, ℤ, pos, negsuc, Option, Some, None, option_map, refl, sym, ap, subst, ◌∙◌, inl, inr, arith, true≢false}
 use Rattle.std.proofs.lemmas.Bool.{and_parts, cases_Bool, eqb-true, leb-true}
 use Rattle.apex_types.specs.declared.object_kind.ObjectKind.TheVariants as kind
-use Rattle.apex_types.specs.declared.code.Code.{Code}
 use Rattle.apex_types.specs.declared.record.Body.{Body}
 use Rattle.apex_types.specs.declared.record.Body.TheVariants.{Call, Ret, Disp, Tick}
 use Rattle.apex_types.specs.declared.record.Call.{Call as CallRecord}
@@ -13,6 +12,7 @@ use Rattle.apex_types.specs.declared.record.Who.{Who}
 use Rattle.apex_types.specs.declared.operation.{CallerOperation.CallerOperation, MutexOperation.MutexOperation, NewObject.NewObject, ProcessOperation.ProcessOperation, SamplingOperation.SamplingOperation}
 use Rattle.apex_types.specs.declared.request.Request.{Request}
 use Rattle.apex_types.specs.declared.request.Request.TheVariants as request
+use Rattle.apex_machine.specs.declared.condition.Condition.{Condition}
 use Rattle.apex_machine.specs.declared.state.CoreState.{CoreState}
 use Rattle.apex_machine.specs.declared.state.Entry.{Entry}
 use Rattle.apex_machine.specs.declared.state.Mode.{Mode}
@@ -30,14 +30,14 @@ use Rattle.apex_machine.specs.DueTimes.{NamesThoseDue, due_by, entry_wait, falls
 use Rattle.apex_machine.specs.Objects.{acquired, acquired_again, acquired_from, handed_on, is_owner, mutex_released, not_acquired, released_once}
 use Rattle.apex_machine.specs.Ports.{channel_of}
 use Rattle.apex_machine.specs.Processes.{by_mutex, message_handed_over, new_process, on_ownership, release_reached, release_taken, released, set_by, stopped, woken_by, set_in}
-use Rattle.apex_machine.specs.ServiceConditions.{condition_codes}
+use Rattle.apex_machine.specs.ServiceConditions.{conditions_of}
 use Rattle.apex_machine.specs.Services.{answer_of}
 use Rattle.apex_machine.specs.State.{Mutex, Partition, Table, change_at, cold_partition, each_item, first_processes, given_object, initialising_process, is_named, item_at, names_one_of, time_of}
 use Rattle.apex_machine.specs.Waiting.{first_waiter, is_in, is_no_error, set_after, stops, waits_at}
 use Rattle.apex_laws.specs.Laws.{entries_at}
 use Rattle.apex_laws.specs.PartBounds.{GivesPeriod, IsBoundedPart, PartStaysBounded, PeriodFits, ReleasesFit, period_limit, place_limit, word_limit}
 use Rattle.apex_laws.specs.PartLaws.{IsSoundPart}
-use Rattle.apex_laws.proofs.Codes.{AreErrors, are_errors, no_error_is_done, not_done}
+use Rattle.apex_laws.proofs.Codes.{no_error_is_done, not_done}
 use Rattle.apex_laws.proofs.Keeps.{set_by_wait}
 use Rattle.apex_laws.proofs.Restarts.{call_case, done_case, return_case}
 use Rattle.apex_laws.proofs.SoundParts.{Stands, named_across, own_holds}
@@ -255,10 +255,10 @@ waking_keeps_wait place period cores partition now caller asked number x one nam
 
 -- what an own call sets in a process whose wait it ends leaves a wait that ends with no release
 own_ends : (number place now period : ℕ) (cores : List CoreState) (partition : Partition) (caller : Who) (asked : Request) (claim : Claim) → IsSoundPart number place partition
-    → (codes : List Code) (channel : Option ℕ) → AllHold (outcome_demands codes channel number asked (answer_of now caller partition asked) claim)
+    → (conditions : List Condition) (channel : Option ℕ) → AllHold (outcome_demands conditions channel number asked (answer_of now caller partition asked) claim)
     → (who : Who) → who.part ≡ number → is_named who claim.woken ≡ true → (x : Process) → item_at partition.table who.proc ≡ Some x
     → EndsNoRelease x.wait × ((set_by place period cores partition caller.proc asked who.proc x).wait ≡ x.wait)
-own_ends number place now period cores partition caller asked claim sound (code ∷ codes) channel hold who here named x at = nobody who claim.woken hold.1.1.1.1.0 named
+own_ends number place now period cores partition caller asked claim sound (condition ∷ conditions) channel hold who here named x at = nobody who claim.woken hold.1.1.1.1.0 named
 own_ends number place now period cores partition caller asked claim sound [] (Some channel) hold who here named x at =
     absurd (true≢false (sym named ∙ not_named who claim.woken (subst (λ part. names_one_of part claim.woken ≡ false) (sym here) hold.1.1.0)))
 own_ends number place now period cores partition caller asked claim sound [] None hold who here named x at =
@@ -278,12 +278,12 @@ own_ends number place now period cores partition caller asked claim sound [] Non
 -- the caller
 
 -- PERIODIC_WAIT that answers NO_ERROR found the release reached
-release_found : (codes : List Code) (number now : ℕ) (partition : Partition) (caller : Who) (claim : Claim) → AreErrors codes
-    → AllHold (outcome_demands codes None number (request.Caller CallerOperation.PeriodicWait) (answer_of now caller partition (request.Caller CallerOperation.PeriodicWait)) claim) → is_no_error claim.out ≡ true
+release_found : (conditions : List Condition) (number now : ℕ) (partition : Partition) (caller : Who) (claim : Claim)
+    → AllHold (outcome_demands conditions None number (request.Caller CallerOperation.PeriodicWait) (answer_of now caller partition (request.Caller CallerOperation.PeriodicWait)) claim) → is_no_error claim.out ≡ true
     → is_released now (item_at partition.table caller.proc) ≡ true
-release_found (code ∷ codes) number now partition caller claim errors hold no_error =
-    absurd (true≢false (sym (no_error_is_done claim.out no_error) ∙ not_done (code ∷ codes) claim.out errors hold.1.0))
-release_found [] number now partition caller claim errors hold no_error =
+release_found (condition ∷ conditions) number now partition caller claim hold no_error =
+    absurd (true≢false (sym (no_error_is_done claim.out no_error) ∙ not_done (condition ∷ conditions) claim.out hold.1.0))
+release_found [] number now partition caller claim hold no_error =
     elim (is_released now (item_at partition.table caller.proc)) as (λ reached. is_no_error (cond reached done waiting).out ≡ true → reached ≡ true) [
       | true ↦ λ is. refl
       | false ↦ λ is. is
@@ -314,7 +314,7 @@ next_kept old new keeps = λ i. release_after (keeps.0 i) (keeps.1 i)
 -- what is demanded of its outcome
 abbrev OutcomeHolds : Configuration → ℕ → ℕ → Partition → CallRecord → Request → Type 0
 OutcomeHolds configuration number now partition call asked =
-    AllHold (outcome_demands (condition_codes configuration call.who partition asked) (channel_of partition asked) number asked (answer_of now call.who partition asked) call.claim)
+    AllHold (outcome_demands (conditions_of configuration call.who partition asked) (channel_of partition asked) number asked (answer_of now call.who partition asked) call.claim)
 
 -- the release that its caller takes is one that was reached
 caller_takes : (configuration : Configuration) (number place now : ℕ) (partition : Partition) (call : CallRecord) (x new : Process) → now ≤ place → KeepsRelease x new
@@ -324,8 +324,8 @@ caller_takes configuration number place now partition call x new most keeps at h
     taken_bounded place call.request new bounded.0
     (λ asked.
     (let own : OutcomeHolds configuration number now partition call (request.Caller CallerOperation.PeriodicWait) = subst (OutcomeHolds configuration number now partition call) asked hold in
-    let reached = release_found (condition_codes configuration call.who partition (request.Caller CallerOperation.PeriodicWait)) number now partition call.who call.claim
-    (are_errors configuration call.who partition (request.Caller CallerOperation.PeriodicWait)) own no_error in
+    let reached = release_found (conditions_of configuration call.who partition (request.Caller CallerOperation.PeriodicWait)) number now partition call.who call.claim
+    own no_error in
     let here : is_released now (Some x) ≡ true = subst (λ one. is_released now one ≡ true) at reached in
     let before : next_release x ≤ now = leb-true (next_release x) now here in
     let same = next_kept x new keeps in
@@ -347,7 +347,7 @@ called_bounded configuration number place now cores partition call sound own mos
           rw caller after
       | inr other ↦
           let ends : is_named who call.claim.woken ≡ true → EndsNoRelease changed.wait = λ named.
-          (let both = own_ends number place now period cores partition call.who call.request call.claim sound (condition_codes configuration call.who partition call.request)
+          (let both = own_ends number place now period cores partition call.who call.request call.claim sound (conditions_of configuration call.who partition call.request)
           (channel_of partition call.request) hold who own named x at in
           adjusted_ends both.0 both.1) in
           let rest : (stopping : Bool) → IsBounded (place + 1) (cond stopping (stopped changed) (woken_if_named place call who changed)) = λ stopping. elim stopping as (λ passed. IsBounded (place + 1) (cond passed (stopped changed) (woken_if_named place call who changed))) [

@@ -1,7 +1,6 @@
 -- Where a record is lawful, in a tied state, each piece that it touches finds all its demands met.
 use Rattle.std.proofs.Common.{◌≡◌, ℕ, List, [], ◌∷◌, Bool, true, false, nat_eq, Option, Some, None, ◌||◌, IsTrue, sym, ap, subst, refl, ◌∙◌, true≢false}
 use Rattle.std.proofs.lemmas.Bool.{eqb-true, eq-eqb}
-use Rattle.apex_types.specs.declared.code.Code.{Code}
 use Rattle.apex_types.specs.declared.object_kind.ObjectKind.TheVariants as kind
 use Rattle.apex_types.specs.declared.record.Body.{Body}
 use Rattle.apex_types.specs.declared.record.Body.TheVariants.{Call, Ret, Disp, Tick}
@@ -13,6 +12,7 @@ use Rattle.apex_types.specs.declared.record.Who.{Who}
 use Rattle.apex_types.specs.declared.operation.{QueuingOperation.QueuingOperation, SamplingOperation.SamplingOperation}
 use Rattle.apex_types.specs.declared.request.Request.{Request}
 use Rattle.apex_types.specs.declared.request.Request.TheVariants as request
+use Rattle.apex_machine.specs.declared.condition.Condition.{Condition}
 use Rattle.apex_machine.specs.declared.state.Entry.{Entry}
 use Rattle.apex_machine.specs.declared.state.WaitingSet.{WaitingSet}
 use Rattle.apex_machine.specs.declared.state.WaitingSet.TheVariants as set
@@ -22,7 +22,7 @@ use Rattle.apex_machine.specs.Configuration.{Configuration, has_partition}
 use Rattle.apex_machine.specs.Demands.{AllHold, AllWaitAt, InWindowOf, IsRunning, ReturnsValues, WakesHere, call_demands, channel_demands, demands, module_demands, outcome_demands, own_call_demands, partition_demands, stands_in, used_demands, window_now}
 use Rattle.apex_machine.specs.Pieces.{Module, OfChannel, OfPartition, Piece, is_configured, part, touched_by, touches}
 use Rattle.apex_machine.specs.Ports.{Ask, Read, Receive, Send, Write, channel_of, suits_use, use_of}
-use Rattle.apex_machine.specs.ServiceConditions.{condition_codes}
+use Rattle.apex_machine.specs.ServiceConditions.{conditions_of}
 use Rattle.apex_machine.specs.Services.{answer_of}
 use Rattle.apex_machine.specs.State.{Partition, State, is_named, names_one_of, occupant_of, item_at, time_of}
 use Rattle.apex_machine.specs.Step.{HasOutcome, IsLawful, IsLawfulBody, IsLawfulCall, IsLawfulReturn, IsThrough, channel_answer, due_of, outcome_returned}
@@ -94,7 +94,7 @@ other_end configuration partitions channel number _ who ends stands waits same =
 
 -- so a call through a channel wakes nobody of its own partition
 wakes_no_peer : (configuration : Configuration) (state : State) (now : ℕ) (who : Who) (asked : Request) (claim : Claim) (channel : ℕ) → EndsAreApart configuration
-    → AreTied configuration state → condition_codes configuration who (state.partitions who.part) asked ≡ [] → channel_of (state.partitions who.part) asked ≡ Some channel
+    → AreTied configuration state → conditions_of configuration who (state.partitions who.part) asked ≡ [] → channel_of (state.partitions who.part) asked ≡ Some channel
     → IsThrough channel (suits_use configuration channel who.part (use_of asked) (state.channels channel)) (channel_answer configuration now who.part asked state.channels channel) claim
     → names_one_of who.part claim.woken ≡ false
 wakes_no_peer configuration state now who asked claim channel ends tied none of through =
@@ -108,15 +108,15 @@ wakes_no_peer configuration state now who asked claim channel ends tied none of 
 
 -- what a lawful call claims of its outcome meets the demands of the caller's partition
 peers : (configuration : Configuration) (state : State) (core : ℕ) (call : CallRecord) → EndsAreApart configuration → AreTied configuration state
-    → (codes : List Code) → condition_codes configuration call.who (state.partitions call.who.part) call.request ≡ codes
+    → (conditions : List Condition) → conditions_of configuration call.who (state.partitions call.who.part) call.request ≡ conditions
     → (channel : Option ℕ) → channel_of (state.partitions call.who.part) call.request ≡ channel
-    → HasOutcome codes channel (answer_of (time_of state.cores core) call.who (state.partitions call.who.part) call.request)
+    → HasOutcome conditions channel (answer_of (time_of state.cores core) call.who (state.partitions call.who.part) call.request)
     (λ number. suits_use configuration number call.who.part (use_of call.request) (state.channels number))
     (channel_answer configuration (time_of state.cores core) call.who.part call.request state.channels) call.claim
-    → AllHold (outcome_demands codes channel call.who.part call.request
+    → AllHold (outcome_demands conditions channel call.who.part call.request
     (answer_of (time_of state.cores core) call.who (state.partitions call.who.part) call.request) call.claim)
-peers configuration state core call ends tied (code ∷ codes) is channel of has =
-    outcome_holds (code ∷ codes) channel call.who.part call.request (answer_of (time_of state.cores core) call.who (state.partitions call.who.part) call.request)
+peers configuration state core call ends tied (condition ∷ conditions) is channel of has =
+    outcome_holds (condition ∷ conditions) channel call.who.part call.request (answer_of (time_of state.cores core) call.who (state.partitions call.who.part) call.request)
     (λ number. suits_use configuration number call.who.part (use_of call.request) (state.channels number)) (channel_answer configuration (time_of state.cores core) call.who.part call.request state.channels) call.claim
     (λ other suited. channel_can configuration (time_of state.cores core) other call.who.part call.request (state.channels other) suited)
     (λ other some through. (let nobody : call.claim.woken ≡ [] = has.woken in ap (names_one_of call.who.part) nobody)) has
@@ -141,7 +141,7 @@ own_call_demanded configuration state core call ends tied law =
             law.profile,
             (
               law.prio,
-              peers configuration state core call ends tied (condition_codes configuration call.who (state.partitions call.who.part) call.request) refl
+              peers configuration state core call ends tied (conditions_of configuration call.who (state.partitions call.who.part) call.request) refl
                   (channel_of (state.partitions call.who.part) call.request) refl law.outcome,
             ),
           ),
@@ -170,11 +170,11 @@ wakes_here partitions configuration _ channel number others names wait = let one
 
 -- a lawful call of another partition that names one of these processes goes through the channel at which it waits
 foreign_wakes : (configuration : Configuration) (state : State) (now : ℕ) (call : CallRecord) (number : ℕ) → AreTied configuration state
-    → nat_eq call.who.part number ≡ false → names_one_of number call.claim.woken ≡ true → (codes : List Code) (channel : Option ℕ)
-    → HasOutcome codes channel (answer_of now call.who (state.partitions call.who.part) call.request)
+    → nat_eq call.who.part number ≡ false → names_one_of number call.claim.woken ≡ true → (conditions : List Condition) (channel : Option ℕ)
+    → HasOutcome conditions channel (answer_of now call.who (state.partitions call.who.part) call.request)
     (λ number. suits_use configuration number call.who.part (use_of call.request) (state.channels number)) (channel_answer configuration now call.who.part call.request state.channels) call.claim
     → WakesHere call.request call.claim.chan number (state.partitions number).table call.claim.woken
-foreign_wakes configuration state now call number tied foreign names (code ∷ codes) channel has =
+foreign_wakes configuration state now call number tied foreign names (condition ∷ conditions) channel has =
     absurd (true≢false (sym names ∙ ap (names_one_of number) has.woken))
 foreign_wakes configuration state now call number tied foreign names [] None has =
     let one = some_named number call.claim.woken names in
@@ -208,7 +208,7 @@ call_demanded configuration state core call ends tied law number false is touche
       (choice_is (window_now configuration state.cores core) state.partitions core call.who law.choice) is,
   (
     foreign_wakes configuration state (time_of state.cores core) call number tied is touched
-        (condition_codes configuration call.who (state.partitions call.who.part) call.request)
+        (conditions_of configuration call.who (state.partitions call.who.part) call.request)
         (channel_of (state.partitions call.who.part) call.request) law.outcome,
     tt,
   ),
@@ -273,7 +273,7 @@ used_demanded : (configuration : Configuration) (state : State) (core : ℕ) (ca
     → AllHold (used_demands goes configuration (time_of state.cores core) number (state.channels number) call)
 used_demanded configuration state core call tied law number false is = tt
 used_demanded configuration state core call tied law number true is =
-    let through = through_claimed (condition_codes configuration call.who (state.partitions call.who.part) call.request)
+    let through = through_claimed (conditions_of configuration call.who (state.partitions call.who.part) call.request)
     (channel_of (state.partitions call.who.part) call.request) (answer_of (time_of state.cores core) call.who (state.partitions call.who.part) call.request)
     (λ number. suits_use configuration number call.who.part (use_of call.request) (state.channels number))
     (channel_answer configuration (time_of state.cores core) call.who.part call.request state.channels) call.claim number (goes_to number call.claim.chan is) law.outcome in (

@@ -3,13 +3,13 @@ use Rattle.std.proofs.Common.{◌≡◌, ℕ, ◌≤◌, List, [], ◌∷◌, �
 use Rattle.std.proofs.lemmas.Bool.{and_parts, eqb-true, leb-true, ltb-true}
 use Rattle.std.proofs.lemmas.List.{append-nil}
 use Rattle.apex_types.specs.declared.limits.TheConstants.{GREATEST_NUMBER}
-use Rattle.apex_types.specs.declared.code.Code.{Code}
 use Rattle.apex_types.specs.declared.record.Body.{Body}
 use Rattle.apex_types.specs.declared.record.Body.TheVariants.{Call, Ret, Disp, Tick}
 use Rattle.apex_types.specs.declared.record.Call.{Call as CallRecord}
 use Rattle.apex_types.specs.declared.record.Claim.{Claim}
 use Rattle.apex_types.specs.declared.request.Request.{Request}
 use Rattle.apex_types.specs.declared.request.Request.TheVariants as request
+use Rattle.apex_machine.specs.declared.condition.Condition.{Condition}
 use Rattle.apex_machine.specs.declared.state.CoreState.{CoreState}
 use Rattle.apex_machine.specs.declared.state.Process.{Process}
 use Rattle.apex_machine.specs.After.{called, created_by, is_done, numbered, partition_by, returned, ticked}
@@ -17,12 +17,12 @@ use Rattle.apex_machine.specs.Answer.{HasValue, is_new}
 use Rattle.apex_machine.specs.Configuration.{Configuration, first_core, period_of}
 use Rattle.apex_machine.specs.Ports.{channel_of, suits_use, use_of}
 use Rattle.apex_machine.specs.Processes.{new_process}
-use Rattle.apex_machine.specs.ServiceConditions.{condition_codes}
+use Rattle.apex_machine.specs.ServiceConditions.{conditions_of}
 use Rattle.apex_machine.specs.Services.{Answer, answer_of}
 use Rattle.apex_machine.specs.State.{Partition, State, Table, each_item, is_free, item_at, time_of}
 use Rattle.apex_machine.specs.Step.{HasOutcome, IsAnswered, IsLawfulBody, IsLawfulCall, channel_answer}
 use Rattle.apex_laws.specs.Laws.{are_distinct}
-use Rattle.apex_laws.proofs.Codes.{are_errors, done_is_lawful}
+use Rattle.apex_laws.proofs.Codes.{done_is_lawful}
 use Rattle.apex_laws.proofs.Restarts.{call_case, return_case, start_distinct}
 use Rattle.apex_laws.proofs.Tables.{distinct_each, distinct_push, some_at_each}
 
@@ -104,23 +104,23 @@ distinct_by configuration cores place core number (Call call) partition claims d
     (λ elsewhere. distinct_each _ partition.table ∙ distinct)
 
 -- where no condition holds and no channel is used, the outcome is the service's
-answered : (codes : List Code) (channel : Option ℕ) (answer : Answer) (suited : ℕ → Bool) (through : ℕ → Answer) (claim : Claim) → codes ≡ [] → channel ≡ None
-    → HasOutcome codes channel answer suited through claim → IsAnswered answer claim
+answered : (conditions : List Condition) (channel : Option ℕ) (answer : Answer) (suited : ℕ → Bool) (through : ℕ → Answer) (claim : Claim) → conditions ≡ [] → channel ≡ None
+    → HasOutcome conditions channel answer suited through claim → IsAnswered answer claim
 answered [] None answer suited through claim none off has = has
 answered [] (Some channel) answer suited through claim none off has = let no : ◌≡◌ {A = Option ℕ} (Some channel) None = off in cc
-answered (code ∷ codes) channel answer suited through claim none off has = cc
+answered (condition ∷ conditions) channel answer suited through claim none off has = cc
 
 -- a lawful call claims the value of its service
 lawful_value : (configuration : Configuration) (state : State) (core : ℕ) (call : CallRecord) → IsLawfulCall configuration state core call
     → ClaimsValue (state.partitions call.who.part) (time_of state.cores core) call call.request
 lawful_value configuration state core call law done off =
     let partition = state.partitions call.who.part in
-    let codes : List Code = condition_codes configuration call.who partition call.request in
+    let conditions : List Condition = conditions_of configuration call.who partition call.request in
     let answer = answer_of (time_of state.cores core) call.who partition call.request in
     let suited : ℕ → Bool = λ number. suits_use configuration number call.who.part (use_of call.request) (state.channels number) in
     let through = channel_answer configuration (time_of state.cores core) call.who.part call.request state.channels in
-    let none = done_is_lawful codes (channel_of partition call.request) answer suited through call.claim (are_errors configuration call.who partition call.request) law.outcome done in
-    (answered codes (channel_of partition call.request) answer suited through call.claim none off law.outcome).values.val
+    let none = done_is_lawful conditions (channel_of partition call.request) answer suited through call.claim law.outcome done in
+    (answered conditions (channel_of partition call.request) answer suited through call.claim none off law.outcome).values.val
 
 pub lawful_values : (configuration : Configuration) (state : State) (core : ℕ) (body : Body) → IsLawfulBody configuration state core body
     → (number : ℕ) → CallsClaimValues number (time_of state.cores core) body (state.partitions number)

@@ -1,44 +1,44 @@
 -- A caller that sends or receives through a queuing port is at that end of its channel.
 use Rattle.std.proofs.Common.{◌≡◌, ℕ, List, [], ◌∷◌, ◌++◌, Bool, true, false, cond, not, nat_eq, ℤ, pos, negsuc, Option, Some, None, IsTrue, refl, sym, ap, subst, ◌∙◌, true≢false}
-use Rattle.apex_types.specs.declared.code.Code.{Code}
-use Rattle.apex_types.specs.declared.code.Code.TheVariants as code
 use Rattle.apex_types.specs.declared.record.Who.{Who}
 use Rattle.apex_types.specs.declared.operation.{QueuingOperation.QueuingOperation}
 use Rattle.apex_types.specs.declared.request.Request.{Request}
 use Rattle.apex_types.specs.declared.request.Request.TheVariants as request
+use Rattle.apex_machine.specs.declared.condition.Condition.{Condition}
+use Rattle.apex_machine.specs.declared.condition.Condition.TheVariants as condition
 use Rattle.apex_machine.specs.declared.state.Direction.{Direction}
 use Rattle.apex_machine.specs.declared.state.Direction.TheVariants as direction
 use Rattle.apex_machine.specs.Arguments.{is_length, is_longer}
 use Rattle.apex_machine.specs.Channels.{is_receiver, is_sender}
-use Rattle.apex_machine.specs.PortConditions.{destination_codes, is_source, source_codes}
-use Rattle.apex_machine.specs.Conditions.{codes_for, time_out_codes, waiting_codes, when}
+use Rattle.apex_machine.specs.PortConditions.{destination_conditions, is_source, source_conditions}
+use Rattle.apex_machine.specs.Conditions.{conditions_for, time_out_conditions, waiting_conditions, when}
 use Rattle.apex_machine.specs.Configuration.{Configuration}
 use Rattle.apex_machine.specs.Ports.{channel_by, channel_of}
-use Rattle.apex_machine.specs.ServiceConditions.{condition_codes}
+use Rattle.apex_machine.specs.ServiceConditions.{conditions_of}
 use Rattle.apex_machine.specs.State.{Partition, Port, given_object, item_at}
 use Rattle.apex_laws.specs.Laws.{AllPorts, IsAtEnd}
 
--- codes of which there is none
+-- conditions of which there is none
 
 -- where a joined list is empty its first part is
-pub first_empty : (one other : List Code) → one ++ other ≡ [] → one ≡ []
+pub first_empty : (one other : List Condition) → one ++ other ≡ [] → one ≡ []
 first_empty [] other none = refl
-first_empty (code ∷ codes) other none = cc
+first_empty (condition ∷ conditions) other none = cc
 
 -- and its second part
-pub second_empty : (one other : List Code) → one ++ other ≡ [] → other ≡ []
+pub second_empty : (one other : List Condition) → one ++ other ≡ [] → other ≡ []
 second_empty [] other none = none
-second_empty (code ∷ codes) other none = cc
+second_empty (condition ∷ conditions) other none = cc
 
--- a condition without its code doesn't hold
-pub no_condition : (holds : Bool) (code : Code) → when holds code ≡ [] → holds ≡ false
-no_condition true code none = cc
-no_condition false code none = refl
+-- a condition that is not listed doesn't hold
+pub no_condition : (holds : Bool) (one : Condition) → when holds one ≡ [] → holds ≡ false
+no_condition true one none = cc
+no_condition false one none = refl
 
 -- what is created
-pub is_created : {Object : Type 0} → (found : Option Object) (codes : Object → List Code) → codes_for found codes ≡ [] → (object : Object) × (found ≡ Some object) × (codes object ≡ [])
-is_created None codes none = cc
-is_created (Some object) codes none = (object, refl, none)
+pub is_created : {Object : Type 0} → (found : Option Object) (conditions : Object → List Condition) → conditions_for found conditions ≡ [] → (object : Object) × (found ≡ Some object) × (conditions object ≡ [])
+is_created None conditions none = cc
+is_created (Some object) conditions none = (object, refl, none)
 
 -- a port that is found has what all ports have
 port_found : (Fact : Port → Type 0) (ports : List (ℕ × Port)) (number : ℕ) (port : Port) → AllPorts Fact ports → item_at ports number ≡ Some port → Fact port
@@ -77,23 +77,23 @@ channel_is found port channel is by =
 
 pub port_is_at_end : (configuration : Configuration) (who : Who) (partition : Partition) (asked : Request) (channel : ℕ)
     → AllPorts (λ port. IsAtEnd configuration who.part port.direction port.channel) partition.queuing_ports
-    → channel_of partition asked ≡ Some channel → condition_codes configuration who partition asked ≡ [] → StandsAtEnd asked configuration channel who.part
+    → channel_of partition asked ≡ Some channel → conditions_of configuration who partition asked ≡ [] → StandsAtEnd asked configuration channel who.part
 port_is_at_end configuration who partition (request.QueuingPort port (QueuingOperation.Send length time_out message)) channel all by none =
     let found = given_object partition.queuing_ports port in
-    let codes : Port → List Code = λ one. when (is_longer one.size length) code.InvalidConfig ++ when (not (is_source one.direction)) code.InvalidMode in
-    let own = first_empty (source_codes found length) (time_out_codes time_out)
-    (first_empty (source_codes found length ++ time_out_codes time_out) (waiting_codes who partition time_out) none) in
-    let is = is_created found codes (first_empty (codes_for found codes) (when (not (is_length length)) code.InvalidParam) own) in
-    let source = no_condition (not (is_source is.0.direction)) code.InvalidMode (second_empty (when (is_longer is.0.size length) code.InvalidConfig) (when (not (is_source is.0.direction)) code.InvalidMode) is.2) in
+    let conditions : Port → List Condition = λ one. when (is_longer one.size length) condition.LongerThanPort ++ when (not (is_source one.direction)) condition.NotSource in
+    let own = first_empty (source_conditions found length) (time_out_conditions time_out)
+    (first_empty (source_conditions found length ++ time_out_conditions time_out) (waiting_conditions who partition time_out) none) in
+    let is = is_created found conditions (first_empty (conditions_for found conditions) (when (not (is_length length)) condition.EmptyMessage) own) in
+    let source = no_condition (not (is_source is.0.direction)) condition.NotSource (second_empty (when (is_longer is.0.size length) condition.LongerThanPort) (when (not (is_source is.0.direction)) condition.NotSource) is.2) in
     let at = given_found (λ one. IsAtEnd configuration who.part one.direction one.channel) partition.queuing_ports port is.0 all is.1 in
     subst (λ one. IsTrue (is_sender configuration one who.part)) (channel_is found is.0 channel is.1 by) (source_end configuration who.part is.0.direction is.0.channel source at)
 port_is_at_end configuration who partition (request.QueuingPort port (QueuingOperation.Receive time_out)) channel all by none =
     let found = given_object partition.queuing_ports port in
-    let codes : Port → List Code = λ one. when (is_source one.direction) code.InvalidMode in
-    let own = first_empty (destination_codes found) (time_out_codes time_out)
-    (first_empty (destination_codes found ++ time_out_codes time_out) (waiting_codes who partition time_out) none) in
-    let is = is_created found codes own in
-    let destination = no_condition (is_source is.0.direction) code.InvalidMode is.2 in
+    let conditions : Port → List Condition = λ one. when (is_source one.direction) condition.NotDestination in
+    let own = first_empty (destination_conditions found) (time_out_conditions time_out)
+    (first_empty (destination_conditions found ++ time_out_conditions time_out) (waiting_conditions who partition time_out) none) in
+    let is = is_created found conditions own in
+    let destination = no_condition (is_source is.0.direction) condition.NotDestination is.2 in
     let at = given_found (λ one. IsAtEnd configuration who.part one.direction one.channel) partition.queuing_ports port is.0 all is.1 in
     subst (λ one. IsTrue (is_receiver configuration one who.part)) (channel_is found is.0 channel is.1 by) (destination_end configuration who.part is.0.direction is.0.channel destination at)
 port_is_at_end configuration who partition _ channel all by none = tt

@@ -1,6 +1,5 @@
 -- Whose waits an own call ends, by its outcome: nobody's where it doesn't answer NO_ERROR, else those whom its service's answer names.
 use Rattle.std.proofs.Common.{◌≡◌, ℕ, List, [], ◌∷◌, ◌++◌, length, Bool, true, false, cond, nat_eq, nat_lt, ℤ, Option, Some, None, is_some, refl, sym, ap, subst, ◌∙◌, true≢false, ◌&&◌, ◌||◌}
-use Rattle.apex_types.specs.declared.code.Code.{Code}
 use Rattle.apex_types.specs.declared.record.Body.TheVariants.{Call}
 use Rattle.apex_types.specs.declared.record.Claim.{Claim}
 use Rattle.apex_types.specs.declared.record.Out.{Out}
@@ -9,6 +8,7 @@ use Rattle.apex_types.specs.declared.record.Who.{Who}
 use Rattle.apex_types.specs.declared.operation.{BlackboardOperation.BlackboardOperation, BufferOperation.BufferOperation, CallerOperation.CallerOperation, EventOperation.EventOperation, MutexOperation.MutexOperation, ProcessOperation.ProcessOperation, SemaphoreOperation.SemaphoreOperation}
 use Rattle.apex_types.specs.declared.request.Request.{Request}
 use Rattle.apex_types.specs.declared.request.Request.TheVariants as request
+use Rattle.apex_machine.specs.declared.condition.Condition.{Condition}
 use Rattle.apex_machine.specs.declared.state.Entry.{Entry}
 use Rattle.apex_machine.specs.declared.state.Process.{Process}
 use Rattle.apex_machine.specs.declared.state.WaitingSet.{WaitingSet}
@@ -20,7 +20,7 @@ use Rattle.apex_machine.specs.DueTimes.{is_released, is_suspension}
 use Rattle.apex_machine.specs.Objects.{acquired, at_maximum, board_read, buffer_received, buffer_sent, displayed, event_set, event_waited, handed_on, mutex_released, raised, released_once, semaphore_waited, signalled}
 use Rattle.apex_machine.specs.Ports.{channel_of}
 use Rattle.apex_machine.specs.Queue.{Messages, appended, not_yet, received, sent}
-use Rattle.apex_machine.specs.ServiceConditions.{condition_codes}
+use Rattle.apex_machine.specs.ServiceConditions.{conditions_of}
 use Rattle.apex_machine.specs.Services.{answer_by, answer_of, peer, resuming}
 use Rattle.apex_machine.specs.State.{Mutex, Partition, created, given_object, is_named, item_at, names_one_of, time_of}
 use Rattle.apex_machine.specs.Waiting.{ends_wait, enters, entry_of, first_waiter, is_no_error, is_target, is_the_set, is_waiting, set_after, set_of, stop_of, stops, without}
@@ -29,7 +29,7 @@ use Rattle.apex_laws.specs.PartLaws.{LetsGoAsAnswered, OnlyDoneLetsGo}
 use Rattle.apex_laws.specs.PartObjects.{RefusedLeavesObjects}
 use Rattle.apex_laws.proofs.Booleans.{cannot_hold, not_first, or_false}
 use Rattle.apex_laws.proofs.Restarts.{done_goes_on, goes_on, not_done_goes_on, restarts_none}
-use Rattle.apex_laws.proofs.Codes.{are_errors, no_error_is_done}
+use Rattle.apex_laws.proofs.Codes.{no_error_is_done}
 use Rattle.apex_laws.proofs.EachSet.{Leaves, sets_stay}
 use Rattle.apex_laws.proofs.OtherSets.{stops_nobody}
 use Rattle.apex_laws.proofs.SoundParts.{Stands, demands_none}
@@ -118,21 +118,21 @@ quiet_answer now who partition _ = λ off. refl
 -- claims
 
 -- a claim that isn't NO_ERROR names nobody of the caller's partition
-names_nobody : (number now : ℕ) (partition : Partition) (caller : Who) (asked : Request) (claim : Claim) (codes : List Code) (channel : Option ℕ)
-    → AllHold (outcome_demands codes channel number asked (answer_of now caller partition asked) claim) → is_no_error claim.out ≡ false
+names_nobody : (number now : ℕ) (partition : Partition) (caller : Who) (asked : Request) (claim : Claim) (conditions : List Condition) (channel : Option ℕ)
+    → AllHold (outcome_demands conditions channel number asked (answer_of now caller partition asked) claim) → is_no_error claim.out ≡ false
     → (who : Who) → who.part ≡ number → is_named who claim.woken ≡ false
-names_nobody number now partition caller asked claim (code ∷ codes) channel hold not_done who here = ap (is_named who) hold.1.1.1.1.0
+names_nobody number now partition caller asked claim (condition ∷ conditions) channel hold not_done who here = ap (is_named who) hold.1.1.1.1.0
 names_nobody number now partition caller asked claim [] (Some channel) hold not_done who here =
     not_named who claim.woken (subst (λ part. names_one_of part claim.woken ≡ false) (sym here) hold.1.1.0)
 names_nobody number now partition caller asked claim [] None hold not_done who here =
     hold.1.1.1.1.0 who ∙ ap (is_named who) (quiet_answer now caller partition asked (ap is_no_error (sym hold.1.0) ∙ not_done))
 
 -- one that goes through no channel names whom the service's answer names
-names_as_answered : (number : ℕ) (asked : Request) (answer : Answer) (claim : Claim) (codes : List Code) (channel : Option ℕ) → codes ≡ [] → channel ≡ None
-    → AllHold (outcome_demands codes channel number asked answer claim) → (who : Who) → is_named who claim.woken ≡ is_named who answer.woken
+names_as_answered : (number : ℕ) (asked : Request) (answer : Answer) (claim : Claim) (conditions : List Condition) (channel : Option ℕ) → conditions ≡ [] → channel ≡ None
+    → AllHold (outcome_demands conditions channel number asked answer claim) → (who : Who) → is_named who claim.woken ≡ is_named who answer.woken
 names_as_answered number asked answer claim [] None none off hold who = hold.1.1.1.1.0 who
 names_as_answered number asked answer claim [] (Some channel) none off hold who = let no : ◌≡◌ {A = Option ℕ} (Some channel) None = off in cc
-names_as_answered number asked answer claim (code ∷ codes) channel none off hold who = cc
+names_as_answered number asked answer claim (condition ∷ conditions) channel none off hold who = cc
 
 -- sets
 
@@ -141,7 +141,7 @@ only_done_lets_go configuration number place core cores partition call is not_do
     let stays : without (ends_wait call) (entries_at partition wanted) ≡ entries_at partition wanted =
     none_leaves (Stands number wanted partition) (ends_wait call)
     (λ entry stands. goes_on call entry.who (restarts_none call entry.who.part no_restart)
-    (names_nobody number (time_of cores core) partition call.who call.request call.claim (condition_codes configuration call.who partition call.request) (channel_of partition call.request)
+    (names_nobody number (time_of cores core) partition call.who call.request call.claim (conditions_of configuration call.who partition call.request) (channel_of partition call.request)
     is.demands.1.1.1.1.1 not_done entry.who stands.0)
     (not_first (is_no_error call.claim.out) (nat_eq entry.who.part call.who.part && is_target (stop_of call.request) entry.who.proc) not_done))
     (entries_at partition wanted) (is.sound.stands wanted) in
@@ -156,14 +156,14 @@ not_waiting (out.Answer code) is = refl
 pub lets_go_as_answered : LetsGoAsAnswered
 lets_go_as_answered configuration number place core cores partition call is no_error no_stop no_channel wanted =
     let answer = answer_of (time_of cores core) call.who partition call.request in
-    let codes = condition_codes configuration call.who partition call.request in
-    let none : codes ≡ [] = demands_none codes (channel_of partition call.request) number call.request answer call.claim (are_errors configuration call.who partition call.request)
+    let conditions = conditions_of configuration call.who partition call.request in
+    let none : conditions ≡ [] = demands_none conditions (channel_of partition call.request) number call.request answer call.claim
     is.demands.1.1.1.1.1 (no_error_is_done call.claim.out no_error) in
     let off : enters call wanted ≡ false = not_first (is_waiting call.claim.out) (is_the_set wanted (set_of call.request call.claim.chan)) (not_waiting call.claim.out no_error) in
     let stopped : (who : Who) → stops call who ≡ false = λ who. stops_nobody call who (ap (λ (one : Option ℤ). is_some one && is_no_error call.claim.out) no_stop) in
     let leave : (who : Who) → ends_wait call who ≡ is_named who answer.woken =
     λ who. (λ i. restarts_none call who.part (done_goes_on call no_error) i || (is_named who call.claim.woken || stopped who i)) ∙ or_false (is_named who call.claim.woken)
-    ∙ names_as_answered number call.request answer call.claim codes (channel_of partition call.request) none no_channel is.demands.1.1.1.1.1 who in
+    ∙ names_as_answered number call.request answer call.claim conditions (channel_of partition call.request) none no_channel is.demands.1.1.1.1.1 who in
     rw off (without_same (ends_wait call) (λ who. is_named who answer.woken) leave (entries_at partition wanted))
 
 -- the objects

@@ -21,7 +21,7 @@ use Rattle.apex_machine.specs.Arguments.{natural_of}
 use Rattle.apex_machine.specs.Configuration.{Configuration, first_core}
 use Rattle.apex_machine.specs.Demands.{stands_in}
 use Rattle.apex_machine.specs.Objects.{blackboard_effect, buffer_effect, event_effect, mutex_effect, semaphore_effect}
-use Rattle.apex_machine.specs.ServiceConditions.{condition_codes}
+use Rattle.apex_machine.specs.ServiceConditions.{conditions_of}
 use Rattle.apex_machine.specs.State.{Buffer, Partition, State, change_at, cold_state, each_item, given_object, is_named, is_same, item_at}
 use Rattle.apex_machine.specs.Step.{IsLawfulBody, Run, Step}
 use Rattle.apex_machine.specs.Waiting.{ends_wait, enters, entry_of, is_the_set, is_waiting, set_after, set_of, waits_at, without}
@@ -128,7 +128,7 @@ changed_there {Object} objects given found change at =
     ∙ mapped (λ (object : Object). cond (nat_eq (natural_of given) (natural_of given)) (change object) object) (item_at objects (natural_of given)) (given_there objects given found at)
 
 waits_there : (configuration : Configuration) (who : Who) (claimed : Option ℤ) {asked : Request} {chan : Option ℕ} {wanted : WaitingSet} (partition : Partition) → WaitsIn asked chan wanted
-    → is_of_channel wanted ≡ false → condition_codes configuration who partition asked ≡ [] → stands_at (objects_by configuration who claimed asked partition) wanted ≡ true
+    → is_of_channel wanted ≡ false → conditions_of configuration who partition asked ≡ [] → stands_at (objects_by configuration who claimed asked partition) wanted ≡ true
 waits_there configuration who claimed partition (WaitsIn.sends_to_buffer {buffer = buffer} {length = length} {time_out = time_out} {message = message}) off none =
     let there = message_there (λ (found : Buffer). found.size) (given_object partition.buffers buffer) length (first_empty _ _ (first_empty _ _ none)) in
     changed_there partition.buffers buffer there.0 (λ found. (buffer_effect (BufferOperation.Send length time_out message) found).next) there.1

@@ -1,7 +1,6 @@
 -- A process that a record doesn't wake or stop goes on waiting where it waits, if the record's own calls are of ready callers.
 use Rattle.std.proofs.Common.{◌≡◌, ℕ, zero, suc, List, [], ◌∷◌, ◌++◌, Bool, true, false, cond, nat_eq, ℤ, pos, negsuc, Option, Some, None, option_map, refl, sym, ap, subst, ◌∙◌, inl, inr, true≢false}
 use Rattle.std.proofs.lemmas.Bool.{and_from, and_parts, cases_Bool, eqb-true}
-use Rattle.apex_types.specs.declared.code.Code.TheVariants as code
 use Rattle.apex_types.specs.declared.record.Body.{Body}
 use Rattle.apex_types.specs.declared.record.Body.TheVariants.{Call, Ret, Disp, Tick}
 use Rattle.apex_types.specs.declared.record.Call.{Call as CallRecord}
@@ -11,6 +10,7 @@ use Rattle.apex_types.specs.declared.record.Who.{Who}
 use Rattle.apex_types.specs.declared.operation.{CallerOperation.CallerOperation, ProcessOperation.ProcessOperation}
 use Rattle.apex_types.specs.declared.request.Request.{Request}
 use Rattle.apex_types.specs.declared.request.Request.TheVariants as request
+use Rattle.apex_machine.specs.declared.condition.Condition.TheVariants as condition
 use Rattle.apex_machine.specs.declared.state.CoreState.{CoreState}
 use Rattle.apex_machine.specs.declared.state.Process.{Process}
 use Rattle.apex_machine.specs.declared.state.Wait.{Wait}
@@ -18,13 +18,13 @@ use Rattle.apex_machine.specs.declared.state.Wait.TheVariants as wait
 use Rattle.apex_machine.specs.declared.state.WaitingSet.{WaitingSet}
 use Rattle.apex_machine.specs.After.{adjusted, called, caller_after, created_by, is_done, partition_by, returned, woken_if_named, ticked}
 use Rattle.apex_machine.specs.Arguments.{is_number}
-use Rattle.apex_machine.specs.ProcessConditions.{start_codes}
+use Rattle.apex_machine.specs.ProcessConditions.{start_conditions}
 use Rattle.apex_machine.specs.Configuration.{Configuration, first_core, period_of}
 use Rattle.apex_machine.specs.Objects.{is_owner}
 use Rattle.apex_machine.specs.Ports.{channel_of, suits_use, use_of}
 use Rattle.apex_machine.specs.DueTimes.{due_of_call, entry_wait, time_out_of, wait_in, wait_of, waits_for_normal}
 use Rattle.apex_machine.specs.Processes.{after_normal, by_mutex, on_ownership, set_by, set_in}
-use Rattle.apex_machine.specs.ServiceConditions.{condition_codes}
+use Rattle.apex_machine.specs.ServiceConditions.{conditions_of}
 use Rattle.apex_machine.specs.Services.{answer_of}
 use Rattle.apex_machine.specs.State.{Mutex, Partition, State, Table, created, each_item, given_object, is_named, item_at, time_of}
 use Rattle.apex_machine.specs.Step.{IsLawfulBody, IsLawfulCall, channel_answer}
@@ -33,7 +33,7 @@ use Rattle.apex_machine.specs.Demands.{window_now}
 use Rattle.apex_laws.specs.Laws.{AreTied}
 use Rattle.apex_laws.proofs.Booleans.{cannot_hold, is_itself}
 use Rattle.apex_laws.proofs.Callers.{StandsReady, chosen_stands, ready_waits_not}
-use Rattle.apex_laws.proofs.Codes.{are_errors, done_is_lawful}
+use Rattle.apex_laws.proofs.Codes.{done_is_lawful}
 use Rattle.apex_laws.proofs.Ends.{no_condition}
 use Rattle.apex_laws.proofs.Restarts.{not_named, not_restarted, not_stopped, return_case, waiting_goes_on}
 use Rattle.apex_laws.proofs.Tables.{at_each}
@@ -132,19 +132,19 @@ set_by_wait place period cores partition caller _ number x starts normal = refl
 -- START starts nobody that is alive
 
 -- a number that isn't a process's
-not_number : (table : Table) (process : ℤ) (number : ℕ) (x : Process) → item_at table number ≡ Some x → x.alive ≡ true → start_codes (created table process) ≡ [] → is_number process number ≡ false
+not_number : (table : Table) (process : ℤ) (number : ℕ) (x : Process) → item_at table number ≡ Some x → x.alive ≡ true → start_conditions (created table process) ≡ [] → is_number process number ≡ false
 not_number table (negsuc n) number x at alive none = refl
 not_number table (pos zero) number x at alive none = cc
 not_number table (pos (suc n)) number x at alive none =
     elim (cases_Bool (nat_eq (suc n) number)) [
       | inl same ↦
-          let codes : start_codes (Some x) ≡ [] = subst (λ one. start_codes one ≡ []) (subst (λ one. item_at table one ≡ Some x) (sym (eqb-true (suc n) number same)) at) none in
-          absurd (true≢false (sym alive ∙ no_condition x.alive code.NoAction codes))
+          let conditions : start_conditions (Some x) ≡ [] = subst (λ one. start_conditions one ≡ []) (subst (λ one. item_at table one ≡ Some x) (sym (eqb-true (suc n) number same)) at) none in
+          absurd (true≢false (sym alive ∙ no_condition x.alive condition.AlreadyStarted conditions))
       | inr differs ↦ differs
     ]
 
 not_started : (configuration : Configuration) (who : Who) (partition : Partition) (asked : Request) (number : ℕ) (x : Process) → item_at partition.table number ≡ Some x → x.alive ≡ true
-    → condition_codes configuration who partition asked ≡ [] → IsNotStarted asked number
+    → conditions_of configuration who partition asked ≡ [] → IsNotStarted asked number
 not_started configuration who partition (request.Process process ProcessOperation.Start) number x at alive none = not_number partition.table process number x at alive none
 not_started configuration who partition _ number x at alive none = tt
 
@@ -153,7 +153,7 @@ not_started configuration who partition _ number x at alive none = tt
 -- a call of one of a partition's own processes: its caller is ready, and where it is done no error condition holds
 pub record IsReadyCall (configuration : Configuration) (partition : Partition) (core : ℕ) (call : CallRecord) : Type 0 where
   pub ready : StandsReady core (item_at partition.table call.who.proc)
-  pub none : is_done call.claim.out ≡ true → condition_codes configuration call.who partition call.request ≡ []
+  pub none : is_done call.claim.out ≡ true → conditions_of configuration call.who partition call.request ≡ []
 
 -- a record is such a call, where it is a call of one of this partition's processes
 abbrev pub CallsReady : Configuration → ℕ → ℕ → Body → Partition → Type 0
@@ -165,10 +165,10 @@ pub ready_call : (configuration : Configuration) (state : State) (core : ℕ) (c
     → IsLawfulCall configuration state core call → IsReadyCall configuration (state.partitions call.who.part) core call
 ready_call configuration state core call tied law = record {
   ready = chosen_stands (window_now configuration state.cores core) state.partitions core call.who (tied.distinct call.who.part) law.choice;
-  none = λ done. done_is_lawful (condition_codes configuration call.who (state.partitions call.who.part) call.request) (channel_of (state.partitions call.who.part) call.request)
+  none = λ done. done_is_lawful (conditions_of configuration call.who (state.partitions call.who.part) call.request) (channel_of (state.partitions call.who.part) call.request)
       (answer_of (time_of state.cores core) call.who (state.partitions call.who.part) call.request) (λ number. suits_use configuration number call.who.part (use_of call.request) (state.channels number))
       (channel_answer configuration (time_of state.cores core) call.who.part call.request state.channels) call.claim
-      (are_errors configuration call.who (state.partitions call.who.part) call.request) law.outcome done;
+      law.outcome done;
 }
 
 pub calls_ready : (configuration : Configuration) (state : State) (core : ℕ) (body : Body) → AreTied configuration state

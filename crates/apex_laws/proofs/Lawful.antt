@@ -13,7 +13,7 @@ use Rattle.apex_machine.specs.Configuration.{Configuration, WindowsAreConfigured
 use Rattle.apex_machine.specs.Demands.{AllHold, InNoWindow, InWindowOf, call_demands, channel_demands, demands, module_demands, own_call_demands, partition_demands, used_demands, window_now}
 use Rattle.apex_machine.specs.Pieces.{Module, OfChannel, OfPartition, Piece, is_configured, part, touched_by, touches}
 use Rattle.apex_machine.specs.Ports.{channel_of, suits_use, use_of}
-use Rattle.apex_machine.specs.ServiceConditions.{condition_codes}
+use Rattle.apex_machine.specs.ServiceConditions.{conditions_of}
 use Rattle.apex_machine.specs.Services.{answer_of}
 use Rattle.apex_machine.specs.State.{State, occupant_of, item_at, time_of}
 use Rattle.apex_machine.specs.Step.{ChannelConfigured, IsLawful, IsLawfulBody, IsLawfulCall, IsLawfulReturn, channel_answer, due_of}
@@ -73,7 +73,7 @@ lawful_call configuration state core call of_module own of_channel = record {
   due = own.1.1.0;
   profile = own.1.1.1.0;
   prio = own.1.1.1.1.0;
-  outcome = has_outcome (condition_codes configuration call.who (state.partitions call.who.part) call.request)
+  outcome = has_outcome (conditions_of configuration call.who (state.partitions call.who.part) call.request)
       (channel_of (state.partitions call.who.part) call.request) call.who.part call.request
       (answer_of (time_of state.cores core) call.who (state.partitions call.who.part) call.request)
       (λ number. suits_use configuration number call.who.part (use_of call.request) (state.channels number))

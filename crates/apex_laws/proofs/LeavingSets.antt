@@ -1,7 +1,6 @@
 -- Who leaves the waiting sets of a partition: the target of a STOP, those named at a tick, and nobody at another partition's record.
 use Rattle.std.proofs.Common.{◌≡◌, ℕ, List, [], ◌∷◌, true, false, cond, nat_eq, ℤ, pos, Some, None, refl, sym, ap, subst, ◌∙◌, true≢false, ◌&&◌, ◌||◌}
 use Rattle.std.proofs.lemmas.Bool.{and_parts, eqb-true}
-use Rattle.apex_types.specs.declared.code.Code.{Code}
 use Rattle.apex_types.specs.declared.record.Body.TheVariants.{Call, Ret}
 use Rattle.apex_types.specs.declared.record.Call.{Call as CallRecord}
 use Rattle.apex_types.specs.declared.record.Claim.{Claim}
@@ -11,6 +10,7 @@ use Rattle.apex_types.specs.declared.object_kind.ObjectKind.TheVariants as kind
 use Rattle.apex_types.specs.declared.operation.{ProcessOperation.ProcessOperation}
 use Rattle.apex_types.specs.declared.request.Request.{Request}
 use Rattle.apex_types.specs.declared.request.Request.TheVariants as request
+use Rattle.apex_machine.specs.declared.condition.Condition.{Condition}
 use Rattle.apex_machine.specs.declared.state.Entry.{Entry}
 use Rattle.apex_machine.specs.declared.state.Process.{Process}
 use Rattle.apex_machine.specs.declared.state.Wait.{Wait}
@@ -22,7 +22,7 @@ use Rattle.apex_machine.specs.Answer.{done}
 use Rattle.apex_machine.specs.Arguments.{natural_of}
 use Rattle.apex_machine.specs.Demands.{AllHold, outcome_demands}
 use Rattle.apex_machine.specs.Ports.{channel_of}
-use Rattle.apex_machine.specs.ServiceConditions.{condition_codes}
+use Rattle.apex_machine.specs.ServiceConditions.{conditions_of}
 use Rattle.apex_machine.specs.Services.{answer_of, peer}
 use Rattle.apex_machine.specs.State.{Blackboard, Buffer, Event, Mutex, Partition, Semaphore, is_named, is_same, item_at, time_of}
 use Rattle.apex_machine.specs.Waiting.{ends_wait, is_in, is_no_error, is_same_set, is_target, restart_by, restart_of, set_after, stop_of, waits_at}
@@ -114,9 +114,9 @@ one_set_alone change through partition (set.ChannelReceivers channel) has become
 -- a STOP that is done
 
 -- it names nobody
-stop_names : (codes : List Code) (number : ℕ) (asked : Request) (claim : Claim) → AllHold (outcome_demands codes None number asked done claim) → (who : Who) → is_named who claim.woken ≡ false
+stop_names : (conditions : List Condition) (number : ℕ) (asked : Request) (claim : Claim) → AllHold (outcome_demands conditions None number asked done claim) → (who : Who) → is_named who claim.woken ≡ false
 stop_names [] number asked claim hold who = hold.1.1.1.1.0 who
-stop_names (code ∷ codes) number asked claim hold who = ap (is_named who) hold.1.1.1.1.0
+stop_names (condition ∷ conditions) number asked claim hold who = ap (is_named who) hold.1.1.1.1.0
 
 -- it ends the wait of its target alone
 stop_ends : (call : CallRecord) (process : ℤ) (number : ℕ) (who : Who) → process ≡ pos number → call.request ≡ request.Process process ProcessOperation.Stop → is_no_error call.claim.out ≡ true
@@ -150,10 +150,10 @@ stopped_leaves configuration number place core cores partition call is process a
     let change = set_after place (Call call) in
     let who = peer call.who process in
     let at = created_is partition.table process target found in
-    let own = subst (λ one. AllHold (outcome_demands (condition_codes configuration call.who partition one) (channel_of partition one) number one
+    let own = subst (λ one. AllHold (outcome_demands (conditions_of configuration call.who partition one) (channel_of partition one) number one
     (answer_of (time_of cores core) call.who partition one) call.claim)) asked is.demands.1.1.1.1.1 in
     let ends : (other : Who) → ends_wait call other ≡ is_same other who =
-    λ other. stop_ends call process at.0 other at.1 asked no_error (stop_names (condition_codes configuration call.who partition (request.Process process ProcessOperation.Stop)) number (request.Process process ProcessOperation.Stop) call.claim own other) in
+    λ other. stop_ends call process at.0 other at.1 asked no_error (stop_names (conditions_of configuration call.who partition (request.Process process ProcessOperation.Stop)) number (request.Process process ProcessOperation.Stop) call.claim own other) in
     let becomes : (wanted : WaitingSet) → change wanted (entries_at partition wanted) ≡ without_one who (entries_at partition wanted) =
     λ wanted. (let off = enters_no_other call wanted (ap (λ one. is_set_used one wanted) asked) in
     rw off (without_same (ends_wait call) (λ other. is_same other who) ends (entries_at partition wanted))) in

@@ -47,7 +47,7 @@ pub mod ObjectCalls
 pub mod Exact
 pub mod Joins
 pub mod ConditionTests
-pub mod ConditionCodes
+pub mod ListedConditions
 pub mod ConditionsMet
 pub mod ViewedRuns
 pub mod ViewNumbers

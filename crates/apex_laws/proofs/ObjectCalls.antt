@@ -1,20 +1,20 @@
 -- The services of objects use and change exactly the object that they name, by the sentences of its rule.
 use Rattle.std.proofs.Common.{◌≡◌, ℕ, List, [], ◌++◌, Bool, false, cond, not, nat_eq, nat_lt, ℤ, pos, negsuc, Option, Some, None, option_map, refl, sym, ap, subst, ◌∙◌}
 use Rattle.std.proofs.lemmas.Bool.{eqb-true}
-use Rattle.apex_types.specs.declared.code.Code.{Code}
-use Rattle.apex_types.specs.declared.code.Code.TheVariants as code
 use Rattle.apex_types.specs.declared.record.Who.{Who}
 use Rattle.apex_types.specs.declared.operation.{BlackboardOperation.BlackboardOperation, BufferOperation.BufferOperation, EventOperation.EventOperation, MutexOperation.MutexOperation, NewObject.NewObject, SamplingOperation.SamplingOperation, SemaphoreOperation.SemaphoreOperation}
 use Rattle.apex_types.specs.declared.request.Request.TheVariants as request
+use Rattle.apex_machine.specs.declared.condition.Condition.{Condition}
+use Rattle.apex_machine.specs.declared.condition.Condition.TheVariants as condition
 use Rattle.apex_machine.specs.declared.state.Entry.{Entry}
 use Rattle.apex_machine.specs.declared.state.WaitingSet.TheVariants as set
 use Rattle.apex_machine.specs.After.{is_valid, new_blackboard, new_buffer, new_event, new_mutex, new_queuing_port, new_sampling_port, new_semaphore, numbered}
 use Rattle.apex_machine.specs.Answer.{Answer, Effect, NewNumber, done_with}
 use Rattle.apex_machine.specs.Arguments.{is_length, is_longer, natural_of}
 use Rattle.apex_machine.specs.Channels.{QueuingPort, SamplingPort, queuing_port, sampling_port}
-use Rattle.apex_machine.specs.ObjectConditions.{acquire_codes, message_codes, object_codes, owns_another}
+use Rattle.apex_machine.specs.ObjectConditions.{acquire_conditions, message_conditions, object_conditions, owns_another}
 use Rattle.apex_machine.specs.PortConditions.{is_queuing_port, is_sampling_port}
-use Rattle.apex_machine.specs.Conditions.{codes_for, of_caller, time_out_codes, waiting_codes, when}
+use Rattle.apex_machine.specs.Conditions.{conditions_for, of_caller, time_out_conditions, waiting_conditions, when}
 use Rattle.apex_machine.specs.Objects.{acquired, board_read, buffer_received, buffer_sent, cleared, displayed, event_reset, event_set, event_waited, is_owner, mutex_released, semaphore_waited, signalled}
 use Rattle.apex_machine.specs.Services.{answer_by}
 use Rattle.apex_machine.specs.State.{Blackboard, Buffer, Event, Mutex, Partition, Port, Semaphore, change_at, given_object, is_free, item_at}
@@ -83,10 +83,10 @@ creates {Object} objects claimed new = record {
 
 -- the object is there, where no condition holds
 
-pub object_there : {Object : Type 0} (who : Who) (partition : Partition) (found : Option Object) (time_out : ℤ) → object_codes who partition found time_out ≡ [] → (object : Object) × (found ≡ Some object)
+pub object_there : {Object : Type 0} (who : Who) (partition : Partition) (found : Option Object) (time_out : ℤ) → object_conditions who partition found time_out ≡ [] → (object : Object) × (found ≡ Some object)
 object_there who partition found time_out none =
-    let first = first_empty (codes_for found (λ object. [])) (time_out_codes time_out)
-    (first_empty (codes_for found (λ object. []) ++ time_out_codes time_out) (waiting_codes who partition time_out) none) in
+    let first = first_empty (conditions_for found (λ object. [])) (time_out_conditions time_out)
+    (first_empty (conditions_for found (λ object. []) ++ time_out_conditions time_out) (waiting_conditions who partition time_out) none) in
     let is = is_created found (λ object. []) first in
     (is.0, is.1)
 
@@ -94,24 +94,24 @@ mapped_there : {Object : Type 0} (size_of : Object → ℕ) (found : Option Obje
 mapped_there size_of None size is = cc
 mapped_there size_of (Some object) size is = (object, refl)
 
-pub message_there : {Object : Type 0} (size_of : Object → ℕ) (found : Option Object) (length : ℤ) → message_codes (option_map size_of found) length ≡ [] → (object : Object) × (found ≡ Some object)
+pub message_there : {Object : Type 0} (size_of : Object → ℕ) (found : Option Object) (length : ℤ) → message_conditions (option_map size_of found) length ≡ [] → (object : Object) × (found ≡ Some object)
 message_there size_of found length none =
-    let is = is_created (option_map size_of found) (λ greatest. when (is_longer greatest length) code.InvalidParam)
-    (first_empty (codes_for (option_map size_of found) (λ greatest. when (is_longer greatest length) code.InvalidParam)) (when (not (is_length length)) code.InvalidParam) none) in
+    let is = is_created (option_map size_of found) (λ greatest. when (is_longer greatest length) condition.LongerThanObject)
+    (first_empty (conditions_for (option_map size_of found) (λ greatest. when (is_longer greatest length) condition.LongerThanObject)) (when (not (is_length length)) condition.EmptyMessage) none) in
     mapped_there size_of found is.0 is.1
 
-lone_there : {Object : Type 0} (found : Option Object) → codes_for found (λ object. []) ≡ [] → (object : Object) × (found ≡ Some object)
+lone_there : {Object : Type 0} (found : Option Object) → conditions_for found (λ object. []) ≡ [] → (object : Object) × (found ≡ Some object)
 lone_there found none = let is = is_created found (λ object. []) none in (is.0, is.1)
 
 -- the mutex that is to be acquired is there, where no condition holds
-pub mutex_there : (who : Who) (partition : Partition) (mutex time_out : ℤ) → acquire_codes who partition mutex time_out ≡ [] → (found : Mutex) × (given_object partition.mutexes mutex ≡ Some found)
+pub mutex_there : (who : Who) (partition : Partition) (mutex time_out : ℤ) → acquire_conditions who partition mutex time_out ≡ [] → (found : Mutex) × (given_object partition.mutexes mutex ≡ Some found)
 mutex_there who partition mutex time_out none =
-    let codes : Mutex → List Code = λ found. when (of_caller (λ process. nat_lt found.priority process.current_priority) (item_at partition.table who.proc)) code.InvalidMode in
-    let found_codes = codes_for (given_object partition.mutexes mutex) codes in
-    let second = found_codes ++ time_out_codes time_out in
-    let third = second ++ when (nat_eq who.proc 0) code.InvalidMode in
-    let is = is_created (given_object partition.mutexes mutex) codes
-    (first_empty found_codes (time_out_codes time_out) (first_empty second (when (nat_eq who.proc 0) code.InvalidMode) (first_empty third (when (owns_another partition.mutexes mutex who.proc) code.InvalidMode) none))) in
+    let conditions : Mutex → List Condition = λ found. when (of_caller (λ process. nat_lt found.priority process.current_priority) (item_at partition.table who.proc)) condition.AboveCeiling in
+    let found_conditions = conditions_for (given_object partition.mutexes mutex) conditions in
+    let second = found_conditions ++ time_out_conditions time_out in
+    let third = second ++ when (nat_eq who.proc 0) condition.InitialisingCaller in
+    let is = is_created (given_object partition.mutexes mutex) conditions
+    (first_empty found_conditions (time_out_conditions time_out) (first_empty second (when (nat_eq who.proc 0) condition.InitialisingCaller) (first_empty third (when (owns_another partition.mutexes mutex who.proc) condition.OwnsAnother) none))) in
     (is.0, is.1)
 
 -- the sets of an object that is there are apart
@@ -121,11 +121,11 @@ given_entries entries_of objects (pos number) found at apart = subst (λ one. Ar
 given_entries entries_of objects (negsuc n) found at apart = cc
 
 -- a port that is configured
-sampling_there : (found : Option SamplingPort) (size direction refresh : ℤ) → when (not (is_sampling_port found size direction refresh)) code.InvalidConfig ≡ [] → (port : SamplingPort) × (found ≡ Some port)
+sampling_there : (found : Option SamplingPort) (size direction refresh : ℤ) → when (not (is_sampling_port found size direction refresh)) condition.NotAsConfigured ≡ [] → (port : SamplingPort) × (found ≡ Some port)
 sampling_there None size direction refresh none = cc
 sampling_there (Some port) size direction refresh none = (port, refl)
 
-queuing_there : (found : Option QueuingPort) (size capacity way order : ℤ) → when (not (is_queuing_port found size capacity way order)) code.InvalidConfig ≡ [] → (port : QueuingPort) × (found ≡ Some port)
+queuing_there : (found : Option QueuingPort) (size capacity way order : ℤ) → when (not (is_queuing_port found size capacity way order)) condition.NotAsConfigured ≡ [] → (port : QueuingPort) × (found ≡ Some port)
 queuing_there None size capacity way order none = cc
 queuing_there (Some port) size capacity way order none = (port, refl)
 
@@ -133,8 +133,8 @@ pub object_call_is_the_sentence : ObjectCallIsTheSentence
 object_call_is_the_sentence configuration now who claimed (request.Create name (NewObject.Buffer size capacity discipline)) partition apart none =
     (refl, creates partition.buffers claimed (new_buffer name size capacity discipline))
 object_call_is_the_sentence configuration now who claimed (request.Buffer buffer (BufferOperation.Send length time_out message)) partition apart none =
-    let first = first_empty (message_codes (option_map (λ (found : Buffer). found.size) (given_object partition.buffers buffer)) length) (time_out_codes time_out)
-    (first_empty (message_codes (option_map (λ (found : Buffer). found.size) (given_object partition.buffers buffer)) length ++ time_out_codes time_out) (waiting_codes who partition time_out) none) in
+    let first = first_empty (message_conditions (option_map (λ (found : Buffer). found.size) (given_object partition.buffers buffer)) length) (time_out_conditions time_out)
+    (first_empty (message_conditions (option_map (λ (found : Buffer). found.size) (given_object partition.buffers buffer)) length ++ time_out_conditions time_out) (waiting_conditions who partition time_out) none) in
     let there = message_there (λ (found : Buffer). found.size) (given_object partition.buffers buffer) length first in
     let found : Buffer = there.0 in (
       refl,
@@ -206,7 +206,7 @@ object_call_is_the_sentence configuration now who claimed (request.Mutex mutex (
           ((mutex_is_the_sentence.0 who.proc time_out found (acquired who.proc time_out found)).0 refl),
     )
 object_call_is_the_sentence configuration now who claimed (request.Mutex mutex MutexOperation.Release) partition apart none =
-    let there = is_created (given_object partition.mutexes mutex) (λ found. when (not (is_owner found.owner who.proc)) code.InvalidMode) none in
+    let there = is_created (given_object partition.mutexes mutex) (λ found. when (not (is_owner found.owner who.proc)) condition.NotOwner) none in
     let found : Mutex = there.0 in (
       refl,
       operates partition.mutexes mutex found there.1 (λ found effect. IsReleasing found effect) (λ one changed. changed) (λ found. mutex_released (first_waiter found.discipline found.waiters) found)

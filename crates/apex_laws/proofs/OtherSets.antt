@@ -1,15 +1,15 @@
 -- An own call leaves the waiting sets that its request doesn't use.
 use Rattle.std.proofs.Common.{◌≡◌, ℕ, List, [], ◌∷◌, Bool, true, false, nat_eq, ℤ, Option, Some, None, is_some, refl, sym, ap, subst, ◌∙◌, true≢false, ◌&&◌}
-use Rattle.apex_types.specs.declared.code.Code.{Code}
 use Rattle.apex_types.specs.declared.record.Call.{Call as CallRecord}
 use Rattle.apex_types.specs.declared.record.Claim.{Claim}
 use Rattle.apex_types.specs.declared.record.Who.{Who}
 use Rattle.apex_types.specs.declared.request.Request.{Request}
+use Rattle.apex_machine.specs.declared.condition.Condition.{Condition}
 use Rattle.apex_machine.specs.declared.state.WaitingSet.{WaitingSet}
 use Rattle.apex_machine.specs.Arguments.{natural_of}
 use Rattle.apex_machine.specs.Demands.{AllHold, outcome_demands}
 use Rattle.apex_machine.specs.Ports.{channel_of}
-use Rattle.apex_machine.specs.ServiceConditions.{condition_codes}
+use Rattle.apex_machine.specs.ServiceConditions.{conditions_of}
 use Rattle.apex_machine.specs.Services.{answer_of}
 use Rattle.apex_machine.specs.State.{Partition, is_named, item_at, names_one_of, time_of}
 use Rattle.apex_machine.specs.Pieces.{stops_some}
@@ -58,9 +58,9 @@ restarts_nobody call number none = not_first (is_some (restart_of call)) (nat_eq
 
 -- whom an own call names waits in no set that the request doesn't use
 named_uses : (number place now : ℕ) (partition : Partition) (caller : Who) (asked : Request) (claim : Claim) → IsSoundPart number place partition
-    → (codes : List Code) (channel : Option ℕ) → AllHold (outcome_demands codes channel number asked (answer_of now caller partition asked) claim)
+    → (conditions : List Condition) (channel : Option ℕ) → AllHold (outcome_demands conditions channel number asked (answer_of now caller partition asked) claim)
     → (wanted : WaitingSet) → is_set_used asked wanted ≡ false → (who : Who) → who.part ≡ number → waits_at wanted (item_at partition.table who.proc) ≡ true → is_named who claim.woken ≡ true → ⊥
-named_uses number place now partition caller asked claim sound (code ∷ codes) channel hold wanted unused who here waits named = nobody who claim.woken hold.1.1.1.1.0 named
+named_uses number place now partition caller asked claim sound (condition ∷ conditions) channel hold wanted unused who here waits named = nobody who claim.woken hold.1.1.1.1.0 named
 named_uses number place now partition caller asked claim sound [] (Some channel) hold wanted unused who here waits named =
     true≢false (sym named ∙ not_named who claim.woken (subst (λ part. names_one_of part claim.woken ≡ false) (sym here) hold.1.1.0))
 named_uses number place now partition caller asked claim sound [] None hold wanted unused who here waits named =
@@ -76,5 +76,5 @@ other_sets_stay configuration number place core cores partition call is not_stop
     set_stays (Stands number wanted partition) place call wanted (entries_at partition wanted) (is.sound.stands wanted) (enters_no_other call wanted unused)
     (λ entry stands. goes_on call entry.who (restarts_nobody call entry.who.part not_stop)
     (cannot_hold (is_named entry.who call.claim.woken) (λ named. named_uses number place (time_of cores core) partition call.who call.request call.claim is.sound
-    (condition_codes configuration call.who partition call.request) (channel_of partition call.request) is.demands.1.1.1.1.1 wanted unused entry.who stands.0 stands.1 named))
+    (conditions_of configuration call.who partition call.request) (channel_of partition call.request) is.demands.1.1.1.1.1 wanted unused entry.who stands.0 stands.1 named))
     (stops_nobody call entry.who (neither_later _ _ not_stop)))

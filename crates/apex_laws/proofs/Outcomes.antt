@@ -1,6 +1,5 @@
 -- The outcome that a call claims and the outcome that a return gives back, as a whole and demand by demand.
 use Rattle.std.proofs.Common.{◌≡◌, ℕ, List, [], ◌∷◌, length, Bool, true, false, cond, nat_lt, ℤ, Option, Some, None, IsTrue, sym, subst, refl, ◌∙◌, true≢false}
-use Rattle.apex_types.specs.declared.code.Code.{Code}
 use Rattle.apex_types.specs.declared.code.Code.TheVariants as code
 use Rattle.apex_types.specs.declared.object_kind.ObjectKind.TheVariants as kind
 use Rattle.apex_types.specs.declared.record.Claim.{Claim}
@@ -9,6 +8,7 @@ use Rattle.apex_types.specs.declared.record.Return.{Return}
 use Rattle.apex_types.specs.declared.operation.{QueuingOperation.QueuingOperation, SamplingOperation.SamplingOperation}
 use Rattle.apex_types.specs.declared.request.Request.{Request}
 use Rattle.apex_types.specs.declared.request.Request.TheVariants as request
+use Rattle.apex_machine.specs.declared.condition.Condition.{Condition}
 use Rattle.apex_machine.specs.declared.state.Entry.{Entry}
 use Rattle.apex_machine.specs.declared.state.Outcome.{Outcome}
 use Rattle.apex_machine.specs.Answer.{Answer, HasValues, NamesExactly, answering, unmet, waiting}
@@ -33,35 +33,35 @@ pub record ChannelSays (suited : Bool) (answer : Answer) (claim : Claim) : Type 
   pub woken : NamesExactly answer.woken claim.woken
 
 -- the demands of the caller's partition and those of the channel that is claimed are the outcome that a lawful call has
-pub has_outcome : (codes : List Code) (channel : Option ℕ) (number : ℕ) (asked : Request) (answer : Answer) (suited : ℕ → Bool) (through : ℕ → Answer) (claim : Claim)
-    → AllHold (outcome_demands codes channel number asked answer claim)
+pub has_outcome : (conditions : List Condition) (channel : Option ℕ) (number : ℕ) (asked : Request) (answer : Answer) (suited : ℕ → Bool) (through : ℕ → Answer) (claim : Claim)
+    → AllHold (outcome_demands conditions channel number asked answer claim)
     → ((channel : ℕ) → claim.chan ≡ Some channel → ChannelSays (suited channel) (through channel) claim)
-    → HasOutcome codes channel answer suited through claim
+    → HasOutcome conditions channel answer suited through claim
 has_outcome [] None number asked answer suited through claim hold says =
     record { chan = hold.0; out = hold.1.0; values = hold.1.1.0; bytes = hold.1.1.1.0; woken = hold.1.1.1.1.0 }
 has_outcome [] (Some channel) number asked answer suited through claim hold says =
     let of_channel = says channel hold.0 in
     record { chan = hold.0; kind = of_channel.kind; out = of_channel.out; values = of_channel.values; bytes = of_channel.bytes; woken = of_channel.woken }
-has_outcome (code ∷ codes) channel number asked answer suited through claim hold says =
+has_outcome (condition ∷ conditions) channel number asked answer suited through claim hold says =
     record { chan = hold.0; out = hold.1.0; values = hold.1.1.0; bytes = hold.1.1.1.0; woken = hold.1.1.1.1.0 }
 
 -- the outcome that a lawful call has meets the demands of the caller's partition
-pub outcome_holds : (codes : List Code) (channel : Option ℕ) (number : ℕ) (asked : Request) (answer : Answer) (suited : ℕ → Bool) (through : ℕ → Answer) (claim : Claim)
+pub outcome_holds : (conditions : List Condition) (channel : Option ℕ) (number : ℕ) (asked : Request) (answer : Answer) (suited : ℕ → Bool) (through : ℕ → Answer) (claim : Claim)
     → ((channel : ℕ) → IsTrue (suited channel) → CanHave asked (through channel).out)
     → ((other : ℕ) → channel ≡ Some other → IsThrough other (suited other) (through other) claim → names_one_of number claim.woken ≡ false)
-    → HasOutcome codes channel answer suited through claim
-    → AllHold (outcome_demands codes channel number asked answer claim)
+    → HasOutcome conditions channel answer suited through claim
+    → AllHold (outcome_demands conditions channel number asked answer claim)
 outcome_holds [] None number asked answer suited through claim can apart has = (has.chan, (has.out, (has.values, (has.bytes, (has.woken, tt)))))
 outcome_holds [] (Some channel) number asked answer suited through claim can apart has =
     (has.chan, (subst (CanHave asked) (sym has.out) (can channel has.kind), (apart channel refl has, tt)))
-outcome_holds (code ∷ codes) channel number asked answer suited through claim can apart has =
+outcome_holds (condition ∷ conditions) channel number asked answer suited through claim can apart has =
     (has.chan, (has.out, (has.values, (has.bytes, (has.woken, tt)))))
 
 -- a lawful call that claims a channel is answered by that channel
-pub through_claimed : (codes : List Code) (channel : Option ℕ) (answer : Answer) (suited : ℕ → Bool) (through : ℕ → Answer) (claim : Claim) (claimed : ℕ)
-    → claim.chan ≡ Some claimed → HasOutcome codes channel answer suited through claim → IsThrough claimed (suited claimed) (through claimed) claim
+pub through_claimed : (conditions : List Condition) (channel : Option ℕ) (answer : Answer) (suited : ℕ → Bool) (through : ℕ → Answer) (claim : Claim) (claimed : ℕ)
+    → claim.chan ≡ Some claimed → HasOutcome conditions channel answer suited through claim → IsThrough claimed (suited claimed) (through claimed) claim
 through_claimed [] None answer suited through claim claimed is has = let none : ◌≡◌ {A = Option ℕ} None (Some claimed) = sym has.chan ∙ is in cc
-through_claimed (code ∷ codes) channel answer suited through claim claimed is has = let none : ◌≡◌ {A = Option ℕ} None (Some claimed) = sym has.chan ∙ is in cc
+through_claimed (condition ∷ conditions) channel answer suited through claim claimed is has = let none : ◌≡◌ {A = Option ℕ} None (Some claimed) = sym has.chan ∙ is in cc
 through_claimed [] (Some channel) answer suited through claim claimed is has =
     let both : ◌≡◌ {A = Option ℕ} (Some channel) (Some claimed) = sym has.chan ∙ is in
     let same : channel ≡ claimed = cc in

@@ -12,6 +12,7 @@ use Rattle.apex_types.specs.declared.record.Who.{Who}
 use Rattle.apex_types.specs.declared.request.Request.{Request}
 use Rattle.apex_types.specs.declared.request.Request.TheVariants as request
 use Rattle.apex_types.specs.Requested.{service_of}
+use Rattle.apex_machine.specs.declared.condition.Condition.{Condition}
 use Rattle.apex_machine.specs.declared.state.CoreState.{CoreState}
 use Rattle.apex_machine.specs.declared.state.Entry.{Entry}
 use Rattle.apex_machine.specs.declared.state.Process.{Process}
@@ -21,16 +22,16 @@ use Rattle.apex_machine.specs.After.{called, created_by, each_set, is_channel, i
 use Rattle.apex_machine.specs.Configuration.{Configuration, first_core, period_of}
 use Rattle.apex_machine.specs.Ports.{channel_effect, use_of}
 use Rattle.apex_machine.specs.Processes.{caller_after, caller_with, outcome_of, release_taken, renews}
-use Rattle.apex_machine.specs.ServiceConditions.{condition_codes}
+use Rattle.apex_machine.specs.ServiceConditions.{conditions_of}
 use Rattle.apex_machine.specs.Services.{Answer, HasNoValues}
 use Rattle.apex_machine.specs.State.{Partition, State, each_item, is_named, item_at, time_of}
-use Rattle.apex_machine.specs.Step.{HasCode, HasOutcome, IsAmong, IsRefused}
+use Rattle.apex_machine.specs.Step.{HasCode, HasOutcome, IsCodeOf, IsRefused}
 use Rattle.apex_machine.specs.Waiting.{ends_wait, is_no_error, is_waiting, restart_of, set_after, stops, without}
 use Rattle.apex_laws.specs.RecordLaws.{RefusalIsTheSentence}
 use Rattle.apex_laws.specs.RecordSentences.{process_in}
 use Rattle.apex_laws.proofs.Booleans.{cannot_hold, is_itself, not_first}
 use Rattle.apex_laws.proofs.Restarts.{goes_on, not_done_goes_on, restarts_none, woken_if_named_table}
-use Rattle.apex_laws.proofs.Codes.{are_errors, no_error_is_done, not_done}
+use Rattle.apex_laws.proofs.Codes.{no_error_is_done, not_done}
 use Rattle.apex_laws.proofs.Emptied.{sets_same}
 use Rattle.apex_laws.proofs.Records.{stays_each, turns_each}
 use Rattle.apex_laws.proofs.Steps.{lawful_body, next_channel, next_cores, next_partition}
@@ -38,22 +39,22 @@ use Rattle.apex_laws.proofs.WaitersOf.{free_stands, same_who}
 
 -- what a refused call says
 
--- its outcome is one of the codes
-pub record HasOneOf (codes : List Code) (given : Out) : Type 0 where
+-- its outcome is the code of one of the conditions
+pub record HasOneOf (conditions : List Condition) (given : Out) : Type 0 where
   pub code : Code
   pub is : given ≡ out.Answer code
-  pub among : IsAmong codes code
+  pub has : IsCodeOf conditions code
 
-has_one_of : (codes : List Code) (given : Out) → HasCode codes given → HasOneOf codes given
-has_one_of codes (out.Answer one) has = record { code = one; is = refl; among = has }
-has_one_of codes out.Waits has = absurd has
-has_one_of codes out.Never has = absurd has
+has_one_of : (conditions : List Condition) (given : Out) → HasCode conditions given → HasOneOf conditions given
+has_one_of conditions (out.Answer one) has = record { code = one; is = refl; has = has }
+has_one_of conditions out.Waits has = absurd has
+has_one_of conditions out.Never has = absurd has
 
--- where codes hold the call is refused
-refused : (codes : List Code) (channel : Option ℕ) (answer : Answer) (suited : ℕ → Bool) (through : ℕ → Answer) (claim : Claim) → ¬ (codes ≡ [])
-    → HasOutcome codes channel answer suited through claim → IsRefused codes claim
+-- where conditions hold the call is refused
+refused : (conditions : List Condition) (channel : Option ℕ) (answer : Answer) (suited : ℕ → Bool) (through : ℕ → Answer) (claim : Claim) → ¬ (conditions ≡ [])
+    → HasOutcome conditions channel answer suited through claim → IsRefused conditions claim
 refused [] channel answer suited through claim some has = absurd (some refl)
-refused (code ∷ codes) channel answer suited through claim some has = has
+refused (condition ∷ conditions) channel answer suited through claim some has = has
 
 -- nothing is done
 
@@ -159,10 +160,10 @@ refusal_is_the_sentence configuration state ordered call next step is some =
     let now = time_of state.cores core in
     let law = lawful_body configuration state ordered next (Call call) step is in
     let partitions = next_partition configuration state ordered next (Call call) step is in
-    let codes = condition_codes configuration call.who (state.partitions call.who.part) call.request in
-    let refusal = refused codes _ _ _ _ call.claim some law.outcome in
-    let one = has_one_of codes call.claim.out refusal.out in
-    let not_so : is_done call.claim.out ≡ false = not_done codes call.claim.out (are_errors configuration call.who (state.partitions call.who.part) call.request) refusal.out in
+    let conditions = conditions_of configuration call.who (state.partitions call.who.part) call.request in
+    let refusal = refused conditions _ _ _ _ call.claim some law.outcome in
+    let one = has_one_of conditions call.claim.out refusal.out in
+    let not_so : is_done call.claim.out ≡ false = not_done conditions call.claim.out refusal.out in
     let code_not_done : is_done (out.Answer one.code) ≡ false = ap is_done (sym one.is) ∙ not_so in
     let old = free_stands (process_in state call.who) law.due in
     let table = (state.partitions call.who.part).table in
@@ -176,7 +177,7 @@ refusal_is_the_sentence configuration state ordered call next step is some =
     let all : each_item change table ++ more ≡ each_item change table = ap (λ rest. each_item change table ++ rest) (none_created (first_core configuration call.who.part) call call.request not_so) ∙ append-nil (each_item change table) in
     record {
       code = one.code;
-      condition = one.among;
+      condition = one.has;
       answered = record {
         changed = record {
           old = old.0;

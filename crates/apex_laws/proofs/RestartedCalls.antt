@@ -1,7 +1,6 @@
 -- A call that restarts its partition does what the sentence says.
 use Rattle.std.proofs.Common.{◌≡◌, ℕ, zero, suc, ℤ, pos, negsuc, List, [], ◌∷◌, Bool, true, false, cond, nat_eq, Option, Some, None, refl, sym, ap, subst, ◌∙◌, inl, inr, true≢false}
 use Rattle.std.proofs.lemmas.Bool.{cases_Bool, eqb-true}
-use Rattle.apex_types.specs.declared.code.Code.{Code}
 use Rattle.apex_types.specs.declared.record.Body.TheVariants.{Call}
 use Rattle.apex_types.specs.declared.record.Call.{Call as CallRecord}
 use Rattle.apex_types.specs.declared.record.Claim.{Claim}
@@ -11,6 +10,7 @@ use Rattle.apex_types.specs.declared.record.Out.TheVariants as out
 use Rattle.apex_types.specs.declared.record.Who.{Who}
 use Rattle.apex_types.specs.declared.request.Request.{Request}
 use Rattle.apex_types.specs.declared.request.Request.TheVariants as request
+use Rattle.apex_machine.specs.declared.condition.Condition.{Condition}
 use Rattle.apex_machine.specs.declared.state.Entry.{Entry}
 use Rattle.apex_machine.specs.declared.state.Mode.{Mode}
 use Rattle.apex_machine.specs.declared.state.Mode.TheVariants as mode
@@ -21,7 +21,7 @@ use Rattle.apex_machine.specs.After.{is_channel, own_partition, woken_if_named}
 use Rattle.apex_machine.specs.Arguments.{restart_given}
 use Rattle.apex_machine.specs.Configuration.{Configuration, first_core}
 use Rattle.apex_machine.specs.Ports.{channel_effect, channel_of, use_of}
-use Rattle.apex_machine.specs.ServiceConditions.{condition_codes}
+use Rattle.apex_machine.specs.ServiceConditions.{conditions_of}
 use Rattle.apex_machine.specs.Services.{Answer, answer_of, never}
 use Rattle.apex_machine.specs.State.{Channel, Partition, State, Table, first_processes, initialising_process, is_named, item_at, started_partition, time_of}
 use Rattle.apex_machine.specs.Step.{HasOutcome, Step}
@@ -75,11 +75,11 @@ record IsSilent (claim : Claim) : Type 0 where
   nobody : (who : Who) → is_named who claim.woken ≡ false
   no_channel : claim.chan ≡ None
 
-silent : (codes : List Code) (channel : Option ℕ) (answer : Answer) (suited : ℕ → Bool) (through : ℕ → Answer) (claim : Claim)
-    → channel ≡ None → answer ≡ never → claim.out ≡ out.Never → HasOutcome codes channel answer suited through claim → IsSilent claim
+silent : (conditions : List Condition) (channel : Option ℕ) (answer : Answer) (suited : ℕ → Bool) (through : ℕ → Answer) (claim : Claim)
+    → channel ≡ None → answer ≡ never → claim.out ≡ out.Never → HasOutcome conditions channel answer suited through claim → IsSilent claim
 silent [] None answer suited through claim off is stops has = record { nobody = λ who. has.woken who ∙ ap (λ one. is_named who one.woken) is; no_channel = has.chan }
 silent [] (Some channel) answer suited through claim off is stops has = let no : ◌≡◌ {A = Option ℕ} (Some channel) None = off in cc
-silent (code ∷ codes) channel answer suited through claim off is stops has = record { nobody = λ who. ap (is_named who) has.woken; no_channel = has.chan }
+silent (condition ∷ conditions) channel answer suited through claim off is stops has = record { nobody = λ who. ap (is_named who) has.woken; no_channel = has.chan }
 
 -- the partition as it starts
 
@@ -129,7 +129,7 @@ says configuration state ordered call mode next step is restarted =
     let partition = state.partitions part in
     let restart = restart_is call.request call.claim.out mode restarted in
     let law = lawful_body configuration state ordered next (Call call) step is in
-    let quiet = silent (condition_codes configuration call.who partition call.request) (channel_of partition call.request) (answer_of (time_of state.cores core) call.who partition call.request)
+    let quiet = silent (conditions_of configuration call.who partition call.request) (channel_of partition call.request) (answer_of (time_of state.cores core) call.who partition call.request)
     _ _ call.claim (ap (channel_of partition) restart.asks) (ap (answer_of (time_of state.cores core) call.who partition) restart.asks) restart.never law.outcome in
     let partitions = next_partition configuration state ordered next (Call call) step is in
     let channels = next_channel configuration state ordered next (Call call) step is in

@@ -3,7 +3,6 @@ use Rattle.std.proofs.Common.{◌≡◌, ℕ, suc, ◌+◌, ◌<◌, ◌≤◌, 
 use Rattle.std.proofs.lemmas.Bool.{cases_Bool, eqb-true}
 use Rattle.std.proofs.lemmas.List.{append-nil}
 use Rattle.apex_types.specs.declared.object_kind.ObjectKind.TheVariants as kind
-use Rattle.apex_types.specs.declared.code.Code.{Code}
 use Rattle.apex_types.specs.declared.record.Body.{Body}
 use Rattle.apex_types.specs.declared.record.Body.TheVariants.{Call, Ret, Disp, Tick}
 use Rattle.apex_types.specs.declared.record.Call.{Call as CallRecord}
@@ -12,6 +11,7 @@ use Rattle.apex_types.specs.declared.record.Who.{Who}
 use Rattle.apex_types.specs.declared.operation.{NewObject.NewObject, QueuingOperation.QueuingOperation, SamplingOperation.SamplingOperation}
 use Rattle.apex_types.specs.declared.request.Request.{Request}
 use Rattle.apex_types.specs.declared.request.Request.TheVariants as request
+use Rattle.apex_machine.specs.declared.condition.Condition.{Condition}
 use Rattle.apex_machine.specs.declared.state.CoreState.{CoreState}
 use Rattle.apex_machine.specs.declared.state.Entry.{Entry}
 use Rattle.apex_machine.specs.declared.state.Mode.{Mode}
@@ -24,7 +24,7 @@ use Rattle.apex_machine.specs.Channels.{queuing_port, sampling_port}
 use Rattle.apex_machine.specs.Configuration.{Configuration, first_core}
 use Rattle.apex_machine.specs.Demands.{AllHold, AllWaitAt, WakesHere, call_demands, outcome_demands, own_call_demands, partition_demands, stands_in}
 use Rattle.apex_machine.specs.Ports.{channel_of}
-use Rattle.apex_machine.specs.ServiceConditions.{condition_codes}
+use Rattle.apex_machine.specs.ServiceConditions.{conditions_of}
 use Rattle.apex_machine.specs.Services.{answer_of}
 use Rattle.apex_machine.specs.State.{Partition, Port, Table, cold_partition, each_item, is_free, is_named, is_same, item_at, objects_of, started_partition, time_of}
 use Rattle.apex_machine.specs.Waiting.{ends_wait, set_after, waits_at}
@@ -32,7 +32,7 @@ use Rattle.apex_laws.specs.Laws.{AllEntries, IsInOrder, are_distinct, entries_at
 use Rattle.apex_laws.specs.PartLaws.{HasDistinctObjects, IsSoundPart, PartStaysSound, RunningStandsNowhere, is_of_channel}
 use Rattle.apex_laws.proofs.Booleans.{cannot_hold, differs_back, holds_if, other_holds}
 use Rattle.apex_laws.proofs.Callers.{StandsReady, choice_stands, ready_waits_not}
-use Rattle.apex_laws.proofs.Codes.{AreErrors, are_errors, not_done}
+use Rattle.apex_laws.proofs.Codes.{not_done}
 use Rattle.apex_laws.proofs.Distinct.{CallsClaimValues, distinct_by, distinct_new}
 use Rattle.apex_laws.proofs.Exact.{object_stands}
 use Rattle.apex_laws.proofs.InOrder.{EntersNew, none_in_order, set_stays_in_order}
@@ -49,25 +49,25 @@ use Rattle.apex_laws.proofs.WaitersOf.{same_is}
 -- own calls, by their demands
 
 -- a call that is done meets no error condition
-pub demands_none : (codes : List Code) (channel : Option ℕ) (number : ℕ) (asked : Request) (answer : Answer) (claim : Claim) → AreErrors codes
-    → AllHold (outcome_demands codes channel number asked answer claim) → is_done claim.out ≡ true → codes ≡ []
-demands_none [] channel number asked answer claim errors hold done = refl
-demands_none (code ∷ codes) channel number asked answer claim errors hold done = absurd (true≢false (sym done ∙ not_done (code ∷ codes) claim.out errors hold.1.0))
+pub demands_none : (conditions : List Condition) (channel : Option ℕ) (number : ℕ) (asked : Request) (answer : Answer) (claim : Claim)
+    → AllHold (outcome_demands conditions channel number asked answer claim) → is_done claim.out ≡ true → conditions ≡ []
+demands_none [] channel number asked answer claim hold done = refl
+demands_none (condition ∷ conditions) channel number asked answer claim hold done = absurd (true≢false (sym done ∙ not_done (condition ∷ conditions) claim.out hold.1.0))
 
 -- where it goes through no channel, it claims the value of its service
-demands_value : (codes : List Code) (channel : Option ℕ) (number : ℕ) (asked : Request) (answer : Answer) (claim : Claim) → codes ≡ [] → channel ≡ None
-    → AllHold (outcome_demands codes channel number asked answer claim) → HasValue answer.val claim.val
+demands_value : (conditions : List Condition) (channel : Option ℕ) (number : ℕ) (asked : Request) (answer : Answer) (claim : Claim) → conditions ≡ [] → channel ≡ None
+    → AllHold (outcome_demands conditions channel number asked answer claim) → HasValue answer.val claim.val
 demands_value [] None number asked answer claim none off hold = hold.1.1.0.val
 demands_value [] (Some channel) number asked answer claim none off hold = let no : ◌≡◌ {A = Option ℕ} (Some channel) None = off in cc
-demands_value (code ∷ codes) channel number asked answer claim none off hold = cc
+demands_value (condition ∷ conditions) channel number asked answer claim none off hold = cc
 
 -- so the caller is ready, and where the call is done no error condition holds
 pub own_ready : (configuration : Configuration) (number core : ℕ) (cores : List CoreState) (partition : Partition) (call : CallRecord)
     → are_distinct partition.table ≡ true → AllHold (own_call_demands configuration number cores partition core call) → IsReadyCall configuration partition core call
 own_ready configuration number core cores partition call distinct hold = record {
   ready = choice_stands number core partition.table call.who distinct hold.1.0.1;
-  none = λ done. demands_none (condition_codes configuration call.who partition call.request) (channel_of partition call.request) number call.request
-      (answer_of (time_of cores core) call.who partition call.request) call.claim (are_errors configuration call.who partition call.request) hold.1.1.1.1.1 done;
+  none = λ done. demands_none (conditions_of configuration call.who partition call.request) (channel_of partition call.request) number call.request
+      (answer_of (time_of cores core) call.who partition call.request) call.claim hold.1.1.1.1.1 done;
 }
 
 -- and the value is the service's
@@ -75,10 +75,10 @@ own_value : (configuration : Configuration) (number core : ℕ) (cores : List Co
     → AllHold (own_call_demands configuration number cores partition core call) → is_done call.claim.out ≡ true → channel_of partition call.request ≡ None
     → HasValue (answer_of (time_of cores core) call.who partition call.request).val call.claim.val
 own_value configuration number core cores partition call hold done off =
-    let codes = condition_codes configuration call.who partition call.request in
+    let conditions = conditions_of configuration call.who partition call.request in
     let answer = answer_of (time_of cores core) call.who partition call.request in
-    demands_value codes (channel_of partition call.request) number call.request answer call.claim
-    (demands_none codes (channel_of partition call.request) number call.request answer call.claim (are_errors configuration call.who partition call.request) hold.1.1.1.1.1 done)
+    demands_value conditions (channel_of partition call.request) number call.request answer call.claim
+    (demands_none conditions (channel_of partition call.request) number call.request answer call.claim hold.1.1.1.1.1 done)
     off hold.1.1.1.1.1
 
 -- the demands of a call of one of these processes

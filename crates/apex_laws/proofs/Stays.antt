@@ -1,7 +1,6 @@
 -- A step keeps a state tied, and so does a run.
 use Rattle.std.proofs.Common.{◌≡◌, ℕ, List, [], ◌∷◌, true, false, nat_eq, Option, Some, None, IsTrue, refl, sym, subst, ◌∙◌, true≢false, ◌&&◌}
 use Rattle.std.proofs.lemmas.Bool.{eqb-true, eq-eqb}
-use Rattle.apex_types.specs.declared.code.Code.{Code}
 use Rattle.apex_types.specs.declared.record.Body.{Body}
 use Rattle.apex_types.specs.declared.record.Body.TheVariants.{Call, Ret, Disp, Tick}
 use Rattle.apex_types.specs.declared.record.Call.{Call as CallRecord}
@@ -10,6 +9,7 @@ use Rattle.apex_types.specs.declared.record.Who.{Who}
 use Rattle.apex_types.specs.declared.operation.{QueuingOperation.QueuingOperation}
 use Rattle.apex_types.specs.declared.request.Request.{Request}
 use Rattle.apex_types.specs.declared.request.Request.TheVariants as request
+use Rattle.apex_machine.specs.declared.condition.Condition.{Condition}
 use Rattle.apex_machine.specs.declared.state.Entry.{Entry}
 use Rattle.apex_machine.specs.declared.state.WaitingSet.{WaitingSet}
 use Rattle.apex_machine.specs.declared.state.WaitingSet.TheVariants as set
@@ -17,7 +17,7 @@ use Rattle.apex_machine.specs.After.{objects_by, partition_by, partition_called}
 use Rattle.apex_machine.specs.Channels.{is_receiver, is_sender}
 use Rattle.apex_machine.specs.Configuration.{Configuration}
 use Rattle.apex_machine.specs.Ports.{channel_of, suits_use, use_of}
-use Rattle.apex_machine.specs.ServiceConditions.{condition_codes}
+use Rattle.apex_machine.specs.ServiceConditions.{conditions_of}
 use Rattle.apex_machine.specs.Services.{answer_of}
 use Rattle.apex_machine.specs.State.{Partition, State, cold_state, is_named, time_of}
 use Rattle.apex_machine.specs.Step.{HasOutcome, IsLawfulBody, IsLawfulCall, Run, Step, channel_answer}
@@ -91,11 +91,11 @@ not_across _ partitions configuration channel wanted who off waits across = acro
 
 -- so who waits in a set of this partition isn't named
 not_named_here : (configuration : Configuration) (state : State) (now : ℕ) (call : CallRecord) (number : ℕ) → AreTied configuration state → nat_eq call.who.part number ≡ false
-    → (codes : List Code) (channel : Option ℕ) → HasOutcome codes channel (answer_of now call.who (state.partitions call.who.part) call.request)
+    → (conditions : List Condition) (channel : Option ℕ) → HasOutcome conditions channel (answer_of now call.who (state.partitions call.who.part) call.request)
     (λ number. suits_use configuration number call.who.part (use_of call.request) (state.channels number)) (channel_answer configuration now call.who.part call.request state.channels) call.claim
     → (wanted : WaitingSet) → is_of_channel wanted ≡ false
     → (who : Who) → who.part ≡ number → waits_at wanted (found state.partitions who) ≡ true → is_named who call.claim.woken ≡ true → ⊥
-not_named_here configuration state now call number tied elsewhere (code ∷ codes) channel has wanted off who here waits named = nobody who call.claim.woken has.woken named
+not_named_here configuration state now call number tied elsewhere (condition ∷ conditions) channel has wanted off who here waits named = nobody who call.claim.woken has.woken named
 not_named_here configuration state now call number tied elsewhere [] None has wanted off who here waits named =
     let by = woken configuration state now call.who call.request call.claim tied [] None has who named in
     true≢false (sym (eq-eqb call.who.part number (sym (by.own has.chan) ∙ here)) ∙ elsewhere)
@@ -114,7 +114,7 @@ stays_here configuration state core call tied law number elsewhere wanted off en
     goes_on call entry.who (restarts_other call entry.who.part there)
     (cannot_hold (is_named entry.who call.claim.woken) (λ named.
     not_named_here configuration state (time_of state.cores core) call number tied elsewhere
-    (condition_codes configuration call.who (state.partitions call.who.part) call.request) (channel_of (state.partitions call.who.part) call.request) law.outcome
+    (conditions_of configuration call.who (state.partitions call.who.part) call.request) (channel_of (state.partitions call.who.part) call.request) law.outcome
     wanted off entry.who is.0 is.1 named))
     (not_second (is_no_error call.claim.out) (nat_eq entry.who.part call.who.part && is_target (stop_of call.request) entry.who.proc)
     (not_first (nat_eq entry.who.part call.who.part) (is_target (stop_of call.request) entry.who.proc) there))
@@ -152,14 +152,14 @@ own_set configuration state place core body tied law number wanted =
 home_of : (configuration : Configuration) (state : State) (core : ℕ) (call : CallRecord) → AreTied configuration state
     → IsLawfulCall configuration state core call → (channel : ℕ) → call.claim.chan ≡ Some channel → StandsAtEnd call.request configuration channel call.who.part
 home_of configuration state core call tied law channel is =
-    by (condition_codes configuration call.who (state.partitions call.who.part) call.request) refl (channel_of (state.partitions call.who.part) call.request) refl law.outcome
+    by (conditions_of configuration call.who (state.partitions call.who.part) call.request) refl (channel_of (state.partitions call.who.part) call.request) refl law.outcome
   where
-    by : (codes : List Code) → condition_codes configuration call.who (state.partitions call.who.part) call.request ≡ codes
+    by : (conditions : List Condition) → conditions_of configuration call.who (state.partitions call.who.part) call.request ≡ conditions
         → (of : Option ℕ) → channel_of (state.partitions call.who.part) call.request ≡ of
-        → HasOutcome codes of (answer_of (time_of state.cores core) call.who (state.partitions call.who.part) call.request)
+        → HasOutcome conditions of (answer_of (time_of state.cores core) call.who (state.partitions call.who.part) call.request)
         (λ number. suits_use configuration number call.who.part (use_of call.request) (state.channels number)) (channel_answer configuration (time_of state.cores core) call.who.part call.request state.channels) call.claim
         → StandsAtEnd call.request configuration channel call.who.part
-    by (code ∷ codes) none of at has = let no : ◌≡◌ {A = Option ℕ} None (Some channel) = sym has.chan ∙ is in cc
+    by (condition ∷ conditions) none of at has = let no : ◌≡◌ {A = Option ℕ} None (Some channel) = sym has.chan ∙ is in cc
     by [] none None at has = let no : ◌≡◌ {A = Option ℕ} None (Some channel) = sym has.chan ∙ is in cc
     by [] none (Some other) at has =
         port_is_at_end configuration call.who (state.partitions call.who.part) call.request channel (tied.ports call.who.part) (at ∙ sym has.chan ∙ is) none

@@ -16,7 +16,7 @@ use Rattle.apex_machine.specs.After.{after, content_by, cores_by, is_channel, pa
 use Rattle.apex_machine.specs.Channels.{is_at_end, is_receiver, is_sender, samples}
 use Rattle.apex_machine.specs.Configuration.{Configuration}
 use Rattle.apex_machine.specs.Pieces.{ChannelPart, Module, OfChannel, OfPartition, PartitionPart, Piece, part, stops_at_end, times_of, touched_by, touches}
-use Rattle.apex_machine.specs.ServiceConditions.{condition_codes}
+use Rattle.apex_machine.specs.ServiceConditions.{conditions_of}
 use Rattle.apex_machine.specs.Ports.{channel_of}
 use Rattle.apex_machine.specs.State.{Partition, State, Table, each_item, is_named, time_of}
 use Rattle.apex_machine.specs.Step.{IsLawful, IsLawfulBody, IsLawfulCall}
@@ -116,7 +116,7 @@ not_woken : (configuration : Configuration) (state : State) (core : ℕ) (call :
 not_woken configuration state core call tied law number off who through =
     cannot_hold (is_named who call.claim.woken) (λ named.
     (let by = woken configuration state (time_of state.cores core) call.who call.request call.claim tied
-    (condition_codes configuration call.who (state.partitions call.who.part) call.request) (channel_of (state.partitions call.who.part) call.request) law.outcome who named in
+    (conditions_of configuration call.who (state.partitions call.who.part) call.request) (channel_of (state.partitions call.who.part) call.request) law.outcome who named in
     true≢false (sym (ap (is_channel number) (through by) ∙ is_itself number) ∙ off)))
 
 -- a set that a call doesn't enter and nobody of which it ends stays

@@ -1,7 +1,6 @@
 -- What a lawful call does to every process, object, port, channel and waiting set is what the sentences say.
 use Rattle.std.proofs.Common.{◌≡◌, ◌⊎◌, ℕ, ◌<◌, List, [], ◌∷◌, ◌++◌, Bool, true, false, cond, nat_eq, nat_lt, Option, Some, None, option_map, ℤ, pos, negsuc, IsTrue, refl, sym, ap, subst, ◌∙◌, inl, inr, true≢false}
 use Rattle.std.proofs.lemmas.Bool.{and_parts, cases_Bool, eqb-true, eq-eqb}
-use Rattle.apex_types.specs.declared.code.Code.{Code}
 use Rattle.apex_types.specs.declared.code.Code.TheVariants as code
 use Rattle.apex_types.specs.declared.record.Body.TheVariants.{Call}
 use Rattle.apex_types.specs.declared.object_kind.ObjectKind.TheVariants as kind
@@ -12,6 +11,7 @@ use Rattle.apex_types.specs.declared.record.Who.{Who}
 use Rattle.apex_types.specs.declared.operation.{BlackboardOperation.BlackboardOperation, BufferOperation.BufferOperation, CallerOperation.CallerOperation, EventOperation.EventOperation, MutexOperation.MutexOperation, ProcessOperation.ProcessOperation, QueuingOperation.QueuingOperation, SamplingOperation.SamplingOperation, SemaphoreOperation.SemaphoreOperation}
 use Rattle.apex_types.specs.declared.request.Request.{Request}
 use Rattle.apex_types.specs.declared.request.Request.TheVariants as request
+use Rattle.apex_machine.specs.declared.condition.Condition.{Condition}
 use Rattle.apex_machine.specs.declared.state.CoreState.{CoreState}
 use Rattle.apex_machine.specs.declared.state.Entry.{Entry}
 use Rattle.apex_machine.specs.declared.state.Process.{Process}
@@ -29,7 +29,7 @@ use Rattle.apex_machine.specs.Demands.{CanHave}
 use Rattle.apex_machine.specs.Objects.{at_maximum, displayed, event_set, handed_on, mutex_released, raised, released_once, signalled}
 use Rattle.apex_machine.specs.Ports.{Use, channel_effect, channel_of, suits, suits_use, use_of, used}
 use Rattle.apex_machine.specs.Processes.{caller_after, message_handed_over, new_process, set_by, stopped, woken_by}
-use Rattle.apex_machine.specs.ServiceConditions.{condition_codes}
+use Rattle.apex_machine.specs.ServiceConditions.{conditions_of}
 use Rattle.apex_machine.specs.Services.{answer_by, answer_of, peer, resuming}
 use Rattle.apex_machine.specs.State.{Channel, Content, Mutex, Partition, State, Table, created, each_item, given_object, is_named, item_at, time_of}
 use Rattle.apex_machine.specs.Step.{HasCode, HasOutcome, IsLawfulCall, channel_answer}
@@ -97,7 +97,7 @@ resume_no_wait target (Some process) waits =
     ] waits
 
 -- a call that uses no channel and waits
-own_begun : (configuration : Configuration) (now : ℕ) (who : Who) (partition : Partition) (asked : Request) (process : Process) → condition_codes configuration who partition asked ≡ []
+own_begun : (configuration : Configuration) (now : ℕ) (who : Who) (partition : Partition) (asked : Request) (process : Process) → conditions_of configuration who partition asked ≡ []
     → (answer_of now who partition asked).out ≡ out.Waits → IsBegun now asked None process (wait_of asked None now process)
 own_begun configuration now who partition (request.Caller (CallerOperation.TimedWait (pos ticks))) process none waits = IsBegun.delay ticks refl refl
 own_begun configuration now who partition (request.Caller (CallerOperation.TimedWait (negsuc n))) process none waits = cc
@@ -142,16 +142,16 @@ through_begun configuration now channel partition _ process held suited can = ab
 begun : (configuration : Configuration) (state : State) (core : ℕ) (call : CallRecord) → IsLawfulCall configuration state core call → (process : Process)
     → is_waiting call.claim.out ≡ true → IsBegun (time_of state.cores core) call.request call.claim.chan process (wait_of call.request call.claim.chan (time_of state.cores core) process)
 begun configuration state core call law process waits =
-    by (condition_codes configuration call.who (state.partitions call.who.part) call.request) refl (channel_of (state.partitions call.who.part) call.request) law.outcome
+    by (conditions_of configuration call.who (state.partitions call.who.part) call.request) refl (channel_of (state.partitions call.who.part) call.request) law.outcome
   where
-    by : (codes : List Code) → condition_codes configuration call.who (state.partitions call.who.part) call.request ≡ codes → (channel : Option ℕ)
-        → HasOutcome codes channel (answer_of (time_of state.cores core) call.who (state.partitions call.who.part) call.request)
+    by : (conditions : List Condition) → conditions_of configuration call.who (state.partitions call.who.part) call.request ≡ conditions → (channel : Option ℕ)
+        → HasOutcome conditions channel (answer_of (time_of state.cores core) call.who (state.partitions call.who.part) call.request)
         (λ number. suits_use configuration number call.who.part (use_of call.request) (state.channels number)) (channel_answer configuration (time_of state.cores core) call.who.part call.request state.channels) call.claim
         → IsBegun (time_of state.cores core) call.request call.claim.chan process (wait_of call.request call.claim.chan (time_of state.cores core) process)
-    by (one ∷ codes) at channel has = absurd (refused (one ∷ codes) has.out)
+    by (one ∷ conditions) at channel has = absurd (refused (one ∷ conditions) has.out)
       where
-        refused : (codes : List Code) → HasCode codes call.claim.out → ⊥
-        refused codes has = subst (HasCode codes) ((waiting_tells call.claim.out).0 waits) has
+        refused : (conditions : List Condition) → HasCode conditions call.claim.out → ⊥
+        refused conditions has = subst (HasCode conditions) ((waiting_tells call.claim.out).0 waits) has
     by [] at None has =
         subst (λ chan. IsBegun (time_of state.cores core) call.request chan process (wait_of call.request chan (time_of state.cores core) process)) (sym has.chan)
         (own_begun configuration (time_of state.cores core) call.who (state.partitions call.who.part) call.request process at (sym has.out ∙ (waiting_tells call.claim.out).0 waits))
@@ -189,10 +189,10 @@ peer_waits partitions who process target is suspends old at =
     let same : target ≡ old = cc in
     subst (λ one. WaitsForOther one.wait) same (suspension_waits target.wait suspends)
 
-named_waits : (configuration : Configuration) (state : State) (now : ℕ) (who : Who) (asked : Request) (claim : Claim) → AreTied configuration state → (codes : List Code) (channel : Option ℕ)
-    → HasOutcome codes channel (answer_of now who (state.partitions who.part) asked) (λ number. suits_use configuration number who.part (use_of asked) (state.channels number)) (channel_answer configuration now who.part asked state.channels) claim
+named_waits : (configuration : Configuration) (state : State) (now : ℕ) (who : Who) (asked : Request) (claim : Claim) → AreTied configuration state → (conditions : List Condition) (channel : Option ℕ)
+    → HasOutcome conditions channel (answer_of now who (state.partitions who.part) asked) (λ number. suits_use configuration number who.part (use_of asked) (state.channels number)) (channel_answer configuration now who.part asked state.channels) claim
     → (one : Who) → is_named one claim.woken ≡ true → OtherAwaited state.partitions one
-named_waits configuration state now who asked claim tied (code ∷ codes) channel has one named = nobody one claim.woken has.woken named
+named_waits configuration state now who asked claim tied (condition ∷ conditions) channel has one named = nobody one claim.woken has.woken named
 named_waits configuration state now who asked claim tied [] None has one named =
     answer_wakes (OtherAwaited state.partitions) now who (state.partitions who.part) asked
     (λ wanted used. tied_waits (λ home. home ≡ who.part) wanted state.partitions (entries_at (state.partitions who.part) wanted) (tied.objects who.part wanted))
@@ -224,15 +224,15 @@ not_for_normal wait.Nothing waits = absurd waits
 not_for_normal _ waits = absurd waits
 
 -- START names nobody
-start_names_nobody : (codes : List Code) (suited : ℕ → Bool) (through : ℕ → Answer) (claim : Claim) → HasOutcome codes None done suited through claim → (one : Who) → is_named one claim.woken ≡ true → ⊥
+start_names_nobody : (conditions : List Condition) (suited : ℕ → Bool) (through : ℕ → Answer) (claim : Claim) → HasOutcome conditions None done suited through claim → (one : Who) → is_named one claim.woken ≡ true → ⊥
 start_names_nobody [] suited through claim has one named = true≢false (sym named ∙ has.woken one)
-start_names_nobody (code ∷ codes) suited through claim has one named = nobody one claim.woken has.woken named
+start_names_nobody (condition ∷ conditions) suited through claim has one named = nobody one claim.woken has.woken named
 
 not_started : (configuration : Configuration) (now : ℕ) (who : Who) (partition : Partition) (asked : Request) (suited : ℕ → Bool) (through : ℕ → Answer) (claim : Claim)
-    → HasOutcome (condition_codes configuration who partition asked) (channel_of partition asked) (answer_of now who partition asked) suited through claim
+    → HasOutcome (conditions_of configuration who partition asked) (channel_of partition asked) (answer_of now who partition asked) suited through claim
     → (one : Who) → is_named one claim.woken ≡ true → (number : ℕ) → IsNotStarted asked number
 not_started configuration now who partition (request.Process process ProcessOperation.Start) suited through claim has one named number =
-    absurd (start_names_nobody (condition_codes configuration who partition (request.Process process ProcessOperation.Start)) suited through claim has one named)
+    absurd (start_names_nobody (conditions_of configuration who partition (request.Process process ProcessOperation.Start)) suited through claim has one named)
 not_started configuration now who partition _ suited through claim has one named number = tt
 
 -- what the call sets leaves the wait of a process that it names
@@ -310,12 +310,12 @@ suited_use : (configuration : Configuration) (number partition : ℕ) (found : O
 suited_use configuration number partition None channel suited = absurd (true≢false (sym suited))
 suited_use configuration number partition (Some how) channel suited = (how, refl, suited)
 
-goes_through : (configuration : Configuration) (state : State) (now : ℕ) (call : CallRecord) (answer : Answer) (codes : List Code) (channel : Option ℕ) (number : ℕ) (next : Channel) → SetsAreInOrder state
-    → HasOutcome codes channel answer (λ number. suits_use configuration number call.who.part (use_of call.request) (state.channels number)) (channel_answer configuration now call.who.part call.request state.channels) call.claim
+goes_through : (configuration : Configuration) (state : State) (now : ℕ) (call : CallRecord) (answer : Answer) (conditions : List Condition) (channel : Option ℕ) (number : ℕ) (next : Channel) → SetsAreInOrder state
+    → HasOutcome conditions channel answer (λ number. suits_use configuration number call.who.part (use_of call.request) (state.channels number)) (channel_answer configuration now call.who.part call.request state.channels) call.claim
     → call.claim.chan ≡ Some number → next.content ≡ (channel_effect configuration now number call.who.part (use_of call.request) (state.channels number)).next
     → GoesThrough configuration now number call (state.channels number) next
-goes_through configuration state now call answer codes channel number next order has goes content =
-    let through = through_claimed codes channel answer (λ number. suits_use configuration number call.who.part (use_of call.request) (state.channels number)) (channel_answer configuration now call.who.part call.request state.channels) call.claim number goes has in
+goes_through configuration state now call answer conditions channel number next order has goes content =
+    let through = through_claimed conditions channel answer (λ number. suits_use configuration number call.who.part (use_of call.request) (state.channels number)) (channel_answer configuration now call.who.part call.request state.channels) call.claim number goes has in
     let how = suited_use configuration number call.who.part (use_of call.request) (state.channels number) through.kind in
     let effect : Effect Content = used configuration now number call.who.part how.0 (state.channels number) (state.channels number).content in
     let same : channel_effect configuration now number call.who.part (use_of call.request) (state.channels number) ≡ effect = ap (λ found. channel_effect configuration now number call.who.part found (state.channels number)) how.1 in
@@ -402,7 +402,7 @@ call_is_the_sentence configuration state ordered call next above tied order step
           first = set_first configuration state place call who.proc old (above part);
           second = (waking_is_the_sentence place (message_handed_over call.request) (sets who.proc old) (woken_by place (message_handed_over call.request) (sets who.proc old))
               (named_keeps configuration state place core call law who named who.proc old
-              (named_waits configuration state now call.who call.request call.claim tied (condition_codes configuration call.who partition call.request) (channel_of partition call.request) law.outcome who named old at))).0 refl;
+              (named_waits configuration state now call.who call.request call.claim tied (conditions_of configuration call.who partition call.request) (channel_of partition call.request) law.outcome who named old at))).0 refl;
         };
       };
       peers = λ who old here differs at not_stopping not_named. record {
@@ -428,7 +428,7 @@ call_is_the_sentence configuration state ordered call next above tied order step
                 ∙ turns_each wake_named (state.partitions who.part).table who.proc old at
                 ∙ ap (λ test. Some (cond test (woken_by place (message_handed_over call.request) old) old)) named;
             change = (waking_is_the_sentence place (message_handed_over call.request) old (woken_by place (message_handed_over call.request) old)
-                (named_waits configuration state now call.who call.request call.claim tied (condition_codes configuration call.who partition call.request) (channel_of partition call.request) law.outcome who named old at)).0 refl;
+                (named_waits configuration state now call.who call.request call.claim tied (conditions_of configuration call.who partition call.request) (channel_of partition call.request) law.outcome who named old at)).0 refl;
           };
       added = λ number none.
           let is_added = adds configuration call call.request number refl in
@@ -450,7 +450,7 @@ call_is_the_sentence configuration state ordered call next above tied order step
           (cannot_hold (nat_eq part number) (λ same. there (sym (eqb-true part number same))));
       senders = λ number. set_says place call (set.ChannelSenders number) (state.channels number).senders (next.channels number).senders (ap (λ one. one.senders) (channels number));
       receivers = λ number. set_says place call (set.ChannelReceivers number) (state.channels number).receivers (next.channels number).receivers (ap (λ one. one.receivers) (channels number));
-      through = λ number goes. goes_through configuration state now call (answer_of now call.who partition call.request) (condition_codes configuration call.who partition call.request)
+      through = λ number goes. goes_through configuration state now call (answer_of now call.who partition call.request) (conditions_of configuration call.who partition call.request)
           (channel_of partition call.request) number (next.channels number) order law.outcome goes
           (ap (λ one. one.content) (channels number)
           ∙ ap (λ test. cond test (channel_effect configuration now number call.who.part (use_of call.request) (state.channels number)).next (state.channels number).content) (ap (is_channel number) goes ∙ is_itself number));

@@ -2,10 +2,10 @@
 -- wait at no channel.
 use Rattle.std.proofs.Common.{◌≡◌, ℕ, zero, suc, List, [], ◌∷◌, true, ℤ, pos, negsuc, Option, Some, None, IsTrue, refl, sym, ap, subst, ◌∙◌, true≢false}
 use Rattle.std.proofs.lemmas.Bool.{and_parts}
-use Rattle.apex_types.specs.declared.code.Code.{Code}
 use Rattle.apex_types.specs.declared.record.Claim.{Claim}
 use Rattle.apex_types.specs.declared.record.Who.{Who}
 use Rattle.apex_types.specs.declared.request.Request.{Request}
+use Rattle.apex_machine.specs.declared.condition.Condition.{Condition}
 use Rattle.apex_machine.specs.declared.state.Entry.{Entry}
 use Rattle.apex_machine.specs.declared.state.Process.{Process}
 use Rattle.apex_machine.specs.declared.state.Wait.{Wait}
@@ -90,11 +90,11 @@ channel_waiter partitions Home wanted number channel chan is sending receiving e
 
 -- whom a call with a lawful outcome names
 pub woken : (configuration : Configuration) (state : State) (now : ℕ) (who : Who) (asked : Request) (claim : Claim) → AreTied configuration state
-    → (codes : List Code) (channel : Option ℕ)
-    → HasOutcome codes channel (answer_of now who (state.partitions who.part) asked) (λ number. suits_use configuration number who.part (use_of asked) (state.channels number))
+    → (conditions : List Condition) (channel : Option ℕ)
+    → HasOutcome conditions channel (answer_of now who (state.partitions who.part) asked) (λ number. suits_use configuration number who.part (use_of asked) (state.channels number))
     (channel_answer configuration now who.part asked state.channels) claim
     → (one : Who) → is_named one claim.woken ≡ true → IsWokenBy state.partitions who.part claim.chan one
-woken configuration state now who asked claim tied (code ∷ codes) channel has one named = nobody one claim.woken has.woken named
+woken configuration state now who asked claim tied (condition ∷ conditions) channel has one named = nobody one claim.woken has.woken named
 woken configuration state now who asked claim tied [] None has one named =
     answer_wakes (IsWokenBy state.partitions who.part claim.chan) now who (state.partitions who.part) asked
     (λ wanted used. own_waiter state.partitions who.part wanted claim.chan (tied.objects who.part wanted))

@@ -1,9 +1,7 @@
 -- The error conditions of the services, in sentences: one case for each condition of each service, with what holds in the caller's
--- partition and the code. A condition that several services share stands once.
+-- partition. A case that several services share stands once.
 use Rattle.std.specs.Prelude.{◌≡◌, ◌⊎◌, ℕ, ◌*◌, ◌-◌, ◌<◌, ◌≤◌, ℤ, pos, negsuc, ◌<ℤ◌, ◌≤ℤ◌, List, length, Option, Some, IsTrue, IsFalse, Contains}
 use Rattle.apex_types.specs.declared.limits.TheConstants.{GREATEST_MAXIMUM, GREATEST_PRIORITY, LONGEST_MESSAGE, MOST_MESSAGES}
-use Rattle.apex_types.specs.declared.code.Code.{Code}
-use Rattle.apex_types.specs.declared.code.Code.TheVariants as code
 use Rattle.apex_types.specs.declared.discipline.Discipline.{Discipline}
 use Rattle.apex_types.specs.declared.discipline.Discipline.TheVariants as discipline
 use Rattle.apex_types.specs.declared.object_kind.ObjectKind.{ObjectKind}
@@ -13,6 +11,8 @@ use Rattle.apex_types.specs.declared.operation.{BlackboardOperation.BlackboardOp
 use Rattle.apex_types.specs.declared.request.Request.{Request}
 use Rattle.apex_types.specs.declared.request.Request.TheVariants as request
 use Rattle.apex_types.specs.Requested.{kind_of}
+use Rattle.apex_machine.specs.declared.condition.Condition.{Condition}
+use Rattle.apex_machine.specs.declared.condition.Condition.TheVariants as condition
 use Rattle.apex_machine.specs.declared.state.Direction.{Direction}
 use Rattle.apex_machine.specs.declared.state.Direction.TheVariants as direction
 use Rattle.apex_machine.specs.declared.state.Mode.TheVariants as mode
@@ -199,114 +199,114 @@ AllAreCreated configuration number partition (request.CreateProcess name priorit
 AllAreCreated configuration number partition (request.Create name object) = KindIsFull configuration number partition (kind_of object)
 AllAreCreated configuration number partition _ = ⊥
 
--- an error condition of a service holds for a call of this process in this state of its partition, and has this code. STOP_SELF and
+-- an error condition of a service holds for a call of this process in this state of its partition. STOP_SELF and
 -- GET_TIME have none; CREATE_EVENT, CLEAR_BLACKBOARD, SIGNAL_SEMAPHORE, SET_EVENT, RESET_EVENT and the waits for a message, a
 -- semaphore or an event have only shared ones
 module _ (configuration : Configuration) (who : Who) (partition : Partition) where
-  pub data HasCondition : Request → Code → Type 0 where
+  pub data HasCondition : Request → Condition → Type 0 where
     -- shared conditions
-    names_nothing : {asked : Request} → NamesNothing partition asked → HasCondition asked code.InvalidParam
-    time_out_below : {asked : Request} (time_out : ℤ) → HasTimeOut asked time_out → time_out <ℤ negsuc 0 → HasCondition asked code.InvalidParam
-    may_not_wait : {asked : Request} (time_out : ℤ) → WaitsFor asked time_out → ¬ (time_out ≡ pos 0) → MayNotWait who partition → HasCondition asked code.InvalidMode
-    in_normal : {asked : Request} → IsSetUp asked → partition.mode ≡ mode.Normal → HasCondition asked code.InvalidMode
-    name_taken : {asked : Request} → NameIsTaken partition asked → HasCondition asked code.NoAction
-    all_created : {asked : Request} → AllAreCreated configuration who.part partition asked → HasCondition asked code.InvalidConfig
+    names_nothing : {asked : Request} → NamesNothing partition asked → HasCondition asked condition.NotCreated
+    time_out_below : {asked : Request} (time_out : ℤ) → HasTimeOut asked time_out → time_out <ℤ negsuc 0 → HasCondition asked condition.TimeOutOutOfRange
+    may_not_wait : {asked : Request} (time_out : ℤ) → WaitsFor asked time_out → ¬ (time_out ≡ pos 0) → MayNotWait who partition → HasCondition asked condition.MayNotWait
+    in_normal : {asked : Request} → IsSetUp asked → partition.mode ≡ mode.Normal → HasCondition asked condition.InNormal
+    name_taken : {asked : Request} → NameIsTaken partition asked → HasCondition asked condition.NameTaken
+    all_created : {asked : Request} → AllAreCreated configuration who.part partition asked → HasCondition asked condition.AllCreated
     -- CREATE_PROCESS: no priority; a period that is neither -1 nor above 0; one above 0 that is no multiple of the partition's
-    create_process_priority : {name : List ℕ} {priority period : ℤ} → ¬ IsPriority priority → HasCondition (request.CreateProcess name priority period) code.InvalidParam
+    create_process_priority : {name : List ℕ} {priority period : ℤ} → ¬ IsPriority priority → HasCondition (request.CreateProcess name priority period) condition.PriorityOutOfRange
     create_process_period : {name : List ℕ} {priority period : ℤ} → ¬ (period ≡ negsuc 0) → period ≤ℤ pos 0
-        → HasCondition (request.CreateProcess name priority period) code.InvalidParam
+        → HasCondition (request.CreateProcess name priority period) condition.PeriodOutOfRange
     create_process_multiple : {name : List ℕ} {priority period : ℤ} → pos 0 <ℤ period → ¬ IsMultipleOf (period_of configuration who.part) period
-        → HasCondition (request.CreateProcess name priority period) code.InvalidConfig
+        → HasCondition (request.CreateProcess name priority period) condition.PeriodNotMultiple
     -- INITIALIZE_PROCESS_CORE_AFFINITY: not a core of the partition
-    affinity_core : {process core : ℤ} → ¬ IsCoreOf configuration who.part core → HasCondition (request.Process process (ProcessOperation.InitializeCoreAffinity core)) code.InvalidConfig
+    affinity_core : {process core : ℤ} → ¬ IsCoreOf configuration who.part core → HasCondition (request.Process process (ProcessOperation.InitializeCoreAffinity core)) condition.CoreNotOfPartition
     -- START: not dormant
-    start_alive : {process : ℤ} (found : Process) → IsProcess partition process found → IsTrue found.alive → HasCondition (request.Process process ProcessOperation.Start) code.NoAction
+    start_alive : {process : ℤ} (found : Process) → IsProcess partition process found → IsTrue found.alive → HasCondition (request.Process process ProcessOperation.Start) condition.AlreadyStarted
     -- STOP: the caller's own number; a dormant process
-    stop_itself : {process : ℤ} → process ≡ pos who.proc → HasCondition (request.Process process ProcessOperation.Stop) code.InvalidParam
-    stop_dormant : {process : ℤ} (found : Process) → IsProcess partition process found → IsFalse found.alive → HasCondition (request.Process process ProcessOperation.Stop) code.NoAction
+    stop_itself : {process : ℤ} → process ≡ pos who.proc → HasCondition (request.Process process ProcessOperation.Stop) condition.NamesItself
+    stop_dormant : {process : ℤ} (found : Process) → IsProcess partition process found → IsFalse found.alive → HasCondition (request.Process process ProcessOperation.Stop) condition.AlreadyDormant
     -- SUSPEND: the caller's own number; a dormant process; a periodic one; one that is suspended
-    suspend_itself : {process : ℤ} → process ≡ pos who.proc → HasCondition (request.Process process ProcessOperation.Suspend) code.InvalidParam
-    suspend_dormant : {process : ℤ} (found : Process) → IsProcess partition process found → IsFalse found.alive → HasCondition (request.Process process ProcessOperation.Suspend) code.InvalidMode
-    suspend_periodic : {process : ℤ} (found : Process) → IsProcess partition process found → IsPeriodic found → HasCondition (request.Process process ProcessOperation.Suspend) code.InvalidMode
-    suspend_suspended : {process : ℤ} (found : Process) → IsProcess partition process found → IsSuspended found → HasCondition (request.Process process ProcessOperation.Suspend) code.NoAction
+    suspend_itself : {process : ℤ} → process ≡ pos who.proc → HasCondition (request.Process process ProcessOperation.Suspend) condition.NamesItself
+    suspend_dormant : {process : ℤ} (found : Process) → IsProcess partition process found → IsFalse found.alive → HasCondition (request.Process process ProcessOperation.Suspend) condition.Dormant
+    suspend_periodic : {process : ℤ} (found : Process) → IsProcess partition process found → IsPeriodic found → HasCondition (request.Process process ProcessOperation.Suspend) condition.Periodic
+    suspend_suspended : {process : ℤ} (found : Process) → IsProcess partition process found → IsSuspended found → HasCondition (request.Process process ProcessOperation.Suspend) condition.AlreadySuspended
     -- SUSPEND_SELF: a periodic process; one that may not wait
-    suspend_self_periodic : {time_out : ℤ} → IsCalledByPeriodic who partition → HasCondition (request.Caller (CallerOperation.SuspendSelf time_out)) code.InvalidMode
-    suspend_self_waits : {time_out : ℤ} → MayNotWait who partition → HasCondition (request.Caller (CallerOperation.SuspendSelf time_out)) code.InvalidMode
+    suspend_self_periodic : {time_out : ℤ} → IsCalledByPeriodic who partition → HasCondition (request.Caller (CallerOperation.SuspendSelf time_out)) condition.PeriodicCaller
+    suspend_self_waits : {time_out : ℤ} → MayNotWait who partition → HasCondition (request.Caller (CallerOperation.SuspendSelf time_out)) condition.MayNotWait
     -- RESUME: the caller's own number; a dormant process; a periodic one; one that is alive and not suspended
-    resume_itself : {process : ℤ} → process ≡ pos who.proc → HasCondition (request.Process process ProcessOperation.Resume) code.InvalidParam
-    resume_dormant : {process : ℤ} (found : Process) → IsProcess partition process found → IsFalse found.alive → HasCondition (request.Process process ProcessOperation.Resume) code.InvalidMode
-    resume_periodic : {process : ℤ} (found : Process) → IsProcess partition process found → IsPeriodic found → HasCondition (request.Process process ProcessOperation.Resume) code.InvalidMode
+    resume_itself : {process : ℤ} → process ≡ pos who.proc → HasCondition (request.Process process ProcessOperation.Resume) condition.NamesItself
+    resume_dormant : {process : ℤ} (found : Process) → IsProcess partition process found → IsFalse found.alive → HasCondition (request.Process process ProcessOperation.Resume) condition.Dormant
+    resume_periodic : {process : ℤ} (found : Process) → IsProcess partition process found → IsPeriodic found → HasCondition (request.Process process ProcessOperation.Resume) condition.Periodic
     resume_running : {process : ℤ} (found : Process) → IsProcess partition process found → IsTrue found.alive → ¬ IsSuspended found
-        → HasCondition (request.Process process ProcessOperation.Resume) code.NoAction
+        → HasCondition (request.Process process ProcessOperation.Resume) condition.NotSuspended
     -- SET_PRIORITY: no priority; a dormant process
-    set_priority_priority : {process priority : ℤ} → ¬ IsPriority priority → HasCondition (request.Process process (ProcessOperation.SetPriority priority)) code.InvalidParam
+    set_priority_priority : {process priority : ℤ} → ¬ IsPriority priority → HasCondition (request.Process process (ProcessOperation.SetPriority priority)) condition.PriorityOutOfRange
     set_priority_dormant : {process priority : ℤ} (found : Process) → IsProcess partition process found → IsFalse found.alive
-        → HasCondition (request.Process process (ProcessOperation.SetPriority priority)) code.InvalidMode
+        → HasCondition (request.Process process (ProcessOperation.SetPriority priority)) condition.Dormant
     -- GET_MY_ID: the initialising process
-    get_my_id_initialising : who.proc ≡ 0 → HasCondition (request.Caller CallerOperation.GetMyId) code.InvalidMode
+    get_my_id_initialising : who.proc ≡ 0 → HasCondition (request.Caller CallerOperation.GetMyId) condition.InitialisingCaller
     -- TIMED_WAIT: a delay below 0; a process that may not wait
-    timed_wait_delay : {ticks : ℤ} → ticks <ℤ pos 0 → HasCondition (request.Caller (CallerOperation.TimedWait ticks)) code.InvalidParam
-    timed_wait_waits : {ticks : ℤ} → MayNotWait who partition → HasCondition (request.Caller (CallerOperation.TimedWait ticks)) code.InvalidMode
+    timed_wait_delay : {ticks : ℤ} → ticks <ℤ pos 0 → HasCondition (request.Caller (CallerOperation.TimedWait ticks)) condition.DelayOutOfRange
+    timed_wait_waits : {ticks : ℤ} → MayNotWait who partition → HasCondition (request.Caller (CallerOperation.TimedWait ticks)) condition.MayNotWait
     -- PERIODIC_WAIT: not a periodic process; one that may not wait
-    periodic_wait_aperiodic : ¬ IsCalledByPeriodic who partition → HasCondition (request.Caller CallerOperation.PeriodicWait) code.InvalidMode
-    periodic_wait_waits : MayNotWait who partition → HasCondition (request.Caller CallerOperation.PeriodicWait) code.InvalidMode
+    periodic_wait_aperiodic : ¬ IsCalledByPeriodic who partition → HasCondition (request.Caller CallerOperation.PeriodicWait) condition.AperiodicCaller
+    periodic_wait_waits : MayNotWait who partition → HasCondition (request.Caller CallerOperation.PeriodicWait) condition.MayNotWait
     -- SET_PARTITION_MODE: a mode that is not 0 to 3; NORMAL, which is 3, in NORMAL; WARM_START, which is 2, in COLD_START
-    set_mode_none : {next : ℤ} → ¬ IsFrom (pos 0) (pos 3) next → HasCondition (request.SetPartitionMode next) code.InvalidParam
-    set_mode_normal : {next : ℤ} → next ≡ pos 3 → partition.mode ≡ mode.Normal → HasCondition (request.SetPartitionMode next) code.NoAction
-    set_mode_warm : {next : ℤ} → next ≡ pos 2 → partition.mode ≡ mode.ColdStart → HasCondition (request.SetPartitionMode next) code.InvalidMode
+    set_mode_none : {next : ℤ} → ¬ IsFrom (pos 0) (pos 3) next → HasCondition (request.SetPartitionMode next) condition.ModeOutOfRange
+    set_mode_normal : {next : ℤ} → next ≡ pos 3 → partition.mode ≡ mode.Normal → HasCondition (request.SetPartitionMode next) condition.AlreadyNormal
+    set_mode_warm : {next : ℤ} → next ≡ pos 2 → partition.mode ≡ mode.ColdStart → HasCondition (request.SetPartitionMode next) condition.WarmStartInColdStart
     -- CREATE_BUFFER: no message size; a number of messages that is not 1 to 1,024; no discipline
-    create_buffer_size : {name : List ℕ} {size capacity given : ℤ} → ¬ IsSize size → HasCondition (request.Create name (NewObject.Buffer size capacity given)) code.InvalidParam
+    create_buffer_size : {name : List ℕ} {size capacity given : ℤ} → ¬ IsSize size → HasCondition (request.Create name (NewObject.Buffer size capacity given)) condition.SizeOutOfRange
     create_buffer_capacity : {name : List ℕ} {size capacity given : ℤ} → ¬ IsFrom (pos 1) (pos MOST_MESSAGES) capacity
-        → HasCondition (request.Create name (NewObject.Buffer size capacity given)) code.InvalidParam
-    create_buffer_discipline : {name : List ℕ} {size capacity given : ℤ} → ¬ IsDiscipline given → HasCondition (request.Create name (NewObject.Buffer size capacity given)) code.InvalidParam
+        → HasCondition (request.Create name (NewObject.Buffer size capacity given)) condition.CapacityOutOfRange
+    create_buffer_discipline : {name : List ℕ} {size capacity given : ℤ} → ¬ IsDiscipline given → HasCondition (request.Create name (NewObject.Buffer size capacity given)) condition.DisciplineOutOfRange
     -- SEND_BUFFER: a message without a byte; one that is longer than the buffer's size
-    send_buffer_empty : {buffer length time_out : ℤ} {message : List ℕ} → length <ℤ pos 1 → HasCondition (request.Buffer buffer (BufferOperation.Send length time_out message)) code.InvalidParam
+    send_buffer_empty : {buffer length time_out : ℤ} {message : List ℕ} → length <ℤ pos 1 → HasCondition (request.Buffer buffer (BufferOperation.Send length time_out message)) condition.EmptyMessage
     send_buffer_long : {buffer length time_out : ℤ} {message : List ℕ} (found : Buffer) → IsObject partition.buffers buffer found → pos found.size <ℤ length
-        → HasCondition (request.Buffer buffer (BufferOperation.Send length time_out message)) code.InvalidParam
+        → HasCondition (request.Buffer buffer (BufferOperation.Send length time_out message)) condition.LongerThanObject
     -- CREATE_BLACKBOARD: no message size
-    create_blackboard_size : {name : List ℕ} {size : ℤ} → ¬ IsSize size → HasCondition (request.Create name (NewObject.Blackboard size)) code.InvalidParam
+    create_blackboard_size : {name : List ℕ} {size : ℤ} → ¬ IsSize size → HasCondition (request.Create name (NewObject.Blackboard size)) condition.SizeOutOfRange
     -- DISPLAY_BLACKBOARD: a message without a byte; one that is longer than the blackboard's size
-    display_empty : {blackboard length : ℤ} {message : List ℕ} → length <ℤ pos 1 → HasCondition (request.Blackboard blackboard (BlackboardOperation.Display length message)) code.InvalidParam
+    display_empty : {blackboard length : ℤ} {message : List ℕ} → length <ℤ pos 1 → HasCondition (request.Blackboard blackboard (BlackboardOperation.Display length message)) condition.EmptyMessage
     display_long : {blackboard length : ℤ} {message : List ℕ} (found : Blackboard) → IsObject partition.blackboards blackboard found → pos found.size <ℤ length
-        → HasCondition (request.Blackboard blackboard (BlackboardOperation.Display length message)) code.InvalidParam
+        → HasCondition (request.Blackboard blackboard (BlackboardOperation.Display length message)) condition.LongerThanObject
     -- CREATE_SEMAPHORE: a maximum that is not 1 to 32,767; a value that is not 0 to the maximum; no discipline
     create_semaphore_maximum : {name : List ℕ} {value maximum given : ℤ} → ¬ IsFrom (pos 1) (pos GREATEST_MAXIMUM) maximum
-        → HasCondition (request.Create name (NewObject.Semaphore value maximum given)) code.InvalidParam
+        → HasCondition (request.Create name (NewObject.Semaphore value maximum given)) condition.MaximumOutOfRange
     create_semaphore_value : {name : List ℕ} {value maximum given : ℤ} → ¬ IsFrom (pos 0) maximum value
-        → HasCondition (request.Create name (NewObject.Semaphore value maximum given)) code.InvalidParam
-    create_semaphore_discipline : {name : List ℕ} {value maximum given : ℤ} → ¬ IsDiscipline given → HasCondition (request.Create name (NewObject.Semaphore value maximum given)) code.InvalidParam
+        → HasCondition (request.Create name (NewObject.Semaphore value maximum given)) condition.ValueOutOfRange
+    create_semaphore_discipline : {name : List ℕ} {value maximum given : ℤ} → ¬ IsDiscipline given → HasCondition (request.Create name (NewObject.Semaphore value maximum given)) condition.DisciplineOutOfRange
     -- CREATE_MUTEX: no priority; no discipline
-    create_mutex_priority : {name : List ℕ} {priority given : ℤ} → ¬ IsPriority priority → HasCondition (request.Create name (NewObject.Mutex priority given)) code.InvalidParam
-    create_mutex_discipline : {name : List ℕ} {priority given : ℤ} → ¬ IsDiscipline given → HasCondition (request.Create name (NewObject.Mutex priority given)) code.InvalidParam
+    create_mutex_priority : {name : List ℕ} {priority given : ℤ} → ¬ IsPriority priority → HasCondition (request.Create name (NewObject.Mutex priority given)) condition.PriorityOutOfRange
+    create_mutex_discipline : {name : List ℕ} {priority given : ℤ} → ¬ IsDiscipline given → HasCondition (request.Create name (NewObject.Mutex priority given)) condition.DisciplineOutOfRange
     -- ACQUIRE_MUTEX: the initialising process; the owner of another mutex; a process whose current priority is above the mutex's
-    acquire_initialising : {mutex time_out : ℤ} → who.proc ≡ 0 → HasCondition (request.Mutex mutex (MutexOperation.Acquire time_out)) code.InvalidMode
-    acquire_second : {mutex time_out : ℤ} (held : ℕ) → Owns partition who.proc held → ¬ (mutex ≡ pos held) → HasCondition (request.Mutex mutex (MutexOperation.Acquire time_out)) code.InvalidMode
+    acquire_initialising : {mutex time_out : ℤ} → who.proc ≡ 0 → HasCondition (request.Mutex mutex (MutexOperation.Acquire time_out)) condition.InitialisingCaller
+    acquire_second : {mutex time_out : ℤ} (held : ℕ) → Owns partition who.proc held → ¬ (mutex ≡ pos held) → HasCondition (request.Mutex mutex (MutexOperation.Acquire time_out)) condition.OwnsAnother
     acquire_above : {mutex time_out : ℤ} (found : Mutex) (process : Process) → IsObject partition.mutexes mutex found → IsCalledBy who partition process
-        → found.priority < process.current_priority → HasCondition (request.Mutex mutex (MutexOperation.Acquire time_out)) code.InvalidMode
+        → found.priority < process.current_priority → HasCondition (request.Mutex mutex (MutexOperation.Acquire time_out)) condition.AboveCeiling
     -- RELEASE_MUTEX: not by the owner
-    release_not_owner : {mutex : ℤ} (found : Mutex) → IsObject partition.mutexes mutex found → ¬ (found.owner ≡ Some who.proc) → HasCondition (request.Mutex mutex MutexOperation.Release) code.InvalidMode
+    release_not_owner : {mutex : ℤ} (found : Mutex) → IsObject partition.mutexes mutex found → ¬ (found.owner ≡ Some who.proc) → HasCondition (request.Mutex mutex MutexOperation.Release) condition.NotOwner
     -- CREATE_SAMPLING_PORT, CREATE_QUEUING_PORT: no such port is configured
     create_sampling_port : {name : List ℕ} {size way refresh : ℤ} → ¬ IsSamplingPort configuration who.part name size way refresh
-        → HasCondition (request.Create name (NewObject.SamplingPort size way refresh)) code.InvalidConfig
+        → HasCondition (request.Create name (NewObject.SamplingPort size way refresh)) condition.NotAsConfigured
     create_queuing_port : {name : List ℕ} {size capacity way order : ℤ} → ¬ IsQueuingPort configuration who.part name size capacity way order
-        → HasCondition (request.Create name (NewObject.QueuingPort size capacity way order)) code.InvalidConfig
+        → HasCondition (request.Create name (NewObject.QueuingPort size capacity way order)) condition.NotAsConfigured
     -- WRITE_SAMPLING_MESSAGE: a message without a byte; one that is longer than the port's size; a port that is no source
-    write_empty : {port length : ℤ} {message : List ℕ} → length <ℤ pos 1 → HasCondition (request.SamplingPort port (SamplingOperation.Write length message)) code.InvalidParam
+    write_empty : {port length : ℤ} {message : List ℕ} → length <ℤ pos 1 → HasCondition (request.SamplingPort port (SamplingOperation.Write length message)) condition.EmptyMessage
     write_long : {port length : ℤ} {message : List ℕ} (found : Port) → IsObject partition.sampling_ports port found → pos found.size <ℤ length
-        → HasCondition (request.SamplingPort port (SamplingOperation.Write length message)) code.InvalidConfig
+        → HasCondition (request.SamplingPort port (SamplingOperation.Write length message)) condition.LongerThanPort
     write_no_source : {port length : ℤ} {message : List ℕ} (found : Port) → IsObject partition.sampling_ports port found → ¬ (found.direction ≡ direction.Source)
-        → HasCondition (request.SamplingPort port (SamplingOperation.Write length message)) code.InvalidMode
+        → HasCondition (request.SamplingPort port (SamplingOperation.Write length message)) condition.NotSource
     -- READ_SAMPLING_MESSAGE: a port that is no destination
     read_no_destination : {port : ℤ} (found : Port) → IsObject partition.sampling_ports port found → ¬ (found.direction ≡ direction.Destination)
-        → HasCondition (request.SamplingPort port SamplingOperation.Read) code.InvalidMode
+        → HasCondition (request.SamplingPort port SamplingOperation.Read) condition.NotDestination
     -- SEND_QUEUING_MESSAGE: a message without a byte; one that is longer than the port's size; a port that is no source
-    send_empty : {port length time_out : ℤ} {message : List ℕ} → length <ℤ pos 1 → HasCondition (request.QueuingPort port (QueuingOperation.Send length time_out message)) code.InvalidParam
+    send_empty : {port length time_out : ℤ} {message : List ℕ} → length <ℤ pos 1 → HasCondition (request.QueuingPort port (QueuingOperation.Send length time_out message)) condition.EmptyMessage
     send_long : {port length time_out : ℤ} {message : List ℕ} (found : Port) → IsObject partition.queuing_ports port found → pos found.size <ℤ length
-        → HasCondition (request.QueuingPort port (QueuingOperation.Send length time_out message)) code.InvalidConfig
+        → HasCondition (request.QueuingPort port (QueuingOperation.Send length time_out message)) condition.LongerThanPort
     send_no_source : {port length time_out : ℤ} {message : List ℕ} (found : Port) → IsObject partition.queuing_ports port found → ¬ (found.direction ≡ direction.Source)
-        → HasCondition (request.QueuingPort port (QueuingOperation.Send length time_out message)) code.InvalidMode
+        → HasCondition (request.QueuingPort port (QueuingOperation.Send length time_out message)) condition.NotSource
     -- RECEIVE_QUEUING_MESSAGE: a port that is no destination
     receive_no_destination : {port time_out : ℤ} (found : Port) → IsObject partition.queuing_ports port found → ¬ (found.direction ≡ direction.Destination)
-        → HasCondition (request.QueuingPort port (QueuingOperation.Receive time_out)) code.InvalidMode
+        → HasCondition (request.QueuingPort port (QueuingOperation.Receive time_out)) condition.NotDestination
     -- GET_BUFFER_ID and its like: nothing of the kind has the name
-    get_id_unnamed : {of : ObjectKind} {name : List ℕ} → ¬ OneOfKindIsNamed partition of name → HasCondition (request.GetId of name) code.InvalidConfig
+    get_id_unnamed : {of : ObjectKind} {name : List ℕ} → ¬ OneOfKindIsNamed partition of name → HasCondition (request.GetId of name) condition.NoSuchName

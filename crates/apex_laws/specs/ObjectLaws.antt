@@ -13,7 +13,7 @@ use Rattle.apex_machine.specs.Ports.{Use, sampled, suits, used, written}
 use Rattle.apex_machine.specs.Queue.{Messages, received, sent}
 use Rattle.apex_machine.specs.State.{Channel, Content, Mutex, Partition, Stamped}
 use Rattle.apex_machine.specs.Waiting.{IsFirst, first_waiter}
-use Rattle.apex_machine.specs.ServiceConditions.{condition_codes}
+use Rattle.apex_machine.specs.ServiceConditions.{conditions_of}
 use Rattle.apex_machine.specs.Services.{answer_of}
 use Rattle.apex_laws.specs.CallSentences.{IsObjectCall}
 use Rattle.apex_laws.specs.Laws.{AllEntries, IsInOrder, entries_at}
@@ -89,5 +89,5 @@ ChannelIsTheSentence =
 abbrev pub ObjectCallIsTheSentence : Type 0
 ObjectCallIsTheSentence =
     (configuration : Configuration) (now : ℕ) (who : Who) (claimed : Option ℤ) (asked : Request) (partition : Partition)
-    → ((wanted : WaitingSet) → AreApart (entries_at partition wanted)) → condition_codes configuration who partition asked ≡ []
+    → ((wanted : WaitingSet) → AreApart (entries_at partition wanted)) → conditions_of configuration who partition asked ≡ []
     → IsObjectCall configuration who claimed asked partition (answer_of now who partition asked) (objects_by configuration who claimed asked partition)

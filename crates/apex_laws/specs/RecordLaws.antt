@@ -10,7 +10,7 @@ use Rattle.apex_machine.specs.declared.state.Entry.{Entry}
 use Rattle.apex_machine.specs.declared.state.Mode.{Mode}
 use Rattle.apex_machine.specs.declared.state.WaitingSet.{WaitingSet}
 use Rattle.apex_machine.specs.Configuration.{Configuration, period_of}
-use Rattle.apex_machine.specs.ServiceConditions.{condition_codes}
+use Rattle.apex_machine.specs.ServiceConditions.{conditions_of}
 use Rattle.apex_machine.specs.State.{State, time_of}
 use Rattle.apex_machine.specs.Step.{Step}
 use Rattle.apex_machine.specs.Waiting.{restart_of, set_after}
@@ -42,8 +42,8 @@ abbrev pub RefusalIsTheSentence : Type 0
 RefusalIsTheSentence =
     (configuration : Configuration) (state : State) (ordered : Ordered) (call : CallRecord) (next : State)
     → Step configuration state ordered next → ordered.rec.body ≡ Call call
-    → ¬ (condition_codes configuration call.who (state.partitions call.who.part) call.request ≡ [])
-    → IsRefusedCallOf call.who (service_of call.request) (condition_codes configuration call.who (state.partitions call.who.part) call.request)
+    → ¬ (conditions_of configuration call.who (state.partitions call.who.part) call.request ≡ [])
+    → IsRefusedCallOf call.who (service_of call.request) (conditions_of configuration call.who (state.partitions call.who.part) call.request)
     (time_of state.cores ordered.core) state next
 
 -- a waiting set after a call

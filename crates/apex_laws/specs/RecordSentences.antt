@@ -6,6 +6,7 @@ use Rattle.apex_types.specs.declared.record.Out.TheVariants as out
 use Rattle.apex_types.specs.declared.record.Who.{Who}
 use Rattle.apex_types.specs.declared.request.Request.TheVariants as request
 use Rattle.apex_types.specs.declared.service.Service.{Service}
+use Rattle.apex_machine.specs.declared.condition.Condition.{Condition}
 use Rattle.apex_machine.specs.declared.state.CoreState.{CoreState}
 use Rattle.apex_machine.specs.declared.state.Entry.{Entry}
 use Rattle.apex_machine.specs.declared.state.Mode.{Mode}
@@ -21,7 +22,7 @@ use Rattle.apex_machine.specs.Configuration.{Configuration, first_core, has_part
 use Rattle.apex_machine.specs.Ports.{Use, use_of}
 use Rattle.apex_machine.specs.Processes.{message_handed_over}
 use Rattle.apex_machine.specs.State.{Channel, Content, Partition, State, Table, is_named, occupant_of, item_at, time_of}
-use Rattle.apex_machine.specs.Step.{IsAmong}
+use Rattle.apex_machine.specs.Step.{IsCodeOf}
 use Rattle.apex_machine.specs.Waiting.{ends_wait, enters, entry_of, stops}
 use Rattle.apex_laws.specs.Laws.{entries_at}
 use Rattle.apex_laws.specs.ObjectSentences.{IsUse}
@@ -142,9 +143,9 @@ abbrev pub HasRefusal : Service → Code → ℕ → Process → Process → Typ
 HasRefusal of given now old new = new ≡ record old { due = Some (record { service = of; code = given; val = None; val2 = None; val3 = None; bytes = [] }); called_at = now }
 
 -- a call with an error condition: the code of one of them is due to the caller, and nothing else changes
-pub record IsRefusedCallOf (caller : Who) (of : Service) (codes : List Code) (now : ℕ) (state next : State) : Type 0 where
+pub record IsRefusedCallOf (caller : Who) (of : Service) (conditions : List Condition) (now : ℕ) (state next : State) : Type 0 where
   pub code : Code
-  pub condition : IsAmong codes code
+  pub condition : IsCodeOf conditions code
   pub answered : OnlyChanges (HasRefusal of code now) caller state next
 
 -- calls

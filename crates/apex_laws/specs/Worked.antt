@@ -14,12 +14,13 @@ use Rattle.apex_types.specs.declared.operation.{ProcessOperation.ProcessOperatio
 use Rattle.apex_types.specs.declared.request.Request.{Request}
 use Rattle.apex_types.specs.declared.request.Request.TheVariants as request
 use Rattle.apex_types.specs.declared.service.Service.{Service}
+use Rattle.apex_machine.specs.declared.condition.Condition.{Condition}
 use Rattle.apex_machine.specs.declared.state.Outcome.{Outcome}
 use Rattle.apex_machine.specs.declared.state.Process.{Process}
 use Rattle.apex_machine.specs.After.{after}
 use Rattle.apex_machine.specs.Answer.{Answer}
 use Rattle.apex_machine.specs.Configuration.{Configuration, PartitionLimits, QueuingChannel}
-use Rattle.apex_machine.specs.ServiceConditions.{condition_codes}
+use Rattle.apex_machine.specs.ServiceConditions.{conditions_of}
 use Rattle.apex_machine.specs.Services.{answer_of}
 use Rattle.apex_machine.specs.State.{State, cold_state, item_at, time_of}
 use Rattle.apex_machine.specs.Step.{channel_answer, due_of}
@@ -182,9 +183,9 @@ gets state who asked = answer_of (time_of state.cores who.part) who (state.parti
 abbrev pub gets_through : Configuration → State → Who → Request → ℕ → Answer
 gets_through configuration state who asked channel = channel_answer configuration (time_of state.cores who.part) who.part asked state.channels channel
 
--- the codes of the error conditions
-abbrev pub codes_for : Configuration → State → Who → Request → List Code
-codes_for configuration state who asked = condition_codes configuration who (state.partitions who.part) asked
+-- the error conditions that hold
+abbrev pub conditions_met : Configuration → State → Who → Request → List Condition
+conditions_met configuration state who asked = conditions_of configuration who (state.partitions who.part) asked
 
 -- a priority of a process
 abbrev pub priority_in : Option Process → ℕ

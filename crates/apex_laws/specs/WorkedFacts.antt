@@ -6,13 +6,14 @@ use Rattle.apex_types.specs.declared.record.Who.{Who}
 use Rattle.apex_types.specs.declared.operation.{BlackboardOperation.BlackboardOperation, BufferOperation.BufferOperation, CallerOperation.CallerOperation, EventOperation.EventOperation, MutexOperation.MutexOperation, NewObject.NewObject, ProcessOperation.ProcessOperation, QueuingOperation.QueuingOperation, SamplingOperation.SamplingOperation, SemaphoreOperation.SemaphoreOperation}
 use Rattle.apex_types.specs.declared.request.Request.TheVariants as request
 use Rattle.apex_types.specs.declared.service.Service.TheVariants as service
+use Rattle.apex_machine.specs.declared.condition.Condition.TheVariants as condition
 use Rattle.apex_machine.specs.Answer.{Answer, Number, answering, done, giving, waiting, waking}
 use Rattle.apex_machine.specs.Choice.{choice}
 use Rattle.apex_machine.specs.Services.{in_profile}
 use Rattle.apex_machine.specs.State.{Mutex, Queued, State, item_at}
 use Rattle.apex_machine.specs.DueTimes.{falls_due}
 use Rattle.apex_machine.specs.Step.{IsLawful}
-use Rattle.apex_laws.specs.Worked.{Happening, aperiodic, at, claims, codes_for, creates, does, gets, gets_through, idle_ticks, normal, one_partition, outcome, owes, placed, play, played, priority_in, process_of, returns, runs, start, ticks, two_partitions, waits, wakes}
+use Rattle.apex_laws.specs.Worked.{Happening, aperiodic, at, claims, conditions_met, creates, does, gets, gets_through, idle_ticks, normal, one_partition, outcome, owes, placed, play, played, priority_in, process_of, returns, runs, start, ticks, two_partitions, waits, wakes}
 
 -- process 1, with priority 10
 abbrev pub one : Who
@@ -169,7 +170,7 @@ pub record WorkedFacts : Type 0 where
   pub is_granted : priority_in (at (play one_partition mutex_wanted (wakes three (request.Mutex (pos 1) MutexOperation.Release) (two ∷ []) ∷ [])) two) ≡ 50
   pub has_its_own : priority_in (at (play one_partition mutex_wanted (wakes three (request.Mutex (pos 1) MutexOperation.Release) (two ∷ []) ∷ [])) three) ≡ 5
   -- two error conditions at once: an owner that acquires another mutex with a time-out below -1
-  pub two_conditions : codes_for one_partition owned three (request.Mutex (pos 2) (MutexOperation.Acquire (negsuc 4))) ≡ code.InvalidParam ∷ code.InvalidParam ∷ code.InvalidMode ∷ []
+  pub two_conditions : conditions_met one_partition owned three (request.Mutex (pos 2) (MutexOperation.Acquire (negsuc 4))) ≡ condition.NotCreated ∷ condition.TimeOutOutOfRange ∷ condition.OwnsAnother ∷ []
   -- the owner of a mutex that stops itself stands outside the profile
   pub owner_stops : in_profile three (owned.partitions 0) (request.Caller CallerOperation.StopSelf) ≡ false
   -- a full buffer: a receiver gets the oldest message, the sender wakes, and its message is the next

@@ -13,7 +13,7 @@ ghost use Rattle.apex_laws.specs.JoinLaws.{FindingsJoin, FoundIsRefused, Nothing
 ghost use Rattle.apex_laws.specs.ObjectLaws.{BlackboardIsTheSentence, ChannelIsTheSentence, EventIsTheSentence, FirstIsTheSentence, MutexIsTheSentence, ObjectCallIsTheSentence, OrderIsApart, QueueIsTheSentence, SamplingIsTheSentence, SemaphoreIsTheSentence};
 ghost use Rattle.apex_laws.specs.RecordLaws.{CallIsTheSentence, DispatchIsTheSentence, RefusalIsTheSentence, RestartIsTheSentence, ReturnIsTheSentence, SetIsTheSentence, TickIsTheSentence};
 ghost use Rattle.apex_laws.specs.ConditionFacts.{ConditionFacts};
-ghost use Rattle.apex_laws.specs.ConditionLaws.{CodesAreTheSentences};
+ghost use Rattle.apex_laws.specs.ConditionLaws.{CodesAreTheSentences, ConditionsAreTheSentences};
 ghost use Rattle.apex_laws.specs.NumberLaws.{NamesAreFound, NewNumberIsTheSentence, ObjectsAreFound, ProcessesAreFound};
 ghost use Rattle.apex_laws.specs.ProfileLaws.{ProfileIsTheSentence};
 ghost use Rattle.apex_laws.specs.WaitLaws.{EnteringIsTheSentence, TimeOutIsTheSentence};
@@ -347,13 +347,18 @@ pub fn lawful_facts()
     ensures { LawfulFacts }
 {}
 
-/// The codes of the error conditions for calls of every kind in a small partition, and what stands outside the profile, are
-/// what the services state.
+/// The error conditions that hold for calls of every kind in a small partition, and what stands outside the profile, are what
+/// the services state.
 pub fn condition_facts()
     ensures { ConditionFacts }
 {}
 
-/// A code is among those of a call exactly where an error condition of its service with that code holds.
+/// A condition is among those of a call exactly where it is one of its service and holds.
+pub fn conditions_are_the_sentences()
+    ensures { ConditionsAreTheSentences }
+{}
+
+/// A code is one of a call exactly where an error condition of its service with that code holds.
 pub fn codes_are_the_sentences()
     ensures { CodesAreTheSentences }
 {}

@@ -1,10 +1,12 @@
--- What the error conditions of several services share. Each condition is judged by itself: its code is among a call's codes
--- where it holds.
+-- What the error conditions of several services share. Each condition is judged by itself: it is among a call's conditions where
+-- it holds.
 use Rattle.std.specs.Prelude.{ℕ, List, [], ◌∷◌, ◌++◌, Option, Some, None, Bool, true, false, ℤ, not, nat_eq, ◌&&◌, ◌||◌, if◌then◌else◌}
 use Rattle.std.specs.Str.{bytes_eq}
 use Rattle.apex_types.specs.declared.code.Code.{Code}
 use Rattle.apex_types.specs.declared.code.Code.TheVariants as code
 use Rattle.apex_types.specs.declared.record.Who.{Who}
+use Rattle.apex_machine.specs.declared.condition.Condition.{Condition}
+use Rattle.apex_machine.specs.declared.condition.Condition.TheVariants as condition
 use Rattle.apex_machine.specs.declared.state.Mode.{Mode}
 use Rattle.apex_machine.specs.declared.state.Mode.TheVariants as mode
 use Rattle.apex_machine.specs.declared.state.Process.{Process}
@@ -12,14 +14,56 @@ use Rattle.apex_machine.specs.Arguments.{is_over, is_time_out}
 use Rattle.apex_machine.specs.Objects.{is_owner}
 use Rattle.apex_machine.specs.State.{Mutex, Partition}
 
--- the code, where its condition holds
-abbrev pub when : Bool → Code → List Code
-when holds code = if holds then code ∷ [] else []
+-- the return code of a condition   (section 3)
+abbrev pub code_of : Condition → Code
+code_of condition.NotCreated = code.InvalidParam
+code_of condition.TimeOutOutOfRange = code.InvalidParam
+code_of condition.MayNotWait = code.InvalidMode
+code_of condition.InNormal = code.InvalidMode
+code_of condition.NameTaken = code.NoAction
+code_of condition.AllCreated = code.InvalidConfig
+code_of condition.PriorityOutOfRange = code.InvalidParam
+code_of condition.PeriodOutOfRange = code.InvalidParam
+code_of condition.PeriodNotMultiple = code.InvalidConfig
+code_of condition.CoreNotOfPartition = code.InvalidConfig
+code_of condition.AlreadyStarted = code.NoAction
+code_of condition.NamesItself = code.InvalidParam
+code_of condition.AlreadyDormant = code.NoAction
+code_of condition.Dormant = code.InvalidMode
+code_of condition.Periodic = code.InvalidMode
+code_of condition.AlreadySuspended = code.NoAction
+code_of condition.NotSuspended = code.NoAction
+code_of condition.InitialisingCaller = code.InvalidMode
+code_of condition.PeriodicCaller = code.InvalidMode
+code_of condition.AperiodicCaller = code.InvalidMode
+code_of condition.DelayOutOfRange = code.InvalidParam
+code_of condition.ModeOutOfRange = code.InvalidParam
+code_of condition.AlreadyNormal = code.NoAction
+code_of condition.WarmStartInColdStart = code.InvalidMode
+code_of condition.SizeOutOfRange = code.InvalidParam
+code_of condition.CapacityOutOfRange = code.InvalidParam
+code_of condition.DisciplineOutOfRange = code.InvalidParam
+code_of condition.MaximumOutOfRange = code.InvalidParam
+code_of condition.ValueOutOfRange = code.InvalidParam
+code_of condition.NotAsConfigured = code.InvalidConfig
+code_of condition.EmptyMessage = code.InvalidParam
+code_of condition.LongerThanObject = code.InvalidParam
+code_of condition.OwnsAnother = code.InvalidMode
+code_of condition.AboveCeiling = code.InvalidMode
+code_of condition.NotOwner = code.InvalidMode
+code_of condition.LongerThanPort = code.InvalidConfig
+code_of condition.NotSource = code.InvalidMode
+code_of condition.NotDestination = code.InvalidMode
+code_of condition.NoSuchName = code.InvalidConfig
 
--- the codes for what is created; where it isn't, INVALID_PARAM
-abbrev pub codes_for : {Object : Type 0} → Option Object → (Object → List Code) → List Code
-codes_for None codes = code.InvalidParam ∷ []
-codes_for (Some object) codes = codes object
+-- the condition, where it holds
+abbrev pub when : Bool → Condition → List Condition
+when holds condition = if holds then condition ∷ [] else []
+
+-- the conditions of what is created; or that it isn't
+abbrev pub conditions_for : {Object : Type 0} → Option Object → (Object → List Condition) → List Condition
+conditions_for None conditions = condition.NotCreated ∷ []
+conditions_for (Some object) conditions = conditions object
 
 -- whether a mode is NORMAL
 abbrev pub is_normal : Mode → Bool
@@ -50,12 +94,12 @@ may_not_wait who partition = nat_eq who.proc 0 || owns_mutex partition.mutexes w
 -- waits
 
 -- a time-out is not below -1
-abbrev pub time_out_codes : ℤ → List Code
-time_out_codes time_out = when (not (is_time_out time_out)) code.InvalidParam
+abbrev pub time_out_conditions : ℤ → List Condition
+time_out_conditions time_out = when (not (is_time_out time_out)) condition.TimeOutOutOfRange
 
 -- a caller that may not wait gives a time-out of 0
-abbrev pub waiting_codes : Who → Partition → ℤ → List Code
-waiting_codes who partition time_out = when (not (is_over time_out) && may_not_wait who partition) code.InvalidMode
+abbrev pub waiting_conditions : Who → Partition → ℤ → List Condition
+waiting_conditions who partition time_out = when (not (is_over time_out) && may_not_wait who partition) condition.MayNotWait
 
 -- creations
 
@@ -65,6 +109,6 @@ is_taken name_of name [] = false
 is_taken name_of name (entry ∷ entries) = bytes_eq name (name_of entry.1) || is_taken name_of name entries
 
 -- a creation: not in NORMAL; a name not yet taken among its kind; no more than configured
-abbrev pub creation_codes : Partition → Bool → Bool → List Code
-creation_codes partition is_taken is_full =
-    when (is_normal partition.mode) code.InvalidMode ++ when is_taken code.NoAction ++ when is_full code.InvalidConfig
+abbrev pub creation_conditions : Partition → Bool → Bool → List Condition
+creation_conditions partition is_taken is_full =
+    when (is_normal partition.mode) condition.InNormal ++ when is_taken condition.NameTaken ++ when is_full condition.AllCreated

@@ -1,14 +1,14 @@
 -- The error conditions of CREATE_BUFFER and its like.
 use Rattle.std.specs.Prelude.{ℕ, List, [], ◌++◌, length, Bool, false, not, nat_le}
-use Rattle.apex_types.specs.declared.code.Code.{Code}
-use Rattle.apex_types.specs.declared.code.Code.TheVariants as code
 use Rattle.apex_types.specs.declared.object_kind.ObjectKind.{ObjectKind}
 use Rattle.apex_types.specs.declared.object_kind.ObjectKind.TheVariants as kind
 use Rattle.apex_types.specs.declared.operation.{NewObject.NewObject}
 use Rattle.apex_types.specs.Requested.{kind_of}
+use Rattle.apex_machine.specs.declared.condition.Condition.{Condition}
+use Rattle.apex_machine.specs.declared.condition.Condition.TheVariants as condition
 use Rattle.apex_machine.specs.Arguments.{is_capacity, is_discipline, is_maximum, is_priority, is_size, suits_maximum}
 use Rattle.apex_machine.specs.Channels.{queuing_port, sampling_port}
-use Rattle.apex_machine.specs.Conditions.{creation_codes, is_taken, when}
+use Rattle.apex_machine.specs.Conditions.{creation_conditions, is_taken, when}
 use Rattle.apex_machine.specs.Configuration.{Configuration, object_limit}
 use Rattle.apex_machine.specs.PortConditions.{is_queuing_port, is_sampling_port}
 use Rattle.apex_machine.specs.State.{Partition, name_in, objects_of}
@@ -26,27 +26,27 @@ is_full configuration number partition kind.QueuingPort = false
 
 -- what a creation is given: of a buffer a size, a capacity and a discipline in range; of a blackboard a size; of a semaphore a maximum
 -- and a discipline, and a value that suits the maximum; of a mutex a priority and a discipline; of a port what is configured
-abbrev pub parameter_codes : Configuration → ℕ → List ℕ → NewObject → List Code
-parameter_codes configuration number name (NewObject.Buffer size capacity discipline) =
-    when (not (is_size size)) code.InvalidParam
-    ++ when (not (is_capacity capacity)) code.InvalidParam
-    ++ when (not (is_discipline discipline)) code.InvalidParam
-parameter_codes configuration number name (NewObject.Blackboard size) = when (not (is_size size)) code.InvalidParam
-parameter_codes configuration number name (NewObject.Semaphore value maximum discipline) =
-    when (not (is_maximum maximum)) code.InvalidParam
-    ++ when (not (suits_maximum maximum value)) code.InvalidParam
-    ++ when (not (is_discipline discipline)) code.InvalidParam
-parameter_codes configuration number name NewObject.Event = []
-parameter_codes configuration number name (NewObject.Mutex priority discipline) =
-    when (not (is_priority priority)) code.InvalidParam ++ when (not (is_discipline discipline)) code.InvalidParam
-parameter_codes configuration number name (NewObject.SamplingPort size direction refresh) =
-    when (not (is_sampling_port (sampling_port configuration number name) size direction refresh)) code.InvalidConfig
-parameter_codes configuration number name (NewObject.QueuingPort size capacity direction discipline) =
-    when (not (is_queuing_port (queuing_port configuration number name) size capacity direction discipline)) code.InvalidConfig
+abbrev pub parameter_conditions : Configuration → ℕ → List ℕ → NewObject → List Condition
+parameter_conditions configuration number name (NewObject.Buffer size capacity discipline) =
+    when (not (is_size size)) condition.SizeOutOfRange
+    ++ when (not (is_capacity capacity)) condition.CapacityOutOfRange
+    ++ when (not (is_discipline discipline)) condition.DisciplineOutOfRange
+parameter_conditions configuration number name (NewObject.Blackboard size) = when (not (is_size size)) condition.SizeOutOfRange
+parameter_conditions configuration number name (NewObject.Semaphore value maximum discipline) =
+    when (not (is_maximum maximum)) condition.MaximumOutOfRange
+    ++ when (not (suits_maximum maximum value)) condition.ValueOutOfRange
+    ++ when (not (is_discipline discipline)) condition.DisciplineOutOfRange
+parameter_conditions configuration number name NewObject.Event = []
+parameter_conditions configuration number name (NewObject.Mutex priority discipline) =
+    when (not (is_priority priority)) condition.PriorityOutOfRange ++ when (not (is_discipline discipline)) condition.DisciplineOutOfRange
+parameter_conditions configuration number name (NewObject.SamplingPort size direction refresh) =
+    when (not (is_sampling_port (sampling_port configuration number name) size direction refresh)) condition.NotAsConfigured
+parameter_conditions configuration number name (NewObject.QueuingPort size capacity direction discipline) =
+    when (not (is_queuing_port (queuing_port configuration number name) size capacity direction discipline)) condition.NotAsConfigured
 
 -- CREATE_BUFFER and its like: as each creation, and what it is given
-abbrev pub create_codes : Configuration → ℕ → Partition → List ℕ → NewObject → List Code
-create_codes configuration number partition name object =
-    creation_codes partition (is_taken (name_in (kind_of object)) name (objects_of partition (kind_of object)))
+abbrev pub create_conditions : Configuration → ℕ → Partition → List ℕ → NewObject → List Condition
+create_conditions configuration number partition name object =
+    creation_conditions partition (is_taken (name_in (kind_of object)) name (objects_of partition (kind_of object)))
     (is_full configuration number partition (kind_of object))
-    ++ parameter_codes configuration number name object
+    ++ parameter_conditions configuration number name object

@@ -2,7 +2,6 @@
 use Rattle.std.specs.Prelude.{◌≡◌, ◌⊎◌, ℕ, ◌+◌, List, [], ◌∷◌, ◌++◌, Option, Some, None, Bool, true, false, nat_eq, ◌||◌, IsTrue, IsFalse, ℤ, Result, MatchResult}
 use Rattle.apex_types.specs.declared.cause.Cause.{Cause}
 use Rattle.apex_types.specs.declared.cause.Cause.TheVariants as cause
-use Rattle.apex_types.specs.declared.code.Code.{Code}
 use Rattle.apex_types.specs.declared.code.Code.TheVariants as code
 use Rattle.apex_types.specs.declared.record.Body.{Body}
 use Rattle.apex_types.specs.declared.record.Body.TheVariants.{Call, Ret, Disp, Tick}
@@ -16,6 +15,7 @@ use Rattle.apex_types.specs.declared.record.Who.{Who}
 use Rattle.apex_types.specs.declared.operation.{QueuingOperation.QueuingOperation}
 use Rattle.apex_types.specs.declared.request.Request.{Request}
 use Rattle.apex_types.specs.declared.request.Request.TheVariants as request
+use Rattle.apex_machine.specs.declared.condition.Condition.{Condition}
 use Rattle.apex_machine.specs.declared.state.CoreState.{CoreState}
 use Rattle.apex_machine.specs.declared.state.Entry.{Entry}
 use Rattle.apex_machine.specs.declared.state.Outcome.{Outcome}
@@ -28,7 +28,7 @@ use Rattle.apex_machine.specs.Configuration.{Configuration, has_partition, windo
 use Rattle.apex_machine.specs.Pieces.{ChannelPart, ModulePart, Part, PartitionPart, part_after, time_at}
 use Rattle.apex_machine.specs.Ports.{channel_effect, channel_of, suits_use, use_of}
 use Rattle.apex_machine.specs.DueTimes.{NamesThoseDue, time_out_of}
-use Rattle.apex_machine.specs.ServiceConditions.{condition_codes}
+use Rattle.apex_machine.specs.ServiceConditions.{conditions_of}
 use Rattle.apex_machine.specs.Services.{Answer, HasNoValues, HasValues, NamesExactly, answer_of}
 use Rattle.apex_machine.specs.State.{Channel, Partition, Table, is_same, names_one_of, occupant_of, item_at, time_of}
 use Rattle.apex_machine.specs.Step.{AllConfigured, OneConfigured, ChannelConfigured, KeepsSkew, HasNoneDue, HasPriority, HasCode, IsWithinProfile, due_of}
@@ -116,17 +116,17 @@ answer_demands answer claim =
     ∷ record { cause = cause.Data; holds = claim.bytes ≡ answer.bytes }
     ∷ record { cause = cause.Woken; holds = NamesExactly answer.woken claim.woken } ∷ []
 
--- the channel and the outcome of a call, by the codes of its error conditions and the channel that it goes to; what a channel
+-- the channel and the outcome of a call, by its error conditions and the channel that it goes to; what a channel
 -- gives is the channel's to judge, but no process of the caller's own partition is woken through it
-abbrev pub outcome_demands : List Code → Option ℕ → ℕ → Request → Answer → Claim → List {1} Demand
+abbrev pub outcome_demands : List Condition → Option ℕ → ℕ → Request → Answer → Claim → List {1} Demand
 outcome_demands [] None number asked answer claim = record { cause = cause.Chan; holds = claim.chan ≡ None } ∷ answer_demands answer claim
 outcome_demands [] (Some channel) number asked answer claim =
     record { cause = cause.Chan; holds = claim.chan ≡ Some channel }
     ∷ record { cause = cause.Out; holds = CanHave asked claim.out }
     ∷ record { cause = cause.Woken; holds = IsFalse (names_one_of number claim.woken) } ∷ []
-outcome_demands (code ∷ codes) channel number asked answer claim =
+outcome_demands (condition ∷ conditions) channel number asked answer claim =
     record { cause = cause.Chan; holds = claim.chan ≡ None }
-    ∷ record { cause = cause.Out; holds = HasCode (code ∷ codes) claim.out }
+    ∷ record { cause = cause.Out; holds = HasCode (condition ∷ conditions) claim.out }
     ∷ record { cause = cause.Val; holds = HasNoValues claim }
     ∷ record { cause = cause.Data; holds = claim.bytes ≡ [] }
     ∷ record { cause = cause.Woken; holds = claim.woken ≡ [] } ∷ []
@@ -140,7 +140,7 @@ caller_demands configuration number cores partition core call =
     ∷ record { cause = cause.Return; holds = HasNoneDue (item_at partition.table call.who.proc) }
     ∷ record {
       cause = cause.OutsideProfile;
-      holds = IsWithinProfile (condition_codes configuration call.who partition call.request) call.who partition call.request;
+      holds = IsWithinProfile (conditions_of configuration call.who partition call.request) call.who partition call.request;
     }
     ∷ record { cause = cause.Prio; holds = HasPriority call.claim.prio (item_at partition.table call.who.proc) } ∷ []
 
@@ -148,7 +148,7 @@ caller_demands configuration number cores partition core call =
 abbrev pub own_call_demands : Configuration → ℕ → List CoreState → Partition → ℕ → CallRecord → List {1} Demand
 own_call_demands configuration number cores partition core call =
     caller_demands configuration number cores partition core call
-    ++ outcome_demands (condition_codes configuration call.who partition call.request) (channel_of partition call.request) number call.request
+    ++ outcome_demands (conditions_of configuration call.who partition call.request) (channel_of partition call.request) number call.request
     (answer_of (time_of cores core) call.who partition call.request) call.claim
 
 -- partitions: the calls of others, the returns and the ticks

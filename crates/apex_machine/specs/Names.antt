@@ -1,9 +1,9 @@
 -- The numbers of objects and ports by their names.
 use Rattle.std.specs.Prelude.{ℕ, List, [], ◌∷◌, Option, Some, None, pos, is_none, if◌then◌else◌}
 use Rattle.std.specs.Str.{bytes_eq}
-use Rattle.apex_types.specs.declared.code.Code.{Code}
-use Rattle.apex_types.specs.declared.code.Code.TheVariants as code
 use Rattle.apex_types.specs.declared.object_kind.ObjectKind.{ObjectKind}
+use Rattle.apex_machine.specs.declared.condition.Condition.{Condition}
+use Rattle.apex_machine.specs.declared.condition.Condition.TheVariants as condition
 use Rattle.apex_machine.specs.Answer.{Nothing, Number, Value}
 use Rattle.apex_machine.specs.Conditions.{when}
 use Rattle.apex_machine.specs.State.{Partition, name_in, objects_of}
@@ -18,8 +18,8 @@ abbrev pub number_of : Partition → ObjectKind → List ℕ → Option ℕ
 number_of partition kind name = number_named (name_in kind) name (objects_of partition kind)
 
 -- GET_BUFFER_ID and its like: one of the kind has the name
-abbrev pub get_id_codes : Option ℕ → List Code
-get_id_codes found = when (is_none found) code.InvalidConfig
+abbrev pub get_id_conditions : Option ℕ → List Condition
+get_id_conditions found = when (is_none found) condition.NoSuchName
 
 -- the value that tells the number of what has the name
 abbrev pub number_found : Option ℕ → Value

@@ -1,22 +1,22 @@
 -- The error conditions of uses of buffers, blackboards, semaphores, events and mutexes.
 use Rattle.std.specs.Prelude.{ℕ, List, [], ◌∷◌, ◌++◌, length, Option, Bool, false, ℤ, not, nat_eq, nat_lt, ◌&&◌, ◌||◌}
-use Rattle.apex_types.specs.declared.code.Code.{Code}
-use Rattle.apex_types.specs.declared.code.Code.TheVariants as code
 use Rattle.apex_types.specs.declared.record.Who.{Who}
+use Rattle.apex_machine.specs.declared.condition.Condition.{Condition}
+use Rattle.apex_machine.specs.declared.condition.Condition.TheVariants as condition
 use Rattle.apex_machine.specs.Arguments.{is_length, is_longer, is_number}
-use Rattle.apex_machine.specs.Conditions.{codes_for, of_caller, time_out_codes, waiting_codes, when}
+use Rattle.apex_machine.specs.Conditions.{conditions_for, of_caller, time_out_conditions, waiting_conditions, when}
 use Rattle.apex_machine.specs.Objects.{is_owner}
 use Rattle.apex_machine.specs.State.{Mutex, Partition, given_object, item_at}
 
 -- a created object of a kind, and a wait for it
-abbrev pub object_codes : {Object : Type 0} → Who → Partition → Option Object → ℤ → List Code
-object_codes who partition object time_out = codes_for object (λ found. []) ++ time_out_codes time_out ++ waiting_codes who partition time_out
+abbrev pub object_conditions : {Object : Type 0} → Who → Partition → Option Object → ℤ → List Condition
+object_conditions who partition object time_out = conditions_for object (λ found. []) ++ time_out_conditions time_out ++ waiting_conditions who partition time_out
 
 -- a message into an object: a created one, of a size for the message
-abbrev pub message_codes : Option ℕ → ℤ → List Code
-message_codes size length =
-    codes_for size (λ greatest. when (is_longer greatest length) code.InvalidParam)
-    ++ when (not (is_length length)) code.InvalidParam
+abbrev pub message_conditions : Option ℕ → ℤ → List Condition
+message_conditions size length =
+    conditions_for size (λ greatest. when (is_longer greatest length) condition.LongerThanObject)
+    ++ when (not (is_length length)) condition.EmptyMessage
 
 -- mutexes
 
@@ -27,14 +27,14 @@ owns_another (entry ∷ entries) mutex number = (is_owner entry.1.owner number &
 
 -- ACQUIRE_MUTEX: a created mutex, of a priority not below the caller's current one; a time-out that there is; not the
 -- initialising process, and no owner of another mutex
-abbrev pub acquire_codes : Who → Partition → ℤ → ℤ → List Code
-acquire_codes who partition mutex time_out =
-    codes_for (given_object partition.mutexes mutex)
-    (λ found. when (of_caller (λ process. nat_lt found.priority process.current_priority) (item_at partition.table who.proc)) code.InvalidMode)
-    ++ time_out_codes time_out
-    ++ when (nat_eq who.proc 0) code.InvalidMode
-    ++ when (owns_another partition.mutexes mutex who.proc) code.InvalidMode
+abbrev pub acquire_conditions : Who → Partition → ℤ → ℤ → List Condition
+acquire_conditions who partition mutex time_out =
+    conditions_for (given_object partition.mutexes mutex)
+    (λ found. when (of_caller (λ process. nat_lt found.priority process.current_priority) (item_at partition.table who.proc)) condition.AboveCeiling)
+    ++ time_out_conditions time_out
+    ++ when (nat_eq who.proc 0) condition.InitialisingCaller
+    ++ when (owns_another partition.mutexes mutex who.proc) condition.OwnsAnother
 
 -- RELEASE_MUTEX: a created mutex, by its owner
-abbrev pub release_codes : Who → Option Mutex → List Code
-release_codes who mutex = codes_for mutex (λ found. when (not (is_owner found.owner who.proc)) code.InvalidMode)
+abbrev pub release_conditions : Who → Option Mutex → List Condition
+release_conditions who mutex = conditions_for mutex (λ found. when (not (is_owner found.owner who.proc)) condition.NotOwner)

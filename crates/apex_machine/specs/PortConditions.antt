@@ -1,12 +1,12 @@
 -- The error conditions of sampling ports and queuing ports.
 use Rattle.std.specs.Prelude.{◌+◌, List, ◌++◌, Option, Some, None, Bool, true, false, ℤ, not, ◌&&◌, ◌||◌}
-use Rattle.apex_types.specs.declared.code.Code.{Code}
-use Rattle.apex_types.specs.declared.code.Code.TheVariants as code
+use Rattle.apex_machine.specs.declared.condition.Condition.{Condition}
+use Rattle.apex_machine.specs.declared.condition.Condition.TheVariants as condition
 use Rattle.apex_machine.specs.declared.state.Direction.{Direction}
 use Rattle.apex_machine.specs.declared.state.Direction.TheVariants as direction
 use Rattle.apex_machine.specs.Arguments.{direction_number, discipline_number, is_length, is_longer, is_number}
 use Rattle.apex_machine.specs.Channels.{QueuingPort, SamplingPort}
-use Rattle.apex_machine.specs.Conditions.{codes_for, when}
+use Rattle.apex_machine.specs.Conditions.{conditions_for, when}
 use Rattle.apex_machine.specs.State.{Port}
 
 -- whether a port is the source of its channel
@@ -33,11 +33,11 @@ is_queuing_port (Some port) size capacity direction discipline =
     && (is_number direction (direction_number port.direction) && is_number discipline (discipline_number port.discipline)))
 
 -- a message into a port: a created source of a size for the message
-abbrev pub source_codes : Option Port → ℤ → List Code
-source_codes port length =
-    codes_for port (λ found. when (is_longer found.size length) code.InvalidConfig ++ when (not (is_source found.direction)) code.InvalidMode)
-    ++ when (not (is_length length)) code.InvalidParam
+abbrev pub source_conditions : Option Port → ℤ → List Condition
+source_conditions port length =
+    conditions_for port (λ found. when (is_longer found.size length) condition.LongerThanPort ++ when (not (is_source found.direction)) condition.NotSource)
+    ++ when (not (is_length length)) condition.EmptyMessage
 
 -- a message from a port: a created destination
-abbrev pub destination_codes : Option Port → List Code
-destination_codes port = codes_for port (λ found. when (is_source found.direction) code.InvalidMode)
+abbrev pub destination_conditions : Option Port → List Condition
+destination_conditions port = conditions_for port (λ found. when (is_source found.direction) condition.NotDestination)

@@ -1,12 +1,12 @@
 -- The error conditions of processes, their waits and the partition's mode.
 use Rattle.std.specs.Prelude.{ℕ, ◌-◌, List, [], ◌∷◌, ◌++◌, length, Option, Some, None, Bool, ℤ, not, is_none, is_some, nat_eq, nat_le, ◌&&◌, ◌||◌}
-use Rattle.apex_types.specs.declared.code.Code.{Code}
-use Rattle.apex_types.specs.declared.code.Code.TheVariants as code
 use Rattle.apex_types.specs.declared.record.Who.{Who}
+use Rattle.apex_machine.specs.declared.condition.Condition.{Condition}
+use Rattle.apex_machine.specs.declared.condition.Condition.TheVariants as condition
 use Rattle.apex_machine.specs.declared.state.Mode.{Mode}
 use Rattle.apex_machine.specs.declared.state.Process.{Process}
 use Rattle.apex_machine.specs.Arguments.{is_mode, is_negative, is_normal_mode, is_number, is_period, is_priority, is_warm_start_mode, suits_period}
-use Rattle.apex_machine.specs.Conditions.{codes_for, creation_codes, is_cold_start, is_normal, is_taken, may_not_wait, of_caller, time_out_codes, when}
+use Rattle.apex_machine.specs.Conditions.{conditions_for, creation_conditions, is_cold_start, is_normal, is_taken, may_not_wait, of_caller, time_out_conditions, when}
 use Rattle.apex_machine.specs.Configuration.{Configuration, is_core, period_of, process_limit}
 use Rattle.apex_machine.specs.DueTimes.{is_suspension}
 use Rattle.apex_machine.specs.State.{Partition, Table, created, item_at}
@@ -26,77 +26,80 @@ is_suspended process = process.suspended || is_suspension process.wait
 -- process management
 
 -- CREATE_PROCESS: as each creation; a priority and a period in range, and a period that suits the partition's
-abbrev pub create_process_codes : Configuration → ℕ → Partition → List ℕ → ℤ → ℤ → List Code
-create_process_codes configuration number partition name priority period =
-    creation_codes partition (is_taken (λ (process : Process). process.name) name partition.table)
+abbrev pub create_process_conditions : Configuration → ℕ → Partition → List ℕ → ℤ → ℤ → List Condition
+create_process_conditions configuration number partition name priority period =
+    creation_conditions partition (is_taken (λ (process : Process). process.name) name partition.table)
     (nat_le (process_limit configuration number) (created_count partition.table))
-    ++ when (not (is_priority priority)) code.InvalidParam
-    ++ when (not (is_period period)) code.InvalidParam
-    ++ when (not (suits_period (period_of configuration number) period)) code.InvalidConfig
+    ++ when (not (is_priority priority)) condition.PriorityOutOfRange
+    ++ when (not (is_period period)) condition.PeriodOutOfRange
+    ++ when (not (suits_period (period_of configuration number) period)) condition.PeriodNotMultiple
 
 -- INITIALIZE_PROCESS_CORE_AFFINITY: a created process; not in NORMAL; one of the partition's cores
-abbrev pub affinity_codes : Configuration → ℕ → Partition → ℤ → ℤ → List Code
-affinity_codes configuration number partition process core =
-    when (is_none (created partition.table process)) code.InvalidParam
-    ++ when (is_normal partition.mode) code.InvalidMode
-    ++ when (not (is_core configuration number core)) code.InvalidConfig
+abbrev pub affinity_conditions : Configuration → ℕ → Partition → ℤ → ℤ → List Condition
+affinity_conditions configuration number partition process core =
+    when (is_none (created partition.table process)) condition.NotCreated
+    ++ when (is_normal partition.mode) condition.InNormal
+    ++ when (not (is_core configuration number core)) condition.CoreNotOfPartition
 
 -- START: a created process, and a dormant one
-abbrev pub start_codes : Option Process → List Code
-start_codes None = code.InvalidParam ∷ []
-start_codes (Some process) = when process.alive code.NoAction
+abbrev pub start_conditions : Option Process → List Condition
+start_conditions None = condition.NotCreated ∷ []
+start_conditions (Some process) = when process.alive condition.AlreadyStarted
 
 -- STOP: a created process, not the caller, and not a dormant one
-abbrev pub stop_codes : Who → Option Process → ℤ → List Code
-stop_codes who target process =
-    codes_for target (λ found. when (not found.alive) code.NoAction) ++ when (is_number process who.proc) code.InvalidParam
+abbrev pub stop_conditions : Who → Option Process → ℤ → List Condition
+stop_conditions who target process =
+    conditions_for target (λ found. when (not found.alive) condition.AlreadyDormant) ++ when (is_number process who.proc) condition.NamesItself
+
+-- SUSPEND and RESUME: a process that is neither dormant nor periodic
+abbrev pub suspension_conditions : Process → List Condition
+suspension_conditions process = when (not process.alive) condition.Dormant ++ when (is_periodic process) condition.Periodic
 
 -- SUSPEND: a created process, not the caller, neither dormant nor periodic, and not yet suspended
-abbrev pub suspend_codes : Who → Option Process → ℤ → List Code
-suspend_codes who target process =
-    codes_for target (λ found. when (not found.alive || is_periodic found) code.InvalidMode ++ when (is_suspended found) code.NoAction)
-    ++ when (is_number process who.proc) code.InvalidParam
+abbrev pub suspend_conditions : Who → Option Process → ℤ → List Condition
+suspend_conditions who target process =
+    conditions_for target (λ found. suspension_conditions found ++ when (is_suspended found) condition.AlreadySuspended)
+    ++ when (is_number process who.proc) condition.NamesItself
 
 -- RESUME: a created process, not the caller, neither dormant nor periodic, and a suspended one
-abbrev pub resume_codes : Who → Option Process → ℤ → List Code
-resume_codes who target process =
-    codes_for target (λ found. when (not found.alive || is_periodic found) code.InvalidMode
-    ++ when (found.alive && not (is_suspended found)) code.NoAction)
-    ++ when (is_number process who.proc) code.InvalidParam
+abbrev pub resume_conditions : Who → Option Process → ℤ → List Condition
+resume_conditions who target process =
+    conditions_for target (λ found. suspension_conditions found ++ when (found.alive && not (is_suspended found)) condition.NotSuspended)
+    ++ when (is_number process who.proc) condition.NamesItself
 
 -- SET_PRIORITY: a created process, and not a dormant one; a priority in range
-abbrev pub set_priority_codes : Option Process → ℤ → List Code
-set_priority_codes target priority =
-    codes_for target (λ found. when (not found.alive) code.InvalidMode) ++ when (not (is_priority priority)) code.InvalidParam
+abbrev pub set_priority_conditions : Option Process → ℤ → List Condition
+set_priority_conditions target priority =
+    conditions_for target (λ found. when (not found.alive) condition.Dormant) ++ when (not (is_priority priority)) condition.PriorityOutOfRange
 
 -- GET_MY_ID: not the initialising process
-abbrev pub get_my_id_codes : Who → List Code
-get_my_id_codes who = when (nat_eq who.proc 0) code.InvalidMode
+abbrev pub get_my_id_conditions : Who → List Condition
+get_my_id_conditions who = when (nat_eq who.proc 0) condition.InitialisingCaller
 
 -- waits of the caller
 
 -- SUSPEND_SELF: a time-out that there is; an aperiodic process that may wait
-abbrev pub suspend_self_codes : Who → Partition → ℤ → List Code
-suspend_self_codes who partition time_out =
-    time_out_codes time_out
-    ++ when (of_caller is_periodic (item_at partition.table who.proc)) code.InvalidMode
-    ++ when (may_not_wait who partition) code.InvalidMode
+abbrev pub suspend_self_conditions : Who → Partition → ℤ → List Condition
+suspend_self_conditions who partition time_out =
+    time_out_conditions time_out
+    ++ when (of_caller is_periodic (item_at partition.table who.proc)) condition.PeriodicCaller
+    ++ when (may_not_wait who partition) condition.MayNotWait
 
 -- TIMED_WAIT: a delay not below 0; a process that may wait
-abbrev pub timed_wait_codes : Who → Partition → ℤ → List Code
-timed_wait_codes who partition delay = when (is_negative delay) code.InvalidParam ++ when (may_not_wait who partition) code.InvalidMode
+abbrev pub timed_wait_conditions : Who → Partition → ℤ → List Condition
+timed_wait_conditions who partition delay = when (is_negative delay) condition.DelayOutOfRange ++ when (may_not_wait who partition) condition.MayNotWait
 
 -- PERIODIC_WAIT: a periodic process that may wait
-abbrev pub periodic_wait_codes : Who → Partition → List Code
-periodic_wait_codes who partition =
-    when (not (of_caller is_periodic (item_at partition.table who.proc))) code.InvalidMode
-    ++ when (may_not_wait who partition) code.InvalidMode
+abbrev pub periodic_wait_conditions : Who → Partition → List Condition
+periodic_wait_conditions who partition =
+    when (not (of_caller is_periodic (item_at partition.table who.proc))) condition.AperiodicCaller
+    ++ when (may_not_wait who partition) condition.MayNotWait
 
 -- the partition's mode
 
 -- SET_PARTITION_MODE: a mode that there is; not NORMAL in NORMAL, and not WARM_START in COLD_START
-abbrev pub set_mode_codes : Mode → ℤ → List Code
-set_mode_codes current mode =
-    when (not (is_mode mode)) code.InvalidParam
-    ++ when (is_normal_mode mode && is_normal current) code.NoAction
-    ++ when (is_warm_start_mode mode && is_cold_start current) code.InvalidMode
+abbrev pub set_mode_conditions : Mode → ℤ → List Condition
+set_mode_conditions current mode =
+    when (not (is_mode mode)) condition.ModeOutOfRange
+    ++ when (is_normal_mode mode && is_normal current) condition.AlreadyNormal
+    ++ when (is_warm_start_mode mode && is_cold_start current) condition.WarmStartInColdStart

@@ -1,13 +1,13 @@
 -- What services tell of the state of an object. They leave it as it is.
 use Rattle.std.specs.Prelude.{ℕ, ◌+◌, List, [], Option, Some, None, Bool, true, false, ℤ, pos, is_some, length, option_map, if◌then◌else◌}
-use Rattle.apex_types.specs.declared.code.Code.{Code}
 use Rattle.apex_types.specs.declared.code.Code.TheVariants as code
 use Rattle.apex_types.specs.declared.object_kind.ObjectKind.{ObjectKind}
 use Rattle.apex_types.specs.declared.object_kind.ObjectKind.TheVariants as kind
 use Rattle.apex_types.specs.declared.record.Out.TheVariants as out
+use Rattle.apex_machine.specs.declared.condition.Condition.{Condition}
 use Rattle.apex_machine.specs.declared.state.Status.{Status}
 use Rattle.apex_machine.specs.Answer.{Answer, Nothing, Number, Value}
-use Rattle.apex_machine.specs.Conditions.{codes_for}
+use Rattle.apex_machine.specs.Conditions.{conditions_for}
 use Rattle.apex_machine.specs.State.{Blackboard, Buffer, Event, Mutex, Partition, Port, Semaphore, given_object, objects_of}
 
 -- 1 for what is so, 0 for what isn't
@@ -55,8 +55,8 @@ status_of partition kind.SamplingPort port = option_map sampling_port_status (gi
 status_of partition kind.QueuingPort port = None
 
 -- GET_BUFFER_STATUS and its like: a created object or port of the kind
-abbrev pub get_status_codes : Partition → ObjectKind → ℤ → List Code
-get_status_codes partition kind object = codes_for (given_object (objects_of partition kind) object) (λ found. [])
+abbrev pub get_status_conditions : Partition → ObjectKind → ℤ → List Condition
+get_status_conditions partition kind object = conditions_for (given_object (objects_of partition kind) object) (λ found. [])
 
 -- the first number of a status
 abbrev pub first_reported : Option Status → Value

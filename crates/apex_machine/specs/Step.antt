@@ -11,16 +11,18 @@ use Rattle.apex_types.specs.declared.record.Out.TheVariants as out
 use Rattle.apex_types.specs.declared.record.Return.{Return}
 use Rattle.apex_types.specs.declared.record.Who.{Who}
 use Rattle.apex_types.specs.declared.request.Request.{Request}
+use Rattle.apex_machine.specs.declared.condition.Condition.{Condition}
 use Rattle.apex_machine.specs.declared.state.CoreState.{CoreState}
 use Rattle.apex_machine.specs.declared.state.Outcome.{Outcome}
 use Rattle.apex_machine.specs.declared.state.Process.{Process}
 use Rattle.apex_machine.specs.After.{after}
 use Rattle.apex_machine.specs.Channels.{has_channel}
 use Rattle.apex_machine.specs.Choice.{choice}
+use Rattle.apex_machine.specs.Conditions.{code_of}
 use Rattle.apex_machine.specs.Configuration.{Configuration, has_partition}
 use Rattle.apex_machine.specs.DueTimes.{NamesThoseDue}
 use Rattle.apex_machine.specs.Ports.{channel_effect, channel_of, suits_use, use_of}
-use Rattle.apex_machine.specs.ServiceConditions.{condition_codes}
+use Rattle.apex_machine.specs.ServiceConditions.{conditions_of}
 use Rattle.apex_machine.specs.Services.{Answer, HasNoValues, HasValues, NamesExactly, answer_of, in_profile}
 use Rattle.apex_machine.specs.State.{Channel, Partition, State, item_at, time_of, occupant_of}
 
@@ -65,21 +67,21 @@ abbrev pub due_of : Option Process → Option Outcome
 due_of None = None
 due_of (Some process) = process.due
 
--- the code is one of these
-abbrev pub IsAmong : List Code → Code → Type 0
-IsAmong [] code = ⊥
-IsAmong (other ∷ others) code = (code ≡ other) ⊎ IsAmong others code
+-- one of the conditions has this code
+abbrev pub IsCodeOf : List Condition → Code → Type 0
+IsCodeOf [] code = ⊥
+IsCodeOf (condition ∷ others) code = (code ≡ code_of condition) ⊎ IsCodeOf others code
 
--- the outcome is one of these codes
-abbrev pub HasCode : List Code → Out → Type 0
-HasCode codes out.Waits = ⊥
-HasCode codes out.Never = ⊥
-HasCode codes (out.Answer code) = IsAmong codes code
+-- the outcome is the code of one of the conditions
+abbrev pub HasCode : List Condition → Out → Type 0
+HasCode conditions out.Waits = ⊥
+HasCode conditions out.Never = ⊥
+HasCode conditions (out.Answer code) = IsCodeOf conditions code
 
 -- where error conditions hold: one of their codes, and nothing else is claimed
-pub record IsRefused (codes : List Code) (claim : Claim) : Type 0 where
+pub record IsRefused (conditions : List Condition) (claim : Claim) : Type 0 where
   pub chan : claim.chan ≡ None
-  pub out : HasCode codes claim.out
+  pub out : HasCode conditions claim.out
   pub values : HasNoValues claim
   pub bytes : claim.bytes ≡ []
   pub woken : claim.woken ≡ []
@@ -101,21 +103,21 @@ pub record IsThrough (channel : ℕ) (suited : Bool) (answer : Answer) (claim : 
   pub bytes : claim.bytes ≡ answer.bytes
   pub woken : NamesExactly answer.woken claim.woken
 
--- the outcome of a call, by the codes of its error conditions, the channel that it goes to, what its partition answers, and
+-- the outcome of a call, by its error conditions, the channel that it goes to, what its partition answers, and
 -- whether a channel suits it and what that channel answers
-abbrev pub HasOutcome : List Code → Option ℕ → Answer → (ℕ → Bool) → (ℕ → Answer) → Claim → Type 0
+abbrev pub HasOutcome : List Condition → Option ℕ → Answer → (ℕ → Bool) → (ℕ → Answer) → Claim → Type 0
 HasOutcome [] None answer suited through claim = IsAnswered answer claim
 HasOutcome [] (Some channel) answer suited through claim = IsThrough channel (suited channel) (through channel) claim
-HasOutcome (code ∷ codes) channel answer suited through claim = IsRefused (code ∷ codes) claim
+HasOutcome (condition ∷ conditions) channel answer suited through claim = IsRefused (condition ∷ conditions) claim
 
 -- a demand that stands only where no error condition holds
-abbrev pub WhereNone : List Code → Type 0 → Type 0
+abbrev pub WhereNone : List Condition → Type 0 → Type 0
 WhereNone [] Demanded = Demanded
-WhereNone (code ∷ codes) Demanded = Unit {0}
+WhereNone (condition ∷ conditions) Demanded = Unit {0}
 
 -- where no error condition holds, the call is within the profile
-abbrev pub IsWithinProfile : List Code → Who → Partition → Request → Type 0
-IsWithinProfile codes who partition request = WhereNone codes (IsTrue (in_profile who partition request))
+abbrev pub IsWithinProfile : List Condition → Who → Partition → Request → Type 0
+IsWithinProfile conditions who partition request = WhereNone conditions (IsTrue (in_profile who partition request))
 
 -- what a channel answers to a call of this partition, at this time of the caller's core
 abbrev pub channel_answer : Configuration → ℕ → ℕ → Request → (ℕ → Channel) → ℕ → Answer
@@ -148,10 +150,10 @@ pub record IsLawfulCall (configuration : Configuration) (state : State) (core : 
   pub occupant : occupant_of state.cores core ≡ Some call.who
   pub choice : choice configuration state core ≡ Some call.who
   pub due : HasNoneDue (item_at (state.partitions call.who.part).table call.who.proc)
-  pub profile : IsWithinProfile (condition_codes configuration call.who (state.partitions call.who.part) call.request)
+  pub profile : IsWithinProfile (conditions_of configuration call.who (state.partitions call.who.part) call.request)
       call.who (state.partitions call.who.part) call.request
   pub prio : HasPriority call.claim.prio (item_at (state.partitions call.who.part).table call.who.proc)
-  pub outcome : HasOutcome (condition_codes configuration call.who (state.partitions call.who.part) call.request)
+  pub outcome : HasOutcome (conditions_of configuration call.who (state.partitions call.who.part) call.request)
       (channel_of (state.partitions call.who.part) call.request)
       (answer_of (time_of state.cores core) call.who (state.partitions call.who.part) call.request)
       (λ number. suits_use configuration number call.who.part (use_of call.request) (state.channels number))

@@ -1,86 +1,85 @@
 -- What is known of a call on which no error condition holds.
 use Rattle.std.proofs.Common.{◌≡◌, ◌≢◌, ◌≤◌, ℕ, ℤ, pos, negsuc, List, [], ◌∷◌, ◌++◌, Option, Some, None, Bool, true, false, not, IsTrue, refl}
 use Rattle.std.specs.Option.{IfSome, option_map}
-use Rattle.apex_types.specs.declared.code.Code.{Code}
 use Rattle.apex_types.specs.declared.operation.{BlackboardOperation.BlackboardOperation, BufferOperation.BufferOperation, EventOperation.EventOperation, MutexOperation.MutexOperation, ProcessOperation.ProcessOperation, QueuingOperation.QueuingOperation, SamplingOperation.SamplingOperation, SemaphoreOperation.SemaphoreOperation}
 use Rattle.apex_types.specs.declared.record.Call.{Call as CallRecord}
 use Rattle.apex_types.specs.declared.record.Claim.{Claim}
 use Rattle.apex_types.specs.declared.record.Who.{Who}
 use Rattle.apex_types.specs.declared.request.Request.{Request}
 use Rattle.apex_types.specs.declared.request.Request.TheVariants as request
+use Rattle.apex_machine.specs.declared.condition.Condition.{Condition}
 use Rattle.apex_machine.specs.declared.state.CoreState.{CoreState}
-use Rattle.apex_machine.specs.Conditions.{codes_for, time_out_codes, waiting_codes, when}
+use Rattle.apex_machine.specs.Conditions.{conditions_for, time_out_conditions, waiting_conditions, when}
 use Rattle.apex_machine.specs.Configuration.{Configuration}
 use Rattle.apex_machine.specs.Demands.{AllHold, answer_demands, outcome_demands, own_call_demands}
-use Rattle.apex_machine.specs.ObjectConditions.{message_codes}
+use Rattle.apex_machine.specs.ObjectConditions.{message_conditions}
 use Rattle.apex_machine.specs.Ports.{channel_by, channel_of}
-use Rattle.apex_machine.specs.ServiceConditions.{condition_codes}
+use Rattle.apex_machine.specs.ServiceConditions.{conditions_of}
 use Rattle.apex_machine.specs.Services.{Answer, answer_of}
 use Rattle.apex_machine.specs.State.{Mutex, Partition, Port, created, given_object, item_at, time_of}
 use Rattle.apex_laws.specs.PartLaws.{IsOwnCall}
-use Rattle.apex_laws.proofs.Codes.{are_errors}
 use Rattle.apex_laws.proofs.SoundParts.{demands_none, running_stands_nowhere}
 use Rattle.partition_state.specs.Calls.{IsAtWork, IsClear, ReadsAtPort, served_demands}
 
--- lists of codes
+-- lists of conditions
 
-pub nil_left : (codes others : List Code) → codes ++ others ≡ [] → codes ≡ []
+pub nil_left : (conditions others : List Condition) → conditions ++ others ≡ [] → conditions ≡ []
 nil_left [] others e = refl
-nil_left (code ∷ codes) others e = cc
+nil_left (condition ∷ conditions) others e = cc
 
-pub nil_right : (codes others : List Code) → codes ++ others ≡ [] → others ≡ []
+pub nil_right : (conditions others : List Condition) → conditions ++ others ≡ [] → others ≡ []
 nil_right [] others e = e
-nil_right (code ∷ codes) others e = cc
+nil_right (condition ∷ conditions) others e = cc
 
-pub when_not : (passes : Bool) (code : Code) → when (not passes) code ≡ [] → IsTrue passes
-when_not true code e = refl
-when_not false code e = cc
+pub when_not : (passes : Bool) (one : Condition) → when (not passes) one ≡ [] → IsTrue passes
+when_not true one e = refl
+when_not false one e = cc
 
 -- what is created is there
 
-is_there : {Object : Type 0} (object : Option Object) (codes : Object → List Code) → codes_for object codes ≡ [] → object ≢ None
-is_there None codes e = λ same. cc
-is_there (Some found) codes e = λ same. cc
+is_there : {Object : Type 0} (object : Option Object) (conditions : Object → List Condition) → conditions_for object conditions ≡ [] → object ≢ None
+is_there None conditions e = λ same. cc
+is_there (Some found) conditions e = λ same. cc
 
-is_first : {Object : Type 0} (object : Option Object) (codes : Object → List Code) (others : List Code) → codes_for object codes ++ others ≡ [] → object ≢ None
-is_first None codes others e = λ same. cc
-is_first (Some found) codes others e = λ same. cc
+is_first : {Object : Type 0} (object : Option Object) (conditions : Object → List Condition) (others : List Condition) → conditions_for object conditions ++ others ≡ [] → object ≢ None
+is_first None conditions others e = λ same. cc
+is_first (Some found) conditions others e = λ same. cc
 
-has_size : {Object : Type 0} (size : Object → ℕ) (object : Option Object) (length : ℤ) → message_codes (option_map size object) length ≡ [] → object ≢ None
+has_size : {Object : Type 0} (size : Object → ℕ) (object : Option Object) (length : ℤ) → message_conditions (option_map size object) length ≡ [] → object ≢ None
 has_size size None length e = λ same. cc
 has_size size (Some found) length e = λ same. cc
 
 pub buffer_found : (configuration : Configuration) (who : Who) (partition : Partition) (buffer : ℤ) (operation : BufferOperation)
-    → condition_codes configuration who partition (request.Buffer buffer operation) ≡ [] → given_object partition.buffers buffer ≢ None
+    → conditions_of configuration who partition (request.Buffer buffer operation) ≡ [] → given_object partition.buffers buffer ≢ None
 buffer_found configuration who partition buffer (BufferOperation.Send length time_out message) none =
-    has_size _ (given_object partition.buffers buffer) length (nil_left _ (time_out_codes time_out) (nil_left _ (waiting_codes who partition time_out) none))
+    has_size _ (given_object partition.buffers buffer) length (nil_left _ (time_out_conditions time_out) (nil_left _ (waiting_conditions who partition time_out) none))
 buffer_found configuration who partition buffer (BufferOperation.Receive time_out) none =
-    is_first (given_object partition.buffers buffer) _ (time_out_codes time_out) (nil_left _ (waiting_codes who partition time_out) none)
+    is_first (given_object partition.buffers buffer) _ (time_out_conditions time_out) (nil_left _ (waiting_conditions who partition time_out) none)
 
 pub blackboard_found : (configuration : Configuration) (who : Who) (partition : Partition) (blackboard : ℤ) (operation : BlackboardOperation)
-    → condition_codes configuration who partition (request.Blackboard blackboard operation) ≡ [] → given_object partition.blackboards blackboard ≢ None
+    → conditions_of configuration who partition (request.Blackboard blackboard operation) ≡ [] → given_object partition.blackboards blackboard ≢ None
 blackboard_found configuration who partition blackboard (BlackboardOperation.Display length message) none = has_size _ (given_object partition.blackboards blackboard) length none
 blackboard_found configuration who partition blackboard (BlackboardOperation.Read time_out) none =
-    is_first (given_object partition.blackboards blackboard) _ (time_out_codes time_out) (nil_left _ (waiting_codes who partition time_out) none)
+    is_first (given_object partition.blackboards blackboard) _ (time_out_conditions time_out) (nil_left _ (waiting_conditions who partition time_out) none)
 blackboard_found configuration who partition blackboard BlackboardOperation.Clear none = is_there (given_object partition.blackboards blackboard) _ none
 
 pub semaphore_found : (configuration : Configuration) (who : Who) (partition : Partition) (semaphore : ℤ) (operation : SemaphoreOperation)
-    → condition_codes configuration who partition (request.Semaphore semaphore operation) ≡ [] → given_object partition.semaphores semaphore ≢ None
+    → conditions_of configuration who partition (request.Semaphore semaphore operation) ≡ [] → given_object partition.semaphores semaphore ≢ None
 semaphore_found configuration who partition semaphore (SemaphoreOperation.Wait time_out) none =
-    is_first (given_object partition.semaphores semaphore) _ (time_out_codes time_out) (nil_left _ (waiting_codes who partition time_out) none)
+    is_first (given_object partition.semaphores semaphore) _ (time_out_conditions time_out) (nil_left _ (waiting_conditions who partition time_out) none)
 semaphore_found configuration who partition semaphore SemaphoreOperation.Signal none = is_there (given_object partition.semaphores semaphore) _ none
 
 pub event_found : (configuration : Configuration) (who : Who) (partition : Partition) (event : ℤ) (operation : EventOperation)
-    → condition_codes configuration who partition (request.Event event operation) ≡ [] → given_object partition.events event ≢ None
+    → conditions_of configuration who partition (request.Event event operation) ≡ [] → given_object partition.events event ≢ None
 event_found configuration who partition event (EventOperation.Wait time_out) none =
-    is_first (given_object partition.events event) _ (time_out_codes time_out) (nil_left _ (waiting_codes who partition time_out) none)
+    is_first (given_object partition.events event) _ (time_out_conditions time_out) (nil_left _ (waiting_conditions who partition time_out) none)
 event_found configuration who partition event EventOperation.Set none = is_there (given_object partition.events event) _ none
 event_found configuration who partition event EventOperation.Reset none = is_there (given_object partition.events event) _ none
 
 pub mutex_found : (configuration : Configuration) (who : Who) (partition : Partition) (mutex : ℤ) (operation : MutexOperation)
-    → condition_codes configuration who partition (request.Mutex mutex operation) ≡ [] → given_object partition.mutexes mutex ≢ None
+    → conditions_of configuration who partition (request.Mutex mutex operation) ≡ [] → given_object partition.mutexes mutex ≢ None
 mutex_found configuration who partition mutex (MutexOperation.Acquire time_out) none =
-    is_first (given_object partition.mutexes mutex) _ (time_out_codes time_out) (nil_left _ _ (nil_left _ _ none))
+    is_first (given_object partition.mutexes mutex) _ (time_out_conditions time_out) (nil_left _ _ (nil_left _ _ none))
 mutex_found configuration who partition mutex MutexOperation.Release none = is_there (given_object partition.mutexes mutex) _ none
 
 -- a call through a port goes to a channel
@@ -90,21 +89,21 @@ goes_through None there = absurd (there refl)
 goes_through (Some port) there = λ same. cc
 
 pub sampling_goes_through : (configuration : Configuration) (who : Who) (partition : Partition) (port : ℤ) (operation : SamplingOperation)
-    → condition_codes configuration who partition (request.SamplingPort port operation) ≡ [] → channel_of partition (request.SamplingPort port operation) ≢ None
+    → conditions_of configuration who partition (request.SamplingPort port operation) ≡ [] → channel_of partition (request.SamplingPort port operation) ≢ None
 sampling_goes_through configuration who partition port (SamplingOperation.Write length message) none =
     goes_through (given_object partition.sampling_ports port) (is_there (given_object partition.sampling_ports port) _ (nil_left _ _ none))
 sampling_goes_through configuration who partition port SamplingOperation.Read none =
     goes_through (given_object partition.sampling_ports port) (is_there (given_object partition.sampling_ports port) _ none)
 
 pub queuing_goes_through : (configuration : Configuration) (who : Who) (partition : Partition) (port : ℤ) (operation : QueuingOperation)
-    → condition_codes configuration who partition (request.QueuingPort port operation) ≡ [] → channel_of partition (request.QueuingPort port operation) ≢ None
+    → conditions_of configuration who partition (request.QueuingPort port operation) ≡ [] → channel_of partition (request.QueuingPort port operation) ≢ None
 queuing_goes_through configuration who partition port (QueuingOperation.Send length time_out message) none =
-    goes_through (given_object partition.queuing_ports port) (is_there (given_object partition.queuing_ports port) _ (nil_left _ _ (nil_left _ (time_out_codes time_out) (nil_left _ (waiting_codes who partition time_out) none))))
+    goes_through (given_object partition.queuing_ports port) (is_there (given_object partition.queuing_ports port) _ (nil_left _ _ (nil_left _ (time_out_conditions time_out) (nil_left _ (waiting_conditions who partition time_out) none))))
 queuing_goes_through configuration who partition port (QueuingOperation.Receive time_out) none =
-    goes_through (given_object partition.queuing_ports port) (is_first (given_object partition.queuing_ports port) _ (time_out_codes time_out) (nil_left _ (waiting_codes who partition time_out) none))
+    goes_through (given_object partition.queuing_ports port) (is_first (given_object partition.queuing_ports port) _ (time_out_conditions time_out) (nil_left _ (waiting_conditions who partition time_out) none))
 
 pub target_found : (configuration : Configuration) (who : Who) (partition : Partition) (process : ℤ)
-    → condition_codes configuration who partition (request.Process process ProcessOperation.Stop) ≡ [] → created partition.table process ≢ None
+    → conditions_of configuration who partition (request.Process process ProcessOperation.Stop) ≡ [] → created partition.table process ≢ None
 target_found configuration who partition process none = is_first (created partition.table process) _ _ none
 
 -- a read that is done is at a port that is created
@@ -114,8 +113,8 @@ port_found configuration number place core cores partition call own = by call.re
   where
     by : (asked : Request) → call.request ≡ asked → ReadsAtPort call asked partition
     by (request.SamplingPort port SamplingOperation.Read) is = λ done.
-        let none = demands_none (condition_codes configuration call.who partition call.request) (channel_of partition call.request) number call.request
-        (answer_of (time_of cores core) call.who partition call.request) call.claim (are_errors configuration call.who partition call.request)
+        let none = demands_none (conditions_of configuration call.who partition call.request) (channel_of partition call.request) number call.request
+        (answer_of (time_of cores core) call.who partition call.request) call.claim
         own.demands.1.1.1.1.1 done in
         is_there (given_object partition.sampling_ports port) _ (rw is at none)
     by _ is = tt
@@ -131,9 +130,9 @@ at_work configuration cores place core partition call clear = record {
 }
 
 -- what is demanded of an outcome on which no condition holds, through no channel
-outcome_holds : (codes : List Code) (channel : Option ℕ) (number : ℕ) (asked : Request) (answer : Answer) (claim : Claim) → codes ≡ [] → channel ≡ None
-    → claim.chan ≡ None → AllHold (answer_demands answer claim) → AllHold (outcome_demands codes channel number asked answer claim)
-outcome_holds codes channel number asked answer claim none nowhere apart holds = rw (none, nowhere) (apart, holds)
+outcome_holds : (conditions : List Condition) (channel : Option ℕ) (number : ℕ) (asked : Request) (answer : Answer) (claim : Claim) → conditions ≡ [] → channel ≡ None
+    → claim.chan ≡ None → AllHold (answer_demands answer claim) → AllHold (outcome_demands conditions channel number asked answer claim)
+outcome_holds conditions channel number asked answer claim none nowhere apart holds = rw (none, nowhere) (apart, holds)
 
 -- where its claim is what its service gives, all that is demanded of the call holds
 pub all_hold : (configuration : Configuration) (cores : List CoreState) (place core : ℕ) (partition : Partition) (call : CallRecord)
@@ -141,8 +140,8 @@ pub all_hold : (configuration : Configuration) (cores : List CoreState) (place c
     → AllHold (own_call_demands configuration call.who.part cores partition core call)
 all_hold configuration cores place core partition call clear served =
     let caller = clear.caller in
-    let outcome = outcome_holds (condition_codes configuration call.who partition call.request) (channel_of partition call.request) call.who.part call.request
-    (answer_of (time_of cores core) call.who partition call.request) call.claim clear.codes clear.through clear.apart served in
+    let outcome = outcome_holds (conditions_of configuration call.who partition call.request) (channel_of partition call.request) call.who.part call.request
+    (answer_of (time_of cores core) call.who partition call.request) call.claim clear.conditions clear.through clear.apart served in
     (caller.0, (caller.1.0, (caller.1.1.0, (caller.1.1.1.0, (caller.1.1.1.1.0, outcome)))))
 
 -- so it is a lawful call of one of the partition's own processes

@@ -37,4 +37,4 @@ pub mutex_accepted : (configuration : Configuration) (cores : List CoreState) (p
     → IfOk result (λ transfer. IsTransferOf partition call.who.proc (request.Mutex mutex operation) transfer)
 mutex_accepted configuration cores place core partition call mutex operation clear asked (Err fault) transfers = tt
 mutex_accepted configuration cores place core partition call mutex operation clear asked (Ok transfer) transfers =
-    mutex_transfers (actor_of place call) partition mutex operation transfer (mutex_found configuration call.who partition mutex operation (rw asked at clear.codes)) transfers
+    mutex_transfers (actor_of place call) partition mutex operation transfer (mutex_found configuration call.who partition mutex operation (rw asked at clear.conditions)) transfers

@@ -313,7 +313,7 @@ buffers_served configuration cores place core partition call given operation cle
     let work = at_work configuration cores place core partition call clear in
     ap (λ buffers. record partition { buffers = buffers })
     (is ∙ becomes_there given partition.buffers (buffers.answer (actor_of place call) operation) _ _ call.claim (work.sound.objects kind.Buffer)
-    (buffer_found configuration call.who partition given operation (rw asked at clear.codes)) holds
+    (buffer_found configuration call.who partition given operation (rw asked at clear.conditions)) holds
     (λ found at same. buffer_becomes place call given operation found asked (in_order place partition call.who work (set.BufferSenders (natural_of given)) found.senders (rw at refl)) (in_order place partition call.who work (set.BufferReceivers (natural_of given)) found.receivers (rw at refl)) same))
 
 pub blackboards_served : (configuration : Configuration) (cores : List CoreState) (place core : ℕ) (partition : Partition) (call : CallRecord) (given : ℤ) (operation : BlackboardOperation)
@@ -326,7 +326,7 @@ blackboards_served configuration cores place core partition call given operation
     let work = at_work configuration cores place core partition call clear in
     ap (λ blackboards. record partition { blackboards = blackboards })
     (is ∙ becomes_there given partition.blackboards (λ found. (blackboard_effect operation found).answer) _ _ call.claim (work.sound.objects kind.Blackboard)
-    (blackboard_found configuration call.who partition given operation (rw asked at clear.codes)) holds
+    (blackboard_found configuration call.who partition given operation (rw asked at clear.conditions)) holds
     (λ found at same. blackboard_becomes place call given operation found asked (in_order place partition call.who work (set.BlackboardReaders (natural_of given)) found.readers (rw at refl)) same))
 
 pub semaphores_served : (configuration : Configuration) (cores : List CoreState) (place core : ℕ) (partition : Partition) (call : CallRecord) (given : ℤ) (operation : SemaphoreOperation)
@@ -339,7 +339,7 @@ semaphores_served configuration cores place core partition call given operation 
     let work = at_work configuration cores place core partition call clear in
     ap (λ semaphores. record partition { semaphores = semaphores })
     (is ∙ becomes_there given partition.semaphores (λ found. (semaphore_effect operation found).answer) _ _ call.claim (work.sound.objects kind.Semaphore)
-    (semaphore_found configuration call.who partition given operation (rw asked at clear.codes)) holds
+    (semaphore_found configuration call.who partition given operation (rw asked at clear.conditions)) holds
     (λ found at same. semaphore_becomes place call given operation found asked (in_order place partition call.who work (set.SemaphoreWaiters (natural_of given)) found.waiters (rw at refl)) same))
 
 pub events_served : (configuration : Configuration) (cores : List CoreState) (place core : ℕ) (partition : Partition) (call : CallRecord) (given : ℤ) (operation : EventOperation)
@@ -352,7 +352,7 @@ events_served configuration cores place core partition call given operation clea
     let work = at_work configuration cores place core partition call clear in
     ap (λ events. record partition { events = events })
     (is ∙ becomes_there given partition.events (λ found. (event_effect operation found).answer) _ _ call.claim (work.sound.objects kind.Event)
-    (event_found configuration call.who partition given operation (rw asked at clear.codes)) holds
+    (event_found configuration call.who partition given operation (rw asked at clear.conditions)) holds
     (λ found at same. event_becomes place call given operation found asked (in_order place partition call.who work (set.EventWaiters (natural_of given)) found.waiters (rw at refl)) same))
 
 pub mutexes_served : (configuration : Configuration) (cores : List CoreState) (place core : ℕ) (partition : Partition) (call : CallRecord) (given : ℤ) (operation : MutexOperation)
@@ -365,5 +365,5 @@ mutexes_served configuration cores place core partition call given operation cle
     let work = at_work configuration cores place core partition call clear in
     ap (λ mutexes. record partition { mutexes = mutexes })
     (is ∙ becomes_there given partition.mutexes (λ found. (mutex_effect call.who.proc operation found).answer) _ _ call.claim (work.sound.objects kind.Mutex)
-    (mutex_found configuration call.who partition given operation (rw asked at clear.codes)) holds
+    (mutex_found configuration call.who partition given operation (rw asked at clear.conditions)) holds
     (λ found at same. mutex_becomes place call given operation found asked (in_order place partition call.who work (set.MutexWaiters (natural_of given)) found.waiters (rw at refl)) same))

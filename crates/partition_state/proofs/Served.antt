@@ -49,7 +49,7 @@ served_is_called configuration cores place core partition call clear served goes
 
     by : (target : Option Process) → created partition.table process ≡ target
         → objects_called configuration place call partition ≡ left_if_there (peer call.who process) target partition
-    by None e = absurd (target_found configuration call.who partition process (rw is at clear.codes) e)
+    by None e = absurd (target_found configuration call.who partition process (rw is at clear.conditions) e)
     by (Some target) e =
         let served_now = rw is at served in
         let done : is_no_error call.claim.out ≡ true = rw served_now.0 refl in

@@ -2,7 +2,6 @@
 use Rattle.std.proofs.Common.{◌≡◌, ◌≢◌, ◌<◌, ◌≤◌, ℕ, ℤ, pos, negsuc, List, [], ◌∷◌, ◌||◌, None, Bool, true, false, nat_eq, IsTrue, refl, arith}
 use Rattle.std.proofs.lemmas.Bool.Decides.{nat_tests}
 use Rattle.apex_types.specs.declared.limits.TheConstants.{MOST_CORES, PLACE_COUNT}
-use Rattle.apex_types.specs.declared.code.Code.TheVariants as error
 use Rattle.apex_types.specs.declared.operation.{BlackboardOperation.BlackboardOperation, CallerOperation.CallerOperation, EventOperation.EventOperation, MutexOperation.MutexOperation, ProcessOperation.ProcessOperation, SemaphoreOperation.SemaphoreOperation}
 use Rattle.apex_types.specs.declared.record.Call.{Call as CallRecord}
 use Rattle.apex_types.specs.declared.record.Out.{Out}
@@ -15,7 +14,7 @@ use Rattle.apex_machine.specs.After.{is_done}
 use Rattle.apex_machine.specs.Answer.{NamesExactly}
 use Rattle.apex_machine.specs.Configuration.{Configuration, is_core}
 use Rattle.apex_machine.specs.Demands.{AllHold}
-use Rattle.apex_machine.specs.ServiceConditions.{condition_codes}
+use Rattle.apex_machine.specs.ServiceConditions.{conditions_of}
 use Rattle.apex_machine.specs.State.{Partition, given_object, is_named, is_same, item_at, time_of}
 use Rattle.apex_machine.specs.Waiting.{is_waiting}
 use Rattle.apex_laws.specs.PartBounds.{IsBoundedPart}
@@ -47,18 +46,18 @@ core_is configuration number (pos core) few of_module has =
 core_is configuration number (negsuc core) few of_module has = cc
 
 gives_soundly : (configuration : Configuration) (who : Who) (partition : Partition) (process : ℤ) (operation : ProcessOperation) → configuration.cores ≤ MOST_CORES → CoresAreOfModule configuration
-    → condition_codes configuration who partition (request.Process process operation) ≡ [] → GivesSoundly operation
-gives_soundly configuration who partition process (ProcessOperation.SetPriority priority) few of_module none = when_not _ error.InvalidParam (nil_right _ _ none)
+    → conditions_of configuration who partition (request.Process process operation) ≡ [] → GivesSoundly operation
+gives_soundly configuration who partition process (ProcessOperation.SetPriority priority) few of_module none = when_not _ _ (nil_right _ _ none)
 gives_soundly configuration who partition process (ProcessOperation.InitializeCoreAffinity core) few of_module none =
-    core_is configuration who.part core few of_module (when_not _ error.InvalidConfig (nil_right _ _ none))
+    core_is configuration who.part core few of_module (when_not _ _ (nil_right _ _ none))
 gives_soundly configuration who partition process _ few of_module none = tt
 
 asks_soundly : (configuration : Configuration) (now : ℕ) (partition : Partition) (call : CallRecord) (asked : Request)
-    → configuration.cores ≤ MOST_CORES → CoresAreOfModule configuration → condition_codes configuration call.who partition asked ≡ [] → call.request ≡ asked
+    → configuration.cores ≤ MOST_CORES → CoresAreOfModule configuration → conditions_of configuration call.who partition asked ≡ [] → call.request ≡ asked
     → AllHold (served_demands now partition call) → AsksSoundly partition.table call asked
 asks_soundly configuration now partition call (request.CreateProcess name priority period) few of_module none is served =
     λ done. let given = rw is at served in
-    (given.1.0.val, when_not _ error.InvalidParam (nil_right _ _ (nil_left _ _ (nil_left _ _ none))), nobody call.claim.woken given.1.1.1.0)
+    (given.1.0.val, when_not _ _ (nil_right _ _ (nil_left _ _ (nil_left _ _ none))), nobody call.claim.woken given.1.1.1.0)
 asks_soundly configuration now partition call (request.Process process operation) few of_module none is served =
     λ done. gives_soundly configuration call.who partition process operation few of_module none
 asks_soundly configuration now partition call _ few of_module none is served = tt
@@ -78,7 +77,7 @@ given_fits objects (pos n) fit found = number_fits n objects fit found
 given_fits objects (negsuc n) fit found = absurd (found refl)
 
 waits_soundly : (configuration : Configuration) (who : Who) (partition : Partition) (asked : Request) → NumbersAreKept partition
-    → condition_codes configuration who partition asked ≡ [] → WaitsSoundly asked
+    → conditions_of configuration who partition asked ≡ [] → WaitsSoundly asked
 waits_soundly configuration who partition (request.Buffer buffer operation) kept none =
     given_fits partition.buffers buffer kept.buffers (buffer_found configuration who partition buffer operation none)
 waits_soundly configuration who partition (request.Blackboard blackboard (BlackboardOperation.Read time_out)) kept none =
@@ -105,8 +104,8 @@ pub sound_served : (configuration : Configuration) (cores : List CoreState) (pla
     → IsClear configuration cores place core partition call → AllHold (served_demands (time_of cores core) partition call)
     → configuration.cores ≤ MOST_CORES → CoresAreOfModule configuration → NumbersAreKept partition → place < PLACE_COUNT → IsSound partition.table call
 sound_served configuration cores place core partition call clear served few of_module kept below = record {
-  asks = asks_soundly configuration (time_of cores core) partition call call.request few of_module clear.codes refl served;
-  waits = λ waiting. waits_soundly configuration call.who partition call.request kept clear.codes;
+  asks = asks_soundly configuration (time_of cores core) partition call call.request few of_module clear.conditions refl served;
+  waits = λ waiting. waits_soundly configuration call.who partition call.request kept clear.conditions;
   releases = releases_soundly place partition call.who.proc call.request clear.bounded below;
 }
 

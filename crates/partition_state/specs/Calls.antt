@@ -15,7 +15,7 @@ use Rattle.apex_machine.specs.Arguments.{natural_of}
 use Rattle.apex_machine.specs.Configuration.{Configuration}
 use Rattle.apex_machine.specs.Demands.{AllHold, Demand, FirstFails, answer_demands, caller_demands, stands_in}
 use Rattle.apex_machine.specs.Ports.{channel_of, use_of}
-use Rattle.apex_machine.specs.ServiceConditions.{condition_codes}
+use Rattle.apex_machine.specs.ServiceConditions.{conditions_of}
 use Rattle.apex_machine.specs.Services.{NewNumber, answer_by, answer_of, done_with, peer}
 use Rattle.apex_machine.specs.State.{Partition, change_at, created, given_object, is_free}
 use Rattle.apex_laws.specs.Laws.{entries_at}
@@ -49,7 +49,7 @@ pub record IsClear (configuration : Configuration) (cores : List CoreState) (pla
   pub sound : IsSoundPart call.who.part place partition
   pub bounded : IsBoundedPart place partition
   pub caller : AllHold (caller_demands configuration call.who.part cores partition core call)
-  pub codes : condition_codes configuration call.who partition call.request ≡ []
+  pub conditions : conditions_of configuration call.who partition call.request ≡ []
   pub through : channel_of partition call.request ≡ None
   pub apart : call.claim.chan ≡ None
 

@@ -4,7 +4,7 @@ ghost use Rattle.std.specs.Prelude.{◌≡◌, ◌++◌, [], IfErr, IfOk, OnErr,
 ghost use Rattle.apex_types.specs.Requested.{kind_of};
 ghost use Rattle.apex_types.specs.declared.request.Request.TheVariants as request;
 ghost use Rattle.apex_machine.specs.After.{numbered, objects_by};
-ghost use Rattle.apex_machine.specs.CreationConditions.{parameter_codes};
+ghost use Rattle.apex_machine.specs.CreationConditions.{parameter_conditions};
 ghost use Rattle.apex_machine.specs.Demands.{AllHold};
 ghost use Rattle.apex_machine.specs.State.{objects_of};
 ghost use Rattle.wait_set.specs.Actors.{Refuses};
@@ -33,7 +33,7 @@ impl PartitionState {
         object: &NewObject,
         claim: &Claim,
     ) -> Result<(), ObjFault>
-        requires clear { parameter_codes config.now who.part name.now object.now ≡ [] }
+        requires clear { parameter_conditions config.now who.part name.now object.now ≡ [] }
         ensures ok { OnOk result (AllHold (created_demands (objects_of self.old (kind_of object.now)) claim.now)) }
         ensures after { OnOk result (self.new ≡ objects_by config.now who claim.now.val (request.Create name.now object.now) self.old) }
         ensures refused { IfErr result (Refuses (created_demands (objects_of self.old (kind_of object.now)) claim.now)) }

@@ -3,7 +3,7 @@ pub mod Naming
 pub mod Numbering
 pub mod Parting
 pub mod Passing
-pub mod PortCodes
+pub mod PortConditions
 pub mod Putting
 pub mod Reaching
 pub mod Slots

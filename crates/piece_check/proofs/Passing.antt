@@ -1,19 +1,17 @@
 -- The judgement of one of the partition's own calls: what stands before the outcome, and the outcome after it.
 use Rattle.std.proofs.Common.{◌≡◌, ◌≢◌, ℕ, List, [], ◌∷◌, ◌++◌, Some, None, false, inr, refl}
 use Rattle.apex_types.specs.declared.cause.Cause.{Cause}
-use Rattle.apex_types.specs.declared.code.Code.{Code}
 use Rattle.apex_types.specs.declared.record.Call.{Call as CallRecord}
 use Rattle.apex_types.specs.declared.record.Claim.{Claim}
 use Rattle.apex_types.specs.declared.request.Request.{Request}
+use Rattle.apex_machine.specs.declared.condition.Condition.{Condition}
 use Rattle.apex_machine.specs.declared.state.CoreState.{CoreState}
 use Rattle.apex_machine.specs.Configuration.{Configuration}
 use Rattle.apex_machine.specs.Demands.{AllHold, Demand, FirstFails, caller_demands, outcome_demands, own_call_demands}
-use Rattle.apex_types.specs.declared.record.Who.{Who}
 use Rattle.apex_machine.specs.After.{is_done}
 use Rattle.apex_machine.specs.Ports.{channel_of}
-use Rattle.apex_machine.specs.Step.{HasCode}
-use Rattle.apex_laws.proofs.Codes.{are_errors, not_done}
-use Rattle.apex_machine.specs.ServiceConditions.{condition_codes}
+use Rattle.apex_laws.proofs.Codes.{not_done}
+use Rattle.apex_machine.specs.ServiceConditions.{conditions_of}
 use Rattle.apex_machine.specs.Services.{Answer, answer_of}
 use Rattle.apex_machine.specs.State.{Partition, time_of}
 use Rattle.partition_state.specs.Calls.{RefusesOrWants, served_demands}
@@ -35,7 +33,7 @@ fails_later (demand ∷ demands) others why hold fails = inr (hold.0, fails_late
 -- where no channel is used either, what fails of the claim fails of the call
 pub served_fails : (configuration : Configuration) (number : ℕ) (cores : List CoreState) (partition : Partition) (core now : ℕ) (call : CallRecord) (fault : ObjFault)
     → AllHold (caller_demands configuration number cores partition core call)
-    → condition_codes configuration call.who partition call.request ≡ [] → channel_of partition call.request ≡ None → call.claim.chan ≡ None → now ≡ time_of cores core
+    → conditions_of configuration call.who partition call.request ≡ [] → channel_of partition call.request ≡ None → call.claim.chan ≡ None → now ≡ time_of cores core
     → RefusesOrWants (served_demands now partition call) fault → RefusesOrWants (own_call_demands configuration number cores partition core call) fault
 served_fails configuration number cores partition core now call (Unlawful why) caller none nowhere apart at fails =
     fails_later (caller_demands configuration number cores partition core call) _ why caller
@@ -45,7 +43,7 @@ served_fails configuration number cores partition core now call Memory caller no
 -- where a channel is used, what is demanded of the outcome, whatever the service gives, holds of the call, or fails of it
 pub through_holds : (configuration : Configuration) (number : ℕ) (cores : List CoreState) (partition : Partition) (core : ℕ) (call : CallRecord) (channel : ℕ)
     → AllHold (caller_demands configuration number cores partition core call)
-    → condition_codes configuration call.who partition call.request ≡ [] → channel_of partition call.request ≡ Some channel
+    → conditions_of configuration call.who partition call.request ≡ [] → channel_of partition call.request ≡ Some channel
     → ((answer : Answer) → AllHold (outcome_demands [] (Some channel) number call.request answer call.claim))
     → AllHold (own_call_demands configuration number cores partition core call)
 through_holds configuration number cores partition core call channel caller none goes holds =
@@ -53,7 +51,7 @@ through_holds configuration number cores partition core call channel caller none
 
 pub through_fails : (configuration : Configuration) (number : ℕ) (cores : List CoreState) (partition : Partition) (core : ℕ) (call : CallRecord) (channel : ℕ) (why : Cause)
     → AllHold (caller_demands configuration number cores partition core call)
-    → condition_codes configuration call.who partition call.request ≡ [] → channel_of partition call.request ≡ Some channel
+    → conditions_of configuration call.who partition call.request ≡ [] → channel_of partition call.request ≡ Some channel
     → ((answer : Answer) → FirstFails (outcome_demands [] (Some channel) number call.request answer call.claim) why)
     → FirstFails (own_call_demands configuration number cores partition core call) why
 through_fails configuration number cores partition core call channel why caller none goes fails =
@@ -62,12 +60,7 @@ through_fails configuration number cores partition core call channel why caller 
 -- where some error condition holds
 
 -- a call that claims a code of an error condition is not done
-pub refused_not_done : (configuration : Configuration) (who : Who) (partition : Partition) (asked : Request) (codes : List Code) (number : ℕ) (answer : Answer)
-    (claim : Claim) → codes ≡ condition_codes configuration who partition asked → codes ≢ []
-    → AllHold (outcome_demands codes None number asked answer claim) → is_done claim.out ≡ false
-refused_not_done configuration who partition asked codes number answer claim are some hold =
-    not_done codes claim.out (rw are (are_errors configuration who partition asked)) (has_code codes some hold)
-  where
-    has_code : (codes : List Code) → codes ≢ [] → AllHold (outcome_demands codes None number asked answer claim) → HasCode codes claim.out
-    has_code [] some hold = absurd (some refl)
-    has_code (code ∷ codes) some hold = hold.1.0
+pub refused_not_done : (conditions : List Condition) (number : ℕ) (asked : Request) (answer : Answer) (claim : Claim) → conditions ≢ []
+    → AllHold (outcome_demands conditions None number asked answer claim) → is_done claim.out ≡ false
+refused_not_done [] number asked answer claim some hold = absurd (some refl)
+refused_not_done (condition ∷ conditions) number asked answer claim some hold = not_done (condition ∷ conditions) claim.out hold.1.0

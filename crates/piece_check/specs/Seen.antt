@@ -1,11 +1,11 @@
 -- What callers read of a part.
 use Rattle.std.specs.Prelude.{ℕ, List, [], Option, Some, None}
-use Rattle.apex_types.specs.declared.code.Code.{Code}
 use Rattle.apex_types.specs.declared.record.Call.{Call}
+use Rattle.apex_machine.specs.declared.condition.Condition.{Condition}
 use Rattle.apex_machine.specs.declared.state.CoreState.{CoreState}
 use Rattle.apex_machine.specs.Configuration.{Configuration}
 use Rattle.apex_machine.specs.Pieces.{Part, ModulePart, PartitionPart, ChannelPart}
-use Rattle.apex_machine.specs.ServiceConditions.{condition_codes}
+use Rattle.apex_machine.specs.ServiceConditions.{conditions_of}
 use Rattle.apex_machine.specs.State.{Channel, Partition}
 
 -- the cores with their times and occupants, where the part knows both
@@ -32,8 +32,8 @@ channel_in (ModulePart cores) = None
 channel_in (PartitionPart number cores partition) = None
 channel_in (ChannelPart number times channel) = Some channel
 
--- the codes of the error conditions that hold for a call, where the part is a partition's
-abbrev pub codes_in : Configuration → Part → Call → List Code
-codes_in configuration (ModulePart cores) call = []
-codes_in configuration (PartitionPart number cores partition) call = condition_codes configuration call.who partition call.request
-codes_in configuration (ChannelPart number times channel) call = []
+-- the error conditions that hold for a call, where the part is a partition's
+abbrev pub conditions_in : Configuration → Part → Call → List Condition
+conditions_in configuration (ModulePart cores) call = []
+conditions_in configuration (PartitionPart number cores partition) call = conditions_of configuration call.who partition call.request
+conditions_in configuration (ChannelPart number times channel) call = []

@@ -1,9 +1,9 @@
-// The error conditions that hold for a call, as their codes.
+// The error conditions that hold for a call.
 
 ghost use Rattle.std.specs.Prelude.{◌≡◌, ◌<◌, ◌≤◌, ◌++◌, length, nat_le};
 ghost use Rattle.apex_machine.specs.Conditions as shared;
-ghost use Rattle.apex_machine.specs.Conditions.{creation_codes, time_out_codes, waiting_codes};
-ghost use Rattle.apex_machine.specs.ServiceConditions.{condition_codes};
+ghost use Rattle.apex_machine.specs.Conditions.{creation_conditions, time_out_conditions, waiting_conditions};
+ghost use Rattle.apex_machine.specs.ServiceConditions as services;
 
 mod creations;
 mod objects;
@@ -12,8 +12,8 @@ mod processes;
 mod reported;
 
 use crate::arguments::{is_over, is_time_out};
-use apex_machine::Mode;
-use apex_types::{Call, Code, Request, Who};
+use apex_machine::{Condition, Mode};
+use apex_types::{Call, Request, Who};
 use creations::create_conditions;
 use module_config::Config;
 use objects::{
@@ -28,7 +28,7 @@ use wait_set::Conditions;
 
 /// The error conditions that hold for a call of one of the partition's processes.
 pub(crate) fn conditions_of(config: &Config, state: &PartitionState, call: &Call) -> Conditions
-    ensures { result ≡ condition_codes config.now call.now.who state.now call.now.request }
+    ensures { result ≡ services.conditions_of config.now call.now.who state.now call.now.request }
 {
     let who = call.who;
     match &call.request {
@@ -67,25 +67,25 @@ pub(crate) fn conditions_of(config: &Config, state: &PartitionState, call: &Call
 // These conditions, and those of a wait: a time-out that there is, and a caller that may wait or gives a time-out of 0.
 fn with_wait(conditions: Conditions, who: Who, state: &PartitionState, time_out: i64) -> Conditions
     requires { length conditions < 5 }
-    ensures { result ≡ conditions ++ time_out_codes time_out ++ waiting_codes who state.now time_out }
+    ensures { result ≡ conditions ++ time_out_conditions time_out ++ waiting_conditions who state.now time_out }
 {
     conditions
-        .with(!is_time_out(time_out), Code::InvalidParam)
+        .with(!is_time_out(time_out), Condition::TimeOutOutOfRange)
         .with(
             !is_over(time_out) && may_not_wait(state, who),
-            Code::InvalidMode,
+            Condition::MayNotWait,
         )
 }
 
 // Each creation: not in NORMAL; a name not yet taken among its kind; no more than configured.
 fn creation(state: &PartitionState, is_taken: bool, is_full: bool) -> Conditions
-    ensures value { result ≡ creation_codes state.now is_taken is_full }
+    ensures value { result ≡ creation_conditions state.now is_taken is_full }
     ensures few { length result ≤ 3 }
 {
     Conditions::none()
-        .with(is_normal(state.processes().mode()), Code::InvalidMode)
-        .with(is_taken, Code::NoAction)
-        .with(is_full, Code::InvalidConfig)
+        .with(is_normal(state.processes().mode()), Condition::InNormal)
+        .with(is_taken, Condition::NameTaken)
+        .with(is_full, Condition::AllCreated)
 }
 
 // Whether a process may not wait: the initialising one, and the owner of a mutex.

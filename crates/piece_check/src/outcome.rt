@@ -14,7 +14,7 @@ use crate::names::names_one_of;
 use apex_types::{Call, Cause, ChanId, Claim, Code, Out, PartId, QueuingOperation, Request};
 use wait_set::{Conditions, has_no_values};
 
-/// Judges the outcome of a call on which some error condition holds: it is one of the codes, and nothing else is claimed.
+/// Judges the outcome of a call on which some error condition holds: it is the code of one that holds, and nothing else is claimed.
 pub(crate) fn judge_refused(conditions: &Conditions, claim: &Claim) -> Result<(), Cause>
     requires { conditions.now ≢ [] }
     ensures { (channel : Option ℕ) (number : ℕ) (asked : RequestValue) (answer : services.Answer) → Judges (outcome_demands conditions.now channel number asked answer claim.now) result }

@@ -10,7 +10,7 @@ ghost use Rattle.apex_machine.specs.Demands.{AllHold, FirstFails, IsRunning, Loc
 ghost use Rattle.apex_machine.specs.After.{partition_by};
 ghost use Rattle.apex_machine.specs.Pieces.{OfPartition, PartitionPart, part};
 ghost use Rattle.apex_machine.specs.Ports.{channel_of};
-ghost use Rattle.apex_machine.specs.ServiceConditions.{condition_codes};
+ghost use Rattle.apex_machine.specs.ServiceConditions as services;
 ghost use Rattle.apex_machine.specs.Views.{view_in};
 ghost use Rattle.wait_set.specs.declared.object.ObjFault.TheVariants.{Memory};
 ghost use Rattle.partition_state.specs.Calls.{LeavesObjects, RefusesOrWants};
@@ -169,7 +169,7 @@ impl PartitionPiece {
     // Judges what is demanded before the outcome of one of the partition's own calls, and gives the error conditions that hold.
     fn judge_caller(&self, config: &Config, core: CoreId, call: &Call) -> Result<Conditions, Cause>
         ensures ok { OnOk result (AllHold (own_caller_demands config.now self.now core call.now)) }
-        ensures conditions { IfOk result (λ conditions. conditions ≡ condition_codes config.now call.now.who self.now.state call.now.request) }
+        ensures conditions { IfOk result (λ conditions. conditions ≡ services.conditions_of config.now call.now.who self.now.state call.now.request) }
         ensures refused { IfErr result (FirstFails (own_caller_demands config.now self.now core call.now)) }
     {
         if !self.is_in_window(config, core) {
@@ -204,7 +204,7 @@ impl PartitionPiece {
         requires place { ordered.now.pos < PLACE_COUNT }
         requires holds_before { HoldsBefore ordered.now.pos (partition_part self.old) }
         requires caller { AllHold (own_caller_demands config.now self.old ordered.now.core call.now) }
-        requires clear { condition_codes config.now call.now.who self.old.state call.now.request ≡ [] }
+        requires clear { services.conditions_of config.now call.now.who self.old.state call.now.request ≡ [] }
         requires through { channel_of self.old.state call.now.request ≡ Some channel }
         ensures ok { OnOk result (AllHold (own_demands config.now self.old ordered.now.core call.now)) }
         ensures after { OnOk result (partition_part self.new ≡ part_called config.now self.old ordered.now call.now) }
@@ -223,7 +223,7 @@ impl PartitionPiece {
         requires place { ordered.now.pos < PLACE_COUNT }
         requires holds_before { HoldsBefore ordered.now.pos (partition_part self.old) }
         requires caller { AllHold (own_caller_demands config.now self.old ordered.now.core call.now) }
-        requires clear { condition_codes config.now call.now.who self.old.state call.now.request ≡ [] }
+        requires clear { services.conditions_of config.now call.now.who self.old.state call.now.request ≡ [] }
         requires apart { channel_of self.old.state call.now.request ≡ None }
         ensures ok { OnOk result (AllHold (own_demands config.now self.old ordered.now.core call.now)) }
         ensures after { OnOk result (partition_part self.new ≡ part_called config.now self.old ordered.now call.now) }
@@ -254,7 +254,7 @@ impl PartitionPiece {
         requires place { ordered.now.pos < PLACE_COUNT }
         requires holds_before { HoldsBefore ordered.now.pos (partition_part self.old) }
         requires caller { AllHold (own_caller_demands config.now self.old ordered.now.core call.now) }
-        requires conditions { conditions.now ≡ condition_codes config.now call.now.who self.old.state call.now.request }
+        requires conditions { conditions.now ≡ services.conditions_of config.now call.now.who self.old.state call.now.request }
         requires some { conditions.now ≢ [] }
         ensures ok { OnOk result (AllHold (own_demands config.now self.old ordered.now.core call.now)) }
         ensures after { OnOk result (partition_part self.new ≡ part_called config.now self.old ordered.now call.now) }

@@ -3,7 +3,7 @@
 ghost use Rattle.std.specs.Prelude.{◌≡◌, option_map};
 ghost use Rattle.std.specs.Option.{option_copied};
 ghost use Rattle.piece_check.specs.Parts.{holder};
-ghost use Rattle.piece_check.specs.Seen.{channel_in, codes_in, cores_in, partition_in, times_in};
+ghost use Rattle.piece_check.specs.Seen.{channel_in, conditions_in, cores_in, partition_in, times_in};
 ghost use Rattle.piece_check.specs.Subjects.{piece_of};
 
 use crate::conditions::conditions_of;
@@ -70,9 +70,9 @@ impl Piece {
         }
     }
 
-    /// The codes of the error conditions that hold for a call, as the partition sees them; none where it is another piece.
+    /// The error conditions that hold for a call, as the partition sees them; none where it is another piece.
     pub fn conditions(&self, config: &Config, call: &Call) -> Conditions
-        ensures { result ≡ codes_in config.now self.now.part call.now }
+        ensures { result ≡ conditions_in config.now self.now.part call.now }
     {
         match &self.held {
             Held::Partition(piece) => conditions_of(config, &piece.state, call),

@@ -3,15 +3,14 @@
 ghost use Rattle.std.specs.Prelude.{◌≡◌, ◌≢◌, [], None};
 ghost use Rattle.std.specs.Option.{option_copied};
 ghost use Rattle.apex_machine.specs.PortConditions as meets;
-ghost use Rattle.apex_machine.specs.PortConditions.{destination_codes, source_codes};
 ghost use Rattle.apex_machine.specs.Ports.{channel_by};
 ghost use Rattle.apex_machine.specs.State.{given_object};
 ghost use Rattle.ports.specs.Guards.{IsGuard};
 
 use crate::port::Port;
 use crate::table::PortTable;
-use apex_machine::Direction;
-use apex_types::{ChanId, Code};
+use apex_machine::{Condition, Direction};
+use apex_types::ChanId;
 use wait_set::Conditions;
 
 /// What stands before a call through a port: the error conditions that hold, where some do; else the channel to which it goes.
@@ -25,7 +24,7 @@ impl PortTable {
     /// What stands before a message of this length, in bytes, goes into the port of the number that a caller gives: it has to be
     /// a created source, of a size for the message.
     pub fn guard_source(&self, number: i64, length: i64) -> Guard
-        ensures { IsGuard (source_codes (given_object self.now number) length) (channel_by (given_object self.now number)) result }
+        ensures { IsGuard (meets.source_conditions (given_object self.now number) length) (channel_by (given_object self.now number)) result }
     {
         let port = self.given(number);
         guard_by(port, source_conditions(port, length))
@@ -33,7 +32,7 @@ impl PortTable {
 
     /// What stands before a message is taken from the port of the number that a caller gives: it has to be a created destination.
     pub fn guard_destination(&self, number: i64) -> Guard
-        ensures { IsGuard (destination_codes (given_object self.now number)) (channel_by (given_object self.now number)) result }
+        ensures { IsGuard (meets.destination_conditions (given_object self.now number)) (channel_by (given_object self.now number)) result }
     {
         let port = self.given(number);
         guard_by(port, destination_conditions(port))
@@ -53,24 +52,24 @@ fn guard_by(port: Option<&Port>, conditions: Conditions) -> Guard
 
 // A message into a port: a created source, of a size for the message; one byte at least.
 fn source_conditions(port: Option<&Port>, length: i64) -> Conditions
-    ensures { result ≡ source_codes (option_copied port.entry) length }
+    ensures { result ≡ meets.source_conditions (option_copied port.entry) length }
 {
     let of_port = match port {
         Some(found) => Conditions::none()
-            .with(length > i64::from(found.size()), Code::InvalidConfig)
-            .with(!is_source(found), Code::InvalidMode),
-        None => Conditions::none().with(true, Code::InvalidParam),
+            .with(length > i64::from(found.size()), Condition::LongerThanPort)
+            .with(!is_source(found), Condition::NotSource),
+        None => Conditions::none().with(true, Condition::NotCreated),
     };
-    of_port.with(length <= 0, Code::InvalidParam)
+    of_port.with(length <= 0, Condition::EmptyMessage)
 }
 
 // A message from a port: a created destination.
 fn destination_conditions(port: Option<&Port>) -> Conditions
-    ensures { result ≡ destination_codes (option_copied port.entry) }
+    ensures { result ≡ meets.destination_conditions (option_copied port.entry) }
 {
     match port {
-        Some(found) => Conditions::none().with(is_source(found), Code::InvalidMode),
-        None => Conditions::none().with(true, Code::InvalidParam),
+        Some(found) => Conditions::none().with(is_source(found), Condition::NotDestination),
+        None => Conditions::none().with(true, Condition::NotCreated),
     }
 }
 

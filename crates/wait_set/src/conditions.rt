@@ -1,29 +1,30 @@
-// The error conditions that hold for a call, as their codes.
+// The error conditions that hold for a call.
 
 ghost use Rattle.std.specs.Prelude.{◌≡◌, ◌<◌, ◌≤◌, ◌+◌, ◌++◌, ◌↔◌, [], IsTrue, length};
 ghost use Rattle.apex_machine.specs.Conditions.{when};
-ghost use Rattle.apex_machine.specs.Step.{HasCode, IsAmong};
+ghost use Rattle.apex_machine.specs.Step.{HasCode, IsCodeOf};
 
+use apex_machine::Condition;
 use apex_types::{Code, Out};
 use std::marker::Model;
 
-/// The codes of the error conditions that hold for a call, in the order of the conditions. A contract sees the list of them.
+/// The error conditions that hold for a call, in the order in which they are judged. A contract sees the list of them.
 /// It takes no memory, and has room for the conditions of any service.
 #[derive(Drop)]
 pub struct Conditions {
-    codes: [Code; Conditions::LIMIT],
+    conditions: [Condition; Conditions::LIMIT],
     count: usize,
 }
 
 impl Model for Conditions {
     ghost use Rattle.std.specs.Prelude.{List, ◌≤◌, take};
-    ghost use Rattle.apex_types.specs.declared.code.Code.{Code};
+    ghost use Rattle.apex_machine.specs.declared.condition.Condition.{Condition};
 
-    ghost Value = { List Code };
+    ghost Value = { List Condition };
 
-    ghost view = { λ conditions. take conditions.count conditions.codes };
+    ghost view = { λ held. take held.count held.conditions };
 
-    ghost invariant = { λ conditions. conditions.count ≤ 6 };
+    ghost invariant = { λ held. held.count ≤ 6 };
 }
 
 impl Conditions {
@@ -35,19 +36,20 @@ impl Conditions {
         ensures { result ≡ [] }
     {
         Conditions {
-            codes: [Code::NoError; Conditions::LIMIT],
+            // Places from the count on are not read.
+            conditions: [Condition::NotCreated; Conditions::LIMIT],
             count: 0,
         }
     }
 
-    /// These conditions, and after them this code where its condition holds. The caller sees to it that there is room.
-    pub fn with(mut self, holds: bool, code: Code) -> Conditions
+    /// These conditions, and after them this one where it holds. The caller sees to it that there is room.
+    pub fn with(mut self, holds: bool, condition: Condition) -> Conditions
         requires { length self < Self.LIMIT }
-        ensures value { result ≡ self ++ when holds code }
+        ensures value { result ≡ self ++ when holds condition }
         ensures growth { length result ≤ length self + 1 }
     {
         if holds {
-            self.codes[self.count] = code;
+            self.conditions[self.count] = condition;
             self.count += 1;
         }
         self
@@ -66,23 +68,24 @@ impl Conditions {
     {
         match out {
             Out::Waits | Out::Never => false,
-            Out::Answer(code) => is_among(self.as_slice(), code),
+            Out::Answer(code) => is_code_of(self.as_slice(), code),
         }
     }
 
-    fn as_slice(&self) -> &[Code]
+    /// All of them, in their order.
+    pub fn as_slice(&self) -> &[Condition]
         ensures { result.now ≡ self.now }
     {
-        &self.codes[..self.count]
+        &self.conditions[..self.count]
     }
 }
 
-// Whether a code is one of these.
-fn is_among(codes: &[Code], code: Code) -> bool
-    ensures { IsTrue result ↔ IsAmong codes.now code }
+// Whether one of the conditions has this code.
+fn is_code_of(conditions: &[Condition], code: Code) -> bool
+    ensures { IsTrue result ↔ IsCodeOf conditions.now code }
 {
-    for other in codes {
-        if *other == code {
+    for condition in conditions {
+        if condition.code() == code {
             return true;
         }
     }

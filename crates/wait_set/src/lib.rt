@@ -5,7 +5,7 @@
 //! entering takes memory, and where that is refused the entry comes back whole and nothing has changed.
 //! An operation on an object is accepted exactly where the claim is what the operation gives its caller; else the cause is that of
 //! the first demand that fails, and nothing has changed. Which error conditions hold is judged before, and `Conditions` keeps
-//! their codes in order.
+//! them in order.
 #![tactic(auto)]
 
 mod conditions;

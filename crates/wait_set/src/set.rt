@@ -209,6 +209,13 @@ impl WaitSet {
         self.ranks.clear();
     }
 
+    /// The discipline of the set. Takes no memory.
+    pub fn discipline(&self) -> Discipline
+        ensures { result ≡ self.now.discipline }
+    {
+        self.discipline
+    }
+
     /// How many wait here. The places of the entries rise, and no process stands twice.
     pub fn len(&self) -> usize
         ensures len { result ≡ length self.now.entries }
@@ -263,5 +270,19 @@ impl WaitSet {
             Ok(()) => Ok(()),
             Err(_) => Err(AllocError),
         }
+    }
+}
+
+impl Clone for WaitSet {
+    ghost is_clone = { λ set copy. copy ≡ set };
+
+    fn clone(&self) -> Result<WaitSet, AllocError> {
+        Ok(WaitSet {
+            alloc: self.alloc,
+            discipline: self.discipline,
+            entries: self.entries.clone()?,
+            places: self.places.clone()?,
+            ranks: self.ranks.clone()?,
+        })
     }
 }

@@ -10,8 +10,8 @@ use crate::arguments::{
     direction_number, discipline_number, is_capacity, is_discipline, is_maximum, is_number,
     is_priority, is_size, suits_maximum,
 };
-use apex_machine::Direction;
-use apex_types::{Code, Name, NewObject, ObjectKind, PartId};
+use apex_machine::{Condition, Direction};
+use apex_types::{Name, NewObject, ObjectKind, PartId};
 use module_config::{Config, QueuingPort, SamplingPort};
 use partition_state::PartitionState;
 use wait_set::Conditions;
@@ -24,7 +24,7 @@ pub(super) fn create_conditions(
     name: &Name,
     object: &NewObject,
 ) -> Conditions
-    ensures { result ≡ creations.create_codes config.now number state.now name.now object.now }
+    ensures { result ≡ creations.create_conditions config.now number state.now name.now object.now }
 {
     let kind = object.kind();
     let is_taken = state.number_of(kind, name).is_some();
@@ -68,7 +68,7 @@ fn with_parameters(
     object: &NewObject,
 ) -> Conditions
     requires { length conditions ≤ 3 }
-    ensures { result ≡ conditions ++ creations.parameter_codes config.now number name.now object.now }
+    ensures { result ≡ conditions ++ creations.parameter_conditions config.now number name.now object.now }
 {
     match object {
         NewObject::Buffer {
@@ -76,25 +76,28 @@ fn with_parameters(
             capacity,
             discipline,
         } => conditions
-            .with(!is_size(*size), Code::InvalidParam)
-            .with(!is_capacity(*capacity), Code::InvalidParam)
-            .with(!is_discipline(*discipline), Code::InvalidParam),
-        NewObject::Blackboard { size } => conditions.with(!is_size(*size), Code::InvalidParam),
+            .with(!is_size(*size), Condition::SizeOutOfRange)
+            .with(!is_capacity(*capacity), Condition::CapacityOutOfRange)
+            .with(!is_discipline(*discipline), Condition::DisciplineOutOfRange),
+        NewObject::Blackboard { size } => conditions.with(
+            !is_size(*size),
+            Condition::SizeOutOfRange,
+        ),
         NewObject::Semaphore {
             value,
             maximum,
             discipline,
         } => conditions
-            .with(!is_maximum(*maximum), Code::InvalidParam)
-            .with(!suits_maximum(*maximum, *value), Code::InvalidParam)
-            .with(!is_discipline(*discipline), Code::InvalidParam),
+            .with(!is_maximum(*maximum), Condition::MaximumOutOfRange)
+            .with(!suits_maximum(*maximum, *value), Condition::ValueOutOfRange)
+            .with(!is_discipline(*discipline), Condition::DisciplineOutOfRange),
         NewObject::Event => conditions,
         NewObject::Mutex {
             priority,
             discipline,
         } => conditions
-            .with(!is_priority(*priority), Code::InvalidParam)
-            .with(!is_discipline(*discipline), Code::InvalidParam),
+            .with(!is_priority(*priority), Condition::PriorityOutOfRange)
+            .with(!is_discipline(*discipline), Condition::DisciplineOutOfRange),
         NewObject::SamplingPort {
             size,
             direction,
@@ -102,7 +105,7 @@ fn with_parameters(
         } => {
             let port = config.sampling_port(number, name);
             let is_configured = is_sampling_port(port, *size, *direction, *refresh);
-            conditions.with(!is_configured, Code::InvalidConfig)
+            conditions.with(!is_configured, Condition::NotAsConfigured)
         }
         NewObject::QueuingPort {
             size,
@@ -112,7 +115,7 @@ fn with_parameters(
         } => {
             let port = config.queuing_port(number, name);
             let is_configured = is_queuing_port(port, *size, *capacity, *direction, *discipline);
-            conditions.with(!is_configured, Code::InvalidConfig)
+            conditions.with(!is_configured, Condition::NotAsConfigured)
         }
     }
 }

@@ -5,18 +5,17 @@ ghost use Rattle.std.specs.Option.{option_copied};
 ghost use Rattle.apex_types.specs.declared.request.Request.TheVariants as request;
 ghost use Rattle.apex_machine.specs.Configuration.{Configuration};
 ghost use Rattle.apex_machine.specs.Conditions as shared;
-ghost use Rattle.apex_machine.specs.Conditions.{codes_for};
+ghost use Rattle.apex_machine.specs.Conditions.{conditions_for};
 ghost use Rattle.apex_machine.specs.ObjectConditions as objects;
-ghost use Rattle.apex_machine.specs.ServiceConditions.{condition_codes};
+ghost use Rattle.apex_machine.specs.ServiceConditions.{conditions_of};
 ghost use Rattle.apex_machine.specs.State as parts;
 ghost use Rattle.apex_machine.specs.declared.state.Process.{Process as ProcessValue};
 
 use super::with_wait;
 use crate::arguments::{is_length, is_longer, is_time_out};
-use apex_machine::Process;
+use apex_machine::{Condition, Process};
 use apex_types::{
-    BlackboardOperation, BufferOperation, Code, EventOperation, MutexOperation, SemaphoreOperation,
-    Who,
+    BlackboardOperation, BufferOperation, EventOperation, MutexOperation, SemaphoreOperation, Who,
 };
 use blackboard::Blackboard;
 use buffer::Buffer;
@@ -32,7 +31,7 @@ pub(super) fn buffer_conditions(
     buffer: i64,
     operation: &BufferOperation,
 ) -> Conditions
-    ensures { (configuration : Configuration) → result ≡ condition_codes configuration who state.now (request.Buffer buffer operation.now) }
+    ensures { (configuration : Configuration) → result ≡ conditions_of configuration who state.now (request.Buffer buffer operation.now) }
 {
     let found = state.buffers().given(buffer);
     match operation {
@@ -53,7 +52,7 @@ pub(super) fn blackboard_conditions(
     blackboard: i64,
     operation: &BlackboardOperation,
 ) -> Conditions
-    ensures { (configuration : Configuration) → result ≡ condition_codes configuration who state.now (request.Blackboard blackboard operation.now) }
+    ensures { (configuration : Configuration) → result ≡ conditions_of configuration who state.now (request.Blackboard blackboard operation.now) }
 {
     let found = state.blackboards().given(blackboard);
     match operation {
@@ -70,7 +69,7 @@ pub(super) fn semaphore_conditions(
     semaphore: i64,
     operation: &SemaphoreOperation,
 ) -> Conditions
-    ensures { (configuration : Configuration) → result ≡ condition_codes configuration who state.now (request.Semaphore semaphore operation.now) }
+    ensures { (configuration : Configuration) → result ≡ conditions_of configuration who state.now (request.Semaphore semaphore operation.now) }
 {
     let found = state.semaphores().given(semaphore);
     match operation {
@@ -86,7 +85,7 @@ pub(super) fn event_conditions(
     event: i64,
     operation: &EventOperation,
 ) -> Conditions
-    ensures { (configuration : Configuration) → result ≡ condition_codes configuration who state.now (request.Event event operation.now) }
+    ensures { (configuration : Configuration) → result ≡ conditions_of configuration who state.now (request.Event event operation.now) }
 {
     let found = state.events().given(event);
     match operation {
@@ -102,7 +101,7 @@ pub(super) fn mutex_conditions(
     mutex: i64,
     operation: &MutexOperation,
 ) -> Conditions
-    ensures { (configuration : Configuration) → result ≡ condition_codes configuration who state.now (request.Mutex mutex operation.now) }
+    ensures { (configuration : Configuration) → result ≡ conditions_of configuration who state.now (request.Mutex mutex operation.now) }
 {
     match operation {
         MutexOperation::Acquire { time_out } => acquire_mutex(who, state, mutex, *time_out),
@@ -112,9 +111,9 @@ pub(super) fn mutex_conditions(
 
 /// A use of an object: a created one.
 pub(super) fn use_of<Object>(object: Option<&Object>) -> Conditions
-    ensures { result ≡ codes_for (option_copied object.entry) (λ found. []) }
+    ensures { result ≡ conditions_for (option_copied object.entry) (λ found. []) }
 {
-    Conditions::none().with(object.is_none(), Code::InvalidParam)
+    Conditions::none().with(object.is_none(), Condition::NotCreated)
 }
 
 // A wait for an object: a created one; a time-out that there is; a caller that may wait.
@@ -124,7 +123,7 @@ fn wait_for<Object>(
     object: Option<&Object>,
     time_out: i64,
 ) -> Conditions
-    ensures { result ≡ objects.object_codes who state.now (option_copied object.entry) time_out }
+    ensures { result ≡ objects.object_conditions who state.now (option_copied object.entry) time_out }
 {
     with_wait(use_of(object), who, state, time_out)
 }
@@ -145,43 +144,48 @@ fn blackboard_size(blackboard: Option<&Blackboard>) -> Option<u16>
 
 // A message into an object of this size: a created one, of a size for the message; one byte at least.
 fn message(size: Option<u16>, length: i64) -> Conditions
-    ensures value { result ≡ objects.message_codes size length }
+    ensures value { result ≡ objects.message_conditions size length }
     ensures few { count_of result ≤ 2 }
 {
     let of_object = match size {
         Some(greatest) => {
-            Conditions::none().with(is_longer(greatest, length), Code::InvalidParam)
+            Conditions::none().with(is_longer(greatest, length), Condition::LongerThanObject)
         }
-        None => Conditions::none().with(true, Code::InvalidParam),
+        None => Conditions::none().with(true, Condition::NotCreated),
     };
-    of_object.with(!is_length(length), Code::InvalidParam)
+    of_object.with(!is_length(length), Condition::EmptyMessage)
 }
 
 // ACQUIRE_MUTEX: a created mutex, of a priority not below the caller's current one; a time-out that there is; not the
 // initialising process, and no owner of another mutex.
 fn acquire_mutex(who: Who, state: &PartitionState, mutex: i64, time_out: i64) -> Conditions
-    ensures { result ≡ objects.acquire_codes who state.now mutex time_out }
+    ensures { result ≡ objects.acquire_conditions who state.now mutex time_out }
 {
     let caller = state.processes().proc(who.proc);
     let of_mutex = match state.mutexes().given(mutex) {
         Some(found) => {
-            Conditions::none().with(runs_above(found.priority(), caller), Code::InvalidMode)
+            Conditions::none().with(
+                runs_above(found.priority(), caller),
+                Condition::AboveCeiling,
+            )
         }
-        None => Conditions::none().with(true, Code::InvalidParam),
+        None => Conditions::none().with(true, Condition::NotCreated),
     };
     of_mutex
-        .with(!is_time_out(time_out), Code::InvalidParam)
-        .with(who.proc.number() == 0, Code::InvalidMode)
-        .with(state.owns_another(mutex, who.proc), Code::InvalidMode)
+        .with(!is_time_out(time_out), Condition::TimeOutOutOfRange)
+        .with(who.proc.number() == 0, Condition::InitialisingCaller)
+        .with(state.owns_another(mutex, who.proc), Condition::OwnsAnother)
 }
 
 // RELEASE_MUTEX: a created mutex, by its owner.
 fn release_mutex(who: Who, mutex: Option<&Mutex653>) -> Conditions
-    ensures { result ≡ objects.release_codes who (option_copied mutex.entry) }
+    ensures { result ≡ objects.release_conditions who (option_copied mutex.entry) }
 {
     match mutex {
-        Some(found) => { Conditions::none().with(!found.is_owned_by(who.proc), Code::InvalidMode) }
-        None => Conditions::none().with(true, Code::InvalidParam),
+        Some(found) => {
+            Conditions::none().with(!found.is_owned_by(who.proc), Condition::NotOwner)
+        }
+        None => Conditions::none().with(true, Condition::NotCreated),
     }
 }
 

@@ -1,12 +1,12 @@
 // The error conditions of uses of sampling ports and queuing ports.
 
 ghost use Rattle.std.specs.Prelude.{◌≡◌, ◌≤◌, ℕ, List, Option, length as count_of};
-ghost use Rattle.apex_types.specs.declared.code.Code.{Code as CodeValue};
 ghost use Rattle.apex_types.specs.declared.record.Who.{Who as WhoValue};
 ghost use Rattle.apex_types.specs.declared.request.Request.TheVariants as request;
+ghost use Rattle.apex_machine.specs.declared.condition.Condition.{Condition};
 ghost use Rattle.apex_machine.specs.Configuration.{Configuration};
-ghost use Rattle.apex_machine.specs.PortConditions as codes;
-ghost use Rattle.apex_machine.specs.ServiceConditions.{condition_codes};
+ghost use Rattle.apex_machine.specs.PortConditions as meets;
+ghost use Rattle.apex_machine.specs.ServiceConditions.{conditions_of};
 ghost use Rattle.apex_machine.specs.State.{given_object};
 ghost use Rattle.ports.specs.Guards.{IsGuard};
 
@@ -23,7 +23,7 @@ pub(super) fn sampling_conditions(
     port: i64,
     operation: &SamplingOperation,
 ) -> Conditions
-    ensures { (configuration : Configuration) (who : WhoValue) → result ≡ condition_codes configuration who state.now (request.SamplingPort port operation.now) }
+    ensures { (configuration : Configuration) (who : WhoValue) → result ≡ conditions_of configuration who state.now (request.SamplingPort port operation.now) }
 {
     match operation {
         SamplingOperation::Write { length, .. } => put_in(state.sampling_ports(), port, *length),
@@ -39,7 +39,7 @@ pub(super) fn queuing_conditions(
     port: i64,
     operation: &QueuingOperation,
 ) -> Conditions
-    ensures { (configuration : Configuration) → result ≡ condition_codes configuration who state.now (request.QueuingPort port operation.now) }
+    ensures { (configuration : Configuration) → result ≡ conditions_of configuration who state.now (request.QueuingPort port operation.now) }
 {
     match operation {
         QueuingOperation::Send {
@@ -63,7 +63,7 @@ pub(super) fn queuing_conditions(
 
 // A message into a port: a created source of a size for the message.
 fn put_in(ports: &PortTable, port: i64, length: i64) -> Conditions
-    ensures value { result ≡ codes.source_codes (given_object ports.now port) length }
+    ensures value { result ≡ meets.source_conditions (given_object ports.now port) length }
     ensures few { count_of result ≤ 3 }
 {
     conditions_in(ports.guard_source(port, length))
@@ -71,7 +71,7 @@ fn put_in(ports: &PortTable, port: i64, length: i64) -> Conditions
 
 // A message from a port: a created destination.
 fn taken_from(ports: &PortTable, port: i64) -> Conditions
-    ensures value { result ≡ codes.destination_codes (given_object ports.now port) }
+    ensures value { result ≡ meets.destination_conditions (given_object ports.now port) }
     ensures few { count_of result ≤ 3 }
 {
     conditions_in(ports.guard_destination(port))
@@ -79,7 +79,7 @@ fn taken_from(ports: &PortTable, port: i64) -> Conditions
 
 // The error conditions that a guard tells: none where it tells a channel.
 fn conditions_in(guard: Guard) -> Conditions
-    ensures { (codes : List CodeValue) (channel : Option ℕ) → IsGuard codes channel guard → result ≡ codes }
+    ensures { (conditions : List Condition) (channel : Option ℕ) → IsGuard conditions channel guard → result ≡ conditions }
 {
     match guard {
         Guard::Errors(conditions) => conditions,

@@ -1,21 +1,21 @@
 // The error conditions of processes, their waits and the partition's mode.
 
-ghost use Rattle.std.specs.Prelude.{◌≡◌};
+ghost use Rattle.std.specs.Prelude.{◌≡◌, ◌≤◌, length};
 ghost use Rattle.std.specs.Option.{option_copied};
 ghost use Rattle.apex_types.specs.declared.request.Request.TheVariants as request;
 ghost use Rattle.apex_machine.specs.Conditions as shared;
 ghost use Rattle.apex_machine.specs.Configuration.{Configuration};
 ghost use Rattle.apex_machine.specs.DueTimes as due_times;
 ghost use Rattle.apex_machine.specs.ProcessConditions as processes;
-ghost use Rattle.apex_machine.specs.ServiceConditions.{condition_codes};
+ghost use Rattle.apex_machine.specs.ServiceConditions.{conditions_of};
 
 use super::{creation, is_normal, is_reached, may_not_wait};
 use crate::arguments::{
     is_mode, is_negative, is_normal_mode, is_period, is_priority, is_process, is_time_out,
     is_warm_start_mode, suits_period,
 };
-use apex_machine::{Mode, Process, Wait};
-use apex_types::{CallerOperation, Code, Name, PartId, ProcessOperation, Who};
+use apex_machine::{Condition, Mode, Process, Wait};
+use apex_types::{CallerOperation, Name, PartId, ProcessOperation, Who};
 use module_config::Config;
 use partition_state::PartitionState;
 use wait_set::Conditions;
@@ -28,7 +28,7 @@ pub(super) fn process_conditions(
     process: i64,
     operation: &ProcessOperation,
 ) -> Conditions
-    ensures { result ≡ condition_codes config.now who state.now (request.Process process operation.now) }
+    ensures { result ≡ conditions_of config.now who state.now (request.Process process operation.now) }
 {
     let target = state.processes().created(process);
     match operation {
@@ -49,7 +49,7 @@ pub(super) fn caller_conditions(
     who: Who,
     operation: &CallerOperation,
 ) -> Conditions
-    ensures { (configuration : Configuration) → result ≡ condition_codes configuration who state.now (request.Caller operation.now) }
+    ensures { (configuration : Configuration) → result ≡ conditions_of configuration who state.now (request.Caller operation.now) }
 {
     match operation {
         CallerOperation::SuspendSelf { time_out } => suspend_self(who, state, *time_out),
@@ -69,15 +69,15 @@ pub(super) fn create_process(
     priority: i64,
     period: i64,
 ) -> Conditions
-    ensures { result ≡ processes.create_process_codes config.now number state.now name.now priority period }
+    ensures { result ≡ processes.create_process_conditions config.now number state.now name.now priority period }
 {
     let processes = state.processes();
     let is_full = is_reached(config.process_limit(number), processes.len());
     let suits = suits_period(config.period(number), period);
     creation(state, processes.named(name), is_full)
-        .with(!is_priority(priority), Code::InvalidParam)
-        .with(!is_period(period), Code::InvalidParam)
-        .with(!suits, Code::InvalidConfig)
+        .with(!is_priority(priority), Condition::PriorityOutOfRange)
+        .with(!is_period(period), Condition::PeriodOutOfRange)
+        .with(!suits, Condition::PeriodNotMultiple)
 }
 
 // INITIALIZE_PROCESS_CORE_AFFINITY: a created process; not in NORMAL; one of the partition's cores.
@@ -88,124 +88,138 @@ fn initialize_affinity(
     process: i64,
     core: i64,
 ) -> Conditions
-    ensures { result ≡ processes.affinity_codes config.now number state.now process core }
+    ensures { result ≡ processes.affinity_conditions config.now number state.now process core }
 {
     let target = state.processes().created(process);
     Conditions::none()
-        .with(target.is_none(), Code::InvalidParam)
-        .with(is_normal(state.processes().mode()), Code::InvalidMode)
-        .with(!config.has_core(number, core), Code::InvalidConfig)
+        .with(target.is_none(), Condition::NotCreated)
+        .with(is_normal(state.processes().mode()), Condition::InNormal)
+        .with(
+            !config.has_core(number, core),
+            Condition::CoreNotOfPartition,
+        )
 }
 
 // START: a created process, and a dormant one.
 fn start(target: Option<&Process>) -> Conditions
-    ensures { result ≡ processes.start_codes (option_copied target.entry) }
+    ensures { result ≡ processes.start_conditions (option_copied target.entry) }
 {
     match target {
-        Some(process) => Conditions::none().with(process.alive, Code::NoAction),
-        None => Conditions::none().with(true, Code::InvalidParam),
+        Some(process) => Conditions::none().with(process.alive, Condition::AlreadyStarted),
+        None => Conditions::none().with(true, Condition::NotCreated),
     }
 }
 
 // STOP: a created process, not the caller, and not a dormant one.
 fn stop(who: Who, target: Option<&Process>, process: i64) -> Conditions
-    ensures { result ≡ processes.stop_codes who (option_copied target.entry) process }
+    ensures { result ≡ processes.stop_conditions who (option_copied target.entry) process }
 {
     let of_target = match target {
-        Some(found) => Conditions::none().with(!found.alive, Code::NoAction),
-        None => Conditions::none().with(true, Code::InvalidParam),
+        Some(found) => Conditions::none().with(!found.alive, Condition::AlreadyDormant),
+        None => Conditions::none().with(true, Condition::NotCreated),
     };
-    of_target.with(is_process(process, who.proc), Code::InvalidParam)
+    of_target.with(is_process(process, who.proc), Condition::NamesItself)
+}
+
+// SUSPEND and RESUME: a process that is neither dormant nor periodic.
+fn suspension(process: &Process) -> Conditions
+    ensures value { result ≡ processes.suspension_conditions process.now }
+    ensures few { length result ≤ 2 }
+{
+    Conditions::none()
+        .with(!process.alive, Condition::Dormant)
+        .with(is_periodic(process), Condition::Periodic)
 }
 
 // SUSPEND: a created process, not the caller, neither dormant nor periodic, and not yet suspended.
 fn suspend(who: Who, target: Option<&Process>, process: i64) -> Conditions
-    ensures { result ≡ processes.suspend_codes who (option_copied target.entry) process }
+    ensures { result ≡ processes.suspend_conditions who (option_copied target.entry) process }
 {
     let of_target = match target {
-        Some(found) => Conditions::none()
-            .with(!found.alive || is_periodic(found), Code::InvalidMode)
-            .with(is_suspended(found), Code::NoAction),
-        None => Conditions::none().with(true, Code::InvalidParam),
+        Some(found) => suspension(found).with(is_suspended(found), Condition::AlreadySuspended),
+        None => Conditions::none().with(true, Condition::NotCreated),
     };
-    of_target.with(is_process(process, who.proc), Code::InvalidParam)
+    of_target.with(is_process(process, who.proc), Condition::NamesItself)
 }
 
 // RESUME: a created process, not the caller, neither dormant nor periodic, and a suspended one.
 fn resume(who: Who, target: Option<&Process>, process: i64) -> Conditions
-    ensures { result ≡ processes.resume_codes who (option_copied target.entry) process }
+    ensures { result ≡ processes.resume_conditions who (option_copied target.entry) process }
 {
     let of_target = match target {
-        Some(found) => Conditions::none()
-            .with(!found.alive || is_periodic(found), Code::InvalidMode)
-            .with(found.alive && !is_suspended(found), Code::NoAction),
-        None => Conditions::none().with(true, Code::InvalidParam),
+        Some(found) => {
+            suspension(found).with(found.alive && !is_suspended(found), Condition::NotSuspended)
+        },
+        None => Conditions::none().with(true, Condition::NotCreated),
     };
-    of_target.with(is_process(process, who.proc), Code::InvalidParam)
+    of_target.with(is_process(process, who.proc), Condition::NamesItself)
 }
 
 // SET_PRIORITY: a created process, and not a dormant one; a priority in range.
 fn set_priority(target: Option<&Process>, priority: i64) -> Conditions
-    ensures { result ≡ processes.set_priority_codes (option_copied target.entry) priority }
+    ensures { result ≡ processes.set_priority_conditions (option_copied target.entry) priority }
 {
     let of_target = match target {
-        Some(found) => Conditions::none().with(!found.alive, Code::InvalidMode),
-        None => Conditions::none().with(true, Code::InvalidParam),
+        Some(found) => Conditions::none().with(!found.alive, Condition::Dormant),
+        None => Conditions::none().with(true, Condition::NotCreated),
     };
-    of_target.with(!is_priority(priority), Code::InvalidParam)
+    of_target.with(!is_priority(priority), Condition::PriorityOutOfRange)
 }
 
 // GET_MY_ID: not the initialising process.
 fn get_my_id(who: Who) -> Conditions
-    ensures { result ≡ processes.get_my_id_codes who }
+    ensures { result ≡ processes.get_my_id_conditions who }
 {
-    Conditions::none().with(who.proc.number() == 0, Code::InvalidMode)
+    Conditions::none().with(who.proc.number() == 0, Condition::InitialisingCaller)
 }
 
 // SUSPEND_SELF: a time-out that there is; an aperiodic process that may wait.
 fn suspend_self(who: Who, state: &PartitionState, time_out: i64) -> Conditions
-    ensures { result ≡ processes.suspend_self_codes who state.now time_out }
+    ensures { result ≡ processes.suspend_self_conditions who state.now time_out }
 {
     Conditions::none()
-        .with(!is_time_out(time_out), Code::InvalidParam)
+        .with(!is_time_out(time_out), Condition::TimeOutOutOfRange)
         .with(
             has_period(state.processes().proc(who.proc)),
-            Code::InvalidMode,
+            Condition::PeriodicCaller,
         )
-        .with(may_not_wait(state, who), Code::InvalidMode)
+        .with(may_not_wait(state, who), Condition::MayNotWait)
 }
 
 // TIMED_WAIT: a delay not below 0; a process that may wait.
 fn timed_wait(who: Who, state: &PartitionState, delay: i64) -> Conditions
-    ensures { result ≡ processes.timed_wait_codes who state.now delay }
+    ensures { result ≡ processes.timed_wait_conditions who state.now delay }
 {
     Conditions::none()
-        .with(is_negative(delay), Code::InvalidParam)
-        .with(may_not_wait(state, who), Code::InvalidMode)
+        .with(is_negative(delay), Condition::DelayOutOfRange)
+        .with(may_not_wait(state, who), Condition::MayNotWait)
 }
 
 // PERIODIC_WAIT: a periodic process that may wait.
 fn periodic_wait(who: Who, state: &PartitionState) -> Conditions
-    ensures { result ≡ processes.periodic_wait_codes who state.now }
+    ensures { result ≡ processes.periodic_wait_conditions who state.now }
 {
     Conditions::none()
         .with(
             !has_period(state.processes().proc(who.proc)),
-            Code::InvalidMode,
+            Condition::AperiodicCaller,
         )
-        .with(may_not_wait(state, who), Code::InvalidMode)
+        .with(may_not_wait(state, who), Condition::MayNotWait)
 }
 
 /// SET_PARTITION_MODE: a mode that there is; not NORMAL in NORMAL, and not WARM_START in COLD_START.
 pub(super) fn set_mode(current: Mode, mode: i64) -> Conditions
-    ensures { result ≡ processes.set_mode_codes current mode }
+    ensures { result ≡ processes.set_mode_conditions current mode }
 {
     Conditions::none()
-        .with(!is_mode(mode), Code::InvalidParam)
-        .with(is_normal_mode(mode) && is_normal(current), Code::NoAction)
+        .with(!is_mode(mode), Condition::ModeOutOfRange)
+        .with(
+            is_normal_mode(mode) && is_normal(current),
+            Condition::AlreadyNormal,
+        )
         .with(
             is_warm_start_mode(mode) && is_cold_start(current),
-            Code::InvalidMode,
+            Condition::WarmStartInColdStart,
         )
 }
 

@@ -1,24 +1,25 @@
 // The error conditions of the services that tell the number of what has a name, or the state of an object.
 
 ghost use Rattle.std.specs.Prelude.{◌≡◌};
-ghost use Rattle.apex_machine.specs.Names.{get_id_codes, number_of};
-ghost use Rattle.apex_machine.specs.Statuses.{get_status_codes};
+ghost use Rattle.apex_machine.specs.Names.{get_id_conditions, number_of};
+ghost use Rattle.apex_machine.specs.Statuses.{get_status_conditions};
 
 use super::objects::use_of;
-use apex_types::{Code, Name, ObjectKind};
+use apex_machine::Condition;
+use apex_types::{Name, ObjectKind};
 use partition_state::PartitionState;
 use wait_set::Conditions;
 
 /// GET_BUFFER_ID and its like: one of the kind has the name.
 pub(super) fn id_conditions(state: &PartitionState, kind: ObjectKind, name: &Name) -> Conditions
-    ensures { result ≡ get_id_codes (number_of state.now kind name.now) }
+    ensures { result ≡ get_id_conditions (number_of state.now kind name.now) }
 {
-    Conditions::none().with(state.number_of(kind, name).is_none(), Code::InvalidConfig)
+    Conditions::none().with(state.number_of(kind, name).is_none(), Condition::NoSuchName)
 }
 
 /// GET_BUFFER_STATUS and its like: a created object or port of the kind.
 pub(super) fn status_conditions(state: &PartitionState, kind: ObjectKind, object: i64) -> Conditions
-    ensures { result ≡ get_status_codes state.now kind object }
+    ensures { result ≡ get_status_conditions state.now kind object }
 {
     match kind {
         ObjectKind::Buffer => use_of(state.buffers().given(object)),

@@ -11,5 +11,5 @@ note-requires-clause-leaves c =
     let own = a.self.now in
     let call = a.call.now in
     let answer = answer_of (time_of own.clock.cores a.ordered.now.core) call.who own.state call.request in
-    inl (refused_not_done a.config.now call.who own.state call.request a.conditions.now own.number answer call.claim c.requires.conditions c.requires.some
+    inl (refused_not_done a.conditions.now own.number call.request answer call.claim c.requires.some
     (c.in-Ok.ensures None own.number call.request answer))

@@ -1,0 +1,5 @@
+use Rattle.apex_laws.proofs.ConditionsMet.{conditions_are_the_sentences}
+use Rattle.apex_laws.proofs.conditions_are_the_sentences.Goals as goal
+
+pub returns : goal.returns
+returns c = conditions_are_the_sentences
