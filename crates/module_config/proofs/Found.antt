@@ -1,24 +1,19 @@
 -- A partition that is found, and a window that holds a time.
-use Rattle.std.proofs.Common.{◌≡◌, ◌<◌, ℕ, List, [], ◌∷◌, get_or, Option, Some, None, Bool, true, false, nat_eq, eqb-true, refl, sym, subst, arith}
+use Rattle.std.proofs.Common.{◌≡◌, ◌<◌, ℕ, List, [], ◌∷◌, get_or, Option, Some, None, Bool, true, false, nat_eq, eqb-true, refl, sym, arith}
 use Rattle.std.specs.List.{list_any}
 use Rattle.std.specs.Prelude.{is_some, IfSome, All, if◌then◌else◌}
-use Rattle.std.proofs.lemmas.List.Elements.{All-head, All-tail}
+use Rattle.std.proofs.lemmas.List.Elements.{All-head}
 use Rattle.std.proofs.lemmas.Bool.{and_parts}
 use Rattle.std.proofs.lemmas.List.Folds.{Any-from_list_any}
 use Rattle.apex_machine.specs.Configuration.{Configuration, PartitionLimits, Window, first_of, has_core, limits_of, has_partition, numbered, window_among, is_within}
 use Rattle.module_config.specs.Ends.{has_number}
 use Rattle.module_config.specs.Limits.{AreCoresOf, CoresAreOfModule, IsWithinLimits}
 use Rattle.module_config.specs.Whole.{is_of_partition, are_of_partitions}
+use Rattle.module_config.proofs.Shown.{found-holds}
 
 -- what holds of each item holds of one that is found by its number
 pub numbered-holds : {A : Type 0} (P : A → Type 0) (number_of : A → ℕ) (number : ℕ) (all : List A) (found : A) → All P all → numbered number_of number all ≡ Some found → P found
-numbered-holds P number_of number [] found each is = cc
-numbered-holds P number_of number (one ∷ others) found each is =
-    by (nat_eq (number_of one) number) (numbered-holds P number_of number others found (All-tail P one others each)) is
-  where
-    by : (b : Bool) → (numbered number_of number others ≡ Some found → P found) → (if b then Some one else numbered number_of number others) ≡ Some found → P found
-    by true later same = let e : one ≡ found = cc in subst P e (All-head P one others each)
-    by false later same = later same
+numbered-holds P number_of number all found each is = found-holds P (λ item. nat_eq (number_of item) number) all found each is
 
 -- a core of a list is below what each of them is below
 any-below : (count core : ℕ) (cores : List ℕ) → All (λ one. one < count) cores → list_any (nat_eq core) cores ≡ true → core < count

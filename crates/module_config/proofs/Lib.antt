@@ -7,6 +7,8 @@ pub mod Placing
 pub mod Numbered
 pub mod Windows
 pub mod InWindow
+pub mod Shown
+pub mod Explained
 pub mod Judged
 pub mod Counted
 pub mod Numbers

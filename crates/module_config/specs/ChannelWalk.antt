@@ -1,61 +1,78 @@
 -- What the tables of channels configure, key by key.
-use Rattle.std.specs.Prelude.{ℕ, List, Option, Result, Ok, codes}
-use Rattle.toml.specs.Data.{Data, Members, get_member}
+use Rattle.std.specs.Prelude.{ℕ, List, Option, Result, Ok}
+use Rattle.toml.specs.Data.{Data, Items, Members}
 use Rattle.apex_types.specs.declared.discipline.Discipline.{Discipline}
 use Rattle.apex_types.specs.declared.limits.TheConstants.{GREATEST_CHANNEL, GREATEST_PARTITION, LONGEST_MESSAGE, MOST_DESTINATIONS, MOST_MESSAGES}
 use Rattle.apex_machine.specs.Configuration.{ChannelEnd, QueuingChannel, SamplingChannel}
 use Rattle.module_config.specs.declared.fault.ConfigFault.{ConfigFault}
 use Rattle.module_config.specs.declared.keys.ItemType.TheVariants as of
-use Rattle.module_config.specs.Keys.{◌>>=◌, at_most, discipline_at, each_at, each_item, integer_at, name_at, required, some_at, table_in, ticks_at}
+use Rattle.module_config.specs.declared.place.ConfigKey.{ConfigKey}
+use Rattle.module_config.specs.declared.place.ConfigKey.TheVariants as key
+use Rattle.module_config.specs.declared.place.ConfigTable.{ConfigTable}
+use Rattle.module_config.specs.declared.place.ConfigTable.TheVariants as table
+use Rattle.module_config.specs.declared.refusal.ConfigRefusal.{ConfigRefusal}
+use Rattle.module_config.specs.Keys.{◌>>=◌, at_most, discipline_at, each_item, integer_at, name_at, some_at, table_at, table_in, ticks_at}
+use Rattle.module_config.specs.Places.{at, each_under, item_in, placed}
 
--- the end of a channel that a value describes, which must be a table: a partition's number, and the name of its port
-abbrev pub end_in : Data → Result ChannelEnd ConfigFault
-end_in value =
-    table_in value >>= (λ keys.
-    integer_at 0 GREATEST_PARTITION (get_member (codes "partition") keys) >>= (λ partition.
-    name_at (get_member (codes "port") keys) >>= (λ port.
-    Ok (record { partition = partition; port = port }))))
+-- the end of a channel that a table describes: a partition's number, and the name of its port
+abbrev pub end_by : ConfigTable → Members → Result ChannelEnd ConfigRefusal
+end_by own keys =
+    at own keys key.Partition (integer_at 0 GREATEST_PARTITION) >>= (λ partition.
+    at own keys key.Port name_at >>= (λ port.
+    Ok (record { partition = partition; port = port })))
 
--- the end under a key
-abbrev pub end_at : Option Data → Result ChannelEnd ConfigFault
-end_at value = required value >>= end_in
+-- the end under a key of the channel at an index of a list, which must be a table
+abbrev pub end_under : ConfigKey → ℕ → Members → ConfigKey → Result ChannelEnd ConfigRefusal
+end_under list index keys end = at (table.Item list index) keys end table_at >>= end_by (table.End list index end)
 
--- the ends under a key: a list of 1 to 32 tables
-abbrev pub ends_at : Option Data → Result (List ChannelEnd) ConfigFault
-ends_at value = some_at of.Table value >>= at_most MOST_DESTINATIONS >>= each_item end_in
+-- the destination at an index of those of a sampling channel, which must be a table
+abbrev pub destination_in : ℕ → ℕ → Data → Result ChannelEnd ConfigRefusal
+destination_in channel index value = placed (table.Item key.Sampling channel) key.Destinations (table_in value) >>= end_by (table.Destination channel index)
+
+-- a list of 1 to 32 tables
+abbrev pub some_ends_at : Option Data → Result Items ConfigFault
+some_ends_at value = some_at of.Table value >>= at_most MOST_DESTINATIONS
+
+-- the destinations of the sampling channel at an index
+abbrev pub destinations_under : ℕ → Members → Result (List ChannelEnd) ConfigRefusal
+destinations_under channel keys = at (table.Item key.Sampling channel) keys key.Destinations some_ends_at >>= each_item (destination_in channel)
 
 -- the number of a channel, and the greatest size of its messages
-abbrev pub number_and_size : Members → Result (ℕ × ℕ) ConfigFault
-number_and_size keys =
-    integer_at 0 GREATEST_CHANNEL (get_member (codes "channel") keys) >>= (λ number.
-    integer_at 1 LONGEST_MESSAGE (get_member (codes "size") keys) >>= (λ size. Ok (number, size)))
+abbrev pub number_and_size : ConfigTable → Members → Result (ℕ × ℕ) ConfigRefusal
+number_and_size own keys =
+    at own keys key.Channel (integer_at 0 GREATEST_CHANNEL) >>= (λ number.
+    at own keys key.Size (integer_at 1 LONGEST_MESSAGE) >>= (λ size. Ok (number, size)))
 
--- the sampling channel that a value describes, which must be a table
-abbrev pub sampling_in : Data → Result SamplingChannel ConfigFault
-sampling_in value =
-    table_in value >>= (λ keys.
-    number_and_size keys >>= (λ channel.
-    ticks_at (get_member (codes "refresh") keys) >>= (λ refresh.
-    end_at (get_member (codes "source") keys) >>= (λ source.
-    ends_at (get_member (codes "destinations") keys) >>= (λ destinations.
-    Ok (record { number = channel.0; size = channel.1; refresh = refresh; source = source; destinations = destinations }))))))
+-- what the keys of a sampling channel's table configure, at an index of the list
+abbrev pub sampling_by : ℕ → Members → Result SamplingChannel ConfigRefusal
+sampling_by index keys =
+    number_and_size (table.Item key.Sampling index) keys >>= (λ channel.
+    at (table.Item key.Sampling index) keys key.Refresh ticks_at >>= (λ refresh.
+    end_under key.Sampling index keys key.Source >>= (λ source.
+    destinations_under index keys >>= (λ destinations.
+    Ok (record { number = channel.0; size = channel.1; refresh = refresh; source = source; destinations = destinations })))))
+
+-- the sampling channel at an index of the list, which must be a table
+abbrev pub sampling_in : ℕ → Data → Result SamplingChannel ConfigRefusal
+sampling_in index value = item_in key.Sampling value >>= sampling_by index
 
 -- the sampling channels: a list of tables; without the key there is none
-abbrev pub sampling_at : Option Data → Result (List SamplingChannel) ConfigFault
-sampling_at value = each_at sampling_in value
+abbrev pub sampling_under : Members → Result (List SamplingChannel) ConfigRefusal
+sampling_under keys = each_under table.Module keys key.Sampling sampling_in
 
 -- an end of a queuing channel and its port's discipline, each under its key
-abbrev pub queuing_end_at : Option Data → Option Data → Result (ChannelEnd × Discipline) ConfigFault
-queuing_end_at place discipline = end_at place >>= (λ one. discipline_at discipline >>= (λ own. Ok (one, own)))
+abbrev pub queuing_end_under : ℕ → Members → ConfigKey → ConfigKey → Result (ChannelEnd × Discipline) ConfigRefusal
+queuing_end_under index keys end discipline =
+    end_under key.Queuing index keys end >>= (λ place.
+    at (table.Item key.Queuing index) keys discipline discipline_at >>= (λ own. Ok (place, own)))
 
--- the queuing channel that a value describes, which must be a table
-abbrev pub queuing_in : Data → Result QueuingChannel ConfigFault
-queuing_in value =
-    table_in value >>= (λ keys.
-    number_and_size keys >>= (λ channel.
-    integer_at 1 MOST_MESSAGES (get_member (codes "capacity") keys) >>= (λ capacity.
-    queuing_end_at (get_member (codes "source") keys) (get_member (codes "source_discipline") keys) >>= (λ source.
-    queuing_end_at (get_member (codes "destination") keys) (get_member (codes "destination_discipline") keys) >>= (λ destination.
+-- what the keys of a queuing channel's table configure, at an index of the list
+abbrev pub queuing_by : ℕ → Members → Result QueuingChannel ConfigRefusal
+queuing_by index keys =
+    number_and_size (table.Item key.Queuing index) keys >>= (λ channel.
+    at (table.Item key.Queuing index) keys key.Capacity (integer_at 1 MOST_MESSAGES) >>= (λ capacity.
+    queuing_end_under index keys key.Source key.SourceDiscipline >>= (λ source.
+    queuing_end_under index keys key.Destination key.DestinationDiscipline >>= (λ destination.
     Ok (record {
       number = channel.0;
       size = channel.1;
@@ -64,8 +81,12 @@ queuing_in value =
       source_discipline = source.1;
       destination = destination.0;
       destination_discipline = destination.1;
-    }))))))
+    })))))
+
+-- the queuing channel at an index of the list, which must be a table
+abbrev pub queuing_in : ℕ → Data → Result QueuingChannel ConfigRefusal
+queuing_in index value = item_in key.Queuing value >>= queuing_by index
 
 -- the queuing channels: a list of tables; without the key there is none
-abbrev pub queuing_at : Option Data → Result (List QueuingChannel) ConfigFault
-queuing_at value = each_at queuing_in value
+abbrev pub queuing_under : Members → Result (List QueuingChannel) ConfigRefusal
+queuing_under keys = each_under table.Module keys key.Queuing queuing_in

@@ -1,5 +1,5 @@
 -- How the value under one key is read: it is missing, has the wrong type, is out of range, or is taken.
-use Rattle.std.specs.Prelude.{◌≡◌, ◌≢◌, ℕ, List, [], ◌∷◌, length, Option, Some, None, is_some, Result, Ok, Err, Bool, true, false, ◌&&◌, nat_le, pos, negsuc, codes, if◌then◌else◌}
+use Rattle.std.specs.Prelude.{◌≡◌, ◌≢◌, ℕ, ◌+◌, List, [], ◌∷◌, length, Option, Some, None, is_some, Result, Ok, Err, Bool, true, false, ◌&&◌, nat_le, pos, negsuc, codes, if◌then◌else◌}
 use Rattle.std.specs.List.{list_all}
 use Rattle.std.specs.Str.{bytes_eq}
 use Rattle.toml.specs.Data.{Data, integer, string, array, table, Items, no_items, item, Members, get_item}
@@ -11,22 +11,28 @@ use Rattle.module_config.specs.declared.fault.ConfigFault.{ConfigFault}
 use Rattle.module_config.specs.declared.fault.ConfigFault.TheVariants.{Missing, WrongType, OutOfRange, Memory}
 use Rattle.module_config.specs.declared.keys.ItemType.{ItemType}
 use Rattle.module_config.specs.declared.keys.ItemType.TheVariants as of
+use Rattle.module_config.specs.declared.refusal.ConfigRefusal.{ConfigRefusal}
 
 infixl 10 ◌>>=◌
 -- a reading and then the next one; the first refusal is the answer
-abbrev pub ◌>>=◌ : {A B : Type 0} → Result A ConfigFault → (A → Result B ConfigFault) → Result B ConfigFault
+abbrev pub ◌>>=◌ : {A B Refusal : Type 0} → Result A Refusal → (A → Result B Refusal) → Result B Refusal
 (Ok value) >>= next = next value
-(Err fault) >>= next = Err fault
+(Err refusal) >>= next = Err refusal
 
 -- what a call gave is the reading: its value as the definitions see it, or its refusal
-abbrev pub Reads : {A B : Type 0} → (A → B) → Result A ConfigFault → Result B ConfigFault → Type 0
+abbrev pub Reads : {A B Refusal : Type 0} → (A → B) → Result A Refusal → Result B Refusal → Type 0
 Reads view (Ok value) reading = reading ≡ Ok (view value)
-Reads view (Err fault) reading = reading ≡ Err fault
+Reads view (Err refusal) reading = reading ≡ Err refusal
 
 -- what a call gave is the reading, unless memory ran out
 abbrev pub Gives : {A B : Type 0} → (A → B) → Result A ConfigFault → Result B ConfigFault → Type 0
 Gives view (Ok value) reading = reading ≡ Ok (view value)
 Gives view (Err fault) reading = fault ≢ Memory → reading ≡ Err fault
+
+-- what a call gave is the reading with the place of its refusal, unless memory ran out
+abbrev pub GivesPlaced : {A B : Type 0} → (A → B) → Result A ConfigRefusal → Result B ConfigRefusal → Type 0
+GivesPlaced view (Ok value) reading = reading ≡ Ok (view value)
+GivesPlaced view (Err refusal) reading = refusal.fault ≢ Memory → reading ≡ Err refusal
 
 -- a value that must be there
 abbrev pub required : Option Data → Result Data ConfigFault
@@ -124,10 +130,18 @@ some_at item_type value = required value >>= list_of (is_of item_type) >>= at_le
 abbrev pub at_most : ℕ → Items → Result Items ConfigFault
 at_most most items = if is_some (get_item most items) then Err OutOfRange else Ok items
 
--- what each item of a list is read as, in turn
-abbrev pub each_item : {A : Type 0} → (Data → Result A ConfigFault) → Items → Result (List A) ConfigFault
-each_item reading no_items = Ok []
-each_item reading (item value items) = reading value >>= (λ first. each_item reading items >>= (λ rest. Ok (first ∷ rest)))
+-- what each item of a list is read as, in turn; the first of them has this index
+abbrev pub each_from : {A : Type 0} → (ℕ → Data → Result A ConfigRefusal) → ℕ → Items → Result (List A) ConfigRefusal
+each_from reading index no_items = Ok []
+each_from reading index (item value items) = reading index value >>= (λ first. each_from reading (index + 1) items >>= (λ rest. Ok (first ∷ rest)))
+
+-- what each item of a list is read as, by its index
+abbrev pub each_item : {A : Type 0} → (ℕ → Data → Result A ConfigRefusal) → Items → Result (List A) ConfigRefusal
+each_item reading items = each_from reading 0 items
+
+-- the table under a key
+abbrev pub table_at : Option Data → Result Members ConfigFault
+table_at value = required value >>= table_in
 
 -- a list of tables
 abbrev pub tables_in : Data → Result Items ConfigFault
@@ -137,7 +151,3 @@ tables_in value = list_of (is_of of.Table) value
 abbrev pub tables_at : Option Data → Result Items ConfigFault
 tables_at None = Ok no_items
 tables_at (Some value) = tables_in value
-
--- what each table of the list under a key is read as, in turn
-abbrev pub each_at : {A : Type 0} → (Data → Result A ConfigFault) → Option Data → Result (List A) ConfigFault
-each_at reading value = tables_at value >>= each_item reading

@@ -1,10 +1,12 @@
 pub mod Keys
+pub mod Places
 pub mod Order
 pub mod Ports
 pub mod ChannelWalk
 pub mod Walk
 pub mod Ends
 pub mod Whole
+pub mod Misfits
 pub mod WindowLaw
 pub mod Reading
 pub mod Limits

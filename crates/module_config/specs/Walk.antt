@@ -1,15 +1,20 @@
 -- What a table configures: a walk over its keys in a fixed order, which ends at the first refusal.
-use Rattle.std.specs.Prelude.{ℕ, ◌+◌, ◌-◌, List, [], ◌∷◌, Option, Result, Ok, Err, Bool, pos, nat_le, nat_lt, ◌&&◌, if◌then◌else◌, codes}
-use Rattle.toml.specs.Data.{Data, integer, Items, no_items, item, Members, get_member}
+use Rattle.std.specs.Prelude.{ℕ, ◌+◌, ◌-◌, List, [], ◌∷◌, Option, Result, Ok, Err, Bool, pos, nat_le, nat_lt, ◌&&◌, if◌then◌else◌}
+use Rattle.toml.specs.Data.{Data, integer, Items, no_items, item, Members}
 use Rattle.apex_types.specs.declared.limits.TheConstants.{GREATEST_PARTITION, MOST_CORES, MOST_OBJECTS, MOST_PROCESSES}
 use Rattle.apex_machine.specs.Channels.{in_order}
 use Rattle.apex_machine.specs.Configuration.{Configuration, PartitionLimits, Window}
 use Rattle.module_config.specs.declared.fault.ConfigFault.{ConfigFault}
 use Rattle.module_config.specs.declared.fault.ConfigFault.TheVariants.{OutOfRange}
 use Rattle.module_config.specs.declared.keys.ItemType.TheVariants as of
-use Rattle.module_config.specs.ChannelWalk.{queuing_at, sampling_at}
-use Rattle.module_config.specs.Keys.{◌>>=◌, integer_at, natural_at, ticks_at, some_at, each_at, each_item, table_in}
+use Rattle.module_config.specs.declared.place.ConfigKey.TheVariants as key
+use Rattle.module_config.specs.declared.place.ConfigTable.{ConfigTable}
+use Rattle.module_config.specs.declared.place.ConfigTable.TheVariants as table
+use Rattle.module_config.specs.declared.refusal.ConfigRefusal.{ConfigRefusal}
+use Rattle.module_config.specs.ChannelWalk.{queuing_under, sampling_under}
+use Rattle.module_config.specs.Keys.{◌>>=◌, integer_at, natural_at, ticks_at, some_at, each_item}
 use Rattle.module_config.specs.Order.{comes_before, begins_before}
+use Rattle.module_config.specs.Places.{at, each_under, item_in}
 
 -- the next core of a partition's list: above those before it, and one that the module has
 abbrev pub core_in : ℕ → ℕ → Data → Result ℕ ConfigFault
@@ -32,22 +37,21 @@ abbrev pub objects_at : Option Data → Result ℕ ConfigFault
 objects_at value = integer_at 0 MOST_OBJECTS value
 
 -- what is read, put in an order
-abbrev pub put_by : {A : Type 0} → (A → A → Bool) → Result (List A) ConfigFault → Result (List A) ConfigFault
+abbrev pub put_by : {A : Type 0} → (A → A → Bool) → Result (List A) ConfigRefusal → Result (List A) ConfigRefusal
 put_by precedes reading = reading >>= (λ all. Ok (in_order precedes [] all))
 
--- the partition that a value describes, which must be a table, in a module of this many cores
-abbrev pub partition_in : ℕ → Data → Result PartitionLimits ConfigFault
-partition_in count value =
-    table_in value >>= (λ keys.
-    integer_at 0 GREATEST_PARTITION (get_member (codes "number") keys) >>= (λ number.
-    ticks_at (get_member (codes "period") keys) >>= (λ period.
-    cores_at count (get_member (codes "cores") keys) >>= (λ cores.
-    integer_at 1 MOST_PROCESSES (get_member (codes "processes") keys) >>= (λ processes.
-    objects_at (get_member (codes "buffers") keys) >>= (λ buffers.
-    objects_at (get_member (codes "blackboards") keys) >>= (λ blackboards.
-    objects_at (get_member (codes "semaphores") keys) >>= (λ semaphores.
-    objects_at (get_member (codes "events") keys) >>= (λ events.
-    objects_at (get_member (codes "mutexes") keys) >>= (λ mutexes.
+-- what the keys of a partition's table configure, in a module of this many cores
+abbrev pub partition_by : ℕ → ConfigTable → Members → Result PartitionLimits ConfigRefusal
+partition_by count own keys =
+    at own keys key.Number (integer_at 0 GREATEST_PARTITION) >>= (λ number.
+    at own keys key.Period ticks_at >>= (λ period.
+    at own keys key.Cores (cores_at count) >>= (λ cores.
+    at own keys key.Processes (integer_at 1 MOST_PROCESSES) >>= (λ processes.
+    at own keys key.Buffers objects_at >>= (λ buffers.
+    at own keys key.Blackboards objects_at >>= (λ blackboards.
+    at own keys key.Semaphores objects_at >>= (λ semaphores.
+    at own keys key.Events objects_at >>= (λ events.
+    at own keys key.Mutexes objects_at >>= (λ mutexes.
     Ok (record {
       number = number;
       period = period;
@@ -58,36 +62,43 @@ partition_in count value =
       semaphores = semaphores;
       events = events;
       mutexes = mutexes;
-    })))))))))))
+    }))))))))))
+
+-- the partition at an index of the list, which must be a table
+abbrev pub partition_in : ℕ → ℕ → Data → Result PartitionLimits ConfigRefusal
+partition_in count index value = item_in key.Partition value >>= partition_by count (table.Item key.Partition index)
 
 -- the partitions: a list of tables, of which there is one at least, put in the order of their numbers
-abbrev pub partitions_at : ℕ → Option Data → Result (List PartitionLimits) ConfigFault
-partitions_at count value = put_by comes_before (some_at of.Table value >>= each_item (partition_in count))
+abbrev pub partitions_under : ℕ → Members → Result (List PartitionLimits) ConfigRefusal
+partitions_under count keys = put_by comes_before (at table.Module keys key.Partition (some_at of.Table) >>= each_item (partition_in count))
 
--- the window that a value describes, which must be a table: it ends within the major frame
-abbrev pub window_in : ℕ → ℕ → Data → Result Window ConfigFault
-window_in count frame value =
-    table_in value >>= (λ keys.
-    integer_at 0 (count - 1) (get_member (codes "core") keys) >>= (λ core.
-    integer_at 0 GREATEST_PARTITION (get_member (codes "partition") keys) >>= (λ partition.
-    natural_at (get_member (codes "start") keys) >>= (λ start.
-    integer_at 1 (frame - start) (get_member (codes "length") keys) >>= (λ span.
-    Ok (record { core = core; partition = partition; start = start; span = span }))))))
+-- what the keys of a window's table configure: it ends within the major frame
+abbrev pub window_by : ℕ → ℕ → ConfigTable → Members → Result Window ConfigRefusal
+window_by count frame own keys =
+    at own keys key.Core (integer_at 0 (count - 1)) >>= (λ core.
+    at own keys key.Partition (integer_at 0 GREATEST_PARTITION) >>= (λ partition.
+    at own keys key.Start natural_at >>= (λ start.
+    at own keys key.Length (integer_at 1 (frame - start)) >>= (λ span.
+    Ok (record { core = core; partition = partition; start = start; span = span })))))
+
+-- the window at an index of the list, which must be a table
+abbrev pub window_in : ℕ → ℕ → ℕ → Data → Result Window ConfigRefusal
+window_in count frame index value = item_in key.Window value >>= window_by count frame (table.Item key.Window index)
 
 -- the windows: a list of tables, put in the order of their cores and starts; without the key there is none
-abbrev pub windows_at : ℕ → ℕ → Option Data → Result (List Window) ConfigFault
-windows_at count frame value = put_by begins_before (each_at (window_in count frame) value)
+abbrev pub windows_under : ℕ → ℕ → Members → Result (List Window) ConfigRefusal
+windows_under count frame keys = put_by begins_before (each_under table.Module keys key.Window (window_in count frame))
 
 -- what a table configures, each key judged by itself; the channels stand in the order of the text; keys of other names say nothing
-abbrev pub walk : Members → Result Configuration ConfigFault
+abbrev pub walk : Members → Result Configuration ConfigRefusal
 walk keys =
-    integer_at 1 MOST_CORES (get_member (codes "cores") keys) >>= (λ cores.
-    ticks_at (get_member (codes "frame") keys) >>= (λ frame.
-    ticks_at (get_member (codes "skew") keys) >>= (λ skew.
-    partitions_at cores (get_member (codes "partition") keys) >>= (λ partitions.
-    windows_at cores frame (get_member (codes "window") keys) >>= (λ windows.
-    sampling_at (get_member (codes "sampling") keys) >>= (λ sampling.
-    queuing_at (get_member (codes "queuing") keys) >>= (λ queuing.
+    at table.Module keys key.Cores (integer_at 1 MOST_CORES) >>= (λ cores.
+    at table.Module keys key.Frame ticks_at >>= (λ frame.
+    at table.Module keys key.Skew ticks_at >>= (λ skew.
+    partitions_under cores keys >>= (λ partitions.
+    windows_under cores frame keys >>= (λ windows.
+    sampling_under keys >>= (λ sampling.
+    queuing_under keys >>= (λ queuing.
     Ok (record {
       cores = cores;
       frame = frame;

@@ -7,11 +7,13 @@ ghost use Rattle.apex_types.specs.declared.limits.TheConstants.{GREATEST_PARTITI
 ghost use Rattle.apex_machine.specs.Channels.{EndsAreApart};
 ghost use Rattle.apex_machine.specs.Configuration.{PartitionLimits, window_at, has_partition, WindowsAreConfigured, first_core, object_limit, process_limit, period_of, is_core, limits_of};
 ghost use Rattle.module_config.specs.declared.fault.ConfigFault.TheVariants.{Memory, NotToml, TooMany};
-ghost use Rattle.module_config.specs.Keys.{Gives};
-ghost use Rattle.module_config.specs.Reading.{configuration_of, configuration_under, unless_refused};
+ghost use Rattle.module_config.specs.Keys.{Gives, GivesPlaced};
+ghost use Rattle.module_config.specs.Places.{nowhere};
+ghost use Rattle.module_config.specs.Reading.{configuration_of, judged, placed_configuration_of, unless_refused, walk_of};
 ghost use Rattle.module_config.specs.Walk.{walk};
 ghost use Rattle.module_config.specs.Limits.{partition_numbers, BeginsNoLater, CoresAreOfModule, HasTick, IsConsistent, IsOrdered, IsWithinLimits};
 ghost use Rattle.module_config.specs.Laid.{laid_out};
+ghost use Rattle.module_config.specs.Misfits.{IsExplained, IsShownBy, unexplained, without_misfit};
 ghost use Rattle.module_config.specs.Order.{windows_begun};
 ghost use Rattle.module_config.specs.Whole.{whole_fault};
 
@@ -19,8 +21,9 @@ use crate::counts::channel_numbers;
 use crate::fault::ConfigFault;
 use crate::layout::{Layout, read_layout};
 use crate::partition::Partition;
+use crate::refusal::{ConfigRefusal, ExplainedRefusal};
 use crate::timetable::{begun_near, window_among};
-use crate::whole::{find_partition, whole_fault};
+use crate::whole::{find_misfit, find_partition};
 use apex_types::limits::{LONGEST_CONFIGURATION, MOST_CHANNELS};
 use apex_types::{CoreId, PartId};
 use arrayvec::ArrayVec;
@@ -62,19 +65,37 @@ impl Config {
         ensures too_long { LONGEST_CONFIGURATION < length text.now → result ≡ Err TooMany }
         ensures windows { IfOk result WindowsAreConfigured }
     {
+        match Config::read_explained(alloc, text) {
+            Ok(config) => Ok(config),
+            Err(explained) => Err(explained.refusal.fault),
+        }
+    }
+
+    /// Reads the configuration that a text is, as `read` does. A refusal says where it is, and what shows it.
+    ///
+    /// The refusal is the one of `read`. Its place is a key where the fault is `Missing`, `WrongType` or `OutOfRange`: the
+    /// first that is refused, in the order in which docs/FORMATS.md lists the keys. It has a misfit where the fault is judged
+    /// over the whole.
+    pub fn read_explained(alloc: Global, text: &[u8]) -> Result<Config, ExplainedRefusal>
+        ensures value { GivesPlaced (λ config. config) (without_misfit result) (placed_configuration_of text.now) }
+        ensures too_long { LONGEST_CONFIGURATION < length text.now → result ≡ Err (unexplained (nowhere TooMany)) }
+        ensures explained { IfErr result (IsExplained (walk_of text.now)) }
+        ensures windows { IfOk result WindowsAreConfigured }
+    {
         if text.len() > LONGEST_CONFIGURATION {
-            return Err(ConfigFault::TooMany);
+            return Err(ExplainedRefusal::from(ConfigRefusal::nowhere(ConfigFault::TooMany)));
         }
         match toml::table_from_slice(alloc, text) {
             Ok(keys) => Config::from_table(alloc, &keys),
-            Err(fault) => Err(text_fault(&fault)),
+            Err(fault) => Err(ExplainedRefusal::from(ConfigRefusal::nowhere(text_fault(&fault)))),
         }
     }
 
     // The configuration that a table is.
-    fn from_table(alloc: Global, keys: &Table) -> Result<Config, ConfigFault>
-        ensures value { Gives (λ config. config) result (configuration_under (table_view keys.now)) }
-        ensures refused { IfErr (walk (table_view keys.now)) (λ fault. result ≡ Err fault) }
+    fn from_table(alloc: Global, keys: &Table) -> Result<Config, ExplainedRefusal>
+        ensures value { GivesPlaced (λ config. config) (without_misfit result) (judged (walk (table_view keys.now))) }
+        ensures refused { IfErr (walk (table_view keys.now)) (λ refusal. result ≡ Err (unexplained refusal)) }
+        ensures explained { IfErr result (IsExplained (walk (table_view keys.now))) }
         ensures windows { IfOk result WindowsAreConfigured }
     {
         let layout = read_layout(alloc, keys)?;
@@ -82,16 +103,20 @@ impl Config {
     }
 
     // The configuration that a layout is, where its parts go together.
-    fn from_layout(layout: Layout) -> Result<Config, ConfigFault>
+    fn from_layout(layout: Layout) -> Result<Config, ExplainedRefusal>
         requires limits { IsWithinLimits (laid_out layout) }
         requires ordered { IsOrdered layout.partitions.items }
         requires by_start { AllPairs BeginsNoLater layout.windows.items }
         requires some_tick { All HasTick layout.windows.items }
-        ensures value { result ≡ unless_refused (whole_fault (laid_out layout)) (laid_out layout) }
+        ensures value { without_misfit result ≡ unless_refused (whole_fault (laid_out layout)) (laid_out layout) }
+        ensures shown { IfErr result (λ explained. IsShownBy (laid_out layout) explained.refusal.fault explained.misfit) }
         ensures windows { IfOk result WindowsAreConfigured }
     {
-        if let Some(fault) = whole_fault(&layout) {
-            return Err(fault);
+        if let Some(misfit) = find_misfit(&layout) {
+            return Err(ExplainedRefusal {
+                refusal: ConfigRefusal::nowhere(misfit.fault()),
+                misfit: Some(misfit),
+            });
         }
         let numbers = channel_numbers(&layout);
         Ok(Config { layout, numbers })

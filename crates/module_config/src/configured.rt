@@ -1,7 +1,7 @@
 // What channels of both kinds have in common: a number, a source and destinations.
 
-ghost use Rattle.std.specs.Prelude.{◌≡◌, ◌+◌, ◌*◌, ◌≤◌, ◌&&◌, ◌∷◌, List, length, nat_eq, option_map};
-ghost use Rattle.std.specs.List.{flat_map, list_all, list_any};
+ghost use Rattle.std.specs.Prelude.{◌≡◌, ◌+◌, ◌*◌, ◌≤◌, ◌&&◌, ◌∷◌, List, length, nat_eq, not, option_map};
+ghost use Rattle.std.specs.List.{find, flat_map, list_any};
 ghost use Rattle.apex_types.specs.declared.limits.TheConstants.{MOST_CHANNELS, MOST_DESTINATIONS};
 ghost use Rattle.apex_machine.specs.Channels.{end_among};
 ghost use Rattle.apex_machine.specs.Configuration.{ChannelEnd};
@@ -65,15 +65,15 @@ pub(crate) fn count_alike<Channel: ConfiguredChannel>(
     count
 }
 
-/// Whether each channel joins configured partitions.
-pub(crate) fn are_joined<Channel: ConfiguredChannel>(
-    channels: &[Channel],
+/// The first channel that does not join configured partitions, if there is one.
+pub(crate) fn find_unjoined<'a, Channel: ConfiguredChannel>(
+    channels: &'a [Channel],
     partitions: &[Partition],
-) -> bool
-    ensures { result ≡ list_all (λ channel. is_joined partitions.now (Channel.source_of channel) (Channel.destinations_of channel)) channels.now }
+) -> Option<&'a Channel>
+    ensures { option_map (λ channel. channel.now) result ≡ find (λ channel. not (is_joined partitions.now (Channel.source_of channel) (Channel.destinations_of channel))) channels.now }
 {
-    channels.iter().all(|channel| {
-        channel
+    channels.iter().find(|channel| {
+        !channel
             .source()
             .is_joined(partitions, channel.destinations())
     })

@@ -1,11 +1,11 @@
 // The numbers of the channels, and their ends, counted over both kinds.
 
-ghost use Rattle.std.specs.Prelude.{◌≡◌, ◌+◌, ◌≤◌, ◌∷◌, length, map, nat_lt};
-ghost use Rattle.std.specs.List.{list_any};
+ghost use Rattle.std.specs.Prelude.{◌≡◌, ◌+◌, ◌≤◌, ◌∷◌, length, map, nat_lt, option_map};
+ghost use Rattle.std.specs.List.{find, flat_map};
 ghost use Rattle.arrayvec.specs.ArrayVec.{array_vec_len};
 ghost use Rattle.apex_types.specs.declared.limits.TheConstants.{MOST_CHANNELS};
 ghost use Rattle.apex_machine.specs.Channels.{channel_numbers, in_order};
-ghost use Rattle.module_config.specs.Ends.{are_too_many, ends_of, is_exceeded};
+ghost use Rattle.module_config.specs.Ends.{ends_of, is_exceeded};
 ghost use Rattle.module_config.specs.Laid.{laid_out};
 
 use crate::configured::{ConfiguredChannel, count_alike};
@@ -49,37 +49,54 @@ pub(crate) struct EndCount<'a> {
     pub(crate) most: usize,
 }
 
-impl EndCount<'_> {
-    /// Whether some end has more alike it, itself among them.
-    pub(crate) fn is_exceeded(&self) -> bool
+impl<'a> EndCount<'a> {
+    /// The first end that has more alike it, itself among them, if there is one.
+    pub(crate) fn find_exceeded(&self) -> Option<&'a PortEnd>
         requires { length self.now.sampling.now + length self.now.queuing.now ≤ MOST_CHANNELS }
-        ensures { result ≡ are_too_many self.now.likeness self.now.most (ends_of self.now.sampling.now self.now.queuing.now) }
+        ensures { option_map (λ end. end.now) result ≡ find (is_exceeded self.now.likeness self.now.most (ends_of self.now.sampling.now self.now.queuing.now)) (ends_of self.now.sampling.now self.now.queuing.now) }
     {
-        self.is_exceeded_in(self.sampling) || self.is_exceeded_in(self.queuing)
+        match self.find_exceeded_in(self.sampling) {
+            Some(end) => Some(end),
+            None => self.find_exceeded_in(self.queuing),
+        }
     }
 
-    // Whether an end of one of these channels has more alike it.
-    fn is_exceeded_in<Channel: ConfiguredChannel>(&self, channels: &[Channel]) -> bool
+    // The first end of these channels that has more alike it, if there is one.
+    fn find_exceeded_in<Channel: ConfiguredChannel>(
+        &self,
+        channels: &'a [Channel],
+    ) -> Option<&'a PortEnd>
         requires { length self.now.sampling.now + length self.now.queuing.now ≤ MOST_CHANNELS }
-        ensures { result ≡ list_any (λ channel. list_any (is_exceeded self.now.likeness self.now.most (ends_of self.now.sampling.now self.now.queuing.now)) (Channel.source_of channel ∷ Channel.destinations_of channel)) channels.now }
+        ensures { option_map (λ end. end.now) result ≡ find (is_exceeded self.now.likeness self.now.most (ends_of self.now.sampling.now self.now.queuing.now)) (flat_map (λ channel. Channel.source_of channel ∷ Channel.destinations_of channel) channels.now) }
     {
-        channels.iter().any(|channel| self.is_exceeded_by(channel))
+        for channel in channels {
+            if let Some(end) = self.find_exceeded_of(channel) {
+                return Some(end);
+            }
+        }
+        None
     }
 
-    // Whether an end of a channel has more alike it.
-    fn is_exceeded_by<Channel: ConfiguredChannel>(&self, channel: &Channel) -> bool
+    // The first end of a channel that has more alike it, if there is one.
+    fn find_exceeded_of<Channel: ConfiguredChannel>(
+        &self,
+        channel: &'a Channel,
+    ) -> Option<&'a PortEnd>
         requires { length self.now.sampling.now + length self.now.queuing.now ≤ MOST_CHANNELS }
-        ensures { result ≡ list_any (is_exceeded self.now.likeness self.now.most (ends_of self.now.sampling.now self.now.queuing.now)) (Channel.source_of channel.now ∷ Channel.destinations_of channel.now) }
+        ensures { option_map (λ end. end.now) result ≡ find (is_exceeded self.now.likeness self.now.most (ends_of self.now.sampling.now self.now.queuing.now)) (Channel.source_of channel.now ∷ Channel.destinations_of channel.now) }
     {
-        self.is_exceeded_at(channel.source()) || self.is_exceeded_among(channel.destinations())
+        if self.is_exceeded_at(channel.source()) {
+            return Some(channel.source());
+        }
+        self.find_exceeded_among(channel.destinations())
     }
 
-    // Whether one of these ends has more alike it.
-    fn is_exceeded_among(&self, ends: &[PortEnd]) -> bool
+    // The first of these ends that has more alike it, if there is one.
+    fn find_exceeded_among(&self, ends: &'a [PortEnd]) -> Option<&'a PortEnd>
         requires { length self.now.sampling.now + length self.now.queuing.now ≤ MOST_CHANNELS }
-        ensures { result ≡ list_any (is_exceeded self.now.likeness self.now.most (ends_of self.now.sampling.now self.now.queuing.now)) ends.now }
+        ensures { option_map (λ end. end.now) result ≡ find (is_exceeded self.now.likeness self.now.most (ends_of self.now.sampling.now self.now.queuing.now)) ends.now }
     {
-        ends.iter().any(|end| self.is_exceeded_at(end))
+        ends.iter().find(|end| self.is_exceeded_at(end))
     }
 
     // Whether an end has more alike it.

@@ -1,18 +1,21 @@
 // The ends of channels: ports of partitions.
 
-ghost use Rattle.std.specs.Prelude.{◌≡◌, ◌≤◌, length, nat_eq};
+ghost use Rattle.std.specs.Prelude.{◌≡◌, ◌≤◌, IfOk, length, nat_eq};
 ghost use Rattle.std.specs.List.{list_all, list_any};
 ghost use Rattle.toml.specs.Data.{get_member};
 ghost use Rattle.toml.specs.View.{view, table_view, items_view};
 ghost use Rattle.apex_types.specs.declared.limits.TheConstants.{MOST_DESTINATIONS};
 ghost use Rattle.apex_machine.specs.Channels.{is_port};
-ghost use Rattle.module_config.specs.ChannelWalk.{end_at, end_in, ends_at};
+ghost use Rattle.module_config.specs.ChannelWalk.{destination_in, destinations_under, end_by, end_under, some_ends_at};
 ghost use Rattle.module_config.specs.Ends.{count_alike, goes_to, is_alike, is_joined};
 ghost use Rattle.module_config.specs.Keys.{Reads, each_item};
 
 use crate::fault::ConfigFault;
-use crate::keys::{ItemType, integer, name, required, some_items, table};
+use crate::keys::{ItemType, short_bytes, some_items, table};
 use crate::partition::Partition;
+use crate::place::{ConfigKey, ConfigTable};
+use crate::placed::{PlacedKeys, placed};
+use crate::refusal::ConfigRefusal;
 use crate::whole::find_partition;
 use apex_types::limits::{GREATEST_PARTITION, LONGEST_NAME, MOST_DESTINATIONS};
 use apex_types::{Name, PartId};
@@ -53,20 +56,49 @@ impl Default for PortEnd {
 }
 
 impl PortEnd {
-    /// Reads the end under a key.
-    pub(crate) fn under(keys: &Table, key: &str) -> Result<PortEnd, ConfigFault>
-        ensures { result ≡ end_at (get_member key.now (table_view keys.now)) }
+    /// Reads the end under a key of the channel at an index of a list.
+    pub(crate) fn under(
+        keys: &Table,
+        list: ConfigKey,
+        index: usize,
+        end: ConfigKey,
+    ) -> Result<PortEnd, ConfigRefusal>
+        ensures { result ≡ end_under list index (table_view keys.now) end }
     {
-        PortEnd::read(required(keys, key)?)
+        let channel = PlacedKeys {
+            keys,
+            table: ConfigTable::Item { list, index },
+        };
+        PortEnd::read(&PlacedKeys {
+            keys: channel.table(end)?,
+            table: ConfigTable::End { list, index, end },
+        })
     }
 
-    // Reads the end that a value describes.
-    fn read(value: &Value) -> Result<PortEnd, ConfigFault>
-        ensures { result ≡ end_in (view value.now) }
+    // Reads the destination at an index of those of a sampling channel.
+    fn read_destination(
+        value: &Value,
+        channel: usize,
+        index: usize,
+    ) -> Result<PortEnd, ConfigRefusal>
+        ensures { result ≡ destination_in channel index (view value.now) }
     {
-        let keys = table(value)?;
-        let partition = integer(keys, "partition", 0, GREATEST_PARTITION as u64)?;
-        let port = name(keys, "port")?;
+        let list = ConfigTable::Item {
+            list: ConfigKey::Sampling,
+            index: channel,
+        };
+        PortEnd::read(&PlacedKeys {
+            keys: placed(list, ConfigKey::Destinations, table(value))?,
+            table: ConfigTable::Destination { channel, index },
+        })
+    }
+
+    // Reads the end that a table describes.
+    fn read(keys: &PlacedKeys) -> Result<PortEnd, ConfigRefusal>
+        ensures { result ≡ end_by keys.now.table (table_view keys.now.keys.now) }
+    {
+        let partition = keys.integer(ConfigKey::Partition, 0, GREATEST_PARTITION as u64)?;
+        let port = keys.name(ConfigKey::Port)?;
         Ok(PortEnd {
             partition: PartId::new(partition as u8),
             port,
@@ -78,6 +110,13 @@ impl PortEnd {
         ensures { result ≡ self.now.partition }
     {
         self.partition
+    }
+
+    /// The name of the port.
+    pub(crate) fn name(&self) -> ArrayVec<u8, LONGEST_NAME>
+        ensures { result.items ≡ self.now.port }
+    {
+        short_bytes(&self.port)
     }
 
     /// Whether the end is the partition's port of this name.
@@ -147,28 +186,45 @@ pub(crate) fn has_port(ends: &[PortEnd], part: PartId, name: &Name) -> bool
     ends.iter().any(|end| end.is_port(part, name))
 }
 
-/// The ends under a key: a list of 1 to 32 tables.
-pub(crate) fn ends_under(
+/// The destinations of the sampling channel at an index: a list of 1 to 32 tables.
+pub(crate) fn destinations_under(
     keys: &Table,
-    key: &str,
-) -> Result<ArrayVec<PortEnd, MOST_DESTINATIONS>, ConfigFault>
-    ensures { Reads (λ ends. ends.items) result (ends_at (get_member key.now (table_view keys.now))) }
+    channel: usize,
+) -> Result<ArrayVec<PortEnd, MOST_DESTINATIONS>, ConfigRefusal>
+    ensures { Reads (λ ends. ends.items) result (destinations_under channel (table_view keys.now)) }
+{
+    let key = ConfigKey::Destinations;
+    let table = ConfigTable::Item {
+        list: ConfigKey::Sampling,
+        index: channel,
+    };
+    let items = placed(table, key, some_ends(keys, key.text()))?;
+    read_destinations(items, channel)
+}
+
+// The items of the list under a key: 1 to 32 tables.
+fn some_ends<'a>(keys: &'a Table, key: &str) -> Result<&'a [Value], ConfigFault>
+    ensures value { Reads (λ items. items_view items.now) result (some_ends_at (get_member key.now (table_view keys.now))) }
+    ensures most { IfOk result (λ items. length items.now ≤ MOST_DESTINATIONS) }
 {
     let items = some_items(keys, key, ItemType::Table)?;
     if items.len() > MOST_DESTINATIONS {
         return Err(ConfigFault::OutOfRange);
     }
-    read_ends(items)
+    Ok(items)
 }
 
-// The ends that the items of a list describe.
-fn read_ends(items: &[Value]) -> Result<ArrayVec<PortEnd, MOST_DESTINATIONS>, ConfigFault>
+// The destinations that the items of a list describe.
+fn read_destinations(
+    items: &[Value],
+    channel: usize,
+) -> Result<ArrayVec<PortEnd, MOST_DESTINATIONS>, ConfigRefusal>
     requires { length items.now ≤ MOST_DESTINATIONS }
-    ensures { Reads (λ ends. ends.items) result (each_item end_in (items_view items.now)) }
+    ensures { Reads (λ ends. ends.items) result (each_item (destination_in channel) (items_view items.now)) }
 {
     let mut ends = ArrayVec::new();
-    for item in items {
-        ends.push(PortEnd::read(item)?);
+    for (index, item) in items.iter().enumerate() {
+        ends.push(PortEnd::read_destination(item, channel, index)?);
     }
     Ok(ends)
 }

@@ -5,7 +5,7 @@ ghost use Rattle.std.specs.List.{list_all};
 ghost use Rattle.toml.specs.Data.{get_member};
 ghost use Rattle.toml.specs.View.{view, table_view, items_view};
 ghost use Rattle.apex_types.specs.declared.limits.TheConstants.{GREATEST_SPAN, LONGEST_NAME};
-ghost use Rattle.module_config.specs.Keys.{Reads, required, natural_at, integer_at, ticks_at, text_at, name_at, discipline_at, is_name, is_printable, is_of, all_items, list_of, some_at, table_in, tables_at};
+ghost use Rattle.module_config.specs.Keys.{Reads, required, natural_at, integer_at, ticks_at, text_at, name_at, discipline_at, is_name, is_printable, is_of, all_items, list_of, some_at, table_at, table_in, tables_at};
 ghost use Rattle.module_config.specs.Walk.{objects_at};
 
 use crate::fault::ConfigFault;
@@ -21,8 +21,8 @@ pub(crate) fn member<'a>(table: &'a Table, key: &str) -> Option<&'a Value>
     table.get(key)
 }
 
-/// The value under a key, which must be there.
-pub(crate) fn required<'a>(table: &'a Table, key: &str) -> Result<&'a Value, ConfigFault>
+// The value under a key, which must be there.
+fn required<'a>(table: &'a Table, key: &str) -> Result<&'a Value, ConfigFault>
     ensures { Reads (λ value. view value.now) result (required (get_member key.now (table_view table.now))) }
 {
     member(table, key).ok_or(ConfigFault::Missing)
@@ -107,8 +107,8 @@ fn are_printable(bytes: &[u8]) -> bool
     bytes.iter().all(|byte| 0x20 <= *byte && *byte <= 0x7E)
 }
 
-// A copy of 32 bytes at most.
-fn short_bytes(bytes: &[u8]) -> ArrayVec<u8, LONGEST_NAME>
+/// A copy of 32 bytes at most.
+pub(crate) fn short_bytes(bytes: &[u8]) -> ArrayVec<u8, LONGEST_NAME>
     requires { length bytes.now ≤ LONGEST_NAME }
     ensures { result.items ≡ bytes.now }
 {
@@ -138,6 +138,13 @@ pub(crate) fn table<'a>(value: &'a Value) -> Result<&'a Table, ConfigFault>
     ensures { Reads (λ keys. table_view keys.now) result (table_in (view value.now)) }
 {
     value.as_table().ok_or(ConfigFault::WrongType)
+}
+
+/// The table under a key, which must be there.
+pub(crate) fn table_under<'a>(keys: &'a Table, key: &str) -> Result<&'a Table, ConfigFault>
+    ensures { Reads (λ found. table_view found.now) result (table_at (get_member key.now (table_view keys.now))) }
+{
+    table(required(keys, key)?)
 }
 
 /// Of what type the items of a list are.

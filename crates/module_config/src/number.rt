@@ -1,6 +1,6 @@
 // What has a number: partitions, channels, and numbers themselves.
 
-ghost use Rattle.std.specs.Prelude.{◌≡◌, ◌≤◌, ℕ, length, nat_eq, nat_lt, option_map};
+ghost use Rattle.std.specs.Prelude.{◌≡◌, ◌≤◌, ◌<◌, ℕ, IfSome, count_by, is_some, length, nat_eq, nat_lt, option_map};
 ghost use Rattle.std.specs.List.{list_any, position_or_len};
 ghost use Rattle.apex_machine.specs.Configuration.{numbered};
 ghost use Rattle.module_config.specs.Whole.{has_number_twice};
@@ -43,16 +43,17 @@ pub(crate) fn place_among<Item: Numbered>(items: &[Item], number: u16) -> usize
     items.len()
 }
 
-/// Whether two have one number.
-pub(crate) fn has_number_twice<Item: Numbered>(items: &[Item]) -> bool
-    ensures { result ≡ has_number_twice Item.number_of items.now }
+/// The first that has the number of one after it, if two have one number.
+pub(crate) fn find_twice<Item: Numbered>(items: &[Item]) -> Option<&Item>
+    ensures found { is_some result ≡ has_number_twice Item.number_of items.now }
+    ensures twice { IfSome result (λ item. 1 < count_by (λ other. nat_eq (Item.number_of other) (Item.number_of item.now)) items.now) }
 {
     for (index, item) in items.iter().enumerate() {
         if has_number(&items[index + 1..], item.number()) {
-            return true;
+            return Some(item);
         }
     }
-    false
+    None
 }
 
 // Whether one has this number.

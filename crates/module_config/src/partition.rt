@@ -2,9 +2,10 @@
 
 use crate::cores::CoreList;
 use crate::described::{Described, ModuleSize};
-use crate::fault::ConfigFault;
-use crate::keys::{integer, objects, table, ticks};
 use crate::number::Numbered;
+use crate::place::{ConfigKey, ConfigTable};
+use crate::placed::{PlacedKeys, item};
+use crate::refusal::ConfigRefusal;
 use apex_types::PartId;
 use apex_types::limits::{GREATEST_PARTITION, MOST_PROCESSES};
 use std::marker::Model;
@@ -62,17 +63,21 @@ impl Described for Partition {
 
     ghost keeps = { λ size. AreCoresOf size.cores };
 
-    fn read(value: &Value, size: ModuleSize) -> Result<Partition, ConfigFault> {
-        let keys = table(value)?;
-        let number = integer(keys, "number", 0, GREATEST_PARTITION as u64)?;
-        let period = ticks(keys, "period")?;
-        let cores = CoreList::read(keys, size.cores)?;
-        let processes = integer(keys, "processes", 1, MOST_PROCESSES as u64)?;
-        let buffers = objects(keys, "buffers")?;
-        let blackboards = objects(keys, "blackboards")?;
-        let semaphores = objects(keys, "semaphores")?;
-        let events = objects(keys, "events")?;
-        let mutexes = objects(keys, "mutexes")?;
+    fn read(value: &Value, index: usize, size: ModuleSize) -> Result<Partition, ConfigRefusal> {
+        let list = ConfigKey::Partition;
+        let keys = PlacedKeys {
+            keys: item(list, value)?,
+            table: ConfigTable::Item { list, index },
+        };
+        let number = keys.integer(ConfigKey::Number, 0, GREATEST_PARTITION as u64)?;
+        let period = keys.ticks(ConfigKey::Period)?;
+        let cores = CoreList::read(&keys, size.cores)?;
+        let processes = keys.integer(ConfigKey::Processes, 1, MOST_PROCESSES as u64)?;
+        let buffers = keys.objects(ConfigKey::Buffers)?;
+        let blackboards = keys.objects(ConfigKey::Blackboards)?;
+        let semaphores = keys.objects(ConfigKey::Semaphores)?;
+        let events = keys.objects(ConfigKey::Events)?;
+        let mutexes = keys.objects(ConfigKey::Mutexes)?;
         Ok(Partition {
             number: PartId::new(number as u8),
             period,

@@ -3,9 +3,10 @@
 use crate::configured::ConfiguredChannel;
 use crate::described::{Described, ModuleSize};
 use crate::ends::PortEnd;
-use crate::fault::ConfigFault;
-use crate::keys::{discipline, integer, table};
 use crate::number::Numbered;
+use crate::place::{ConfigKey, ConfigTable};
+use crate::placed::{PlacedKeys, item};
+use crate::refusal::ConfigRefusal;
 use apex_types::limits::{GREATEST_CHANNEL, LONGEST_MESSAGE, MOST_MESSAGES};
 use apex_types::{ChanId, Discipline};
 use std::marker::Model;
@@ -56,15 +57,24 @@ impl Described for QueuedChannel {
 
     ghost keeps = { λ _. AreQueuingLimits };
 
-    fn read(value: &Value, _size: ModuleSize) -> Result<QueuedChannel, ConfigFault> {
-        let keys = table(value)?;
-        let number = integer(keys, "channel", 0, GREATEST_CHANNEL as u64)?;
-        let size = integer(keys, "size", 1, LONGEST_MESSAGE as u64)?;
-        let capacity = integer(keys, "capacity", 1, MOST_MESSAGES as u64)?;
-        let source = PortEnd::under(keys, "source")?;
-        let source_discipline = discipline(keys, "source_discipline")?;
-        let destination = PortEnd::under(keys, "destination")?;
-        let destination_discipline = discipline(keys, "destination_discipline")?;
+    fn read(
+        value: &Value,
+        index: usize,
+        _size: ModuleSize,
+    ) -> Result<QueuedChannel, ConfigRefusal> {
+        let list = ConfigKey::Queuing;
+        let table = item(list, value)?;
+        let keys = PlacedKeys {
+            keys: table,
+            table: ConfigTable::Item { list, index },
+        };
+        let number = keys.integer(ConfigKey::Channel, 0, GREATEST_CHANNEL as u64)?;
+        let size = keys.integer(ConfigKey::Size, 1, LONGEST_MESSAGE as u64)?;
+        let capacity = keys.integer(ConfigKey::Capacity, 1, MOST_MESSAGES as u64)?;
+        let source = PortEnd::under(table, list, index, ConfigKey::Source)?;
+        let source_discipline = keys.discipline(ConfigKey::SourceDiscipline)?;
+        let destination = PortEnd::under(table, list, index, ConfigKey::Destination)?;
+        let destination_discipline = keys.discipline(ConfigKey::DestinationDiscipline)?;
         Ok(QueuedChannel {
             number: ChanId::new(number as u16),
             size: size as u16,

@@ -2,10 +2,11 @@
 
 use crate::configured::ConfiguredChannel;
 use crate::described::{Described, ModuleSize};
-use crate::ends::{PortEnd, ends_under};
-use crate::fault::ConfigFault;
-use crate::keys::{integer, table, ticks};
+use crate::ends::{PortEnd, destinations_under};
 use crate::number::Numbered;
+use crate::place::{ConfigKey, ConfigTable};
+use crate::placed::{PlacedKeys, item};
+use crate::refusal::ConfigRefusal;
 use apex_types::ChanId;
 use apex_types::limits::{GREATEST_CHANNEL, LONGEST_MESSAGE, MOST_DESTINATIONS};
 use arrayvec::ArrayVec;
@@ -52,13 +53,22 @@ impl Described for SampledChannel {
 
     ghost keeps = { λ _. AreSamplingLimits };
 
-    fn read(value: &Value, _size: ModuleSize) -> Result<SampledChannel, ConfigFault> {
-        let keys = table(value)?;
-        let number = integer(keys, "channel", 0, GREATEST_CHANNEL as u64)?;
-        let size = integer(keys, "size", 1, LONGEST_MESSAGE as u64)?;
-        let refresh = ticks(keys, "refresh")?;
-        let source = PortEnd::under(keys, "source")?;
-        let destinations = ends_under(keys, "destinations")?;
+    fn read(
+        value: &Value,
+        index: usize,
+        _size: ModuleSize,
+    ) -> Result<SampledChannel, ConfigRefusal> {
+        let list = ConfigKey::Sampling;
+        let table = item(list, value)?;
+        let keys = PlacedKeys {
+            keys: table,
+            table: ConfigTable::Item { list, index },
+        };
+        let number = keys.integer(ConfigKey::Channel, 0, GREATEST_CHANNEL as u64)?;
+        let size = keys.integer(ConfigKey::Size, 1, LONGEST_MESSAGE as u64)?;
+        let refresh = keys.ticks(ConfigKey::Refresh)?;
+        let source = PortEnd::under(table, list, index, ConfigKey::Source)?;
+        let destinations = destinations_under(table, index)?;
         Ok(SampledChannel {
             number: ChanId::new(number as u16),
             size: size as u16,

@@ -5,6 +5,6 @@ use Rattle.module_config.specs.Walk.{partition_in}
 use Rattle.module_config.proofs.Placing.{KeepsPlaced}
 use Rattle.module_config.proofs.layout.ordered_partitions.Given as goal
 
-abbrev pub invariant-loop-item : goal.invariant-loop-item
-invariant-loop-item l =
-    KeepsPlaced comes_before (AreCoresOf l.size.cores) (λ limits other. limits.number ≤ other.number) (partition_in l.size.cores) l.items l.item-index l.found.items
+abbrev pub invariant-loop-index : goal.invariant-loop-index
+invariant-loop-index l =
+    KeepsPlaced comes_before (AreCoresOf l.size.cores) (λ limits other. limits.number ≤ other.number) (partition_in l.size.cores) l.items l.index l.found.items
