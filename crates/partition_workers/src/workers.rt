@@ -26,6 +26,9 @@ pub trait Gate {
 
     /// This worker has posted the piece of this number, and goes on once the call returns.
     fn at_post(&self, worker: usize, piece: usize);
+
+    /// The answer of the check is known, and nothing further is judged.
+    fn at_answer(&self) {}
 }
 
 /// The gate that lets every worker through at once.

@@ -101,6 +101,7 @@ where
         last,
         witness,
     );
+    options.gate.at_answer();
     placer.close(&rt);
     last.settle(&answer);
     answer

@@ -120,7 +120,7 @@ fn judge_and_fill<T: Threads + Wait + Sync, R: TextSource, C: TextSource, G: Gat
     ensures placed { IsPlaced (record { recordings = R.can_fail; certificate = C.can_fail }) placer.old next.new.items result.1 placer.new }
 {
     if workers == 1 {
-        let decided = judge_round(rt, config, judge, round, rules, workers, gate);
+        let decided = judge_and_tell(rt, config, judge, round, rules, workers, gate);
         return (decided, fill(rt, placer, next, size));
     }
     join_mut(
@@ -128,12 +128,32 @@ fn judge_and_fill<T: Threads + Wait + Sync, R: TextSource, C: TextSource, G: Gat
         &mut ||
             requires { IsSync T.row × IsSync G.row × MayJudge config.now judge.now round.now }
             ensures { IfOk result (λ decided. IsDecided config.entry.now (relations_of rules.entry.now) judge.entry.now round.entry.now decided judge.exit.now) }
-        { judge_round(rt, config, judge, round, rules, workers, gate) },
+        { judge_and_tell(rt, config, judge, round, rules, workers, gate) },
         &mut ||
             requires { (placer.now.ended ≡ false) × (next.now.items ≡ []) }
             ensures { IsPlaced (record { recordings = R.can_fail; certificate = C.can_fail }) placer.entry.now next.exit.now.items result placer.exit.now }
         { fill(rt, placer, next, size) },
     )
+}
+
+// Judges a round, and tells the gate where that decides: the next round may wait for a reader meanwhile.
+fn judge_and_tell<T: Threads + Wait + Sync, G: Gate + Sync>(
+    rt: &T,
+    config: &Config,
+    judge: &mut Judge,
+    round: &[Ordered],
+    rules: &[Rule],
+    workers: usize,
+    gate: &G,
+) -> Result<Option<Verdict>, Memory>
+    requires may { MayJudge config.now judge.old round.now }
+    ensures { IfOk result (λ decided. IsDecided config.now (relations_of rules.now) judge.old round.now decided judge.new) }
+{
+    let decided = judge_round(rt, config, judge, round, rules, workers, gate);
+    if !matches!(decided, Ok(None)) {
+        gate.at_answer();
+    }
+    decided
 }
 
 // Fills a round with the next records, up to this many of them.
