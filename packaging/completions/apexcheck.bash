@@ -40,6 +40,7 @@ _apexcheck() {
     case $option in
         --config | --rules) _apexcheck_files .toml "$word" ;;
         --order) _apexcheck_files .csv "$word" ;;
+        --sarif) _apexcheck_files .sarif "$word" ;;
         --workers) _apexcheck_words "1 2 4 8 16 32 64" "$word" ;;
         --depth) _apexcheck_words "1 16 64 256 1024 4096" "$word" ;;
         --max-elapsed) ;;
@@ -51,7 +52,7 @@ _apexcheck() {
                 return
             fi
             # Each option may be given at most once, and --version only alone.
-            for given in --config --order --workers --depth --max-elapsed --forbid --rules --last --quiet; do
+            for given in --config --order --workers --depth --max-elapsed --forbid --rules --last --quiet --sarif; do
                 [[ " ${COMP_WORDS[*]:1:COMP_CWORD - 1} " == *" $given"[\ =]* ]] || options="$options $given"
             done
             [ "$COMP_CWORD" != 1 ] || options="$options --version"

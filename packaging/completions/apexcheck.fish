@@ -40,4 +40,5 @@ complete -c apexcheck -l forbid -x -a "$services" -n '__apexcheck_takes --forbid
 complete -c apexcheck -l rules -r -k -a '(__apexcheck_files .toml)' -n '__apexcheck_takes --rules' -d 'The rules file'
 complete -c apexcheck -l last -n '__apexcheck_lacks --last' -d 'Print the last records before the place of a NO'
 complete -c apexcheck -l quiet -n '__apexcheck_lacks --quiet' -d 'Do not explain the answer'
+complete -c apexcheck -l sarif -r -k -a '(__apexcheck_files .sarif)' -n '__apexcheck_takes --sarif' -d 'Write the outcome as a SARIF log'
 complete -c apexcheck -l version -n 'test (count (commandline -opc)) = 1' -d 'Print the version'

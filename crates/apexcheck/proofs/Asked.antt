@@ -59,6 +59,7 @@ module _ (matches : ArgMatches) (given : List Row) (is : rows_of (found_of match
     rules = names.rules ∙ first (codes "rules");
     order = names.order ∙ first (codes "order");
     cores = names.cores ∙ all (codes "core");
+    sarif = names.sarif ∙ first (codes "sarif");
     options = value_of _ UsageFault.Usage asked.options options ∙ ap₂ values_of (first (codes "max-elapsed")) (first (codes "forbid"));
     settings = value_of _ UsageFault.Usage asked.settings settings
         ∙ ap₂ (λ depth text. option_and_then (λ workers. settings_of workers depth) text) (first (codes "depth")) (first (codes "workers"));

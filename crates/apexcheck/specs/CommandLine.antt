@@ -42,12 +42,13 @@ options_of_a_check = with_rule (with_rule (with_rule (with_rule no_words
 
 -- the options for rules, and for what is reported
 abbrev pub options : App
-options = with_rule (with_rule (with_rule (with_rule (with_rule options_of_a_check
+options = with_rule (with_rule (with_rule (with_rule (with_rule (with_rule options_of_a_check
     (option_of (codes "max-elapsed")))
     (option_of (codes "forbid")))
     (option_of (codes "rules")))
     (flag_of (codes "last")))
-    (flag_of (codes "quiet"))
+    (flag_of (codes "quiet")))
+    (option_of (codes "sarif"))
 
 -- the words of a run over files: each option once at most, and the recordings
 abbrev pub command_line : App

@@ -8,6 +8,8 @@ ghost use Rattle.rules_file.specs.Reading.{rules_of};
 ghost use Rattle.apexcheck.specs.Files.{AreOpened, EndsAsAsked, IsOfFiles, ending_of};
 ghost use Rattle.apexcheck.specs.Ruled.{where_asked};
 
+use crate::awaited::{Awaited, Observed, copy_of, end_watch, watch};
+use crate::course::Course;
 use crate::ending::{Ending, out_of_memory, refused_by};
 use crate::explainer::Explainer;
 use crate::ruled::{check_ruled, note_broken, read_rules};
@@ -19,7 +21,8 @@ use std::alloc::{AllocFailed, Global};
 use std::fs::{Files, OpenOptions};
 use std::io;
 use std::io::{ErrorKind, Read};
-use std::sync::Wait;
+use std::rt::Clock;
+use std::sync::{Arc, Wait};
 use std::thread::Threads;
 
 /// Opens the files of a run and checks what they hold. The configuration is read first, then the text of rules, if one is
@@ -29,12 +32,13 @@ use std::thread::Threads;
 /// which rule is broken, the record at the place of a No, and the keys of the configuration that are not known.
 pub fn check_files<R, F>(rt: &R, asked: &FilesAsked, explainer: &mut Explainer) -> Ending
 where
-    R: Files<File = F> + AllocGlobal + Threads + Wait + Sync + Copy + Send + 'static,
+    R: Files<File = F> + Clock + Eprint + AllocGlobal,
+    R: Threads + Wait + Sync + Copy + Send + 'static,
     F: Read + Drop + Send + 'static,
-    ensures { IsOfFiles ⟦<Watched<F> as TextSource>⟧.remaining ⟦<Watched<F> as TextSource>⟧.can_fail asked.now result }
+    ensures { IsOfFiles ⟦<Observed<Watched<F>> as TextSource>⟧.remaining ⟦<Observed<Watched<F>> as TextSource>⟧.can_fail asked.now result }
 {
     let alloc = rt.alloc();
-    match Opened::open(rt, alloc, &asked.names, explainer) {
+    match Opened::open(rt, alloc, asked, explainer) {
         Ok(opened) => opened.check(rt, alloc, asked, explainer),
         Err(fault) => end_by(fault),
     }
@@ -58,30 +62,35 @@ struct Opened<S> {
     rules: Option<Vec<u8>>,
     order: S,
     cores: Vec<S>,
+    awaited: Option<Arc<Awaited>>,
 }
 
-impl<F: Read + Drop + Send + 'static> Opened<Watched<F>> {
+impl<F: Read + Drop + Send + 'static> Opened<Observed<Watched<F>>> {
     fn open<R: Files<File = F>>(
         rt: &R,
         alloc: Global,
-        names: &FileNames,
+        asked: &FilesAsked,
         explainer: &mut Explainer,
-    ) -> Result<Opened<Watched<F>>, OpenFault>
-        ensures { IfOk result (AreOpened names.now) }
+    ) -> Result<Opened<Observed<Watched<F>>>, OpenFault>
+        ensures { IfOk result (AreOpened asked.now.names) }
     {
+        let names = &asked.names;
         let config = reported(
             explainer,
             &names.config,
             open_text(rt, alloc, &names.config),
         )?;
         let rules = open_rules(rt, alloc, &names.rules, explainer)?;
-        let order = Watched::new(reported(explainer, &names.order, open(rt, &names.order))?);
-        let cores = open_cores(rt, alloc, &names.cores, explainer)?;
+        let awaited = awaited_of(rt, alloc, asked);
+        let order = reported(explainer, &names.order, open(rt, &names.order))?;
+        let order = Observed::new(Watched::new(order), copy_of(&awaited), 0);
+        let cores = open_cores(rt, alloc, &names.cores, &awaited, explainer)?;
         Ok(Opened {
             config,
             rules,
             order,
             cores,
+            awaited,
         })
     }
 }
@@ -97,7 +106,7 @@ impl<S: TextSource + Drop + Send + 'static> Opened<S> {
         explainer: &mut Explainer,
     ) -> Ending
     where
-        R: Threads + Wait + Sync + Copy + Send + 'static,
+        R: Clock + Eprint + Threads + Wait + Sync + Copy + Send + 'static,
         ensures { EndsAsAsked S.remaining S.can_fail self asked.now result }
     {
         let Opened {
@@ -105,14 +114,16 @@ impl<S: TextSource + Drop + Send + 'static> Opened<S> {
             rules,
             order,
             cores,
+            awaited,
         } = self;
         let Ok(options) = asked.options.in_order(alloc) else {
             return out_of_memory();
         };
-        let rules = match read_rules(alloc, rules.as_deref()) {
+        let rules_text = rules.as_deref();
+        let rules = match read_rules(alloc, rules_text) {
             Ok(rules) => rules,
             Err(fault) => {
-                explainer.note_rules(&asked.names, &fault);
+                explainer.note_rules(&asked.names, &fault, rules_text);
                 return refused_by(fault);
             }
         };
@@ -121,11 +132,19 @@ impl<S: TextSource + Drop + Send + 'static> Opened<S> {
         };
         let inputs = Inputs::new(&config, cores, order);
         let settings = asked.settings;
+        let watching = watch(rt, &awaited);
+        let is_wanted = explainer.terminal().is_terminal && !asked.quiet;
+        let course = Course::new(rt, is_wanted, copy_of(&awaited));
         let outcome = check_ruled(
-            *rt, alloc, inputs, &options, &rules, settings, &mut last, explainer,
+            *rt, alloc, inputs, &options, &rules, settings, &course, &mut last, explainer,
         );
+        course.clear();
+        end_watch(rt, &awaited, watching);
         note_broken(explainer, alloc, &options, &rules, &outcome);
-        explainer.note_unknown_keys(alloc, &config);
+        explainer.note_configuration(&config);
+        if asked.names.sarif.is_some() {
+            explainer.keep_last(&last);
+        }
         Ending::Checked {
             outcome,
             last: where_asked(asked.last, last),
@@ -155,18 +174,30 @@ fn open_rules<R: Files<File = F>, F: Read + Drop>(
     }
 }
 
+// The files that may hold up the check once its answer is known, if a person is to be told of them.
+fn awaited_of<R: Files>(rt: &R, alloc: Global, asked: &FilesAsked) -> Option<Arc<Awaited>> {
+    if asked.quiet {
+        return None;
+    }
+    Awaited::new(rt, alloc, &asked.names)
+}
+
 // The recordings in the files of these names, in their order.
 fn open_cores<R: Files<File = F>, F: Read + Drop>(
     rt: &R,
     alloc: Global,
     names: &[String],
+    awaited: &Option<Arc<Awaited>>,
     explainer: &mut Explainer,
-) -> Result<Vec<Watched<F>>, OpenFault>
+) -> Result<Vec<Observed<Watched<F>>>, OpenFault>
     ensures { IfOk result (λ cores. vec_len cores ≡ length names.now) }
 {
     let mut cores = Vec::new(alloc);
     for name in names {
-        cores.push(Watched::new(reported(explainer, name, open(rt, name))?))?;
+        let core = Watched::new(reported(explainer, name, open(rt, name))?);
+        // The order is the first of the files.
+        let index = usize::saturating_add(cores.len(), 1);
+        cores.push(Observed::new(core, copy_of(awaited), index))?;
     }
     Ok(cores)
 }
@@ -222,7 +253,7 @@ fn reported<T: Drop>(
         Ok(value) => Ok(value),
         Err(e) if e.kind() == ErrorKind::OutOfMemory => Err(OpenFault::Memory),
         Err(e) => {
-            explainer.note(format_args!("{name}: {e}"));
+            explainer.note_unopened(name, e);
             Err(OpenFault::Unopened)
         }
     }

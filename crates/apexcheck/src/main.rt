@@ -7,13 +7,19 @@
 //! of the text say; after it stand the last records before the place of a No, where they are asked for, and else nothing.
 #![tactic(auto)]
 
+mod awaited;
+mod course;
 mod ending;
 mod explained;
 mod explainer;
 mod files;
+mod progress;
 mod ruled;
+mod sarif;
 mod settings;
 mod stored;
+mod terminal;
+mod told;
 mod usage;
 
 use ending::{Ending, UNWRITTEN, conclude, out_of_memory, refused_words};
@@ -23,9 +29,12 @@ use sink::WriterSink;
 use std::alloc::Global;
 use std::fs::{File, Files};
 use std::io;
+use std::io::IsTerminal;
 use std::process::ExitCode;
+use std::rt::Clock;
 use std::sync::Wait;
 use std::thread::Threads;
+use terminal::Terminal;
 use usage::{Asked, UsageFault};
 
 /// How many bytes of the main thread's stack are touched at once.
@@ -36,7 +45,8 @@ const STEPS: usize = 32;
 
 fn main(rt: HostRuntime) -> ExitCode {
     let alloc = rt.alloc();
-    let mut explainer = Explainer::new(alloc);
+    let terminal = Terminal::new(&rt, rt.stderr().is_terminal());
+    let mut explainer = Explainer::new(alloc, terminal);
     let asked = usage::from_words(&rt, alloc);
     let ending = if reserve_stack(STEPS) == 1 {
         run(&rt, alloc, &asked, &mut explainer)
@@ -45,7 +55,7 @@ fn main(rt: HostRuntime) -> ExitCode {
     };
     let mut output = WriterSink::new(io::writer(&rt));
     let status = conclude(&mut output, &ending);
-    explain(&rt, alloc, &asked, &ending, &explainer);
+    explain(&rt, alloc, &asked, &ending, &explainer, status);
     if status == UNWRITTEN {
         // Standard error only helps a person, so that a failure there changes nothing.
         let _ = rt.eprintln("apexcheck: standard output could not be written");
@@ -74,7 +84,8 @@ fn run<R>(
     explainer: &mut Explainer,
 ) -> Ending
 where
-    R: Files<File = File> + AllocGlobal + Threads + Wait + Sync + Copy + Send + 'static,
+    R: Files<File = File> + Clock + Eprint + AllocGlobal,
+    R: Threads + Wait + Sync + Copy + Send + 'static,
 {
     match asked {
         Ok(Asked::StoredRun) => Ending::Checked {

@@ -9,7 +9,7 @@ ghost use Rattle.apexcheck.specs.Ruled.{AnswersRuled, HoldInTurn, SayBoth, rules
 use crate::explainer::Explainer;
 use csv_rows::TextSource;
 use report::{
-    CheckFault, Inputs, Last, Open, Options, Settings, Verdict, Witness, check_relations,
+    CheckFault, Gate, Inputs, Last, Options, Settings, Verdict, Witness, check_relations,
 };
 use rule_options::{RuleOption, relations_of};
 use rules_file::{NamedRule, RulesFault};
@@ -29,21 +29,23 @@ pub fn read_rules(alloc: Global, text: Option<&[u8]>) -> Result<Vec<NamedRule>, 
 }
 
 /// Checks these inputs under rules: those that these options ask for, numbered in their order, and the named ones after them. It
-/// is carried out as the settings say.
+/// is carried out as the settings say, and the gate sees it go on.
 ///
 /// Leaves the last records before the place of a No or of a broken rule in `last`, where none were before, and none after any other
 /// answer. The witness receives what is at that place.
-pub fn check_ruled<T, R, C, V>(
+pub fn check_ruled<T, R, C, G, V>(
     rt: T,
     alloc: Global,
     inputs: Inputs<'_, R, C>,
     options: &[RuleOption],
     rules: &[NamedRule],
     settings: Settings,
+    gate: &G,
     last: &mut Last,
     witness: &mut V,
 ) -> Result<Verdict, CheckFault>
 where
+    G: Gate + Sync,
     V: Witness,
     T: Threads + Wait + Sync + Copy + Send + 'static,
     R: TextSource + Drop + Send + 'static,
@@ -53,7 +55,7 @@ where
     let Ok(relations) = all_relations(alloc, options, rules) else {
         return Err(CheckFault::Memory);
     };
-    let options = Options::new(settings, &Open);
+    let options = Options::new(settings, gate);
     check_relations(rt, alloc, inputs, relations, options, last, witness)
 }
 
@@ -96,13 +98,12 @@ pub fn note_broken(
     };
     let place = pos.number();
     if let Some(option) = options.get(*rule) {
-        explainer.note(format_args!("the record in place {place} breaks rule {rule}: {option}"));
+        explainer.note_broken(place, *rule, format_args!("{option}"));
         if let Ok(relation) = option.relation(alloc) {
             explainer.tell_fields(&relation);
         }
     } else if let Some(named) = rules.get(*rule - options.len()) {
-        let name = &named.name;
-        explainer.note(format_args!("the record in place {place} breaks rule {rule}: {name}"));
+        explainer.note_broken(place, *rule, format_args!("{}", named.name));
         explainer.tell_fields(&named.relation);
     }
 }

@@ -23,21 +23,35 @@ use std::{env, io};
 use wording::Words;
 
 /// What a person reads whose command line is refused.
-pub const USAGE: &str = "usage: apexcheck --config FILE --order FILE --workers N [--depth N]
-                 [--max-elapsed N] [--forbid SERVICE] [--rules FILE] [--last] [--quiet]
-                 CORE...
-       apexcheck
+pub const USAGE: &str = "usage: apexcheck --config FILE --order FILE --workers N [OPTION]... CORE...
        apexcheck --version
+       apexcheck
 
-Checks the recordings, one file CORE for each core with core 0 first, against the
-configuration and the order that are given. --workers says by how many threads the
-records are judged, 1 to 64; --depth how many records ahead each file is read, 1 to
-4096, which is 64 if not given. Neither changes the answer. With --max-elapsed no call may
-return more than N ticks later, with --forbid no call may be of SERVICE, with --rules
-the rules of FILE may not be broken. With --last the last records before the place of a
-No, at most 8, follow its line. Why the answer is no Yes is reported on standard error, unless
---quiet is given. With no words it checks a run that stands in the program. With --version
-alone it prints its version.";
+Checks the recordings of the cores of an ARINC 653 module, in one proposed
+order, and prints the answer in one line. Without words, it checks a small run
+of its own.
+
+Inputs:
+  --config FILE      the configuration of the module (required)
+  --order FILE       the certificate, which proposes the order (required)
+  CORE...            one recording for each core, core 0 first
+
+Speed, which does not change the answer:
+  --workers N        judge with N threads, 1 to 64 (required)
+  --depth N          read N records ahead in each recording, 1 to 4096
+                     (default 64)
+
+Rules of your own:
+  --max-elapsed N    every call that returns does so within N ticks
+  --forbid SERVICE   no call is of SERVICE
+  --rules FILE       the rules in FILE
+
+Output:
+  --last             after the line of a NO, print the last records before its
+                     place, at most 8
+  --quiet            do not explain the answer on standard error
+  --sarif FILE       write the outcome to FILE as a SARIF 2.1.0 log
+  --version          print the version; this must be the only word";
 
 /// What the command line asks for.
 #[derive(Debug, Drop)]
@@ -76,6 +90,8 @@ pub struct FileNames {
     pub order: String,
     /// The recordings, one for each core, core 0 first.
     pub cores: Vec<String>,
+    /// Where the outcome is written as a SARIF log, if it is.
+    pub sarif: Option<String>,
 }
 
 /// Why a command line says nothing that can be done.
@@ -97,8 +113,8 @@ pub fn from_words(rt: &(impl Env + AllocGlobal), alloc: Global) -> Result<Asked,
     read_words(alloc, words.as_slice())
 }
 
-/// Prints what is wrong with the words that the program was given, and how it is used.
-pub fn tell_usage(rt: &(impl Env + Eprint + AllocGlobal), alloc: Global) {
+/// Prints what is wrong with the words that the program was given, in colours or without, and how it is used.
+pub fn tell_usage(rt: &(impl Env + Eprint + AllocGlobal), alloc: Global, in_colour: bool) {
     let mut reported = Words::new(alloc);
     match env::args(rt) {
         Ok(words) => {
@@ -109,7 +125,7 @@ pub fn tell_usage(rt: &(impl Env + Eprint + AllocGlobal), alloc: Global) {
         Err(_) => reported.say("a word is no UTF-8 text"),
     }
     // Standard error only helps a person, so that a failure there changes nothing.
-    let _ = rt.eprintln(format_args!("apexcheck: {}", reported.as_str()));
+    let _ = rt.eprintln(format_args!("apexcheck: {}", reported.shown(in_colour)));
     let _ = rt.eprintln(USAGE);
 }
 
@@ -237,7 +253,8 @@ fn file_names(alloc: Global, matches: &ArgMatches<'_>) -> Result<FileNames, Usag
     let Some(cores) = matches.get_strs("core") else {
         return Err(UsageFault::Usage);
     };
-    match owned_names(alloc, config, matches.get_str("rules"), order, cores) {
+    let rules = matches.get_str("rules");
+    match owned_names(alloc, config, rules, order, cores, matches.get_str("sarif")) {
         Ok(names) => Ok(names),
         Err(_) => Err(UsageFault::Memory),
     }
@@ -250,22 +267,31 @@ fn owned_names(
     rules: Option<&str>,
     order: &str,
     cores: &[&str],
+    sarif: Option<&str>,
 ) -> Result<FileNames, AllocError>
     ensures config { IfOk result (λ names. string_bytes names.config ≡ config.now) }
     ensures rules { IfOk result (λ names. option_map string_bytes names.rules ≡ option_map (λ name. name.now) rules.entry) }
     ensures order { IfOk result (λ names. string_bytes names.order ≡ order.now) }
     ensures cores { IfOk result (λ names. map string_bytes names.cores.items ≡ map (λ name. name.now) cores.now) }
+    ensures sarif { IfOk result (λ names. option_map string_bytes names.sarif ≡ option_map (λ name. name.now) sarif.entry) }
 {
-    let rules = match rules {
-        Some(name) => Some(String::from_str(alloc, name)?),
-        None => None,
-    };
     Ok(FileNames {
         config: String::from_str(alloc, config)?,
-        rules,
+        rules: owned_if_named(alloc, rules)?,
         order: String::from_str(alloc, order)?,
         cores: owned(alloc, cores)?,
+        sarif: owned_if_named(alloc, sarif)?,
     })
+}
+
+// A name of its own, if a file is named.
+fn owned_if_named(alloc: Global, name: Option<&str>) -> Result<Option<String>, AllocError>
+    ensures { IfOk result (λ owned. option_map string_bytes owned ≡ option_map (λ name. name.now) name.entry) }
+{
+    match name {
+        Some(name) => Ok(Some(String::from_str(alloc, name)?)),
+        None => Ok(None),
+    }
 }
 
 // Texts of their own, each as it stands.
@@ -294,6 +320,7 @@ fn command<'a>(alloc: Global) -> Result<Command<'a>, AllocError>
         .arg(option(alloc, "rules"))?
         .arg(flag(alloc, "last"))?
         .arg(flag(alloc, "quiet"))?
+        .arg(option(alloc, "sarif"))?
         .arg(recordings(alloc))
 }
 

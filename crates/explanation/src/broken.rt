@@ -70,7 +70,14 @@ fn word_for(field: Field, number: i64) -> Option<&'static str> {
                 .find(|out| i64::from(out.number()) == number)?;
             Some(out_name(*out))
         }
-        _ => None,
+        Field::Core
+        | Field::Time
+        | Field::Part
+        | Field::Proc
+        | Field::Prio
+        | Field::Val
+        | Field::Elapsed
+        | Field::Woken => None,
     }
 }
 

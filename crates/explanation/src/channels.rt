@@ -1,6 +1,6 @@
 // What a channel refuses.
 
-use crate::claim::tell_difference;
+use crate::claim::{ClaimField, tell_difference};
 use crate::held::tell_channel_held;
 use apex_types::{Body, Cause, Ordered, Request};
 use channel::Channel;
@@ -36,20 +36,28 @@ pub fn tell_channel(
             words.say(unsuited(channel, &call.request));
             words.rule("part 5 (suits)");
         }
-        _ => {
-            if let Some(given) = channel.answer(now, call) {
-                tell_difference(words, &given, &call.claim, cause);
+        Cause::Out | Cause::Val | Cause::Data | Cause::Woken => {
+            if let (Some(given), Some(field)) = (channel.answer(now, call), ClaimField::of(cause)) {
+                tell_difference(words, &given, &call.claim, field);
             }
             words.rule(answer_rule(&call.request));
         }
+        // These are the module's demands, or those of the caller's partition.
+        Cause::Names
+        | Cause::Skew
+        | Cause::Idle
+        | Cause::Window
+        | Cause::Return
+        | Cause::OutsideProfile
+        | Cause::Prio => {}
     }
 }
 
 // Why a request does not suit a channel.
 fn unsuited(channel: &Channel, request: &Request) -> &'static str {
-    match (request, channel.queue()) {
-        (Request::GetStatus(..), Some(_)) =>
-            "the caller's partition is at neither end of the channel",
-        _ => "the service is not of the channel's kind",
+    if matches!(request, Request::GetStatus(..)) && channel.queue().is_some() {
+        "the caller's partition is at neither end of the channel"
+    } else {
+        "the service is not of the channel's kind"
     }
 }

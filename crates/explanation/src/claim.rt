@@ -10,49 +10,92 @@ use apex_types::{
 use module_config::Config;
 use partition_state::PartitionState;
 use wait_set::{Conditions, Given, WaitSet};
-use wording::{Bytes, Numbered, Words, answer_rule, out_name, tell_further, tell_processes};
+use wording::{
+    Bytes, Numbered, Part, Words, answer_rule, conditions_rule, out_name, tell_further,
+    tell_processes,
+};
+
+/// A field of what a call claims.
+#[derive(Clone, Copy, Debug, PartialEq, Eq)]
+pub enum ClaimField {
+    Channel,
+    Outcome,
+    Values,
+    Message,
+    Woken,
+}
+
+impl ClaimField {
+    /// The field whose demand this cause reports, if it is a demand on what is claimed.
+    pub fn of(cause: Cause) -> Option<ClaimField> {
+        match cause {
+            Cause::Chan => Some(ClaimField::Channel),
+            Cause::Out => Some(ClaimField::Outcome),
+            Cause::Val => Some(ClaimField::Values),
+            Cause::Data => Some(ClaimField::Message),
+            Cause::Woken => Some(ClaimField::Woken),
+            Cause::Names
+            | Cause::Skew
+            | Cause::Idle
+            | Cause::Window
+            | Cause::Choice
+            | Cause::Return
+            | Cause::OutsideProfile
+            | Cause::Prio => None,
+        }
+    }
+}
 
 /// Tells the outcomes of a call on which error conditions hold, where its claim is none of them.
 pub fn tell_refused_outcome(
     words: &mut Words,
     config: &Config,
-    state: &PartitionState,
     call: &Call,
     conditions: &Conditions,
-    cause: Cause,
+    field: ClaimField,
 ) {
     words.next_line();
     words.say("an error condition holds, so the call answers ");
+    words.begin_part(Part::Expected);
     tell_codes(words, conditions);
-    match cause {
-        Cause::Out => words.say(format_args!("; recorded {}", out_name(call.claim.out))),
-        Cause::Val => words.say(" and gives no value"),
-        Cause::Data => words.say(" and gives no message"),
-        Cause::Woken => words.say(" and ends no wait"),
-        Cause::Chan => words.say(" and goes through no channel"),
-        _ => {}
+    words.end_part();
+    match field {
+        ClaimField::Channel => words.say(" and goes through no channel"),
+        ClaimField::Outcome => {
+            words.say("; recorded ");
+            words.say_part(Part::Recorded, out_name(call.claim.out));
+        }
+        ClaimField::Values => words.say(" and gives no value"),
+        ClaimField::Message => words.say(" and gives no message"),
+        ClaimField::Woken => words.say(" and ends no wait"),
     }
-    tell_conditions(words, config, state, call);
+    tell_conditions(words, config, call, conditions);
+    words.next_line();
+    words.say(format_args!(
+        "rule: docs/SPECIFICATION.md, part 6, {}",
+        conditions_rule(&call.request)
+    ));
 }
 
 /// Tells what a partition sees of a call through this channel, where its claim is not so.
-pub fn tell_through(words: &mut Words, channel: ChanId, call: &Call, cause: Cause) {
+pub fn tell_through(words: &mut Words, channel: ChanId, call: &Call, field: ClaimField) {
     words.next_line();
-    match cause {
-        Cause::Chan => {
-            words.say(format_args!(
-                "its port belongs to channel {}, but the record names ",
-                channel.number()
-            ));
+    match field {
+        ClaimField::Channel => {
+            words.say("its port belongs to ");
+            words.say_part(Part::Expected, format_args!("channel {}", channel.number()));
+            words.say(", but the record names ");
             match call.claim.chan {
-                Some(claimed) => words.say(format_args!("channel {}", claimed.number())),
-                None => words.say("no channel"),
+                Some(claimed) => {
+                    words.say_part(Part::Recorded, format_args!("channel {}", claimed.number()));
+                }
+                None => words.say_part(Part::Recorded, "no channel"),
             }
             words.rule(
                 "part 10, Call, outcome (IsThrough); the channel of a port: part 5 (channel_of)",
             );
         }
-        Cause::Out => {
+        ClaimField::Outcome => {
             words.say(format_args!(
                 "no error condition holds, so the outcome {} is not possible here",
                 out_name(call.claim.out)
@@ -62,13 +105,15 @@ pub fn tell_through(words: &mut Words, channel: ChanId, call: &Call, cause: Caus
             }
             words.rule("part 11, cause Out (CanHave)");
         }
-        _ => {
+        ClaimField::Woken => {
             words.say(
                 "a call through a channel ends only waits of the other partition, but this one names ",
             );
             tell_processes(words, call.claim.woken.as_slice());
             words.rule("part 11, cause Woken");
         }
+        // These are the channel's to judge.
+        ClaimField::Values | ClaimField::Message => {}
     }
 }
 
@@ -79,26 +124,26 @@ pub fn tell_answer(
     now: u64,
     place: Place,
     call: &Call,
-    cause: Cause,
+    field: ClaimField,
 ) {
-    if cause == Cause::Chan {
+    if field == ClaimField::Channel {
         words.next_line();
         words.say("the call goes through no channel, but the record names one");
         words.rule("part 10, Call, outcome (IsAnswered)");
         return;
     }
     tell_basis(words, state, now, call);
-    if cause == Cause::Val {
+    if field == ClaimField::Values {
         tell_holder(words, state, call);
     }
     match state.answer(now, place, call) {
         Some(given) => {
-            tell_difference(words, &given, &call.claim, cause);
-            if let (Cause::Woken, Some(set)) = (cause, given.woken_all) {
+            tell_difference(words, &given, &call.claim, field);
+            if let (ClaimField::Woken, Some(set)) = (field, given.woken_all) {
                 tell_missing(words, state, call, set);
             }
         }
-        None => tell_no_creation(words, &call.claim, cause),
+        None => tell_no_creation(words, &call.claim, field),
     }
     words.rule(answer_rule(&call.request));
 }
@@ -146,7 +191,18 @@ fn tell_holder(words: &mut Words, state: &PartitionState, call: &Call) {
             }
         }
         Request::Create(_, object) => tell_object(words, state, object.kind(), number),
-        _ => {}
+        Request::Process(..)
+        | Request::Caller(_)
+        | Request::SetPartitionMode(..)
+        | Request::Buffer(..)
+        | Request::Blackboard(..)
+        | Request::Semaphore(..)
+        | Request::Event(..)
+        | Request::Mutex(..)
+        | Request::SamplingPort(..)
+        | Request::QueuingPort(..)
+        | Request::GetId(..)
+        | Request::GetStatus(..) => {}
     }
 }
 
@@ -219,63 +275,77 @@ fn tell_missing(words: &mut Words, state: &PartitionState, call: &Call, set: &Wa
     }
 }
 
-// Tells what a creation gives and what is claimed, of what the cause is about.
-fn tell_no_creation(words: &mut Words, claim: &Claim, cause: Cause) {
+// Tells what a creation gives and what is claimed, in the field that is not as expected.
+fn tell_no_creation(words: &mut Words, claim: &Claim, field: ClaimField) {
     words.next_line();
-    match cause {
-        Cause::Out => tell_outcome(words, Out::Answer(Code::NoError), claim),
-        Cause::Val => {
-            words.say(
-                "expected a new number from 1 to 2,147,483,647, which nothing of its kind has in the partition",
+    match field {
+        ClaimField::Outcome => tell_outcome(words, Out::Answer(Code::NoError), claim),
+        ClaimField::Values => {
+            words.say("expected ");
+            words.say_part(
+                Part::Expected,
+                "a new number from 1 to 2,147,483,647, which nothing of its kind has in the partition",
             );
             tell_recorded_values(words, claim);
         }
-        Cause::Data => tell_bytes(words, &[], claim),
-        Cause::Woken => tell_woken(words, None, None, claim.woken.as_slice()),
-        _ => {}
+        ClaimField::Message => tell_bytes(words, &[], claim),
+        ClaimField::Woken => tell_woken(words, None, None, claim.woken.as_slice()),
+        // Reported before what the call gives is looked at.
+        ClaimField::Channel => {}
     }
 }
 
-/// Tells what a call gives and what is claimed, of what the cause is about.
-pub fn tell_difference(words: &mut Words, given: &Given<'_>, claim: &Claim, cause: Cause) {
+/// Tells what a call gives and what is claimed, in the field that is not as expected.
+pub fn tell_difference(words: &mut Words, given: &Given<'_>, claim: &Claim, field: ClaimField) {
     words.next_line();
-    match cause {
-        Cause::Out => tell_outcome(words, given.out, claim),
-        Cause::Val => {
+    match field {
+        ClaimField::Outcome => tell_outcome(words, given.out, claim),
+        ClaimField::Values => {
             words.say("expected ");
+            words.begin_part(Part::Expected);
             tell_value(words, given.val.map(signed));
             tell_further(words, given.val2.map(signed), given.val3.map(signed));
+            words.end_part();
             tell_recorded_values(words, claim);
         }
-        Cause::Data => tell_bytes(words, given.bytes, claim),
-        Cause::Woken => tell_woken(words, given.woken, given.woken_all, claim.woken.as_slice()),
-        _ => {}
+        ClaimField::Message => tell_bytes(words, given.bytes, claim),
+        ClaimField::Woken => tell_woken(
+            words,
+            given.woken,
+            given.woken_all,
+            claim.woken.as_slice(),
+        ),
+        // Reported before what the call gives is looked at.
+        ClaimField::Channel => {}
     }
 }
 
 // Tells the outcome that a call gives, and the one that is claimed.
 fn tell_outcome(words: &mut Words, out: Out, claim: &Claim) {
-    words.say(format_args!(
-        "expected the outcome {}, recorded {}",
-        out_name(out),
-        out_name(claim.out)
-    ));
+    words.say("expected ");
+    words.say_part(
+        Part::Expected,
+        format_args!("the outcome {}", out_name(out)),
+    );
+    words.say(", recorded ");
+    words.say_part(Part::Recorded, out_name(claim.out));
 }
 
 // Tells the message that a call gives, and the one that is claimed.
 fn tell_bytes(words: &mut Words, bytes: &[u8], claim: &Claim) {
-    words.say(format_args!(
-        "expected {}, recorded {}",
-        Bytes(bytes),
-        Bytes(claim.bytes.as_bytes())
-    ));
+    words.say("expected ");
+    words.say_part(Part::Expected, Bytes(bytes));
+    words.say(", recorded ");
+    words.say_part(Part::Recorded, Bytes(claim.bytes.as_bytes()));
 }
 
 // Tells the values that a claim has.
 fn tell_recorded_values(words: &mut Words, claim: &Claim) {
     words.say("; recorded ");
+    words.begin_part(Part::Recorded);
     tell_value(words, claim.val);
     tell_further(words, claim.val2, claim.val3);
+    words.end_part();
 }
 
 // A number as a record gives it.
@@ -294,6 +364,7 @@ fn tell_value(words: &mut Words, value: Option<i64>) {
 // Tells whose waits the call ends, and whom the record names.
 fn tell_woken(words: &mut Words, woken: Option<Who>, woken_all: Option<&WaitSet>, named: &[Who]) {
     words.say("the call ends ");
+    words.begin_part(Part::Expected);
     match (woken, woken_all) {
         (Some(who), _) => words.say(format_args!("the wait of {}", Numbered(who))),
         (None, Some(set)) => words.say(format_args!(
@@ -302,12 +373,15 @@ fn tell_woken(words: &mut Words, woken: Option<Who>, woken_all: Option<&WaitSet>
         )),
         (None, None) => words.say("no wait"),
     }
+    words.end_part();
     words.say(", but the record names ");
+    words.begin_part(Part::Recorded);
     if named.is_empty() {
         words.say("nobody");
     } else {
         tell_processes(words, named);
     }
+    words.end_part();
     if let Some(set) = woken_all {
         for who in named {
             if !set.has(*who) {

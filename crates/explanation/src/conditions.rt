@@ -1,150 +1,104 @@
 // The error conditions that hold for a call, in words.
 
-mod creations;
-mod objects;
-mod processes;
-
-use apex_types::{Call, Code, ObjectKind, Out, Request, Who};
-use module_config::Config;
-use partition_state::PartitionState;
-use std::fmt::Display;
+use apex_machine::{Condition, Direction};
+use apex_types::{Call, Discipline, NewObject, Request};
+use module_config::{Config, QueuingPort, SamplingPort};
 use wait_set::Conditions;
-use wording::{Words, code_name, codes_rule};
+use wording::{Words, code_name};
 
-/// Tells which error conditions hold, and the definition that gives their codes.
-pub fn tell_conditions(words: &mut Words, config: &Config, state: &PartitionState, call: &Call) {
-    let mut writer = ConditionWriter {
-        words,
-        config,
-        state,
-        who: call.who,
+/// Tells which error conditions hold, each with its code, or that none does.
+pub fn tell_conditions(words: &mut Words, config: &Config, call: &Call, conditions: &Conditions) {
+    if conditions.is_empty() {
+        words.next_line();
+        words.say("no error condition holds");
+    }
+    for condition in conditions.as_slice() {
+        words.next_line();
+        words.say(format_args!("an error condition holds: {}", condition.text()));
+        words.say(format_args!(": {}", code_name(condition.code())));
+        if *condition == Condition::NotAsConfigured {
+            tell_configured(words, config, call);
+        }
+    }
+}
+
+/// Tells the codes of the conditions, each once.
+pub fn tell_codes(words: &mut Words, conditions: &Conditions) {
+    let held = conditions.as_slice();
+    for (index, condition) in held.iter().enumerate() {
+        let code = condition.code();
+        if held
+            .iter()
+            .take(index)
+            .any(|earlier| earlier.code() == code)
+        {
+            continue;
+        }
+        if index > 0 {
+            words.say(" or ");
+        }
+        words.say(code_name(code));
+    }
+}
+
+// Tells how the port is configured whose name a creation gives.
+fn tell_configured(words: &mut Words, config: &Config, call: &Call) {
+    let Request::Create(name, object) = &call.request else {
+        return;
     };
-    writer.tell_request(&call.request);
-    writer.words.next_line();
-    writer.words.say(format_args!(
-        "rule: docs/SPECIFICATION.md, part 6, {}",
-        codes_rule(&call.request)
+    words.next_line();
+    match object {
+        NewObject::SamplingPort { .. } => match config.sampling_port(call.who.part, name) {
+            Some(port) => tell_sampling_port(words, &port),
+            None => tell_no_port(words),
+        },
+        NewObject::QueuingPort { .. } => match config.queuing_port(call.who.part, name) {
+            Some(port) => tell_queuing_port(words, &port),
+            None => tell_no_port(words),
+        },
+        NewObject::Buffer { .. }
+        | NewObject::Blackboard { .. }
+        | NewObject::Semaphore { .. }
+        | NewObject::Event
+        | NewObject::Mutex { .. } => {}
+    }
+}
+
+fn tell_sampling_port(words: &mut Words, port: &SamplingPort) {
+    words.say(format_args!(
+        "  configured are size {}, direction {} and refresh period {}, which counts at a destination only",
+        port.size,
+        direction_number(port.direction),
+        port.refresh
     ));
 }
 
-/// Tells the codes of the conditions that hold.
-pub fn tell_codes(words: &mut Words, conditions: &Conditions) {
-    let mut first = true;
-    for code in [
-        Code::NoAction,
-        Code::NotAvailable,
-        Code::InvalidParam,
-        Code::InvalidConfig,
-        Code::InvalidMode,
-    ] {
-        if conditions.has_code(Out::Answer(code)) {
-            if !first {
-                words.say(" or ");
-            }
-            first = false;
-            words.say(code_name(code));
-        }
+fn tell_queuing_port(words: &mut Words, port: &QueuingPort) {
+    words.say(format_args!(
+        "  configured are size {}, capacity {}",
+        port.size, port.capacity
+    ));
+    words.say(format_args!(
+        ", direction {} and discipline {}",
+        direction_number(port.direction),
+        discipline_number(port.discipline)
+    ));
+}
+
+fn tell_no_port(words: &mut Words) {
+    words.say("  no channel has an end of this name in the partition");
+}
+
+fn direction_number(direction: Direction) -> u8 {
+    match direction {
+        Direction::Source => 0,
+        Direction::Destination => 1,
     }
 }
 
-// Writes the error conditions that hold for a call of this process in this state, each on a line of its own.
-#[derive(Drop)]
-struct ConditionWriter<'a> {
-    words: &'a mut Words,
-    config: &'a Config,
-    state: &'a PartitionState,
-    who: Who,
-}
-
-impl ConditionWriter<'_> {
-    fn tell_request(&mut self, request: &Request) {
-        match request {
-            Request::CreateProcess {
-                name,
-                priority,
-                period,
-            } => self.tell_new_process(name, *priority, *period),
-            Request::Process(process, operation) => self.tell_process(*process, operation),
-            Request::Caller(operation) => self.tell_caller(operation),
-            Request::SetPartitionMode(mode) => self.tell_mode(*mode),
-            Request::Create(name, object) => self.tell_creation(name, object),
-            Request::Buffer(buffer, operation) => self.tell_buffer(*buffer, operation),
-            Request::Blackboard(blackboard, operation) => self.tell_blackboard(
-                *blackboard,
-                operation,
-            ),
-            Request::Semaphore(semaphore, operation) => self.tell_semaphore(*semaphore, operation),
-            Request::Event(event, operation) => self.tell_event(*event, operation),
-            Request::Mutex(mutex, operation) => self.tell_mutex(*mutex, operation),
-            Request::SamplingPort(port, operation) => self.tell_sampling(*port, operation),
-            Request::QueuingPort(port, operation) => self.tell_queuing(*port, operation),
-            Request::GetId(kind, name) => {
-                let found = self.state.number_of(*kind, name);
-                self.invalid_config(found.is_none(), "nothing of this kind has the name");
-            }
-            Request::GetStatus(kind, object) => self.tell_status(*kind, *object),
-        }
-    }
-
-    // The condition of GET_BUFFER_STATUS and its like. The status of a queuing port is its channel's to give.
-    fn tell_status(&mut self, kind: ObjectKind, object: i64) {
-        let is_created = match kind {
-            ObjectKind::QueuingPort => self.state.queuing_ports().given(object).is_some(),
-            _ => self.state.status_of(kind, object).is_some(),
-        };
-        self.invalid_param(!is_created, "nothing of this number and kind is created");
-    }
-
-    // The conditions of a wait.
-    fn tell_wait(&mut self, time_out: i64) {
-        self.tell_time_out(time_out);
-        if time_out != 0 {
-            self.tell_may_not_wait();
-        }
-    }
-
-    fn tell_time_out(&mut self, time_out: i64) {
-        self.invalid_param(time_out < -1, "the time-out is below -1");
-    }
-
-    // The conditions that the caller may not wait.
-    fn tell_may_not_wait(&mut self) {
-        self.invalid_mode(
-            self.who.proc.number() == 0,
-            "the caller is the initialising process, which may not wait",
-        );
-        self.invalid_mode(
-            self.state.owns_mutex(self.who.proc),
-            "the caller owns a mutex, so that it may not wait",
-        );
-    }
-
-    fn tell_initialising(&mut self) {
-        let is_initialising = self.who.proc.number() == 0;
-        self.invalid_mode(is_initialising, "the caller is the initialising process");
-    }
-
-    fn no_action(&mut self, holds: bool, what: &str) {
-        self.tell(holds, Code::NoAction, what);
-    }
-
-    fn invalid_param(&mut self, holds: bool, what: &str) {
-        self.tell(holds, Code::InvalidParam, what);
-    }
-
-    fn invalid_config(&mut self, holds: bool, what: impl Display + Drop) {
-        self.tell(holds, Code::InvalidConfig, what);
-    }
-
-    fn invalid_mode(&mut self, holds: bool, what: &str) {
-        self.tell(holds, Code::InvalidMode, what);
-    }
-
-    // Tells a condition, where it holds.
-    fn tell(&mut self, holds: bool, code: Code, what: impl Display + Drop) {
-        if holds {
-            self.words.next_line();
-            self.words.say(format_args!("an error condition holds: {what}: {}", code_name(code)));
-        }
+fn discipline_number(discipline: Discipline) -> u8 {
+    match discipline {
+        Discipline::Fifo => 0,
+        Discipline::Priority => 1,
     }
 }

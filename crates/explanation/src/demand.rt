@@ -61,6 +61,9 @@ fn tell_choice(words: &mut Words, subject: Subject, body: &Body) {
 fn tell_return(words: &mut Words, body: &Body) {
     match body {
         Body::Ret(_) => words.say("a return must be that of the pending outcome"),
-        _ => words.say("a process must return from its last call before it makes another"),
+        Body::Call(_) => {
+            words.say("a process must return from its last call before it makes another");
+        }
+        Body::Disp(_) | Body::Tick(_) => {}
     }
 }

@@ -100,6 +100,11 @@ fn waits_for(refusing: &Refusing<'_>, who: Who, call: &Call) -> bool {
     };
     match process.wait {
         Wait::At(set, _) => Some(set) == waiting_set(call),
-        _ => false,
+        Wait::Nothing
+        | Wait::NormalMode
+        | Wait::FirstRelease(_)
+        | Wait::Until(_)
+        | Wait::PeriodicRelease(_)
+        | Wait::Suspended(_) => false,
     }
 }

@@ -10,7 +10,7 @@ use module_config::Config;
 use piece_check::{Piece, Subject};
 use std::alloc::Global;
 use user_rules::Relation;
-use wording::{Ascii, Numbered, Words, tell_record};
+use wording::{Ascii, Numbered, Part, Words, tell_record};
 
 /// A record by its core and its number there.
 #[derive(Clone, Copy, Debug, PartialEq, Eq)]
@@ -78,7 +78,9 @@ impl Explanation {
             core: ordered.core,
             seq: ordered.rec.seq,
         });
+        self.words.begin_part(Part::Record);
         tell_record(&mut self.words, ordered);
+        self.words.end_part();
     }
 }
 

@@ -1,6 +1,6 @@
 // What objects and channels hold, in words.
 
-use apex_types::{Name, ObjectKind};
+use apex_types::{Discipline, Name, ObjectKind};
 use channel::Channel;
 use message_queue::MessageQueue;
 use module_config::ChannelKind;
@@ -8,6 +8,9 @@ use partition_state::PartitionState;
 use ports::Port;
 use wait_set::{Named, WaitSet};
 use wording::{Ascii, Bytes, Count, Numbered, Words, kind_name};
+
+/// How many of those who wait in a set are shown.
+const MOST_WAITERS: usize = 8;
 
 /// Tells what one of a kind holds, if it is created.
 pub fn tell_object(words: &mut Words, state: &PartitionState, kind: ObjectKind, number: i64) {
@@ -134,19 +137,36 @@ fn tell_queue(words: &mut Words, queue: &MessageQueue) {
     tell_waiters(words, queue.receivers(), "to receive");
 }
 
-// Tells how many wait in a set, and who goes on first.
+// Tells how many wait in a set, and who they are in the order in which they go on.
 fn tell_waiters(words: &mut Words, set: &WaitSet, what: &str) {
-    let Some(first) = set.first() else {
+    let count = set.len();
+    if count == 0 {
         words.say(format_args!("; nobody waits {what}"));
         return;
-    };
-    let count = set.len();
+    }
     if count == 1 {
         words.say(format_args!("; 1 process waits {what}"));
     } else {
         words.say(format_args!("; {count} processes wait {what}"));
     }
-    words.say(format_args!(", first {}", Numbered(first.who)));
-    words.say(format_args!(", since place {}", first.place.number()));
-    words.say(format_args!(" with priority {}", first.priority));
+    words.say(match set.discipline() {
+        Discipline::Fifo => " in FIFO order",
+        Discipline::Priority => " in PRIORITY order",
+    });
+    // Without memory for a copy, their number alone is shown.
+    let Ok(mut left) = set.clone() else {
+        return;
+    };
+    for index in 0..MOST_WAITERS {
+        let Some(entry) = left.take_first() else {
+            return;
+        };
+        words.say(if index == 0 { ": " } else { ", then " });
+        words.say(format_args!("{} since ", Numbered(entry.who)));
+        words.say_place(entry.place.number());
+        words.say(format_args!(" with priority {}", entry.priority));
+    }
+    if count > MOST_WAITERS {
+        words.say(format_args!(", and {} more", count - MOST_WAITERS));
+    }
 }

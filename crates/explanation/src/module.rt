@@ -17,7 +17,17 @@ pub fn tell_module(
         Cause::Names => tell_names(words, config, &ordered.rec.body),
         Cause::Skew => tell_skew(words, config, clock, ordered.core),
         Cause::Idle => tell_idle(words, config, clock, ordered),
-        _ => {}
+        // These are demands of a partition or a channel.
+        Cause::Window
+        | Cause::Choice
+        | Cause::Return
+        | Cause::OutsideProfile
+        | Cause::Prio
+        | Cause::Chan
+        | Cause::Out
+        | Cause::Val
+        | Cause::Data
+        | Cause::Woken => {}
     }
 }
 

@@ -18,7 +18,19 @@ pub fn tell_outside(words: &mut Words, state: &PartitionState, call: &Call) {
         } else {
             "it owns a mutex, and stops itself"
         }),
-        _ => {}
+        Request::CreateProcess { .. }
+        | Request::Caller(_)
+        | Request::SetPartitionMode(..)
+        | Request::Create(..)
+        | Request::Buffer(..)
+        | Request::Blackboard(..)
+        | Request::Semaphore(..)
+        | Request::Event(..)
+        | Request::Mutex(..)
+        | Request::SamplingPort(..)
+        | Request::QueuingPort(..)
+        | Request::GetId(..)
+        | Request::GetStatus(..) => {}
     }
     words.rule("part 18, outside the profile (in_profile)");
 }

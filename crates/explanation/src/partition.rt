@@ -1,7 +1,8 @@
 // What a partition refuses.
 
 use crate::choice::{tell_refused_choice, tell_window};
-use crate::claim::{tell_answer, tell_refused_outcome, tell_through};
+use crate::claim::{ClaimField, tell_answer, tell_refused_outcome, tell_through};
+use crate::conditions::tell_conditions;
 use crate::due::{tell_due_at_tick, tell_foreign_waits};
 use crate::outside::tell_outside;
 use crate::processes::tell_numbered;
@@ -11,7 +12,7 @@ use dispatch_rule::Clock;
 use module_config::Config;
 use partition_state::PartitionState;
 use piece_check::Piece;
-use wording::{Ascii, Words, code_name, tell_further, tell_message, tell_value};
+use wording::{Ascii, Part, Words, code_name, tell_further, tell_message, tell_value};
 
 /// A partition that refuses a record: the configuration, its number, the clock, its state, and its piece.
 #[derive(Drop)]
@@ -28,18 +29,32 @@ pub fn tell_partition(words: &mut Words, refusing: &Refusing<'_>, ordered: &Orde
     match cause {
         Cause::Window => tell_window(words, refusing, ordered.core),
         Cause::Choice => tell_refused_choice(words, refusing, ordered),
-        _ => match &ordered.rec.body {
-            Body::Call(call) => {
-                if call.who.part == refusing.number {
-                    tell_call(words, refusing, ordered, call, cause);
-                } else {
-                    tell_foreign_waits(words, refusing, call);
-                }
+        Cause::Return
+        | Cause::OutsideProfile
+        | Cause::Prio
+        | Cause::Chan
+        | Cause::Out
+        | Cause::Val
+        | Cause::Data
+        | Cause::Woken => tell_body(words, refusing, ordered, cause),
+        // These are the module's demands.
+        Cause::Names | Cause::Skew | Cause::Idle => {}
+    }
+}
+
+// Tells why a partition refuses a record that its occupant may make.
+fn tell_body(words: &mut Words, refusing: &Refusing<'_>, ordered: &Ordered, cause: Cause) {
+    match &ordered.rec.body {
+        Body::Call(call) => {
+            if call.who.part == refusing.number {
+                tell_call(words, refusing, ordered, call, cause);
+            } else {
+                tell_foreign_waits(words, refusing, call);
             }
-            Body::Ret(ret) => tell_return(words, refusing, ret, cause),
-            Body::Tick(woken) => tell_due_at_tick(words, refusing, ordered.core, woken.as_slice()),
-            Body::Disp(_) => {}
-        },
+        }
+        Body::Ret(ret) => tell_return(words, refusing, ret, cause),
+        Body::Tick(woken) => tell_due_at_tick(words, refusing, ordered.core, woken.as_slice()),
+        Body::Disp(_) => {}
     }
 }
 
@@ -51,22 +66,47 @@ fn tell_call(
     call: &Call,
     cause: Cause,
 ) {
+    if let Some(field) = ClaimField::of(cause) {
+        tell_claim(words, refusing, ordered, call, field);
+        return;
+    }
     match cause {
         Cause::Return => tell_return_before(words, refusing, call.who),
         Cause::OutsideProfile => tell_outside(words, refusing.state, call),
         Cause::Prio => tell_priority(words, refusing, call),
-        _ => {
-            let (config, state) = (refusing.config, refusing.state);
-            let conditions = refusing.piece.conditions(config, call);
-            if !conditions.is_empty() {
-                tell_refused_outcome(words, config, state, call, &conditions, cause);
-            } else if let Some(channel) = state.channel_of(&call.request) {
-                tell_through(words, channel, call, cause);
-            } else {
-                let now = refusing.clock.now(ordered.core);
-                tell_answer(words, state, now, ordered.pos, call, cause);
-            }
+        Cause::Names
+        | Cause::Skew
+        | Cause::Idle
+        | Cause::Window
+        | Cause::Choice
+        | Cause::Chan
+        | Cause::Out
+        | Cause::Val
+        | Cause::Data
+        | Cause::Woken => {}
+    }
+}
+
+// Tells why what a call claims in this field is not what it gets.
+fn tell_claim(
+    words: &mut Words,
+    refusing: &Refusing<'_>,
+    ordered: &Ordered,
+    call: &Call,
+    field: ClaimField,
+) {
+    let (config, state) = (refusing.config, refusing.state);
+    let conditions = refusing.piece.conditions(config, call);
+    if !conditions.is_empty() {
+        tell_refused_outcome(words, config, call, &conditions, field);
+    } else if let Some(channel) = state.channel_of(&call.request) {
+        tell_through(words, channel, call, field);
+    } else {
+        if field == ClaimField::Outcome {
+            tell_conditions(words, config, call, &conditions);
         }
+        let now = refusing.clock.now(ordered.core);
+        tell_answer(words, state, now, ordered.pos, call, field);
     }
 }
 
@@ -76,7 +116,9 @@ fn tell_return_before(words: &mut Words, refusing: &Refusing<'_>, who: Who) {
     match due_to(refusing.state, who) {
         Some(outcome) => {
             words.say("before it calls again it must return from ");
+            words.begin_part(Part::Expected);
             tell_outcome(words, outcome);
+            words.end_part();
         }
         None => words.say("its partition has no such process"),
     }
@@ -106,10 +148,13 @@ fn tell_priority(words: &mut Words, refusing: &Refusing<'_>, call: &Call) {
         return;
     };
     words.next_line();
-    words.say(format_args!(
-        "expected its current priority {}, recorded {}",
-        process.current_priority, call.claim.prio
-    ));
+    words.say("expected ");
+    words.say_part(
+        Part::Expected,
+        format_args!("its current priority {}", process.current_priority),
+    );
+    words.say(", recorded ");
+    words.say_part(Part::Recorded, call.claim.prio);
     words.say(format_args!("; its base priority is {}", process.base_priority));
     for (number, mutex) in refusing.state.mutexes().iter() {
         if mutex.is_owned_by(call.who.proc) {
@@ -129,8 +174,11 @@ fn tell_return(words: &mut Words, refusing: &Refusing<'_>, ret: &Return, cause: 
     match due_to(refusing.state, ret.who) {
         Some(outcome) => {
             words.next_line();
-            words.say("its pending outcome is the return from ");
+            words.say("its pending outcome is ");
+            words.begin_part(Part::Expected);
+            words.say("the return from ");
             tell_outcome(words, outcome);
+            words.end_part();
         }
         None => {
             words.next_line();
@@ -140,8 +188,8 @@ fn tell_return(words: &mut Words, refusing: &Refusing<'_>, ret: &Return, cause: 
             tell_numbered(words, refusing.state, ret.who);
         }
     }
-    match cause {
-        Cause::Return => words.rule("part 10, Return, due"),
-        _ => words.rule("part 10, Return, outcome_returned; how a wait ends: part 8"),
+    match ClaimField::of(cause) {
+        None => words.rule("part 10, Return, due"),
+        Some(_) => words.rule("part 10, Return, outcome_returned; how a wait ends: part 8"),
     }
 }

@@ -3,7 +3,7 @@
 use apex_machine::{Process, Wait};
 use apex_types::{CoreId, PartId, ProcId, Who};
 use partition_state::PartitionState;
-use wording::{Ascii, Numbered, Set, Words};
+use wording::{Ascii, Numbered, Part, Set, Words};
 
 /// Tells a process with its name and its state: ready, or why it is not.
 pub fn tell_process(words: &mut Words, who: Who, process: &Process) {
@@ -42,7 +42,8 @@ fn tell_wait(words: &mut Words, process: &Process) {
     match process.wait {
         Wait::Nothing => {
             if !process.suspended {
-                words.say(format_args!(" is ready since place {}", process.ready_position));
+                words.say(" is ready since ");
+                words.say_place(process.ready_position);
             }
         }
         Wait::NormalMode => words.say(" waits for the mode NORMAL"),
@@ -86,11 +87,6 @@ pub fn is_ready(process: &Process) -> bool {
     process.alive && !process.suspended && process.wait == Wait::Nothing
 }
 
-/// Whether a process suspended itself.
-pub fn suspended_itself(process: &Process) -> bool {
-    matches!(process.wait, Wait::Suspended(_))
-}
-
 /// The process that a caller names by its number, or None where none of its partition has that number.
 pub fn peer_of(state: &PartitionState, caller: Who, given: i64) -> Option<Who> {
     let proc = state.processes().created_number(given)?;
@@ -114,14 +110,14 @@ pub fn tell_choice(words: &mut Words, state: &PartitionState, part: PartId, core
     let number = core.number();
     let Some(choice) = state.processes().ready_on(part, core) else {
         words.next_line();
-        words.say(format_args!(
-            "the choice of core {number} is no process: none of partition {} is ready there",
-            part.number()
-        ));
+        words.say(format_args!("the choice of core {number} is "));
+        words.say_part(Part::Expected, "no process");
+        words.say(format_args!(": none of partition {} is ready there", part.number()));
         return;
     };
     words.next_line();
-    words.say(format_args!("the choice of core {number} is {}", Numbered(choice)));
+    words.say(format_args!("the choice of core {number} is "));
+    words.say_part(Part::Expected, Numbered(choice));
     words.say(
         ": the highest priority goes first, then the earliest ready position, then the smallest number",
     );
@@ -141,7 +137,8 @@ fn tell_ready(words: &mut Words, proc: ProcId, process: &Process, is_choice: boo
     words.next_line();
     words.say(format_args!("  process {} is ready", proc.number()));
     words.say(format_args!(" with priority {}", process.current_priority));
-    words.say(format_args!(" since place {}", process.ready_position));
+    words.say(" since ");
+    words.say_place(process.ready_position);
     if is_choice {
         words.say(": the choice");
     }

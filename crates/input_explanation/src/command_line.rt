@@ -2,13 +2,13 @@
 
 use csv_rows::read_decimal;
 use record_read::find_service;
-use wording::{Found, Words};
+use wording::{Found, Part, Words};
 
 /// How many options have a value. In `OPTIONS` they stand before the flags.
-const VALUED: usize = 7;
+const VALUED: usize = 8;
 
 /// How many options there are.
-const COUNT: usize = 9;
+const COUNT: usize = 10;
 
 const OPTIONS: [&str; COUNT] = [
     "--config",
@@ -18,6 +18,7 @@ const OPTIONS: [&str; COUNT] = [
     "--max-elapsed",
     "--forbid",
     "--rules",
+    "--sarif",
     "--last",
     "--quiet",
 ];
@@ -125,7 +126,8 @@ fn tell_unknown(words: &mut Words, word: &str) {
         words.say("--version takes no other words");
         return;
     }
-    words.say(format_args!("{} is not an option", Found(word.as_bytes())));
+    words.say_part(Part::Recorded, Found(word.as_bytes()));
+    words.say(" is not an option");
 }
 
 // Whether an option may have this value.
@@ -139,13 +141,20 @@ fn is_value(option: usize, value: &[u8]) -> bool {
 
 // Tells of a value that an option may not have.
 fn tell_value(words: &mut Words, option: usize, value: &str) {
-    words.say(format_args!("{} is {}", name_of(option), Found(value.as_bytes())));
-    words.say(match option {
-        2 => "; expected a number from 1 to 64",
-        3 => "; expected a number from 1 to 4096",
-        4 => "; expected a number of ticks from 0 to 4294967295",
-        _ => "; expected the name of a service",
-    });
+    words.say(format_args!("{} is ", name_of(option)));
+    words.say_part(Part::Recorded, Found(value.as_bytes()));
+    words.say("; expected ");
+    words.say_part(Part::Expected, expected_of(option));
+}
+
+// What the value of an option must be.
+fn expected_of(option: usize) -> &'static str {
+    match option {
+        2 => "a number from 1 to 64",
+        3 => "a number from 1 to 4096",
+        4 => "a number of ticks from 0 to 4294967295",
+        _ => "the name of a service",
+    }
 }
 
 // Tells of what has to be there.

@@ -1,16 +1,17 @@
-// The refusals of a configuration in words: its first key that is missing or wrong, what stands there, and what is wanted. The text
-// is read once more, key by key in the order of docs/FORMATS.md.
+// The refusals of a configuration in words: the key at which the reader refuses it, what is there, and what is expected. The text is
+// read once more, and the reader says where it refuses it.
 
-use crate::whole::tell_whole;
+use crate::unknown_keys::items;
+use crate::whole::tell_misfit;
 use apex_types::limits::{
-    GREATEST_CHANNEL, GREATEST_PARTITION, GREATEST_SPAN, LONGEST_MESSAGE, LONGEST_NAME, MOST_CORES,
-    MOST_DESTINATIONS, MOST_MESSAGES, MOST_OBJECTS, MOST_PROCESSES,
+    GREATEST_CHANNEL, GREATEST_PARTITION, GREATEST_SPAN, LONGEST_MESSAGE, MOST_CORES,
+    MOST_MESSAGES, MOST_OBJECTS, MOST_PROCESSES,
 };
-use module_config::ConfigFault;
+use module_config::{Config, ConfigFault, ConfigKey, ConfigPlace, ConfigTable};
 use std::alloc::Global;
 use std::fmt;
 use toml::{Table, Value};
-use wording::{Count, Found, Words};
+use wording::{Count, Found, Part, Words};
 
 /// How many bytes a text has at most that is read once more.
 const LONGEST: usize = 65_536;
@@ -32,53 +33,168 @@ pub fn tell_configuration(
     words.say("the keys and their refusals: docs/FORMATS.md, The configuration");
 }
 
-// Tells where a text has the fault.
+// Tells where a text has the fault. A text that has changed meanwhile, so that it has another one, is not told.
 fn tell_text(words: &mut Words, alloc: Global, fault: ConfigFault, text: &[u8]) {
-    match toml::table_from_slice(alloc, text) {
-        Ok(keys) => match fault {
-            ConfigFault::Missing | ConfigFault::WrongType | ConfigFault::OutOfRange => {
-                tell_module_keys(words, &keys);
-            }
-            _ => tell_whole(words, alloc, &keys, fault),
-        },
+    let keys = match toml::table_from_slice(alloc, text) {
+        Ok(keys) => keys,
         Err(why) => {
             if fault == ConfigFault::NotToml {
                 words.next_line();
                 words.say(why);
             }
+            return;
+        }
+    };
+    let Err(explained) = Config::read_explained(alloc, text) else {
+        return;
+    };
+    if explained.refusal.fault != fault {
+        return;
+    }
+    if let Some(place) = explained.refusal.place {
+        tell_key(words, &keys, place);
+    }
+    if let Some(misfit) = &explained.misfit {
+        tell_misfit(words, &keys, misfit);
+    }
+}
+
+// Tells the key at which a text is refused: what is there, and what is expected.
+fn tell_key(words: &mut Words, keys: &Table, place: ConfigPlace) {
+    words.next_line();
+    say_table(words, keys, place);
+    let key = place.key.text();
+    words.say(format_args!("{key} is "));
+    match value_at(keys, place) {
+        Some(value) => words.say_part(Part::Recorded, Given(value)),
+        None => words.say_part(Part::Recorded, "missing"),
+    }
+    words.say("; expected ");
+    words.begin_part(Part::Expected);
+    match range_at(keys, place) {
+        Some((least, most)) if least <= most => {
+            words.say(format_args!("a number from {least} to {most}"));
+        }
+        Some(_) => words.say("a start before the end of the frame"),
+        None => say_expected(words, keys, place),
+    }
+    words.end_part();
+}
+
+// The value under a key, if it is there.
+fn value_at(keys: &Table, place: ConfigPlace) -> Option<&Value> {
+    table_at(keys, place.table)?.get(place.key.text())
+}
+
+// A table of a configuration, if it is there.
+fn table_at(keys: &Table, table: ConfigTable) -> Option<&Table> {
+    match table {
+        ConfigTable::Module => Some(keys),
+        ConfigTable::Item { list, index } => item(keys, list, index),
+        ConfigTable::End { list, index, end } => {
+            item(keys, list, index)?.get(end.text())?.as_table()
+        }
+        ConfigTable::Destination { channel, index } => item(
+            item(keys, ConfigKey::Sampling, channel)?,
+            ConfigKey::Destinations,
+            index,
+        ),
+    }
+}
+
+// The table at an index of a list, if it is there.
+fn item(keys: &Table, list: ConfigKey, index: usize) -> Option<&Table> {
+    items(keys, list.text()).get(index)?.as_table()
+}
+
+// Says in which table a key is: by its list and its index there, and by its number, if that is read before the key.
+fn say_table(words: &mut Words, keys: &Table, place: ConfigPlace) {
+    match place.table {
+        ConfigTable::Module => {}
+        ConfigTable::Item { list, index } => say_item(words, keys, list, index, place.key),
+        ConfigTable::End { list, index, end } => {
+            say_item(words, keys, list, index, place.key);
+            words.say(format_args!("{}, ", end.text()));
+        }
+        ConfigTable::Destination { channel, index } => {
+            say_item(words, keys, ConfigKey::Sampling, channel, place.key);
+            words.say(format_args!("{} {index}, ", ConfigKey::Destinations.text()));
         }
     }
 }
 
-// Where a key stands: in the module, in an item of a list, or in an end of a channel there.
-#[derive(Clone, Copy)]
-struct At {
-    list: &'static str,
-    index: usize,
-    end: &'static str,
-    end_index: Option<usize>,
+// Says the table at an index of a list, and its number, if that is read before a key.
+fn say_item(words: &mut Words, keys: &Table, list: ConfigKey, index: usize, key: ConfigKey) {
+    words.say(format_args!("{} {index}", list.text()));
+    let number_key = match list {
+        ConfigKey::Partition => ConfigKey::Number,
+        _ => ConfigKey::Channel,
+    };
+    if key != number_key {
+        if let Some(number) = number_at(item(keys, list, index), number_key) {
+            words.say(format_args!(" ({} {number})", number_key.text()));
+        }
+    }
+    words.say(", ");
 }
 
-const MODULE: At = At {
-    list: "",
-    index: 0,
-    end: "",
-    end_index: None,
-};
+// The number under a key of a table, if there is one.
+fn number_at(table: Option<&Table>, key: ConfigKey) -> Option<u64> {
+    u64::try_from(table?.get(key.text())?.as_integer()?).ok()
+}
 
-impl fmt::Display for At {
-    fn fmt<W: fmt::Write>(&self, f: &mut fmt::Formatter<W>) -> fmt::Result {
-        if !self.list.is_empty() {
-            write!(f, "{} {}, ", self.list, self.index)?;
+// The least and the greatest number that may be under a key, where the value has to be a number with limits.
+fn range_at(keys: &Table, place: ConfigPlace) -> Option<(u64, u64)> {
+    let is_module = place.table == ConfigTable::Module;
+    match place.key {
+        ConfigKey::Cores if is_module => Some((1, MOST_CORES as u64)),
+        ConfigKey::Partition if !is_module => Some((0, GREATEST_PARTITION as u64)),
+        ConfigKey::Number => Some((0, GREATEST_PARTITION as u64)),
+        ConfigKey::Frame | ConfigKey::Skew | ConfigKey::Period | ConfigKey::Refresh => {
+            Some((1, GREATEST_SPAN as u64))
         }
-        if !self.end.is_empty() {
-            write!(f, "{}", self.end)?;
-            if let Some(index) = self.end_index {
-                write!(f, " {index}")?;
+        ConfigKey::Processes => Some((1, MOST_PROCESSES as u64)),
+        ConfigKey::Buffers
+        | ConfigKey::Blackboards
+        | ConfigKey::Semaphores
+        | ConfigKey::Events
+        | ConfigKey::Mutexes => Some((0, MOST_OBJECTS as u64)),
+        ConfigKey::Core => {
+            let cores = number_at(Some(keys), ConfigKey::Cores)?;
+            Some((0, cores.saturating_sub(1)))
+        }
+        ConfigKey::Length => {
+            let frame = number_at(Some(keys), ConfigKey::Frame)?;
+            let start = number_at(table_at(keys, place.table), ConfigKey::Start)?;
+            Some((1, frame.saturating_sub(start)))
+        }
+        ConfigKey::Channel => Some((0, GREATEST_CHANNEL as u64)),
+        ConfigKey::Size => Some((1, LONGEST_MESSAGE as u64)),
+        ConfigKey::Capacity => Some((1, MOST_MESSAGES as u64)),
+        _ => None,
+    }
+}
+
+// Says what is expected under a key whose value is no number with limits.
+fn say_expected(words: &mut Words, keys: &Table, place: ConfigPlace) {
+    match place.key {
+        ConfigKey::Partition => words.say("a list of one or more tables"),
+        ConfigKey::Cores => {
+            words.say("a strictly rising list of one or more numbers below ");
+            if let Some(cores) = number_at(Some(keys), ConfigKey::Cores) {
+                words.say(cores);
             }
-            write!(f, ", ")?;
         }
-        Ok(())
+        ConfigKey::Start => words.say("a number, 0 or more"),
+        ConfigKey::Destinations => words.say("a list of 1 to 32 tables"),
+        ConfigKey::Source | ConfigKey::Destination => {
+            words.say("a table with partition and port");
+        }
+        ConfigKey::SourceDiscipline | ConfigKey::DestinationDiscipline => {
+            words.say("\"FIFO\" or \"PRIORITY\"");
+        }
+        ConfigKey::Port => words.say("a text of 1 to 32 bytes from 0x20 to 0x7E"),
+        _ => words.say("a list of tables"),
     }
 }
 
@@ -101,265 +217,5 @@ impl fmt::Display for Given<'_> {
             return write!(f, "a table");
         }
         write!(f, "of another type")
-    }
-}
-
-// Tells a key that is wrong, or missing; answers that the walk ends.
-fn tell_key(words: &mut Words, at: At, key: &str, value: Option<&Value>, wanted: &str) {
-    words.next_line();
-    words.say(format_args!("{at}{key} "));
-    match value {
-        Some(value) => words.say(format_args!("is {}", Given(value))),
-        None => words.say("is missing"),
-    }
-    words.say(format_args!("; expected {wanted}"));
-}
-
-// Tells a key whose value is refused, or which is missing.
-fn refused(words: &mut Words, keys: &Table, at: At, key: &str, wanted: &str) -> Option<()> {
-    tell_key(words, at, key, keys.get(key), wanted);
-    None
-}
-
-// The number under a key; none where it is not from `least` to `most`, which is reported.
-fn number(
-    words: &mut Words,
-    keys: &Table,
-    at: At,
-    key: &str,
-    least: u64,
-    most: u64,
-) -> Option<u64> {
-    let value = keys.get(key);
-    let given = match value {
-        Some(value) => value.as_integer(),
-        None => None,
-    };
-    if let Some(given) = given {
-        if let Ok(natural) = u64::try_from(given) {
-            if natural >= least && natural <= most {
-                return Some(natural);
-            }
-        }
-    }
-    tell_key(words, at, key, value, "a number");
-    words.say(format_args!(" from {least} to {most}"));
-    None
-}
-
-// Goes over the keys of the module.
-fn tell_module_keys(words: &mut Words, keys: &Table) -> Option<()> {
-    let cores = number(words, keys, MODULE, "cores", 1, MOST_CORES as u64)?;
-    let frame = number(words, keys, MODULE, "frame", 1, GREATEST_SPAN as u64)?;
-    number(words, keys, MODULE, "skew", 1, GREATEST_SPAN as u64)?;
-    let partitions = list(words, keys, MODULE, "partition")?;
-    if partitions.is_empty() || keys.get("partition").is_none() {
-        return refused(
-            words,
-            keys,
-            MODULE,
-            "partition",
-            "a list of one or more tables",
-        );
-    }
-    for index in 0..partitions.len() {
-        let table = item(partitions, index)?;
-        tell_partition_keys(words, table, place("partition", index), cores)?;
-    }
-    let windows = list(words, keys, MODULE, "window")?;
-    for index in 0..windows.len() {
-        let table = item(windows, index)?;
-        tell_window_keys(words, table, place("window", index), cores, frame)?;
-    }
-    let sampling = list(words, keys, MODULE, "sampling")?;
-    for index in 0..sampling.len() {
-        tell_sampling_keys(words, item(sampling, index)?, place("sampling", index))?;
-    }
-    let queuing = list(words, keys, MODULE, "queuing")?;
-    for index in 0..queuing.len() {
-        tell_queuing_keys(words, item(queuing, index)?, place("queuing", index))?;
-    }
-    None
-}
-
-// The place of an item of a list.
-fn place(list: &'static str, index: usize) -> At {
-    At {
-        list,
-        index,
-        end: "",
-        end_index: None,
-    }
-}
-
-// The table of an item.
-fn item(items: &[Value], index: usize) -> Option<&Table> {
-    items.get(index)?.as_table()
-}
-
-// The list of tables under a key, empty where there is none; none where it is another value, which is reported.
-fn list<'a>(words: &mut Words, keys: &'a Table, at: At, key: &str) -> Option<&'a [Value]> {
-    let Some(value) = keys.get(key) else {
-        return Some(&[]);
-    };
-    if let Some(items) = value.as_array() {
-        if items.iter().all(|item| item.as_table().is_some()) {
-            return Some(items.as_slice());
-        }
-    }
-    tell_key(words, at, key, Some(value), "a list of tables");
-    None
-}
-
-// Goes over the keys of a partition.
-fn tell_partition_keys(words: &mut Words, keys: &Table, at: At, cores: u64) -> Option<()> {
-    number(words, keys, at, "number", 0, GREATEST_PARTITION as u64)?;
-    number(words, keys, at, "period", 1, GREATEST_SPAN as u64)?;
-    if !are_cores(keys.get("cores"), cores) {
-        tell_key(
-            words,
-            at,
-            "cores",
-            keys.get("cores"),
-            "a strictly rising list of one or more",
-        );
-        words.say(format_args!(" numbers below {cores}"));
-        return None;
-    }
-    number(words, keys, at, "processes", 1, MOST_PROCESSES as u64)?;
-    number(words, keys, at, "buffers", 0, MOST_OBJECTS as u64)?;
-    number(words, keys, at, "blackboards", 0, MOST_OBJECTS as u64)?;
-    number(words, keys, at, "semaphores", 0, MOST_OBJECTS as u64)?;
-    number(words, keys, at, "events", 0, MOST_OBJECTS as u64)?;
-    number(words, keys, at, "mutexes", 0, MOST_OBJECTS as u64)?;
-    Some(())
-}
-
-// Whether a value is a list of cores of a partition.
-fn are_cores(value: Option<&Value>, cores: u64) -> bool {
-    let Some(value) = value else {
-        return false;
-    };
-    let Some(items) = value.as_array() else {
-        return false;
-    };
-    let mut least = 0;
-    for item in items.as_slice() {
-        let Some(core) = item.as_integer() else {
-            return false;
-        };
-        let Ok(core) = u64::try_from(core) else {
-            return false;
-        };
-        if core < least || core >= cores {
-            return false;
-        }
-        least = u64::saturating_add(core, 1);
-    }
-    !items.is_empty()
-}
-
-// Goes over the keys of a window.
-fn tell_window_keys(words: &mut Words, keys: &Table, at: At, cores: u64, frame: u64) -> Option<()> {
-    number(words, keys, at, "core", 0, cores.saturating_sub(1))?;
-    number(words, keys, at, "partition", 0, GREATEST_PARTITION as u64)?;
-    let start = number(words, keys, at, "start", 0, 9_223_372_036_854_775_807)?;
-    number(words, keys, at, "length", 1, frame.saturating_sub(start))?;
-    Some(())
-}
-
-// Goes over the keys that channels of both kinds have first.
-fn tell_channel_keys(words: &mut Words, keys: &Table, at: At) -> Option<()> {
-    number(words, keys, at, "channel", 0, GREATEST_CHANNEL as u64)?;
-    number(words, keys, at, "size", 1, LONGEST_MESSAGE as u64)?;
-    Some(())
-}
-
-// Goes over the keys of a sampling channel.
-fn tell_sampling_keys(words: &mut Words, keys: &Table, at: At) -> Option<()> {
-    tell_channel_keys(words, keys, at)?;
-    number(words, keys, at, "refresh", 1, GREATEST_SPAN as u64)?;
-    tell_end(words, keys, at, "source")?;
-    let ends = list(words, keys, at, "destinations")?;
-    if ends.is_empty() || ends.len() > MOST_DESTINATIONS {
-        return refused(words, keys, at, "destinations", "a list of 1 to 32 tables");
-    }
-    for index in 0..ends.len() {
-        let end = At {
-            end: "destinations",
-            end_index: Some(index),
-            ..at
-        };
-        tell_end_keys(words, item(ends, index)?, end)?;
-    }
-    Some(())
-}
-
-// Goes over the keys of a queuing channel.
-fn tell_queuing_keys(words: &mut Words, keys: &Table, at: At) -> Option<()> {
-    tell_channel_keys(words, keys, at)?;
-    number(words, keys, at, "capacity", 1, MOST_MESSAGES as u64)?;
-    tell_end(words, keys, at, "source")?;
-    tell_discipline(words, keys, at, "source_discipline")?;
-    tell_end(words, keys, at, "destination")?;
-    tell_discipline(words, keys, at, "destination_discipline")
-}
-
-// Goes over the end of a channel under a key.
-fn tell_end(words: &mut Words, keys: &Table, at: At, key: &'static str) -> Option<()> {
-    let value = keys.get(key);
-    let end = match value {
-        Some(value) => value.as_table(),
-        None => None,
-    };
-    let Some(end) = end else {
-        tell_key(words, at, key, value, "a table with partition and port");
-        return None;
-    };
-    let at = At { end: key, ..at };
-    tell_end_keys(words, end, at)
-}
-
-// Goes over the keys of an end.
-fn tell_end_keys(words: &mut Words, keys: &Table, at: At) -> Option<()> {
-    number(words, keys, at, "partition", 0, GREATEST_PARTITION as u64)?;
-    let value = keys.get("port");
-    if let Some(name) = text_of(value) {
-        if !name.is_empty()
-            && name.len() <= LONGEST_NAME
-            && name.iter().all(|byte| is_printable(*byte))
-        {
-            return Some(());
-        }
-    }
-    tell_key(
-        words,
-        at,
-        "port",
-        value,
-        "a text of 1 to 32 bytes from 0x20 to 0x7E",
-    );
-    None
-}
-
-// Whether a byte is printable ASCII.
-fn is_printable(byte: u8) -> bool {
-    0x20 <= byte && byte <= 0x7E
-}
-
-// The bytes of a text.
-fn text_of(value: Option<&Value>) -> Option<&[u8]> {
-    Some(value?.as_str()?.as_bytes())
-}
-
-// Goes over a discipline.
-fn tell_discipline(words: &mut Words, keys: &Table, at: At, key: &str) -> Option<()> {
-    let value = keys.get(key);
-    match text_of(value) {
-        Some(b"FIFO" | b"PRIORITY") => Some(()),
-        _ => {
-            tell_key(words, at, key, value, "\"FIFO\" or \"PRIORITY\"");
-            None
-        }
     }
 }

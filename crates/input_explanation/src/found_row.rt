@@ -1,9 +1,9 @@
 // A row of a text, looked for once more: its line and its fields.
 
-use csv::ByteRecord;
-use csv_rows::CsvRows;
+use csv_rows::{CsvRows, RowFields};
 use std::alloc::Global;
 use std::io::Read;
+use std::mem;
 
 /// How many bytes of a text are read at once.
 const PIECE: usize = 8192;
@@ -93,52 +93,106 @@ impl Walk {
     }
 }
 
-/// The row of this number, counted from 0, of the text that a reader gives; None where it is not found among the first 512 MiB.
-pub fn find_row<R: Read + Drop>(alloc: Global, mut reader: R, wanted: u64) -> Option<FoundRow> {
-    let mut walk = Walk {
-        line: 1,
-        row_line: 1,
-        rows: 0,
-        reading: Reading::FieldStart,
-        is_filled: false,
-        is_after_return: false,
-        is_found: false,
-        text: Vec::new(alloc),
-    };
+impl Walk {
+    // Keeps the row that is found, and goes on after it. Answers whether there was memory for it.
+    fn keep(&mut self, alloc: Global, found: &mut Vec<FoundRow>) -> bool {
+        let row = FoundRow {
+            line: self.row_line,
+            text: mem::replace(&mut self.text, Vec::new(alloc)),
+        };
+        self.rows = self.rows.saturating_add(1);
+        self.row_line = self.line;
+        self.is_filled = false;
+        self.is_found = false;
+        found.push(row).is_ok()
+    }
+
+    // At the beginning of a text.
+    fn new(alloc: Global) -> Walk {
+        Walk {
+            line: 1,
+            row_line: 1,
+            rows: 0,
+            reading: Reading::FieldStart,
+            is_filled: false,
+            is_after_return: false,
+            is_found: false,
+            text: Vec::new(alloc),
+        }
+    }
+}
+
+/// The row of this number, counted from 0, of the text that a reader gives; None if it is not found among the first 512 MiB.
+pub fn find_row<R: Read + Drop>(alloc: Global, reader: R, wanted: u64) -> Option<FoundRow> {
+    find_rows(alloc, reader, &[wanted]).pop()
+}
+
+/// The rows of these numbers, which rise, of the text that a reader gives: those that are found among the first 512 MiB, up to the
+/// first that is not.
+pub fn find_rows<R: Read + Drop>(alloc: Global, mut reader: R, wanted: &[u64]) -> Vec<FoundRow> {
+    let mut found = Vec::new(alloc);
+    let mut walk = Walk::new(alloc);
     let mut piece = [0u8; PIECE];
     for _ in 0..MOST_PIECES {
         let Ok(count) = reader.read(&mut piece) else {
-            return None;
+            return found;
         };
-        if count == 0 {
-            walk.end_row(wanted);
-            return found(walk);
-        }
         for byte in piece.iter().take(count) {
-            walk.take(*byte, wanted);
-            if walk.is_found {
-                return found(walk);
+            let Some(number) = wanted.get(found.len()) else {
+                return found;
+            };
+            walk.take(*byte, *number);
+            if walk.is_found && !walk.keep(alloc, &mut found) {
+                return found;
             }
         }
+        if count == 0 {
+            if let Some(number) = wanted.get(found.len()) {
+                walk.end_row(*number);
+                if walk.is_found {
+                    walk.keep(alloc, &mut found);
+                }
+            }
+            return found;
+        }
     }
-    None
+    found
 }
 
-// The row at which a walk ended, if it is found.
-fn found(walk: Walk) -> Option<FoundRow> {
-    if !walk.is_found {
-        return None;
+/// Finds the lines, counted from 1, on which the rows from this number on begin, as many as there is room for. A row that is not
+/// among the first 512 MiB has none.
+pub fn find_lines<R: Read + Drop>(
+    alloc: Global,
+    mut reader: R,
+    first: u64,
+    lines: &mut [Option<u64>],
+) {
+    let mut walk = Walk::new(alloc);
+    let mut piece = [0u8; PIECE];
+    for _ in 0..MOST_PIECES {
+        let Ok(count) = reader.read(&mut piece) else {
+            return;
+        };
+        for byte in piece.iter().take(count) {
+            // No row has this number, so that none is kept.
+            walk.take(*byte, u64::MAX);
+            if walk.is_filled && walk.rows >= first {
+                let Some(line) = lines.get_mut((walk.rows - first) as usize) else {
+                    return;
+                };
+                *line = Some(walk.row_line);
+            }
+        }
+        if count == 0 {
+            return;
+        }
     }
-    Some(FoundRow {
-        line: walk.row_line,
-        text: walk.text,
-    })
 }
 
 impl FoundRow {
     /// The fields of the row; None where memory is refused for them.
-    pub fn fields(&self, alloc: Global) -> Option<ByteRecord> {
-        let mut fields = ByteRecord::new(alloc);
+    pub fn fields(&self, alloc: Global) -> Option<RowFields> {
+        let mut fields = RowFields::new(alloc);
         let mut rows = CsvRows::new(alloc, self.text.as_slice());
         match rows.read(&mut fields) {
             Ok(true) => Some(fields),

@@ -5,6 +5,7 @@
 #![tactic(auto)]
 
 mod command_line;
+mod compressed;
 mod configuration;
 mod found_row;
 mod refusals;
@@ -13,8 +14,9 @@ mod unknown_keys;
 mod whole;
 
 pub use command_line::tell_command_line;
+pub use compressed::{Compression, LONGEST_SIGNATURE, tell_compression};
 pub use configuration::tell_configuration;
-pub use found_row::{FoundRow, find_row};
+pub use found_row::{FoundRow, find_lines, find_row, find_rows};
 pub use refusals::{tell_certificate, tell_order};
 pub use rows::tell_row_fault;
 pub use unknown_keys::tell_unknown_keys;

@@ -1,21 +1,28 @@
 // The refusals of a certificate and of an order in words.
 
-use csv::ByteRecord;
+use csv_rows::RowFields;
 use order_cert::{CertFault, OrderFault};
-use wording::{Count, Found, Words};
+use wording::{Count, Found, Part, Words};
 
 /// Tells the fault of a row of the certificate.
-pub fn tell_certificate(words: &mut Words, fault: CertFault, fields: Option<&ByteRecord>) {
+pub fn tell_certificate(words: &mut Words, fault: CertFault, fields: Option<&RowFields>) {
     words.say(fault);
     if let Some(fields) = fields {
         words.next_line();
-        words.say(format_args!("it has {}", Count(fields.len(), "field")));
+        words.say("it has ");
+        words.begin_part(Part::Recorded);
+        words.say(Count(fields.len(), "field"));
         for field in [0, 1] {
             if let Some(text) = fields.get(field) {
                 words.say(format_args!(", {}", Found(text)));
             }
         }
-        words.say("; expected core,seq, two numbers from 0 to 4294967295 in their shortest form");
+        words.end_part();
+        words.say("; expected ");
+        words.say_part(
+            Part::Expected,
+            "core,seq, two numbers from 0 to 4294967295 in their shortest form",
+        );
     }
     words.next_line();
     words.say("the certificate: docs/FORMATS.md, The certificate");
@@ -34,23 +41,29 @@ pub fn tell_order(words: &mut Words, fault: OrderFault, core: u32, named: Option
     if let Some(named) = named {
         match fault {
             OrderFault::NoSuchCore | OrderFault::Missing => {}
-            _ => words.say(format_args!(": the row names its record {named}")),
+            _ => {
+                words.say(": the row names ");
+                words.say_part(Part::Recorded, format_args!("its record {named}"));
+            }
         }
     }
     words.next_line();
-    match fault {
-        OrderFault::NoSuchCore => words.say("expected a core of the configuration"),
-        OrderFault::Skipped => words.say(
-            "expected the core's next record, a smaller number; each record is named once, in its core's order",
-        ),
-        OrderFault::Repeated => words.say(
-            "expected the core's next record, a greater number; each record is named once, in its core's order",
-        ),
-        OrderFault::Absent => words.say(
-            "expected a longer recording, or a certificate without this row",
-        ),
-        OrderFault::Missing => words.say("expected a row for each record of each core"),
+    words.say("expected ");
+    words.say_part(Part::Expected, expected_of(fault));
+    if let OrderFault::Skipped | OrderFault::Repeated = fault {
+        words.say("; each record is named once, in its core's order");
     }
     words.next_line();
     words.say("lawful orders: docs/SPECIFICATION.md, part 15 (IsLawfulOrder)");
+}
+
+// What is expected in place of an order's fault.
+fn expected_of(fault: OrderFault) -> &'static str {
+    match fault {
+        OrderFault::NoSuchCore => "a core of the configuration",
+        OrderFault::Skipped => "the core's next record, a smaller number",
+        OrderFault::Repeated => "the core's next record, a greater number",
+        OrderFault::Absent => "a longer recording, or a certificate without this row",
+        OrderFault::Missing => "a row for each record of each core",
+    }
 }

@@ -5,26 +5,27 @@ use apex_types::limits::{
     LONGEST_NAME, MOST_RECORDS,
 };
 use apex_types::{Arguments, Service};
-use csv::ByteRecord;
-use csv_rows::{read_decimal, read_signed};
+use csv_rows::{RowFields, read_decimal, read_signed};
 use record_read::{COLUMNS, Column, Kind, RowFault, find_kind, find_service, text};
-use wording::{Count, Found, Words};
+use std::fmt::Display;
+use wording::{Count, Found, Part, Words};
 
 /// Tells the fault of a row after so many sound ones: its field, where it is one of a field.
-pub fn tell_row_fault(words: &mut Words, fault: RowFault, seq: u64, fields: Option<&ByteRecord>) {
+pub fn tell_row_fault(words: &mut Words, fault: RowFault, seq: u64, fields: Option<&RowFields>) {
     words.say(fault);
     let Some(fields) = fields else {
         return;
     };
     words.next_line();
     match fault {
-        RowFault::FieldCount => words.say(format_args!(
-            "it has {}; expected 18 if the first row has 18, and else 16",
-            Count(fields.len(), "field")
-        )),
+        RowFault::FieldCount => {
+            words.say("it has ");
+            words.say_part(Part::Recorded, Count(fields.len(), "field"));
+            expect(words, "18 if the first row has 18, and else 16");
+        }
         RowFault::SeqGap => {
             tell_field(words, fields, Column::Sequence);
-            words.say(format_args!("; expected {seq}"));
+            expect(words, seq);
         }
         RowFault::BadKind => tell_expected(words, fields, Column::Kind, "call, ret, disp or tick"),
         RowFault::BadService => {
@@ -37,7 +38,10 @@ pub fn tell_row_fault(words: &mut Words, fault: RowFault, seq: u64, fields: Opti
         }
         RowFault::BadName => {
             tell_field(words, fields, Column::Name);
-            words.say(format_args!("; expected 1 to {LONGEST_NAME} bytes from 0x20 to 0x7E"));
+            expect(
+                words,
+                format_args!("1 to {LONGEST_NAME} bytes from 0x20 to 0x7E"),
+            );
         }
         RowFault::BadOut => tell_expected(
             words,
@@ -60,32 +64,37 @@ pub fn tell_row_fault(words: &mut Words, fault: RowFault, seq: u64, fields: Opti
     words.say("the rows: docs/FORMATS.md, Refusals of a row");
 }
 
+// Tells what was expected.
+fn expect(words: &mut Words, expected: impl Display + Drop) {
+    words.say("; expected ");
+    words.say_part(Part::Expected, expected);
+}
+
 // Tells a field and what was expected in it.
-fn tell_expected(words: &mut Words, fields: &ByteRecord, column: Column, expected: &str) {
+fn tell_expected(words: &mut Words, fields: &RowFields, column: Column, expected: &str) {
     tell_field(words, fields, column);
-    words.say(format_args!("; expected {expected}"));
+    expect(words, expected);
 }
 
 // Tells a field with what it holds.
-fn tell_field(words: &mut Words, fields: &ByteRecord, column: Column) {
-    words.say(format_args!(
-        "the field {} is {}",
-        column.name(),
-        Found(text(fields, column))
-    ));
+fn tell_field(words: &mut Words, fields: &RowFields, column: Column) {
+    words.say(format_args!("the field {} is ", column.name()));
+    words.say_part(Part::Recorded, Found(text(fields, column)));
 }
 
 // Tells the first field that is no number of its range.
-fn tell_number(words: &mut Words, fields: &ByteRecord) {
+fn tell_number(words: &mut Words, fields: &RowFields) {
     for (column, _) in &COLUMNS {
         let given = text(fields, *column);
         let must_be_number = !given.is_empty() || *column == Column::Sequence;
         if must_be_number && is_no_number(*column, given) {
             tell_field(words, fields, *column);
-            words.say("; expected a number in its shortest form, ");
             match greatest(*column) {
-                Some(most) => words.say(format_args!("from 0 to {most}")),
-                None => words.say("signed, of 64 bits"),
+                Some(most) => expect(
+                    words,
+                    format_args!("a number in its shortest form, from 0 to {most}"),
+                ),
+                None => expect(words, "a number in its shortest form, signed, of 64 bits"),
             }
             return;
         }
@@ -121,7 +130,7 @@ fn is_no_number(column: Column, given: &[u8]) -> bool {
 }
 
 // Shows the message that is not one, or has the wrong length.
-fn tell_digits(words: &mut Words, fields: &ByteRecord, fault: RowFault) {
+fn tell_digits(words: &mut Words, fields: &RowFields, fault: RowFault) {
     let length = text(fields, Column::SecondNumber);
     let expected = message_length(length);
     let is_message = takes_message(fields)
@@ -132,21 +141,24 @@ fn tell_digits(words: &mut Words, fields: &ByteRecord, fault: RowFault) {
         tell_field(words, fields, Column::Data);
     }
     if fault == RowFault::BadHex {
-        words.say("; expected hexadecimal digits, two for each byte");
+        expect(words, "hexadecimal digits, two for each byte");
     } else if !is_message {
-        words.say(format_args!("; expected at most {LONGEST_MESSAGE} bytes"));
+        expect(words, format_args!("at most {LONGEST_MESSAGE} bytes"));
     } else if expected == 0 {
-        words.say(format_args!("; expected no message, since n2 is {}", Found(length)));
+        expect(
+            words,
+            format_args!("no message, since n2 is {}", Found(length)),
+        );
     } else {
-        words.say(format_args!(
-            "; expected as many bytes as n2 says, which is {}",
-            Found(length)
-        ));
+        expect(
+            words,
+            format_args!("as many bytes as n2 says, which is {}", Found(length)),
+        );
     }
 }
 
 // Whether a row is a call of a service that is given a message.
-fn takes_message(fields: &ByteRecord) -> bool {
+fn takes_message(fields: &RowFields) -> bool {
     find_kind(text(fields, Column::Kind)) == Some(Kind::Call)
         && find_service(text(fields, Column::Service)).is_some_and(|service| service
             .arguments()
@@ -178,7 +190,7 @@ enum Filling {
 }
 
 // Tells the first field that is filled and may not be, or is empty and may not be.
-fn tell_misfit(words: &mut Words, fields: &ByteRecord) {
+fn tell_misfit(words: &mut Words, fields: &RowFields) {
     for column in [Column::Sequence, Column::Kind] {
         if text(fields, column).is_empty() {
             tell_field(words, fields, column);
@@ -213,12 +225,7 @@ fn tell_misfit(words: &mut Words, fields: &ByteRecord) {
 }
 
 // Whether a field of a row must be filled or empty.
-fn filling_of(
-    kind: Kind,
-    service: Option<Service>,
-    column: Column,
-    fields: &ByteRecord,
-) -> Filling {
+fn filling_of(kind: Kind, service: Option<Service>, column: Column, fields: &RowFields) -> Filling {
     match (kind, column) {
         (_, Column::Sequence | Column::Kind) => Filling::Either,
         (

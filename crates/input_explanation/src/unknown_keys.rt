@@ -1,46 +1,58 @@
 // The keys of a configuration that no rule of it reads: they are ignored, and one of them may be a word misspelt.
 
+use module_config::ConfigKey;
 use std::alloc::Global;
 use toml::{Table, Value};
 use wording::{Found, Words};
 
-const MODULE: [&str; 7] = [
-    "cores",
-    "frame",
-    "skew",
-    "partition",
-    "window",
-    "sampling",
-    "queuing",
+const MODULE: [ConfigKey; 7] = [
+    ConfigKey::Cores,
+    ConfigKey::Frame,
+    ConfigKey::Skew,
+    ConfigKey::Partition,
+    ConfigKey::Window,
+    ConfigKey::Sampling,
+    ConfigKey::Queuing,
 ];
 
-const PARTITION: [&str; 9] = [
-    "number",
-    "period",
-    "cores",
-    "processes",
-    "buffers",
-    "blackboards",
-    "semaphores",
-    "events",
-    "mutexes",
+const PARTITION: [ConfigKey; 9] = [
+    ConfigKey::Number,
+    ConfigKey::Period,
+    ConfigKey::Cores,
+    ConfigKey::Processes,
+    ConfigKey::Buffers,
+    ConfigKey::Blackboards,
+    ConfigKey::Semaphores,
+    ConfigKey::Events,
+    ConfigKey::Mutexes,
 ];
 
-const WINDOW: [&str; 4] = ["core", "partition", "start", "length"];
-
-const SAMPLING: [&str; 5] = ["channel", "size", "refresh", "source", "destinations"];
-
-const QUEUING: [&str; 7] = [
-    "channel",
-    "size",
-    "capacity",
-    "source",
-    "source_discipline",
-    "destination",
-    "destination_discipline",
+const WINDOW: [ConfigKey; 4] = [
+    ConfigKey::Core,
+    ConfigKey::Partition,
+    ConfigKey::Start,
+    ConfigKey::Length,
 ];
 
-const END: [&str; 2] = ["partition", "port"];
+const SAMPLING: [ConfigKey; 5] = [
+    ConfigKey::Channel,
+    ConfigKey::Size,
+    ConfigKey::Refresh,
+    ConfigKey::Source,
+    ConfigKey::Destinations,
+];
+
+const QUEUING: [ConfigKey; 7] = [
+    ConfigKey::Channel,
+    ConfigKey::Size,
+    ConfigKey::Capacity,
+    ConfigKey::Source,
+    ConfigKey::SourceDiscipline,
+    ConfigKey::Destination,
+    ConfigKey::DestinationDiscipline,
+];
+
+const END: [ConfigKey; 2] = [ConfigKey::Partition, ConfigKey::Port];
 
 /// Lists each unknown key of this configuration, with its table. Adds nothing if every key is known, or if the text is not TOML.
 pub fn tell_unknown_keys(words: &mut Words, alloc: Global, text: &[u8]) {
@@ -55,7 +67,7 @@ pub fn tell_unknown_keys(words: &mut Words, alloc: Global, text: &[u8]) {
 }
 
 // The tables of a list, and the ends of a channel in them.
-fn tell_items(words: &mut Words, keys: &Table, list: &str, known: &[&str]) {
+fn tell_items(words: &mut Words, keys: &Table, list: &str, known: &[ConfigKey]) {
     for (index, item) in items(keys, list).iter().enumerate() {
         let Some(keys) = item.as_table() else {
             continue;
@@ -75,10 +87,16 @@ fn tell_items(words: &mut Words, keys: &Table, list: &str, known: &[&str]) {
 }
 
 // The keys of one table that are none of these.
-fn tell_unknown(words: &mut Words, keys: &Table, list: &str, index: Option<usize>, known: &[&str]) {
+fn tell_unknown(
+    words: &mut Words,
+    keys: &Table,
+    list: &str,
+    index: Option<usize>,
+    known: &[ConfigKey],
+) {
     for key in keys.keys() {
         let key = key.as_str();
-        if known.iter().any(|name| *name == key) {
+        if known.iter().any(|name| name.text() == key) {
             continue;
         }
         words.next_line();

@@ -14,6 +14,6 @@ mod words;
 pub use naming::{
     Ascii, Bytes, Count, Found, Numbered, Occupant, Set, code_name, kind_name, out_name,
 };
-pub use rules::{answer_rule, codes_rule};
+pub use rules::{answer_rule, conditions_rule};
 pub use said::{tell_further, tell_message, tell_processes, tell_record, tell_value};
-pub use words::Words;
+pub use words::{Part, Shown, Words};

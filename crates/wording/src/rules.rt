@@ -63,57 +63,57 @@ pub fn answer_rule(request: &Request) -> &'static str {
     }
 }
 
-/// The definition that gives the codes of a service's error conditions.
-pub fn codes_rule(request: &Request) -> &'static str {
+/// The definition that gives the error conditions of a service.
+pub fn conditions_rule(request: &Request) -> &'static str {
     match request {
-        Request::CreateProcess { .. } => "create_process_codes",
+        Request::CreateProcess { .. } => "create_process_conditions",
         Request::Process(_, operation) => match operation {
-            ProcessOperation::InitializeCoreAffinity { .. } => "affinity_codes",
-            ProcessOperation::Start => "start_codes",
-            ProcessOperation::Stop => "stop_codes",
-            ProcessOperation::Suspend => "suspend_codes",
-            ProcessOperation::Resume => "resume_codes",
-            ProcessOperation::SetPriority { .. } => "set_priority_codes",
+            ProcessOperation::InitializeCoreAffinity { .. } => "affinity_conditions",
+            ProcessOperation::Start => "start_conditions",
+            ProcessOperation::Stop => "stop_conditions",
+            ProcessOperation::Suspend => "suspend_conditions",
+            ProcessOperation::Resume => "resume_conditions",
+            ProcessOperation::SetPriority { .. } => "set_priority_conditions",
         },
         Request::Caller(operation) => match operation {
-            CallerOperation::SuspendSelf { .. } => "suspend_self_codes",
-            CallerOperation::GetMyId => "get_my_id_codes",
-            CallerOperation::TimedWait { .. } => "timed_wait_codes",
-            CallerOperation::PeriodicWait => "periodic_wait_codes",
-            CallerOperation::StopSelf | CallerOperation::GetTime => "condition_codes",
+            CallerOperation::SuspendSelf { .. } => "suspend_self_conditions",
+            CallerOperation::GetMyId => "get_my_id_conditions",
+            CallerOperation::TimedWait { .. } => "timed_wait_conditions",
+            CallerOperation::PeriodicWait => "periodic_wait_conditions",
+            CallerOperation::StopSelf | CallerOperation::GetTime => "conditions_of",
         },
-        Request::SetPartitionMode(..) => "set_mode_codes",
-        Request::Create(..) => "create_codes",
+        Request::SetPartitionMode(..) => "set_mode_conditions",
+        Request::Create(..) => "create_conditions",
         Request::Buffer(_, operation) => match operation {
-            BufferOperation::Send { .. } => "message_codes",
-            BufferOperation::Receive { .. } => "object_codes",
+            BufferOperation::Send { .. } => "message_conditions",
+            BufferOperation::Receive { .. } => "object_conditions",
         },
         Request::Blackboard(_, operation) => match operation {
-            BlackboardOperation::Display { .. } => "message_codes",
-            BlackboardOperation::Read { .. } => "object_codes",
-            BlackboardOperation::Clear => "condition_codes",
+            BlackboardOperation::Display { .. } => "message_conditions",
+            BlackboardOperation::Read { .. } => "object_conditions",
+            BlackboardOperation::Clear => "conditions_of",
         },
         Request::Semaphore(_, operation) => match operation {
-            SemaphoreOperation::Wait { .. } => "object_codes",
-            SemaphoreOperation::Signal => "condition_codes",
+            SemaphoreOperation::Wait { .. } => "object_conditions",
+            SemaphoreOperation::Signal => "conditions_of",
         },
         Request::Event(_, operation) => match operation {
-            EventOperation::Set | EventOperation::Reset => "condition_codes",
-            EventOperation::Wait { .. } => "object_codes",
+            EventOperation::Set | EventOperation::Reset => "conditions_of",
+            EventOperation::Wait { .. } => "object_conditions",
         },
         Request::Mutex(_, operation) => match operation {
-            MutexOperation::Acquire { .. } => "acquire_codes",
-            MutexOperation::Release => "release_codes",
+            MutexOperation::Acquire { .. } => "acquire_conditions",
+            MutexOperation::Release => "release_conditions",
         },
         Request::SamplingPort(_, operation) => match operation {
-            SamplingOperation::Write { .. } => "source_codes",
-            SamplingOperation::Read => "destination_codes",
+            SamplingOperation::Write { .. } => "source_conditions",
+            SamplingOperation::Read => "destination_conditions",
         },
         Request::QueuingPort(_, operation) => match operation {
-            QueuingOperation::Send { .. } => "source_codes",
-            QueuingOperation::Receive { .. } => "destination_codes",
+            QueuingOperation::Send { .. } => "source_conditions",
+            QueuingOperation::Receive { .. } => "destination_conditions",
         },
-        Request::GetId(..) => "get_id_codes",
-        Request::GetStatus(..) => "get_status_codes",
+        Request::GetId(..) => "get_id_conditions",
+        Request::GetStatus(..) => "get_status_conditions",
     }
 }

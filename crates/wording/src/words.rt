@@ -1,19 +1,54 @@
 // Text in words, which grows up to a bound.
 
 use std::alloc::Global;
-use std::fmt::Display;
+use std::fmt;
+use std::fmt::{Display, Write};
 
 /// How many bytes a text may have before nothing more is added to it.
 const LONGEST: usize = 16_384;
 
+/// How many places are kept.
+const MOST_PLACES: usize = 8;
+
+/// What begins the mark of a part in a text, and what ends the mark. No word has the first of them, since it is a control character.
+const MARK: char = '\u{1b}';
+
+const MARK_END: char = 'm';
+
+/// The mark at the end of a part.
+const PLAIN: &str = "\u{1b}[0m";
+
+/// A part of a text that may be shown in a colour of its own.
+#[derive(Clone, Copy, Debug, PartialEq, Eq)]
+pub enum Part {
+    /// What a record says: in bold type.
+    Record,
+    /// What was expected: in green.
+    Expected,
+    /// What was recorded, or found: in red.
+    Recorded,
+}
+
+impl Part {
+    // The mark at its beginning, as a terminal takes it.
+    fn mark(self) -> &'static str {
+        match self {
+            Part::Record => "\u{1b}[1m",
+            Part::Expected => "\u{1b}[32m",
+            Part::Recorded => "\u{1b}[31m",
+        }
+    }
+}
+
 /// A text in words. Once memory is refused to it, or it is too long, nothing more is added to it.
 ///
 /// What is said may come from a file or a command line: its control characters are written as `\n` or `\u{1b}`, so that a
-/// terminal shows them and does not obey them.
+/// terminal shows them and does not obey them. Parts of a text are marked, and `shown` has them in colours or as the other words.
 #[derive(Drop)]
 pub struct Words {
     alloc: Global,
     text: String,
+    places: Vec<u64>,
     ended: bool,
 }
 
@@ -23,6 +58,7 @@ impl Words {
         Words {
             alloc,
             text: String::new(alloc),
+            places: Vec::new(alloc),
             ended: false,
         }
     }
@@ -42,9 +78,40 @@ impl Words {
         }
     }
 
-    /// Adds other words, with their lines.
+    /// Adds a place, and keeps its number if few have been kept.
+    pub fn say_place(&mut self, place: u64) {
+        self.say(format_args!("place {place}"));
+        if self.places.len() < MOST_PLACES && !self.places.contains(&place) {
+            // If memory is refused, the words have the place alone.
+            let _ = self.places.push(place);
+        }
+    }
+
+    /// The places that are kept, each once.
+    pub fn places(&self) -> &[u64] {
+        self.places.as_slice()
+    }
+
+    /// Begins a part, which goes on up to `end_part`.
+    pub fn begin_part(&mut self, part: Part) {
+        self.add(part.mark());
+    }
+
+    /// Ends the part that was begun.
+    pub fn end_part(&mut self) {
+        self.add(PLAIN);
+    }
+
+    /// Adds these words as a part.
+    pub fn say_part(&mut self, part: Part, words: impl Display + Drop) {
+        self.begin_part(part);
+        self.say(words);
+        self.end_part();
+    }
+
+    /// Adds other words, with their lines and their parts.
     pub fn append(&mut self, other: &Words) {
-        self.add(other.as_str());
+        self.add(other.text.as_str());
     }
 
     /// Begins a further line, which is set in.
@@ -58,9 +125,17 @@ impl Words {
         self.say(format_args!("rule: docs/SPECIFICATION.md, {place}"));
     }
 
-    /// The text.
-    pub fn as_str(&self) -> &str {
-        self.text.as_str()
+    /// Whether there are no words.
+    pub fn is_empty(&self) -> bool {
+        self.text.is_empty()
+    }
+
+    /// The text, with its parts in colours or without.
+    pub fn shown(&self, in_colour: bool) -> Shown<'_> {
+        Shown {
+            text: self.text.as_str(),
+            in_colour,
+        }
     }
 
     // Adds a text as it is.
@@ -69,5 +144,34 @@ impl Words {
         if !self.ended && write!(self.text, "{text}").is_err() {
             self.ended = true;
         }
+    }
+}
+
+/// The text of words, as it is shown.
+#[derive(Clone, Copy)]
+pub struct Shown<'a> {
+    text: &'a str,
+    in_colour: bool,
+}
+
+impl Display for Shown<'_> {
+    fn fmt<W: fmt::Write>(&self, f: &mut fmt::Formatter<W>) -> fmt::Result {
+        if self.in_colour {
+            // A text that is cut ends in no colour either.
+            return write!(f, "{}{PLAIN}", self.text);
+        }
+        let mut is_mark = false;
+        for character in self.text.chars() {
+            if character == MARK {
+                is_mark = true;
+            }
+            if !is_mark {
+                f.write_char(character)?;
+            }
+            if character == MARK_END {
+                is_mark = false;
+            }
+        }
+        Ok(())
     }
 }
