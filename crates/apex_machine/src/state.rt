@@ -51,7 +51,7 @@ pub enum Wait {
 }
 
 /// An entry of a waiting set: who waits, with the priority and at the place of its call.
-#[derive(Debug, Drop)]
+#[derive(Clone, Debug, Drop)]
 pub struct Entry {
     pub who: Who,
     pub priority: u8,
@@ -61,7 +61,7 @@ pub struct Entry {
 }
 
 /// What a service owes its caller: the return that has to come before the caller's next call.
-#[derive(Debug, Drop)]
+#[derive(Clone, Debug, Drop)]
 pub struct Outcome {
     pub service: Service,
     pub code: Code,
@@ -72,7 +72,7 @@ pub struct Outcome {
 }
 
 /// A process. Its number is the key under which its partition holds it.
-#[derive(Debug, Drop)]
+#[derive(Clone, Debug, Drop)]
 pub struct Process {
     /// The name given at its creation; the initialising process has none.
     pub name: Name,

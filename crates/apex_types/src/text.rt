@@ -2,7 +2,7 @@
 
 ghost use Rattle.std.specs.Prelude.{◌≡◌, []};
 
-use std::alloc::Global;
+use std::alloc::{AllocError, Global};
 use std::marker::Model;
 
 /// A name of a process, an object or a port, in ASCII.
@@ -44,6 +44,16 @@ impl Name {
     }
 }
 
+impl Clone for Name {
+    ghost is_clone = { λ name copy. copy ≡ name };
+
+    fn clone(&self) -> Result<Name, AllocError> {
+        Ok(Name {
+            bytes: self.bytes.clone()?,
+        })
+    }
+}
+
 /// A message, by its bytes. Where a record names none it is empty.
 #[derive(Debug, Drop)]
 pub struct Message {
@@ -80,5 +90,15 @@ impl Message {
         ensures { result.now ≡ self.now }
     {
         &self.bytes
+    }
+}
+
+impl Clone for Message {
+    ghost is_clone = { λ message copy. copy ≡ message };
+
+    fn clone(&self) -> Result<Message, AllocError> {
+        Ok(Message {
+            bytes: self.bytes.clone()?,
+        })
     }
 }

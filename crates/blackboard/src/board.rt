@@ -137,3 +137,17 @@ impl ApexObject for Blackboard {
         self.readers.leave(who)
     }
 }
+
+impl Clone for Blackboard {
+    ghost is_clone = { λ board copy. copy ≡ board };
+
+    fn clone(&self) -> Result<Blackboard, AllocError> {
+        Ok(Blackboard {
+            alloc: self.alloc,
+            name: self.name.clone()?,
+            size: self.size,
+            message: self.message.clone()?,
+            readers: self.readers.clone()?,
+        })
+    }
+}

@@ -132,3 +132,15 @@ impl ApexObject for Buffer {
         self.queue.leave(who)
     }
 }
+
+impl Clone for Buffer {
+    ghost is_clone = { λ buffer copy. copy ≡ buffer };
+
+    fn clone(&self) -> Result<Buffer, AllocError> {
+        Ok(Buffer {
+            name: self.name.clone()?,
+            size: self.size,
+            queue: self.queue.clone()?,
+        })
+    }
+}

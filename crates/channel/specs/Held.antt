@@ -1,6 +1,7 @@
 -- A channel with its number and what was given when it was made: what a configuration says of it, what it demands of a call, and
 -- what it is afterwards.
-use Rattle.std.specs.Prelude.{◌≡◌, ℕ, Bool, nat_eq, IsFalse, IsTrue}
+use Rattle.std.specs.Prelude.{◌≡◌, ℕ, Bool, Result, nat_eq, IsFalse, IsTrue}
+use Rattle.apex_types.specs.declared.cause.Cause.{Cause}
 use Rattle.apex_types.specs.declared.discipline.Discipline.{Discipline}
 use Rattle.apex_types.specs.declared.record.Body.TheVariants.{Call}
 use Rattle.apex_types.specs.declared.record.Call.{Call as CallRecord}
@@ -10,7 +11,7 @@ use Rattle.apex_machine.specs.After.{content_by}
 use Rattle.apex_machine.specs.Answer.{Answer}
 use Rattle.apex_machine.specs.Channels.{capacity_of, is_at_destination, is_at_source, receiving_discipline, refresh_of, sending_discipline}
 use Rattle.apex_machine.specs.Configuration.{Configuration}
-use Rattle.apex_machine.specs.Demands.{AllHold, through_demands}
+use Rattle.apex_machine.specs.Demands.{AllHold, Judges, through_demands}
 use Rattle.apex_machine.specs.Ports.{channel_effect, suits_use, use_of}
 use Rattle.apex_machine.specs.State.{Channel}
 use Rattle.apex_machine.specs.Waiting.{set_after, without}
@@ -69,6 +70,12 @@ DoesNotServe call held =
 abbrev pub Accepts : ℕ → CallRecord → Held → Type 0
 Accepts now call held =
     (configuration : Configuration) → IsConfigured configuration held → AllHold (through_demands configuration now held.number held.channel call)
+
+-- a judgement of a call: all that the channel demands of it holds, or it gives the cause of the first demand that fails, whichever
+-- configuration the channel has
+abbrev pub JudgesCall : ℕ → CallRecord → Held → Result (Unit {0}) Cause → Type 0
+JudgesCall now call held judgement =
+    (configuration : Configuration) → IsConfigured configuration held → Judges (through_demands configuration now held.number held.channel call) judgement
 
 -- why a call is refused, by what the channel demands of it
 abbrev pub RefusesCall : ℕ → CallRecord → Held → ObjFault → Type 0

@@ -5,7 +5,7 @@ ghost use Rattle.std.specs.Option.{option_copied};
 ghost use Rattle.apex_machine.specs.Demands.{stands_in};
 ghost use Rattle.apex_machine.specs.State.{is_named, is_same};
 ghost use Rattle.channel.specs.Held as rules;
-ghost use Rattle.channel.specs.Held.{Accepts, AllBelow, DoesNotServe, Gives, IsAfterCall, RefusesCall};
+ghost use Rattle.channel.specs.Held.{Accepts, AllBelow, DoesNotServe, Gives, IsAfterCall, JudgesCall, RefusesCall};
 ghost use Rattle.channel.specs.Kinds.{destination_in, is_sampled, last_written, queuing_held, sampling_held, source_in};
 ghost use Rattle.message_queue.specs.Queues.{empty_queue};
 ghost use Rattle.wait_set.specs.Givens.{answer_given};
@@ -26,7 +26,7 @@ pub struct Channel {
 }
 
 /// What a channel of either kind holds.
-#[derive(Drop)]
+#[derive(Clone, Drop)]
 enum Kind {
     Sampling(SamplingChannel),
     Queuing(QueuingChannel),
@@ -132,6 +132,22 @@ impl Channel {
         }
     }
 
+    /// Judges a call through the channel, at this time of its core in ticks: its caller waits at neither end, its service is one of the
+    /// channel's kind, and its claim is what the channel gives. Takes no memory.
+    ///
+    /// Refused with the cause of the first of these that fails.
+    pub fn judge(&self, now: u64, call: &Call) -> Result<(), Cause>
+        ensures { JudgesCall now call.now self.now result }
+    {
+        if self.has(call.who) {
+            return Err(Cause::Choice);
+        }
+        match self.answer(now, call) {
+            Some(given) => given.judge(&call.claim),
+            None => Err(Cause::Chan),
+        }
+    }
+
     /// Carries out a call through the channel, at this place and at this time of its core in ticks, where the call is what the
     /// channel demands: its caller waits at neither end, its service is one of the channel's kind, and its claim is what the
     /// channel gives.
@@ -209,5 +225,16 @@ impl Channel {
             Kind::Sampling(_) => {}
             Kind::Queuing(channel) => channel.queue.leave_all(part),
         }
+    }
+}
+
+impl Clone for Channel {
+    ghost is_clone = { λ channel copy. copy ≡ channel };
+
+    fn clone(&self) -> Result<Channel, AllocError> {
+        Ok(Channel {
+            number: self.number,
+            kind: self.kind.clone()?,
+        })
     }
 }

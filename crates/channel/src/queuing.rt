@@ -15,7 +15,7 @@ use message_queue::MessageQueue;
 use wait_set::{Actor, Given, ObjFault, WaitSet};
 
 /// A queuing channel: its queue, and the partitions at its source and at its destination.
-#[derive(Drop)]
+#[derive(Clone, Drop)]
 pub(crate) struct QueuingChannel {
     pub(crate) queue: MessageQueue,
     pub(crate) source: PartId,

@@ -8,7 +8,7 @@ ghost use Rattle.wait_set.specs.Givens.{answer_given};
 ghost use Rattle.channel.specs.Operations.{sampling_effect};
 
 use apex_types::{Claim, Code, Message, SamplingOperation};
-use std::alloc::Global;
+use std::alloc::{AllocError, Global};
 use std::marker::Model;
 use wait_set::{Given, ObjFault};
 
@@ -50,8 +50,19 @@ impl Stamped {
     }
 }
 
+impl Clone for Stamped {
+    ghost is_clone = { λ stamped copy. copy ≡ stamped };
+
+    fn clone(&self) -> Result<Stamped, AllocError> {
+        Ok(Stamped {
+            message: self.message.clone()?,
+            stamp: self.stamp,
+        })
+    }
+}
+
 /// A sampling channel: its refresh period in ticks, and the message that was last written.
-#[derive(Drop)]
+#[derive(Clone, Drop)]
 pub(crate) struct SamplingChannel {
     pub(crate) alloc: Global,
     pub(crate) refresh: u64,

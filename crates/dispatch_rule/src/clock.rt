@@ -11,6 +11,7 @@ use apex_machine::CoreState;
 use apex_types::limits::MOST_CORES;
 use apex_types::{CoreId, PartId, Who};
 use module_config::Config;
+use std::alloc::AllocError;
 use std::marker::Model;
 use thiserror::Error;
 
@@ -166,4 +167,17 @@ fn keeps_skew(time: u64, skew: u64, states: &[CoreState]) -> bool
     states
         .iter()
         .all(|state| time.saturating_sub(state.time) <= skew)
+}
+
+impl Clone for Clock {
+    ghost is_clone = { λ clock copy. copy ≡ clock };
+
+    fn clone(&self) -> Result<Clock, AllocError> {
+        Ok(Clock {
+            cores: self.cores,
+            begun: self.begun,
+            count: self.count,
+            skew: self.skew,
+        })
+    }
 }

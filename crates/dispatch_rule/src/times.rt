@@ -6,6 +6,7 @@ ghost use Rattle.apex_machine.specs.Pieces.{one_more, time_at};
 
 use apex_types::CoreId;
 use apex_types::limits::MOST_CORES;
+use std::alloc::AllocError;
 use std::marker::Model;
 
 /// The time of each core, in ticks, for who asks neither for occupants nor for windows. A contract sees the list of them.
@@ -56,5 +57,16 @@ impl Times {
         ensures { self.new ≡ one_more core self.old }
     {
         self.times[core.number() as usize] += 1;
+    }
+}
+
+impl Clone for Times {
+    ghost is_clone = { λ all copy. copy ≡ all };
+
+    fn clone(&self) -> Result<Times, AllocError> {
+        Ok(Times {
+            times: self.times,
+            count: self.count,
+        })
     }
 }

@@ -214,3 +214,30 @@ impl MessageQueue {
         self.receivers.leave_all(copy);
     }
 }
+
+impl Clone for MessageQueue {
+    ghost is_clone = { λ queue copy. copy ≡ queue };
+
+    fn clone(&self) -> Result<MessageQueue, AllocError> {
+        Ok(MessageQueue {
+            alloc: self.alloc,
+            messages: copied(self.alloc, &self.messages)?,
+            senders: self.senders.clone()?,
+            receivers: self.receivers.clone()?,
+        })
+    }
+}
+
+// A ring of as many places with copies of these messages.
+fn copied(
+    alloc: Global,
+    messages: &HeapCircularBuffer<Message>,
+) -> Result<HeapCircularBuffer<Message>, AllocError>
+    ensures { IfOk result (λ copies. copies ≡ messages.now) }
+{
+    let mut copies = HeapCircularBuffer::with_capacity(alloc, messages.capacity())?;
+    for message in messages.iter() {
+        copies.push_back(message.clone()?);
+    }
+    Ok(copies)
+}

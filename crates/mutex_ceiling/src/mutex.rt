@@ -250,3 +250,17 @@ impl ApexObject for Mutex653 {
         self.waiters.leave(who)
     }
 }
+
+impl Clone for Mutex653 {
+    ghost is_clone = { λ mutex copy. copy ≡ mutex };
+
+    fn clone(&self) -> Result<Mutex653, AllocError> {
+        Ok(Mutex653 {
+            name: self.name.clone()?,
+            priority: self.priority,
+            owner: self.owner,
+            count: self.count,
+            waiters: self.waiters.clone()?,
+        })
+    }
+}

@@ -15,6 +15,7 @@ ghost use Rattle.apex_machine.specs.State.{change_at, given_object, is_free, ite
 ghost use Rattle.wait_set.specs.Actors.{Refuses, entry_with};
 ghost use Rattle.wait_set.specs.Sets.{IsNewInEach};
 ghost use Rattle.wait_set.specs.declared.object.ObjFault.TheVariants.{Memory};
+ghost use Rattle.object_table.specs.Copies.{AreCopies};
 ghost use Rattle.object_table.specs.Numbers.{NumbersFit, number_of};
 
 use crate::marked::Marked;
@@ -227,5 +228,16 @@ fn object_number(given: i64) -> Option<u32>
         Some(given as u32)
     } else {
         None
+    }
+}
+
+impl<Object: Clone> Clone for ObjectTable<Object> {
+    // The objects have their numbers, in the same order, and each is a copy of its own.
+    ghost is_clone = { AreCopies Object.is_clone };
+
+    fn clone(&self) -> Result<ObjectTable<Object>, AllocError> {
+        Ok(ObjectTable {
+            objects: self.objects.clone()?,
+        })
     }
 }

@@ -127,3 +127,21 @@ impl PartitionState {
         &self.queuing_ports
     }
 }
+
+impl Clone for PartitionState {
+    ghost is_clone = { λ state copy. copy ≡ state };
+
+    fn clone(&self) -> Result<PartitionState, AllocError> {
+        Ok(PartitionState {
+            alloc: self.alloc,
+            processes: self.processes.clone()?,
+            buffers: self.buffers.clone()?,
+            blackboards: self.blackboards.clone()?,
+            semaphores: self.semaphores.clone()?,
+            events: self.events.clone()?,
+            mutexes: self.mutexes.clone()?,
+            sampling_ports: self.sampling_ports.clone()?,
+            queuing_ports: self.queuing_ports.clone()?,
+        })
+    }
+}

@@ -7,6 +7,7 @@ ghost use Rattle.ports.specs.Ports.{port_of, read_at};
 use apex_machine::{Direction, Status};
 use apex_types::{ChanId, Name};
 use object_table::Marked;
+use std::alloc::AllocError;
 use std::marker::Model;
 use wait_set::Named;
 
@@ -93,5 +94,17 @@ impl Named for Port {
 
     fn name(&self) -> &Name {
         &self.name
+    }
+}
+
+impl Clone for Port {
+    ghost is_clone = { λ port copy. copy ≡ port };
+
+    fn clone(&self) -> Result<Port, AllocError> {
+        Ok(Port {
+            name: self.name.clone()?,
+            settings: self.settings,
+            valid: self.valid,
+        })
     }
 }

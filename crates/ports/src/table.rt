@@ -4,7 +4,7 @@ ghost use Rattle.std.specs.Prelude.{◌≡◌, ◌≢◌, ◌++◌, [], None, fa
 ghost use Rattle.std.specs.Option.{option_copied};
 ghost use Rattle.apex_machine.specs.After.{numbered};
 ghost use Rattle.apex_machine.specs.Arguments.{natural_of};
-ghost use Rattle.apex_machine.specs.Answer.{NewNumber, done_with};
+ghost use Rattle.apex_machine.specs.Answer.{NewNumber, done_with, is_new};
 ghost use Rattle.apex_machine.specs.Conditions.{is_taken};
 ghost use Rattle.apex_machine.specs.Demands.{AllHold, answer_demands};
 ghost use Rattle.apex_machine.specs.Names.{number_named};
@@ -17,7 +17,7 @@ ghost use Rattle.ports.specs.Ports.{port_of, read_at};
 use crate::port::{Port, PortSettings};
 use apex_types::{ChanId, Claim, Name};
 use object_table::{ObjectTable, copy_of};
-use std::alloc::Global;
+use std::alloc::{AllocError, Global};
 use std::marker::Model;
 use wait_set::ObjFault;
 
@@ -67,6 +67,13 @@ impl PortTable {
         self.ports.number_named(name)
     }
 
+    /// Whether a claimed value is a number that a new port can take: 1 to 2,147,483,647, and no port has it.
+    pub fn is_new_number(&self, claimed: Option<i64>) -> bool
+        ensures { result ≡ is_new (is_free self.now) claimed }
+    {
+        self.ports.is_new_number(claimed)
+    }
+
     /// The port of the number that a caller gives, or None where there is none.
     pub fn given(&self, number: i64) -> Option<&Port>
         ensures { option_copied result ≡ given_object self.now number }
@@ -112,5 +119,15 @@ impl PortTable {
         ensures { self.new ≡ change_at (natural_of number) (read_at claimed) self.old }
     {
         self.ports.mark(number, claimed);
+    }
+}
+
+impl Clone for PortTable {
+    ghost is_clone = { λ table copy. copy ≡ table };
+
+    fn clone(&self) -> Result<PortTable, AllocError> {
+        Ok(PortTable {
+            ports: self.ports.clone()?,
+        })
     }
 }

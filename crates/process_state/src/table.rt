@@ -256,3 +256,20 @@ impl ProcTable {
         }
     }
 }
+
+impl Clone for ProcTable {
+    ghost is_clone = { λ table copy. copy ≡ table };
+
+    fn clone(&self) -> Result<ProcTable, AllocError> {
+        let mut processes = self.processes.clone()?;
+        if processes.is_empty() {
+            processes.reserve(1)?;
+        }
+        Ok(ProcTable {
+            mode: self.mode,
+            processes,
+            ready: self.ready.copy()?,
+            due: self.due.copy()?,
+        })
+    }
+}

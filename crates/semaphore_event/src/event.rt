@@ -120,3 +120,15 @@ impl ApexObject for Event {
         self.waiters.leave(who)
     }
 }
+
+impl Clone for Event {
+    ghost is_clone = { λ event copy. copy ≡ event };
+
+    fn clone(&self) -> Result<Event, AllocError> {
+        Ok(Event {
+            name: self.name.clone()?,
+            up: self.up,
+            waiters: self.waiters.clone()?,
+        })
+    }
+}

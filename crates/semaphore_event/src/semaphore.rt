@@ -146,3 +146,16 @@ impl ApexObject for Semaphore {
         self.waiters.leave(who)
     }
 }
+
+impl Clone for Semaphore {
+    ghost is_clone = { λ semaphore copy. copy ≡ semaphore };
+
+    fn clone(&self) -> Result<Semaphore, AllocError> {
+        Ok(Semaphore {
+            name: self.name.clone()?,
+            maximum: self.maximum,
+            value: self.value,
+            waiters: self.waiters.clone()?,
+        })
+    }
+}

@@ -265,3 +265,17 @@ impl WaitSet {
         }
     }
 }
+
+impl Clone for WaitSet {
+    ghost is_clone = { λ set copy. copy ≡ set };
+
+    fn clone(&self) -> Result<WaitSet, AllocError> {
+        Ok(WaitSet {
+            alloc: self.alloc,
+            discipline: self.discipline,
+            entries: self.entries.clone()?,
+            places: self.places.clone()?,
+            ranks: self.ranks.clone()?,
+        })
+    }
+}
