@@ -1,0 +1,19 @@
+// What comes of a search.
+
+/// How a search ends.
+#[derive(Clone, Copy, Debug, PartialEq, Eq)]
+pub enum End {
+    /// Every record has its place.
+    Whole,
+    /// No way to go on was found.
+    Stuck,
+}
+
+/// What comes next.
+#[derive(Clone, Copy, Debug, PartialEq, Eq)]
+pub enum Step {
+    /// The next record of the order is this core's next one.
+    Next(usize),
+    /// There is no further record.
+    Over(End),
+}

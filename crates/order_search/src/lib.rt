@@ -1,0 +1,23 @@
+//! A search for one order of the records of several cores. It knows no service and no rule: what a core's next record is like, it
+//! asks of a machine that stands at its tip (`Tip`).
+//!
+//! Promises: what it proposes is, one after another, the records that the machine took and was not made to give back; it says that
+//! the order is whole only where each core is at the end of its recording; it tries at most so many records for each record placed.
+//! It does not promise to find an order.
+#![tactic(auto)]
+
+mod budget;
+mod choice;
+mod end;
+mod longest;
+mod placed;
+mod search;
+mod swap;
+mod tip;
+mod touches;
+mod tree;
+
+pub use budget::Spent;
+pub use end::{End, Step};
+pub use search::{Limits, Search};
+pub use tip::{Answer, Rivals, Tip};

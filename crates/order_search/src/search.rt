@@ -1,0 +1,344 @@
+// The search: depth first, with two records swapped where it comes to a dead end.
+
+use crate::budget::{Budget, Spent};
+use crate::choice::{Choice, choose};
+use crate::end::{End, Step};
+use crate::longest::Longest;
+use crate::placed::Placed;
+use crate::swap::{RecordName, Swap, Wait};
+use crate::tip::{Answer, Tip};
+use crate::touches::Touches;
+use crate::tree::Tree;
+use std::alloc::{AllocError, Global};
+
+/// The most records that are looked at for one that is rejected.
+const MOST_WRITERS: usize = 24;
+
+/// The most swaps that are kept for a dead end.
+const MOST_SWAPS: usize = 16;
+
+/// How far a search may go.
+#[derive(Clone, Copy, Debug, PartialEq, Eq)]
+pub struct Limits {
+    /// How many records may be undecided.
+    pub window: usize,
+    /// How many records may be tried for each record placed.
+    pub effort: u64,
+}
+
+/// A search, with the records that it has placed and not decided.
+#[derive(Drop)]
+pub struct Search {
+    alloc: Global,
+    window: usize,
+    // How many records are decided.
+    first: u64,
+    pub(crate) placed: Placed,
+    budget: Budget,
+    touches: Touches,
+    tree: Tree,
+    longest: Longest,
+    pub(crate) finished: Option<End>,
+}
+
+impl Search {
+    ghost use Rattle.std.specs.Prelude.{◌≡◌, ◌<◌, ◌≤◌, ◌+◌, ◌*◌, [], IfOk, OnOk, Ok, None};
+    ghost use Rattle.order_search.specs.Agreement.{Agrees, AllEnded, IsLast, IsOfModule, IsOverWith, cores_of, decided_by, undecided_of};
+    ghost use Rattle.order_search.specs.declared.end.Step.TheVariants.{Over};
+    ghost use Rattle.order_search.specs.declared.end.End.TheVariants.{Whole};
+
+    /// A search for an order of the records of so many cores, at its start.
+    pub fn new(alloc: Global, cores: usize, limits: Limits) -> Result<Search, AllocError>
+        ensures cores { IfOk result (λ search. cores_of search ≡ cores) }
+        ensures none { IfOk result (λ search. undecided_of search ≡ []) }
+        ensures open { IfOk result (λ search. search.finished ≡ None) }
+    {
+        Ok(Search {
+            alloc,
+            window: limits.window,
+            first: 0,
+            placed: Placed::new(alloc, cores)?,
+            budget: Budget::new(limits.effort),
+            touches: Touches::new(alloc),
+            tree: Tree::new(alloc, cores)?,
+            longest: Longest::new(alloc),
+            finished: None,
+        })
+    }
+
+    /// How much it has spent: at most the effort for each record that was placed, and once more.
+    pub fn spent(&self) -> Spent
+        ensures { result.tried ≤ result.effort * (result.reached + 1) }
+    {
+        self.budget.spent
+    }
+
+    /// What comes next: the oldest undecided record, once as many are undecided as may be, or the end of the search.
+    ///
+    /// The machine has taken exactly the undecided records, in their order, before and after; where it refuses memory, nothing is
+    /// said of the search.
+    pub fn next<T: Tip>(&mut self, tip: &mut T) -> Result<Step, AllocError>
+        requires agrees { Agrees self.old (T.undecided tip.old) (T.is_ended tip.old) }
+        ensures agrees { OnOk result (Agrees self.new (T.undecided tip.new) (T.is_ended tip.new)) }
+        ensures decided { IfOk result (λ step. T.decided tip.new ≡ T.decided tip.old + decided_by step) }
+        ensures core { IfOk result (IsOfModule (cores_of self.old)) }
+        ensures last { IfOk result (IsLast (T.last_decided tip.new)) }
+        ensures cores { OnOk result (cores_of self.new ≡ cores_of self.old) }
+        ensures whole { result ≡ Ok (Over Whole) → AllEnded (cores_of self.old) (T.is_ended tip.new) }
+        ensures none_left { IfOk result (IsOverWith (undecided_of self.new)) }
+    {
+        self.fill(tip)?;
+        self.decide(tip)
+    }
+
+    // Places records until as many are undecided as may be, or the search is over.
+    fn fill<T: Tip>(&mut self, tip: &mut T) -> Result<(), AllocError>
+        requires agrees { Agrees self.old (T.undecided tip.old) (T.is_ended tip.old) }
+        ensures agrees { OnOk result (Agrees self.new (T.undecided tip.new) (T.is_ended tip.new)) }
+        ensures decided { OnOk result (T.decided tip.new ≡ T.decided tip.old) }
+        ensures cores { OnOk result (cores_of self.new ≡ cores_of self.old) }
+    {
+        for _ in 0..u64::MAX {
+            if self.placed.len() >= self.window {
+                break;
+            }
+            match self.finished {
+                Some(_) => break,
+                None => self.turn(tip)?,
+            }
+        }
+        Ok(())
+    }
+
+    // The oldest undecided record is decided.
+    fn decide<T: Tip>(&mut self, tip: &mut T) -> Result<Step, AllocError>
+        requires agrees { Agrees self.old (T.undecided tip.old) (T.is_ended tip.old) }
+        ensures agrees { OnOk result (Agrees self.new (T.undecided tip.new) (T.is_ended tip.new)) }
+        ensures decided { IfOk result (λ step. T.decided tip.new ≡ T.decided tip.old + decided_by step) }
+        ensures core { IfOk result (IsOfModule (cores_of self.old)) }
+        ensures last { IfOk result (IsLast (T.last_decided tip.new)) }
+        ensures cores { OnOk result (cores_of self.new ≡ cores_of self.old) }
+        ensures whole { result ≡ Ok (Over Whole) → AllEnded (cores_of self.old) (T.is_ended tip.new) }
+        ensures none_left { IfOk result (IsOverWith (undecided_of self.new)) }
+    {
+        let Some(core) = self.placed.pop_oldest() else {
+            return Ok(Step::Over(self.finished.unwrap_or(End::Stuck)));
+        };
+        tip.decide(core);
+        self.first = self.first.saturating_add(1);
+        self.touches.forget_before(self.first);
+        self.tree.forget_before(&self.placed, self.first);
+        self.longest.clear();
+        Ok(Step::Next(core))
+    }
+
+    // Places one more record, or goes back from a dead end, or ends the search.
+    fn turn<T: Tip>(&mut self, tip: &mut T) -> Result<(), AllocError>
+        requires agrees { T.undecided tip.old ≡ self.old.placed.cores.items }
+        requires open { self.old.finished ≡ None }
+        ensures agrees { OnOk result (Agrees self.new (T.undecided tip.new) (T.is_ended tip.new)) }
+        ensures decided { OnOk result (T.decided tip.new ≡ T.decided tip.old) }
+        ensures cores { OnOk result (cores_of self.new ≡ cores_of self.old) }
+    {
+        if self.budget.is_spent() {
+            return self.give_up(tip);
+        }
+        self.budget.spend(1);
+        match choose(tip, &self.placed, &self.tree)? {
+            Choice::Free(core) => self.place(tip, core),
+            Choice::Shared(core) => {
+                let level = self.level();
+                self.touches.note(tip, self.alloc, level, core)?;
+                self.place(tip, core)
+            }
+            Choice::AtEnd => {
+                self.finished = Some(End::Whole);
+                Ok(())
+            }
+            Choice::Blocked => self.turn_back(tip),
+        }
+    }
+
+    // The level of the next record: how many records come before it.
+    fn level(&self) -> u64 {
+        self.first.saturating_add(self.placed.len() as u64)
+    }
+
+    // Takes the next record of a core.
+    fn place<T: Tip>(&mut self, tip: &mut T, core: usize) -> Result<(), AllocError>
+        requires core { core < cores_of self.old }
+        requires agrees { T.undecided tip.old ≡ self.old.placed.cores.items }
+        requires open { self.old.finished ≡ None }
+        ensures agrees { OnOk result (Agrees self.new (T.undecided tip.new) (T.is_ended tip.new)) }
+        ensures decided { OnOk result (T.decided tip.new ≡ T.decided tip.old) }
+        ensures cores { OnOk result (cores_of self.new ≡ cores_of self.old) }
+    {
+        if !tip.take(core)? {
+            self.finished = Some(End::Stuck);
+            return Ok(());
+        }
+        self.placed.push(core)?;
+        let level = self.level();
+        self.budget.reach(level);
+        Ok(())
+    }
+
+    // At a dead end: goes back to where two records are swapped, or ends the search where no swap is left.
+    fn turn_back<T: Tip>(&mut self, tip: &mut T) -> Result<(), AllocError>
+        requires agrees { T.undecided tip.old ≡ self.old.placed.cores.items }
+        requires open { self.old.finished ≡ None }
+        ensures agrees { OnOk result (Agrees self.new (T.undecided tip.new) (T.is_ended tip.new)) }
+        ensures decided { OnOk result (T.decided tip.new ≡ T.decided tip.old) }
+        ensures cores { OnOk result (cores_of self.new ≡ cores_of self.old) }
+    {
+        self.longest.keep(&self.placed)?;
+        let swaps = self.swaps(tip)?;
+        let level = self.level();
+        self.tree.enter(&self.placed, level, swaps)?;
+        match self.tree.next_swap(self.first)? {
+            Some(level) => self.go_back(tip, level),
+            None => self.give_up(tip),
+        }
+    }
+
+    // The swaps that may lead on from here, the most promising one last: those that the machine names, then that of the last level.
+    fn swaps<T: Tip>(&self, tip: &mut T) -> Result<Vec<Swap>, AllocError>
+        ensures undecided { OnOk result (T.undecided tip.new ≡ T.undecided tip.old) }
+        ensures decided { OnOk result (T.decided tip.new ≡ T.decided tip.old) }
+    {
+        let mut swaps: Vec<Swap> = Vec::new(self.alloc);
+        for core in 0..self.placed.most {
+            if !self.tree.holds(&self.placed, core) && tip.judge(core)? == Answer::Refused {
+                self.find_swaps(tip, core, &mut swaps)?;
+            }
+        }
+        swaps.sort_unstable_by_key(|swap| (swap.is_named, swap.level));
+        while swaps.len() > MOST_SWAPS {
+            let _ = swaps.remove(0);
+        }
+        Ok(swaps)
+    }
+
+    // The swaps that may have a core's next record accepted: it comes before the last record that touched what it was rejected
+    // for, or that record before the one that did so before, and so on; and what the machine names.
+    fn find_swaps<T: Tip>(
+        &self,
+        tip: &mut T,
+        core: usize,
+        swaps: &mut Vec<Swap>,
+    ) -> Result<(), AllocError>
+        ensures undecided { OnOk result (T.undecided tip.new ≡ T.undecided tip.old) }
+        ensures decided { OnOk result (T.decided tip.new ≡ T.decided tip.old) }
+    {
+        let number = self.placed.count(core);
+        let next = RecordName { core, number };
+        if let Some(rivals) = tip.rivals(core)? {
+            let until = match rivals.second {
+                Some(level) => self.at(level).unwrap_or(next),
+                None => next,
+            };
+            self.add_swap(rivals.first, until, true, swaps)?;
+        }
+        let mut things: Vec<u64> = Vec::new(self.alloc);
+        tip.blamed(core, &mut things)?;
+        let levels = self
+            .touches
+            .last_to_touch(self.alloc, &things, MOST_WRITERS)?;
+        let mut until = next;
+        for level in levels.iter() {
+            self.add_swap(*level, until, false, swaps)?;
+            until = self.at(*level).unwrap_or(until);
+        }
+        Ok(())
+    }
+
+    // The undecided record of a level.
+    fn at(&self, level: u64) -> Option<RecordName> {
+        if level < self.first {
+            return None;
+        }
+        self.placed.get((level - self.first) as usize)
+    }
+
+    // Adds that the record of a level is to wait for another, unless it is of the same core, or added already.
+    fn add_swap(
+        &self,
+        level: u64,
+        until: RecordName,
+        is_named: bool,
+        swaps: &mut Vec<Swap>,
+    ) -> Result<(), AllocError> {
+        let Some(held) = self.at(level) else {
+            return Ok(());
+        };
+        let wait = Wait { held, until };
+        if held.core == until.core || swaps.iter().any(|swap| swap.wait == wait) {
+            return Ok(());
+        }
+        swaps.push(Swap {
+            level,
+            wait,
+            is_named,
+        })?;
+        Ok(())
+    }
+
+    // Goes back to a level.
+    fn go_back<T: Tip>(&mut self, tip: &mut T, level: u64) -> Result<(), AllocError>
+        requires agrees { T.undecided tip.old ≡ self.old.placed.cores.items }
+        requires open { self.old.finished ≡ None }
+        ensures undecided { OnOk result (T.undecided tip.new ≡ self.new.placed.cores.items) }
+        ensures open { OnOk result (self.new.finished ≡ None) }
+        ensures agrees { OnOk result (Agrees self.new (T.undecided tip.new) (T.is_ended tip.new)) }
+        ensures decided { OnOk result (T.decided tip.new ≡ T.decided tip.old) }
+        ensures cores { OnOk result (cores_of self.new ≡ cores_of self.old) }
+    {
+        let kept = level.saturating_sub(self.first);
+        if kept >= self.placed.len() as u64 {
+            return Ok(());
+        }
+        let again = tip.back(kept as usize)?;
+        self.placed.keep(kept as usize);
+        self.budget.spend(again);
+        self.touches.keep_before(level);
+        Ok(())
+    }
+
+    // Ends the search, with the longest beginning that it met.
+    fn give_up<T: Tip>(&mut self, tip: &mut T) -> Result<(), AllocError>
+        requires agrees { T.undecided tip.old ≡ self.old.placed.cores.items }
+        requires open { self.old.finished ≡ None }
+        ensures agrees { OnOk result (Agrees self.new (T.undecided tip.new) (T.is_ended tip.new)) }
+        ensures decided { OnOk result (T.decided tip.new ≡ T.decided tip.old) }
+        ensures cores { OnOk result (cores_of self.new ≡ cores_of self.old) }
+    {
+        if self.placed.len() < self.longest.cores.len() {
+            self.return_to_longest(tip)?;
+        }
+        self.finished = Some(End::Stuck);
+        Ok(())
+    }
+
+    // Goes to the longest beginning.
+    fn return_to_longest<T: Tip>(&mut self, tip: &mut T) -> Result<(), AllocError>
+        requires agrees { T.undecided tip.old ≡ self.old.placed.cores.items }
+        requires open { self.old.finished ≡ None }
+        ensures undecided { OnOk result (T.undecided tip.new ≡ self.new.placed.cores.items) }
+        ensures decided { OnOk result (T.decided tip.new ≡ T.decided tip.old) }
+        ensures cores { OnOk result (cores_of self.new ≡ cores_of self.old) }
+    {
+        let same = self.longest.common(&self.placed);
+        let level = self.first.saturating_add(same as u64);
+        self.go_back(tip, level)?;
+        for index in same..self.longest.cores.len() {
+            let Some(core) = self.longest.cores.get(index).copied() else {
+                break;
+            };
+            if core >= self.placed.most || !tip.take(core)? {
+                break;
+            }
+            self.placed.push(core)?;
+        }
+        Ok(())
+    }
+}
