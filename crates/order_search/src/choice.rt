@@ -42,11 +42,7 @@ impl Candidate {
 }
 
 /// Which core's next record is taken. One that no other core can tell is taken at once, that of the last core first.
-pub fn choose<T: Tip>(
-    tip: &mut T,
-    placed: &Placed,
-    tree: &Tree,
-) -> Result<Choice, AllocError>
+pub fn choose<T: Tip>(tip: &mut T, placed: &Placed, tree: &Tree) -> Result<Choice, AllocError>
     ensures undecided { OnOk result (T.undecided tip.new ≡ T.undecided tip.old) }
     ensures decided { OnOk result (T.decided tip.new ≡ T.decided tip.old) }
     ensures within { IfOk result (IsWithin placed.now.most) }
@@ -70,7 +66,14 @@ pub fn choose<T: Tip>(
             Answer::Free => return Ok(Choice::Free(core)),
             Answer::Shared { is_tick, time } => {
                 at_end = false;
-                best = Some(better(best, Candidate { is_tick, time, core }));
+                best = Some(better(
+                    best,
+                    Candidate {
+                        is_tick,
+                        time,
+                        core,
+                    },
+                ));
             }
         }
     }

@@ -68,11 +68,7 @@ impl Touches {
 
     /// Forgets the records before this level.
     pub fn forget_before(&mut self, level: u64) {
-        while self
-            .list
-            .front()
-            .is_some_and(|first| first.level < level)
-        {
+        while self.list.front().is_some_and(|first| first.level < level) {
             let _ = self.list.pop_front();
         }
     }

@@ -189,12 +189,7 @@ impl Tree {
 
     // Puts a swap in force together with those that led to its dead end, where these leave it open and they were not all tried
     // together. Gives the level to go back to.
-    fn try_swap(
-        &mut self,
-        first: u64,
-        node: usize,
-        swap: Swap,
-    ) -> Result<Option<u64>, AllocError> {
+    fn try_swap(&mut self, first: u64, node: usize, swap: Swap) -> Result<Option<u64>, AllocError> {
         let path = self.path(node)?;
         let mark = self.mark(node).wrapping_add(swap.wait.mark());
         if self.is_ruled_out(&path, swap, mark) {

@@ -3,11 +3,10 @@
 ghost use Rattle.std.specs.Prelude.{◌≡◌, []};
 
 use crate::toy::{Act, Toy};
+use Act::{Get, Pause, Put};
 use order_search::{End, Limits, Search, Step, Tip};
 use std::alloc::{AllocError, Global};
 use std::test::Fail;
-
-use Act::{Get, Pause, Put};
 
 // The most records that any of these searches proposes.
 const MOST: usize = 32;
@@ -44,6 +43,7 @@ struct Case<'a> {
 
 // The limits of a search that may go far.
 const FAR: usize = 100;
+
 const MUCH: u64 = 100;
 
 // What the searches propose.
