@@ -1,4 +1,5 @@
 pub mod Booleans
+pub mod Copies
 pub mod Tables
 pub mod Numbers
 pub mod Results

@@ -1,6 +1,6 @@
 // The processes of a partition under their numbers.
 
-ghost use Rattle.std.specs.Prelude.{◌≡◌, ◌≢◌, ◌∷◌, ◌↔◌, [], IfOk, IsTrue, MatchOption, None, option_map, pos, slice_get};
+ghost use Rattle.std.specs.Prelude.{◌≡◌, ◌≢◌, ◌<◌, ◌+◌, ◌∷◌, ◌↔◌, [], IfOk, IsTrue, MatchOption, None, length, option_map, pos, slice_get};
 ghost use Rattle.std.specs.Map.Iter.{deref_pair};
 ghost use Rattle.std.specs.Option.{option_copied};
 ghost use Rattle.apex_types.specs.Rising.{IsRising};
@@ -15,6 +15,7 @@ ghost use Rattle.apex_machine.specs.ProcessConditions.{created_count};
 ghost use Rattle.apex_machine.specs.Services.{waits_for_mutex};
 ghost use Rattle.apex_machine.specs.State.{created, first_processes, is_free, item_at};
 ghost use Rattle.apex_machine.specs.Waiting as waiting;
+ghost use Rattle.indexmap.specs.IndexMap.{spare};
 ghost use Rattle.process_state.specs.Due.{DueAreNamed, NamedFallDue};
 ghost use Rattle.process_state.specs.Processes.{processes_in};
 
@@ -261,15 +262,24 @@ impl Clone for ProcTable {
     ghost is_clone = { λ table copy. copy ≡ table };
 
     fn clone(&self) -> Result<ProcTable, AllocError> {
-        let mut processes = self.processes.clone()?;
-        if processes.is_empty() {
-            processes.reserve(1)?;
-        }
         Ok(ProcTable {
             mode: self.mode,
-            processes,
+            processes: copied(&self.processes)?,
             ready: self.ready.copy()?,
             due: self.due.copy()?,
         })
     }
+}
+
+// The same processes, with room for the initialising process where there are none.
+fn copied(processes: &IndexMap<ProcId, Process>) -> Result<IndexMap<ProcId, Process>, AllocError>
+    ensures entries { IfOk result (λ copy. copy.entries ≡ processes.now.entries) }
+    ensures room { IfOk result (λ copy. 0 < length copy.entries + spare copy) }
+{
+    let mut copy = processes.clone()?;
+    if !copy.is_empty() {
+        return Ok(copy);
+    }
+    copy.reserve(1)?;
+    Ok(copy)
 }
