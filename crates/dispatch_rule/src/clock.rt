@@ -173,8 +173,10 @@ impl Clone for Clock {
     ghost is_clone = { λ clock copy. copy ≡ clock };
 
     fn clone(&self) -> Result<Clock, AllocError> {
+        let mut cores = [COLD; MOST_CORES];
+        cores.copy_from_slice(&self.cores);
         Ok(Clock {
-            cores: self.cores,
+            cores,
             begun: self.begun,
             count: self.count,
             skew: self.skew,
