@@ -1,16 +1,14 @@
 -- What calls through channels of both kinds have in common.
-use Rattle.std.proofs.Common.{◌≡◌, ◌||◌, ℕ, List, [], ◌∷◌, ◌++◌, Bool, true, false, ◌&&◌, nat_eq, IfErr, OnOk, Result, Ok, Err, refl, sym, ap, subst, ◌∙◌, arith, inl, inr}
+use Rattle.std.proofs.Common.{◌≡◌, ◌||◌, ℕ, List, [], ◌∷◌, ◌++◌, Bool, true, false, ◌&&◌, nat_eq, IfErr, OnOk, Result, refl, sym, ap, subst, ◌∙◌, arith, inr}
 use Rattle.std.proofs.lemmas.Bool.Decides.{nat_tests}
 use Rattle.std.proofs.lemmas.Result.{IfErr-weaker, on_ok_weaker}
-use Rattle.apex_types.specs.declared.cause.Cause.{Cause}
 use Rattle.apex_types.specs.declared.cause.Cause.TheVariants as cause
 use Rattle.apex_types.specs.declared.record.Call.{Call as CallRecord}
 use Rattle.apex_machine.specs.declared.state.Entry.{Entry}
-use Rattle.apex_machine.specs.Answer.{Answer}
 use Rattle.apex_machine.specs.Configuration.{Configuration}
-use Rattle.apex_machine.specs.Demands.{AllHold, Demand, FirstFails, Judges, answer_demands, stands_in, through_demands}
+use Rattle.apex_machine.specs.Demands.{AllHold, Demand, stands_in, through_demands}
 use Rattle.apex_machine.specs.State.{Content}
-use Rattle.channel.specs.Held.{Accepts, DoesNotServe, Gives, Held, IsConfigured, JudgesCall, RefusesCall}
+use Rattle.channel.specs.Held.{Accepts, Held, IsConfigured, RefusesCall}
 use Rattle.wait_set.specs.declared.object.ObjFault.{ObjFault}
 use Rattle.wait_set.specs.declared.object.ObjFault.TheVariants.{Memory, Unlawful}
 use Rattle.wait_set.specs.Actors.{Refuses}
@@ -67,17 +65,3 @@ pub refused : (result : Result (Unit {0}) ObjFault) (now : ℕ) (call : CallReco
 refused result now call held first demands demanded before =
     IfErr-weaker result _ _ (λ fault fails configuration is.
     subst (λ demands. Refuses demands fault) (sym (demanded configuration is)) (still_refused first demands fault before fails))
-
--- a claim is judged by what the channel gives, where the caller waits at neither end
-pub judged : (judgement : Result (Unit {0}) Cause) (now : ℕ) (call : CallRecord) (held : Held) (answer : Answer) → (apart call held).holds → Gives now call held answer
-    → Judges (answer_demands answer call.claim) judgement → JudgesCall now call held judgement
-judged (Ok done) now call held answer free gives all configuration is =
-    let given = gives configuration is in (free, (given.0, subst (λ answer. AllHold (answer_demands answer call.claim)) given.1 all))
-judged (Err cause) now call held answer free gives fails configuration is =
-    let given = gives configuration is in
-    inr (free, inr (given.0, subst (λ answer. FirstFails (answer_demands answer call.claim) cause) given.1 fails))
-
--- a service that is not of the channel's kind meets the second demand
-pub not_served : (now : ℕ) (call : CallRecord) (held : Held) → (apart call held).holds → DoesNotServe call held → JudgesCall now call held (Err cause.Chan)
-not_served now call held free other configuration is =
-    inr (free, inl ((λ suits. let never : ◌≡◌ {A = Bool} true false = sym suits ∙ other configuration is in cc), refl))
