@@ -185,6 +185,7 @@ impl PartitionPiece {
     }
 
     // Judges a call of one of the partition's own processes: what is demanded before its outcome, then the outcome.
+    #[tactic(auto, using(crate::proofs::Passing::refused_judged, crate::proofs::Passing::through_judged, crate::proofs::Passing::served_judged))]
     fn judge_own_call(&self, config: &Config, ordered: &Ordered, call: &Call) -> Result<(), Cause>
         requires own { call.now.who.part ≡ self.now.number }
         ensures { Judges (own_demands config.now self.now ordered.now.core call.now) result }
