@@ -68,6 +68,22 @@ impl PartitionState {
         }
     }
 
+    // The partition with copies of another's objects in the place of its own.
+    fn with_objects(mut self, other: &PartitionState) -> Result<PartitionState, AllocError>
+        ensures { IfOk result (λ state. state ≡ record self { buffers = other.now.buffers; blackboards = other.now.blackboards; semaphores = other.now.semaphores; events = other.now.events; mutexes = other.now.mutexes }) }
+    {
+        self.copy_objects(other)?;
+        Ok(self)
+    }
+
+    // The partition with copies of another's ports in the place of its own.
+    fn with_ports(mut self, other: &PartitionState) -> Result<PartitionState, AllocError>
+        ensures { IfOk result (λ state. state ≡ record self { sampling_ports = other.now.sampling_ports; queuing_ports = other.now.queuing_ports }) }
+    {
+        self.copy_ports(other)?;
+        Ok(self)
+    }
+
     // Copies of another partition's objects take the place of its own.
     fn copy_objects(&mut self, other: &PartitionState) -> Result<(), AllocError>
         ensures { OnOk result (self.new ≡ record self.old { buffers = other.now.buffers; blackboards = other.now.blackboards; semaphores = other.now.semaphores; events = other.now.events; mutexes = other.now.mutexes }) }
@@ -161,10 +177,9 @@ impl Clone for PartitionState {
     ghost is_clone = { λ state copy. copy ≡ state };
 
     fn clone(&self) -> Result<PartitionState, AllocError> {
-        let mut copy = PartitionState::without_objects(self.alloc, self.processes.clone()?);
-        copy.copy_objects(self)?;
-        copy.copy_ports(self)?;
-        Ok(copy)
+        PartitionState::without_objects(self.alloc, self.processes.clone()?)
+            .with_objects(self)?
+            .with_ports(self)
     }
 }
 
