@@ -67,8 +67,8 @@ impl Judge {
         self.count
     }
 
-    /// The piece of this number, or None where there is none. After a round with a finding the piece that refuses a record stands
-    /// as it stood before that record.
+    /// The piece of this number, or None where there is none. After a round in which a record is refused, the piece that refuses it
+    /// is as it was before that record, as `round` says.
     pub fn piece(&self, number: usize) -> Option<&Piece>
         ensures { option_copied result ≡ slice_get self.now.pieces number }
     {
@@ -85,8 +85,8 @@ impl Judge {
 
     /// Judges the next records by so many workers: each piece goes over those that touch it, up to its first refusal, and the view
     /// of each record is tested by the rules. None where no piece refuses a record; else the least refusal, after which no further
-    /// round is judged. The first view before it that breaks a rule is given by `breach`. The gate sees each claim and each
-    /// post.
+    /// round is judged, and whose piece is left as it was before the record that it refuses. The first view before it that breaks a
+    /// rule is given by `breach`. The gate sees each claim and each post.
     ///
     /// NoWorkers where there is no worker; nothing is changed then. Memory where a growth or a thread was refused, after which no
     /// further round is judged.

@@ -2,8 +2,9 @@
 //!
 //! Promises: what is answered of a round is what each piece makes of its records by itself, one value for each piece at its
 //! number, for every number of workers and whatever order they claim and post in. A round in which nothing is refused is a run of
-//! each piece; else the least refusal is reported, with what holds up to its place. A board keeps the values: whenever its lock is
-//! free its history is legal, and each posted value is that of its own piece over the round that the board is of.
+//! each piece; else the least refusal is reported, with what holds up to its place, and its piece is left as it was before the record
+//! that it refuses. A board keeps the values: whenever its lock is free its history is legal, and each posted value is that of its
+//! own piece over the round that the board is of.
 //!
 //! Not promised: that a thread gets on.
 #![tactic(auto)]

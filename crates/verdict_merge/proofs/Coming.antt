@@ -17,7 +17,7 @@ use Rattle.user_rules.specs.declared.relation.Relation.{Relation}
 use Rattle.verdict_merge.specs.declared.breach.Seen.{Seen}
 use Rattle.verdict_merge.specs.declared.finding.Refused.{Refused}
 use Rattle.verdict_merge.specs.declared.outcome.PieceOutcome.{PieceOutcome}
-use Rattle.verdict_merge.specs.Rounds.{HasRunOver, IsJudgedOver}
+use Rattle.verdict_merge.specs.Rounds.{HasRunOver, IsJudgedOver, Rejects}
 use Rattle.verdict_merge.specs.Views.{AreSeen, IsFirstBreach, before_place, seen_of, up_to}
 use Rattle.verdict_merge.proofs.Between.{Keeps}
 use Rattle.verdict_merge.proofs.Going.{passes_by, steps_over}
@@ -150,12 +150,14 @@ refuses_there configuration number first records relations old now next outcome 
     let piece = piece_at configuration number in
     let cut : drop index records ≡ ordered ∷ drop (suc index) records = subst (λ one. drop index records ≡ one ∷ drop (suc index) records) is (drop-cons records index ordered within) in
     let split : records ≡ take index records ++ ordered ∷ drop (suc index) records = sym (take-append-drop index records) ∙ ap (λ rest. take index records ++ rest) cut in
+    let left : PieceRun configuration piece old.part (take index records) next.part × Rejects configuration piece next.part ordered refused.cause =
+    subst (λ part. PieceRun configuration piece old.part (take index records) part × Rejects configuration piece part ordered refused.cause) (sym same) (come.run, (touched, fails)) in
     let before : up_to outcome.found records ≡ take index records =
     ap (λ one. up_to one records) found ∙ ap (before_place refused.pos) split
     ∙ before_of first (take index records) ordered (drop (suc index) records) refused.pos (subst (ArePlaced first) split placed) place in
     record {
       found = subst (λ one. HasRunOver configuration number old.part records one next.part) (sym found)
-          (whose, (take index records, ordered, drop (suc index) records, split, place, (now.part, come.run, touched, fails)));
+          (whose, (take index records, ordered, drop (suc index) records, split, place, left.0, left.1));
       seen = seen;
       are = subst (λ list. AreSeen configuration piece old.part 0 list seen) (sym before) come.seen;
       breach = breach;

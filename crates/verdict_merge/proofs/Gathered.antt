@@ -17,7 +17,7 @@ use Rattle.verdict_merge.proofs.Viewing.{AreSound, HasFilled}
 -- record, and the first of these that breaks a rule
 pub record AreTakenIn (configuration : Configuration) (records : List Ordered) (relations : List Relation) (old : List Holding) (judged : List Judged) (count : ℕ) (found : Option Refused) (breach : Option Breach) : Type 0 where
   pub been : (number : ℕ) → number < count → HasBeen configuration (parts_in old) records (parts_in (pieces_in judged)) found number
-  pub least : IsFound configuration (parts_in old) records count found
+  pub least : IsFound configuration (parts_in old) (parts_in (pieces_in judged)) records count found
   pub slots : List (Option View)
   pub whole : length slots ≡ length records
   pub sound : AreSound configuration (parts_in old) records slots

@@ -1,10 +1,11 @@
 -- One round after another, and a No whatever comes after it.
 use Rattle.std.proofs.Common.{below_more, ◌≡◌, ◌⊎◌, ◌<◌, ◌≤◌, ◌+◌, ◌∙◌, ℕ, List, [], ◌∷◌, ◌++◌, Option, Some, None, length, refl, sym, ap, subst, arith, append_assoc, inl, inr}
 use Rattle.std.proofs.lemmas.List.{length-append}
+use Rattle.apex_types.specs.declared.cause.Cause.{Cause}
 use Rattle.apex_types.specs.declared.record.Ordered.{Ordered}
 use Rattle.apex_machine.specs.Configuration.{Configuration}
-use Rattle.apex_machine.specs.Pieces.{Part, pieces}
-use Rattle.apex_machine.specs.Runs.{ArePlaced, PieceRun}
+use Rattle.apex_machine.specs.Pieces.{Part, Piece, pieces}
+use Rattle.apex_machine.specs.Runs.{ArePlaced, PieceRun, Refuses}
 use Rattle.apex_laws.proofs.Joins.{runs_join}
 use Rattle.piece_check.specs.Parts.{piece_at}
 use Rattle.verdict_merge.specs.declared.finding.Refused.{Refused}
@@ -72,6 +73,14 @@ no_behind configuration parts records more found stands = record {
   larger = stands.larger;
 }
 
+-- a piece that refuses one of the records does so in the part that it has come to
+pub refuses_in : (configuration : Configuration) (piece : Piece) (old : Part) (records : List Ordered) (place : ℕ) (cause : Cause)
+    → (before : List Ordered) × (ordered : Ordered) × (after : List Ordered) × (records ≡ before ++ ordered ∷ after) × (place ≡ ordered.pos)
+    × Refuses configuration piece old before ordered cause
+    → (reached : Part) × RefusesAmong configuration piece old records place cause reached
+refuses_in configuration piece old records place cause (before, ordered, after, split, there, (reached, run, touched, fails)) =
+    (reached, (before, ordered, after, split, there, run, (touched, fails)))
+
 -- the least of what the pieces found
 
 -- what became of a piece, by the least finding so far: it ran over the records, or found what is no sooner
@@ -86,17 +95,17 @@ runs_to : (configuration : Configuration) (old new : ℕ → Part) (records : Li
     → HasBeen configuration old records new (Some found) number → Runs configuration old number front
 runs_to configuration old new records first found number placed front back split past (inl run) =
     runs_front configuration old number front back (subst (Runs configuration old number) split (new number, run))
-runs_to configuration old new records first found number placed front back split past (inr (other, (of, (before, ordered, after, split', place, refused)), later)) =
+runs_to configuration old new records first found number placed front back split past (inr (other, (of, (before, ordered, after, split', place, run, rejects)), later)) =
     let there : ordered.pos ≡ first + length before = place_behind first before ordered after (subst (ArePlaced first) split' placed) in
     let long = begins front back before (ordered ∷ after) (sym split ∙ split') (let most = past other of later in omega (arith, most, there, place)) in
-    runs_front configuration old number front long.0 (subst (Runs configuration old number) long.1 (refused.0, refused.1))
+    runs_front configuration old number front long.0 (subst (Runs configuration old number) long.1 (new number, run))
 
 -- the least finding is a No among the records
 pub least_is_no : (configuration : Configuration) (old new : ℕ → Part) (records : List Ordered) (first : ℕ) (found : Refused) (part : Part) → ArePlaced first records
     → found.piece < length (pieces configuration) → HasRunOver configuration found.piece (old found.piece) records (Some found) part
     → ((number : ℕ) → number < length (pieces configuration) → HasBeen configuration old records new (Some found) number)
     → IsNo configuration old records found
-least_is_no configuration old new records first found part placed within (of, (before, ordered, after, split, place, refused)) been =
+least_is_no configuration old new records first found part placed within (of, (before, ordered, after, split, place, run, rejects)) been =
     let at : ordered.pos ≡ first + length before = place_behind first before ordered after (subst (ArePlaced first) split placed) in
     record {
       before = before;
@@ -105,7 +114,7 @@ least_is_no configuration old new records first found part placed within (of, (b
       split = split;
       place = place;
       piece = within;
-      refused = refused;
+      refused = (part, run, rejects.0, rejects.1);
       smaller = λ number less.
           runs_to configuration old new records first found number placed (before ++ ordered ∷ []) after (split ∙ sym (append_assoc before (ordered ∷ []) after))
           (λ other of not. omega (arith, at, place, length-append before (ordered ∷ []), greater other found not (omega (arith, of, less)))) (been number (omega (arith, less, within)));
@@ -123,10 +132,10 @@ none_ran configuration old new records been = λ number within. elim (been numbe
 ]
 
 -- the least finding so far is of one of the pieces below this number
-abbrev pub IsFound : Configuration → (ℕ → Part) → List Ordered → ℕ → Option Refused → Type 0
-IsFound configuration old records number None = Unit {0}
-IsFound configuration old records number (Some found) =
-    (found.piece < number) × HasRunOver configuration found.piece (old found.piece) records (Some found) (old found.piece)
+abbrev pub IsFound : Configuration → (ℕ → Part) → (ℕ → Part) → List Ordered → ℕ → Option Refused → Type 0
+IsFound configuration old new records number None = Unit {0}
+IsFound configuration old new records number (Some found) =
+    (found.piece < number) × HasRunOver configuration found.piece (old found.piece) records (Some found) (new found.piece)
 
 -- one more piece
 
@@ -149,33 +158,34 @@ been_more configuration old now next records least found after number is been sa
   where
     stays : (one : ℕ) → one < number → HasBeen configuration old records now least one → HasBeen configuration old records next after one
     stays one less (inl run) = inl (subst (λ part. PieceRun configuration (piece_at configuration one) (old one) records part) (sym (same one less)) run)
-    stays one less (inr (other, went, later)) = inr (other, went, no_sooner_with least found after other is later)
+    stays one less (inr (other, went, later)) =
+        inr (other, subst (λ part. HasRunOver configuration one (old one) records (Some other) part) (sym (same one less)) went, no_sooner_with least found after other is later)
 
 -- what was found below a number was found below the next one
-found_below : (configuration : Configuration) (old : ℕ → Part) (records : List Ordered) (number : ℕ) (least : Option Refused)
-    → IsFound configuration old records number least → IsFound configuration old records (number + 1) least
-found_below configuration old records number None found = tt
-found_below configuration old records number (Some least) found = (omega (arith, found.0), found.1)
+found_below : (configuration : Configuration) (old new : ℕ → Part) (records : List Ordered) (number : ℕ) (least : Option Refused)
+    → IsFound configuration old new records number least → IsFound configuration old new records (number + 1) least
+found_below configuration old new records number None found = tt
+found_below configuration old new records number (Some least) found = (omega (arith, found.0), found.1)
 
-found_next : (configuration : Configuration) (old : ℕ → Part) (records : List Ordered) (number : ℕ) (next : Refused) (part : Part)
-    → HasRunOver configuration number (old number) records (Some next) part → IsFound configuration old records (number + 1) (Some next)
-found_next configuration old records number next part (of, among) =
-    (omega (arith, of), (refl, subst (λ one. RefusesAmong configuration (piece_at configuration one) (old one) records next.pos next.cause) (sym of) among))
+found_next : (configuration : Configuration) (old new : ℕ → Part) (records : List Ordered) (number : ℕ) (next : Refused)
+    → HasRunOver configuration number (old number) records (Some next) (new number) → IsFound configuration old new records (number + 1) (Some next)
+found_next configuration old new records number next (of, among) =
+    (omega (arith, of), (refl, subst (λ one. RefusesAmong configuration (piece_at configuration one) (old one) records next.pos next.cause (new one)) (sym of) among))
 
-found_lesser : (configuration : Configuration) (old : ℕ → Part) (records : List Ordered) (number : ℕ) (least : Option Refused) (next one : Refused) (part : Part)
-    → IsLesser Precedes least next one → IsFound configuration old records number least → HasRunOver configuration number (old number) records (Some next) part
-    → IsFound configuration old records (number + 1) (Some one)
-found_lesser configuration old records number None next one part is found outcome =
-    subst (λ f. IsFound configuration old records (number + 1) (Some f)) (sym is) (found_next configuration old records number next part outcome)
-found_lesser configuration old records number (Some least) next one part (inl (is, sooner)) found outcome =
-    subst (λ f. IsFound configuration old records (number + 1) (Some f)) (sym is) (found_next configuration old records number next part outcome)
-found_lesser configuration old records number (Some least) next one part (inr (is, kept)) found outcome =
-    subst (λ f. IsFound configuration old records (number + 1) (Some f)) (sym is) (found_below configuration old records number (Some least) found)
+found_lesser : (configuration : Configuration) (old new : ℕ → Part) (records : List Ordered) (number : ℕ) (least : Option Refused) (next one : Refused)
+    → IsLesser Precedes least next one → IsFound configuration old new records number least → HasRunOver configuration number (old number) records (Some next) (new number)
+    → IsFound configuration old new records (number + 1) (Some one)
+found_lesser configuration old new records number None next one is found outcome =
+    subst (λ f. IsFound configuration old new records (number + 1) (Some f)) (sym is) (found_next configuration old new records number next outcome)
+found_lesser configuration old new records number (Some least) next one (inl (is, sooner)) found outcome =
+    subst (λ f. IsFound configuration old new records (number + 1) (Some f)) (sym is) (found_next configuration old new records number next outcome)
+found_lesser configuration old new records number (Some least) next one (inr (is, kept)) found outcome =
+    subst (λ f. IsFound configuration old new records (number + 1) (Some f)) (sym is) (found_below configuration old new records number (Some least) found)
 
-pub found_more : (configuration : Configuration) (old : ℕ → Part) (records : List Ordered) (number : ℕ) (least found after : Option Refused) (part : Part)
-    → IsLeastWith least found after → IsFound configuration old records number least → HasRunOver configuration number (old number) records found part
-    → IsFound configuration old records (number + 1) after
-found_more configuration old records number least None after part is found outcome =
-    subst (IsFound configuration old records (number + 1)) (sym is) (found_below configuration old records number least found)
-found_more configuration old records number least (Some next) after part (one, is, lesser) found outcome =
-    subst (IsFound configuration old records (number + 1)) (sym is) (found_lesser configuration old records number least next one part lesser found outcome)
+pub found_more : (configuration : Configuration) (old new : ℕ → Part) (records : List Ordered) (number : ℕ) (least found after : Option Refused)
+    → IsLeastWith least found after → IsFound configuration old new records number least → HasRunOver configuration number (old number) records found (new number)
+    → IsFound configuration old new records (number + 1) after
+found_more configuration old new records number least None after is found outcome =
+    subst (IsFound configuration old new records (number + 1)) (sym is) (found_below configuration old new records number least found)
+found_more configuration old new records number least (Some next) after (one, is, lesser) found outcome =
+    subst (IsFound configuration old new records (number + 1)) (sym is) (found_lesser configuration old new records number least next one lesser found outcome)

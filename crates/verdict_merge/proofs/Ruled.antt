@@ -278,7 +278,7 @@ breach_within configuration relations parts records found (Some breach) tested =
 run_of_round : (configuration : Configuration) (old new : Judging) (records : List Ordered) (found : Option Refused) → IsRound configuration old records found new
     → HaveRun configuration (parts_of old) records found
 run_of_round configuration old new records None is = λ number within. (parts_of new number, is.0 number within)
-run_of_round configuration old new records (Some found) is = is
+run_of_round configuration old new records (Some found) is = is.0
 
 -- the verdict that ends a round stands, whatever comes after
 pub ends_here : (configuration : Configuration) (relations : List Relation) (old new : Judging) (records more : List Ordered) (found : Option Refused) (breach : Option Breach) (verdict : Verdict)
@@ -292,7 +292,7 @@ ends_here configuration relations old new records more found (Some breach) verdi
 ends_here configuration relations old new records more (Some found) None verdict placed round tested is =
     let same : no_of found ≡ verdict = cc in
     subst (IsVerdictFrom configuration relations (parts_of old) old.count (records ++ more)) same
-    (no_here configuration relations (parts_of old) old.count records more found placed round (meet_tested configuration relations (parts_of old) records (Some found) tested))
+    (no_here configuration relations (parts_of old) old.count records more found placed round.0 (meet_tested configuration relations (parts_of old) records (Some found) tested))
 ends_here configuration relations old new records more None None verdict placed round tested is = let none : ◌≡◌ {A = Option Verdict} None (Some verdict) = is in cc
 
 -- where nothing decides against a round, all pieces ran over it, and its views meet every relation

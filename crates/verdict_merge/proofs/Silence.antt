@@ -1,5 +1,5 @@
 -- Where all pieces run over the records, these are a run of the machine.
-use Rattle.std.proofs.Common.{◌≡◌, ◌<◌, ◌+◌, ◌-◌, ◌∙◌, ℕ, suc, List, [], Bool, true, false, get_or, length, map, nat_eq, ap, refl, sym, subst, true≢false, eqb-true, arith}
+use Rattle.std.proofs.Common.{◌≡◌, ◌<◌, ◌+◌, ◌-◌, ◌∙◌, ℕ, suc, List, Bool, true, false, get_or, length, map, nat_eq, ap, refl, sym, subst, true≢false, eqb-true, arith}
 use Rattle.std.specs.Prelude.{IsTrue}
 use Rattle.std.specs.List.{list_any}
 use Rattle.std.proofs.lemmas.List.{get_or_default, length-map}

@@ -25,7 +25,7 @@ use Rattle.verdict_merge.specs.Rounds.{AllRun, IsNo, Runs, cold_parts}
 use Rattle.verdict_merge.specs.Verdicts.{AllFind, Follows, IsVerdict, VerdictIsOfTheFindings, findings_of}
 use Rattle.verdict_merge.proofs.Among.{contains_behind, contains_cases, contains_here, contains_none}
 use Rattle.verdict_merge.proofs.Least.{least_more, not_itself, through}
-use Rattle.verdict_merge.proofs.Rounds.{HasBeen, least_is_no, runs_front}
+use Rattle.verdict_merge.proofs.Rounds.{HasBeen, least_is_no, refuses_in, runs_front}
 use Rattle.verdict_merge.proofs.Splits.{begins_with, place_behind}
 
 -- what the pieces say of one order of records, whatever the rules
@@ -250,14 +250,11 @@ been_so configuration records findings least all no_other number within = by (fo
     by (None, finds, tells) =
         let run = (nothing_found_is_a_run configuration (piece_at configuration number) (cold_parts configuration number) records).0 finds in
         (run.0, inl run.1)
-    by (Some refusal, finds, tells) = (
-      ModulePart [],
-      inr (
-        as_finding number refusal,
-        (refl, (found_is_refused configuration (piece_at configuration number) (cold_parts configuration number) records refusal).0 finds),
-        no_other (as_finding number refusal) (tells refusal refl),
-      ),
-    )
+    by (Some refusal, finds, tells) =
+        let piece = piece_at configuration number in
+        let among = refuses_in configuration piece (cold_parts configuration number) records refusal.pos refusal.cause
+        ((found_is_refused configuration piece (cold_parts configuration number) records refusal).0 finds) in
+        (among.0, inr (as_finding number refusal, (refl, among.1), no_other (as_finding number refusal) (tells refusal refl)))
 
 least_no : (configuration : Configuration) (records : List Ordered) (findings : List Refused) (least : Refused) → ArePlaced 0 records
     → AllFind configuration 0 (pieces configuration) records findings → IsLeast Precedes findings (Some least) → IsNo configuration (cold_parts configuration) records least
@@ -268,8 +265,11 @@ least_no configuration records findings least placed all (there, no_other) =
     let been = part_where (length (pieces configuration))
     (λ number final. HasBeen configuration (cold_parts configuration) records (λ _. final) (Some least) number)
     (been_so configuration records findings least all no_other) in
-    least_is_no configuration (cold_parts configuration) (λ number. (been number).0) records 0 least (cold_parts configuration least.piece) placed (omega (arith, at, by.1))
-    (refl, (found_is_refused configuration (piece_at configuration least.piece) (cold_parts configuration least.piece) records (record { pos = least.pos; cause = least.cause })).0 finds)
+    let piece = piece_at configuration least.piece in
+    let among = refuses_in configuration piece (cold_parts configuration least.piece) records least.pos least.cause
+    ((found_is_refused configuration piece (cold_parts configuration least.piece) records (record { pos = least.pos; cause = least.cause })).0 finds) in
+    least_is_no configuration (cold_parts configuration) (λ number. (been number).0) records 0 least among.0 placed (omega (arith, at, by.1))
+    (refl, among.1)
     (λ number within. (been number).1 within)
 
 follows_is : (configuration : Configuration) (records : List Ordered) (findings : List Refused) (verdict : Verdict) → ArePlaced 0 records

@@ -150,7 +150,7 @@ pub stands_before : (configuration : Configuration) (parts : ℕ → Part) (numb
     → (before : List Ordered) (ordered : Ordered) (after : List Ordered) → records ≡ before ++ ordered ∷ after → Runs configuration parts number (before ++ ordered ∷ [])
     → (more : List Ordered) × (up_to found records ≡ before ++ ordered ∷ more)
 stands_before configuration parts number first records None final placed outcome before ordered after split runs = (after, split)
-stands_before configuration parts number first records (Some found) final placed (of, (before', ordered', after', split', place, refused)) before ordered after split runs =
+stands_before configuration parts number first records (Some found) final placed (of, (before', ordered', after', split', place, ran, rejects)) before ordered after split runs =
     elim (cases_lt (length before) (length before')) [
       | inl less ↦
           let middle = begins_with before ordered after before' (ordered' ∷ after') (sym split ∙ split') less in
@@ -169,7 +169,7 @@ stands_before configuration parts number first records (Some found) final placed
         let front = begins (before' ++ ordered' ∷ []) after' (before ++ ordered ∷ []) after through
         (omega (arith, most, length-append before' (ordered' ∷ []), length-append before (ordered ∷ []))) in
         let run = runs_front configuration parts number (before' ++ ordered' ∷ []) front.0 (subst (Runs configuration parts number) front.1 runs) in
-        runs_and_refuses configuration (piece_at configuration number) (parts number) before' ordered' found.cause run.0 run.1 refused
+        runs_and_refuses configuration (piece_at configuration number) (parts number) before' ordered' found.cause run.0 run.1 (final, ran, rejects.0, rejects.1)
 
 -- one more piece has filled its slots
 pub filled_more : (configuration : Configuration) (parts : ℕ → Part) (number first : ℕ) (records : List Ordered) (found : Option Refused) (final : Part) (seen : List Seen) (slots : List (Option View))

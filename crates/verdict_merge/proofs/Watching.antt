@@ -21,10 +21,10 @@ use Rattle.verdict_merge.proofs.Verdicts.{no_at}
 use Rattle.verdict_merge.proofs.Viewing.{AreSound, HasFilled, up_to_front, views_of_slots}
 
 -- the place of the least refusal is one of the records'
-pub refused_within : (configuration : Configuration) (old : ℕ → Part) (records : List Ordered) (first count : ℕ) (least : Option Refused) → ArePlaced first records
-    → IsFound configuration old records count least → IfSome least (λ refused. (first ≤ refused.pos) × (refused.pos - first ≤ length records))
-refused_within configuration old records first count None placed found = tt
-refused_within configuration old records first count (Some least) placed (within, (of, (before, ordered, after, split, place, refused))) =
+pub refused_within : (configuration : Configuration) (old new : ℕ → Part) (records : List Ordered) (first count : ℕ) (least : Option Refused) → ArePlaced first records
+    → IsFound configuration old new records count least → IfSome least (λ refused. (first ≤ refused.pos) × (refused.pos - first ≤ length records))
+refused_within configuration old new records first count None placed found = tt
+refused_within configuration old new records first count (Some least) placed (within, (of, (before, ordered, after, split, place, run, rejects))) =
     let at = place_behind first before ordered after (subst (ArePlaced first) split placed) in
     let whole : length records ≡ length before + suc (length after) = ap length split ∙ length-append before (ordered ∷ after) in
     (omega (arith, place, at), omega (arith, place, at, whole))
@@ -81,13 +81,13 @@ views_are_wanted configuration parts first records found slots views placed outc
 -- what became of all pieces, as a survey has it
 pub outcome_of_piece : (configuration : Configuration) (old new : List Holding) (records : List Ordered) (first : ℕ) (least : Option Refused) → ArePlaced first records
     → ((number : ℕ) → number < length (pieces configuration) → HasBeen configuration (parts_in old) records (parts_in new) least number)
-    → IsFound configuration (parts_in old) records (length (pieces configuration)) least → rounds.HaveRunOver configuration old records least new
+    → IsFound configuration (parts_in old) (parts_in new) records (length (pieces configuration)) least → rounds.HaveRunOver configuration old records least new
 outcome_of_piece configuration old new records first None placed been found = none_ran configuration (parts_in old) (parts_in new) records been
 outcome_of_piece configuration old new records first (Some least) placed been (within, outcome) =
-    least_is_no configuration (parts_in old) (parts_in new) records first least (parts_in old least.piece) placed within outcome been
+    (least_is_no configuration (parts_in old) (parts_in new) records first least (parts_in new least.piece) placed within outcome been, outcome.1)
 
 -- so each piece ran over the records, or a No is among them
 pub have_run_over : (configuration : Configuration) (old new : List Holding) (records : List Ordered) (least : Option Refused) → rounds.HaveRunOver configuration old records least new
     → HaveRun configuration (parts_in old) records least
 have_run_over configuration old new records None all = λ number within. (parts_in new number, all number within)
-have_run_over configuration old new records (Some least) stands = stands
+have_run_over configuration old new records (Some least) ends = ends.0

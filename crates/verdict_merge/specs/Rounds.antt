@@ -1,10 +1,10 @@
 -- What all pieces make of the next records.
-use Rattle.std.specs.Prelude.{◌≡◌, ◌<◌, ◌+◌, false, ℕ, zero, suc, List, [], ◌∷◌, ◌++◌, IfSome, Option, Some, None, length, map, slice_get, slice_index_or}
+use Rattle.std.specs.Prelude.{◌≡◌, ◌<◌, ◌+◌, false, ℕ, zero, suc, List, [], ◌∷◌, ◌++◌, IfSome, IsTrue, Option, Some, None, length, map, slice_get, slice_index_or}
 use Rattle.apex_types.specs.declared.cause.Cause.{Cause}
 use Rattle.apex_types.specs.declared.record.Ordered.{Ordered}
 use Rattle.apex_machine.specs.Configuration.{Configuration}
 use Rattle.apex_machine.specs.Demands.{FirstFails, LocalStep, demands}
-use Rattle.apex_machine.specs.Pieces.{ModulePart, Part, Piece, part, pieces}
+use Rattle.apex_machine.specs.Pieces.{ModulePart, Part, Piece, part, pieces, touches}
 use Rattle.apex_machine.specs.Runs.{PieceRun, Refuses}
 use Rattle.apex_machine.specs.State.{cold_state}
 use Rattle.piece_check.specs.declared.fault.PieceFault.{PieceFault}
@@ -49,17 +49,22 @@ pub record IsNo (configuration : Configuration) (parts : ℕ → Part) (records 
 
 -- one piece among them
 
--- somewhere among these records a piece refuses one, at this place and for this cause
-abbrev pub RefusesAmong : Configuration → Piece → Part → List Ordered → ℕ → Cause → Type 0
-RefusesAmong configuration piece old records place cause =
+-- in this part a piece rejects a record for a cause: the record touches the piece, and the first demand that fails has the cause
+abbrev pub Rejects : Configuration → Piece → Part → Ordered → Cause → Type 0
+Rejects configuration piece part ordered cause = IsTrue (touches configuration piece ordered) × FirstFails (demands configuration part ordered) cause
+
+-- somewhere among these records a piece refuses one, at this place and for this cause: it runs over those before it to its new part,
+-- in which it rejects that record
+abbrev pub RefusesAmong : Configuration → Piece → Part → List Ordered → ℕ → Cause → Part → Type 0
+RefusesAmong configuration piece old records place cause new =
     (before : List Ordered) × (ordered : Ordered) × (after : List Ordered) × (records ≡ before ++ ordered ∷ after) × (place ≡ ordered.pos)
-    × Refuses configuration piece old before ordered cause
+    × PieceRun configuration piece old before new × Rejects configuration piece new ordered cause
 
 -- what became of the piece of this number: it ran over the records, or refused one of them
 abbrev pub HasRunOver : Configuration → ℕ → Part → List Ordered → Option Refused → Part → Type 0
 HasRunOver configuration number old records None new = PieceRun configuration (piece_at configuration number) old records new
 HasRunOver configuration number old records (Some found) new =
-    (found.piece ≡ number) × RefusesAmong configuration (piece_at configuration number) old records found.pos found.cause
+    (found.piece ≡ number) × RefusesAmong configuration (piece_at configuration number) old records found.pos found.cause new
 
 -- the piece of this number may go over records from this place on: it is of this module, and holds before the place
 pub record IsGoing (configuration : Configuration) (number place : ℕ) (holding : Holding) : Type 0 where
@@ -116,10 +121,16 @@ pub record AreGoing (configuration : Configuration) (place : ℕ) (holdings : Li
   pub whole : length holdings ≡ length (pieces configuration)
   pub each : (number : ℕ) → number < length (pieces configuration) → IsGoing configuration number place (holding_at holdings number)
 
+-- a No among records; the piece that refuses the one at its place is left as it was before that record, and so rejects it
+abbrev pub EndsInNo : Configuration → (ℕ → Part) → List Ordered → Refused → (ℕ → Part) → Type 0
+EndsInNo configuration old records found new =
+    IsNo configuration old records found
+    × RefusesAmong configuration (piece_at configuration found.piece) (old found.piece) records found.pos found.cause (new found.piece)
+
 -- what became of all pieces: each ran over the records; or one is the first to refuse a record among them
 abbrev pub HaveRunOver : Configuration → List Holding → List Ordered → Option Refused → List Holding → Type 0
 HaveRunOver configuration old records None new = AllRun configuration (parts_in old) records (parts_in new)
-HaveRunOver configuration old records (Some found) new = IsNo configuration (parts_in old) records found
+HaveRunOver configuration old records (Some found) new = EndsInNo configuration (parts_in old) records found (parts_in new)
 
 -- each of these pieces went over records from this place on; one for each stands at its number
 pub record AreJudgedOver (configuration : Configuration) (first : ℕ) (records : List Ordered) (relations : List Relation) (old : List Holding) (judged : List Judged) : Type 0 where
@@ -149,8 +160,8 @@ pub record IsSurveyed (configuration : Configuration) (first : ℕ) (records : L
 abbrev pub IsReady : Configuration → Judging → Type 0
 IsReady configuration judging = AreGoing configuration judging.count judging.pieces
 
--- a round: where nothing is refused each piece ran over the records, and may go on; else there is a No among them
+-- a round: where nothing is refused each piece ran over the records, and may go on; else it ends in a No among them
 abbrev pub IsRound : Configuration → Judging → List Ordered → Option Refused → Judging → Type 0
 IsRound configuration old records None new =
     AllRun configuration (parts_of old) records (parts_of new) × (new.count ≡ old.count + length records) × IsReady configuration new
-IsRound configuration old records (Some found) new = IsNo configuration (parts_of old) records found
+IsRound configuration old records (Some found) new = EndsInNo configuration (parts_of old) records found (parts_of new)

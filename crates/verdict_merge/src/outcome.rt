@@ -62,8 +62,8 @@ pub struct PieceOutcome {
     pub breach: Option<Breach>,
 }
 
-/// The piece of this number goes over the records that touch it, up to its first refusal. The view of each record that it judges
-/// is tested by the rules; where there is no rule it makes no view.
+/// The piece of this number goes over the records that touch it, up to its first refusal, which leaves it as it was before that
+/// record. The view of each record that it judges is tested by the rules; where there is no rule it makes no view.
 ///
 /// Memory where the piece was refused memory.
 pub fn go_over(

@@ -46,7 +46,7 @@ pieces-preserved c = λ relations start going over.
     let have = seen_have_slots config (parts_in start) number records one.outcome.found here.seen before.slots before.whole here.are in
     record {
       been = been_more config (parts_in start) left left records old.found one.outcome.found now.found number c.take_in.ensures.found before.been (λ other less. refl) outcome;
-      least = found_more config (parts_in start) records number old.found one.outcome.found now.found (left number) c.take_in.ensures.found before.least outcome;
+      least = found_more config (parts_in start) left records number old.found one.outcome.found now.found c.take_in.ensures.found before.least outcome;
       slots = put_in here.seen before.slots;
       whole = length-put_in here.seen before.slots ∙ before.whole;
       sound = sound_more config (parts_in start) number records one.outcome.found here.seen before.slots within give before.whole here.are before.sound;
@@ -64,10 +64,11 @@ breach_in-breach-requires c =
     let records = lent.records.now in
     let relations = c.requires.outcome.0 in
     let start = c.requires.outcome.1 in
+    let left = parts_in (pieces_in c.args.judged.items) in
     let after = c.pieces.invariant relations start c.requires.outcome.2 c.requires.outcome.3 in
     let all : length (pieces config) ≡ c.pieces.number = omega (arith, c.pieces-test.false, c.pieces.auto.number-end, c.requires.outcome.3.whole, c.requires.outcome.2.whole, c.args.judged.ok) in
-    let found = subst (λ count. IsFound config (parts_in start) records count c.pieces.gathering.found) (sym all) after.least in
-    refused_within config (parts_in start) records lent.first (length (pieces config)) c.pieces.gathering.found c.requires.placed found
+    let found = subst (λ count. IsFound config (parts_in start) left records count c.pieces.gathering.found) (sym all) after.least in
+    refused_within config (parts_in start) left records lent.first (length (pieces config)) c.pieces.gathering.found c.requires.placed found
 
 pub returns-in-Ok : goal.returns-in-Ok
 returns-in-Ok c = λ relations start going over.
@@ -79,7 +80,7 @@ returns-in-Ok c = λ relations start going over.
     let left = parts_in (pieces_in judged) in
     let after = c.pieces.invariant relations start going over in
     let all : length (pieces config) ≡ c.pieces.number = omega (arith, c.pieces-test.false, c.pieces.auto.number-end, over.whole, going.whole, c.args.judged.ok) in
-    let found = subst (λ count. IsFound config (parts_in start) records count gathering.found) (sym all) after.least in
+    let found = subst (λ count. IsFound config (parts_in start) left records count gathering.found) (sym all) after.least in
     let been : (number : ℕ) → number < length (pieces config) → HasBeen config (parts_in start) records left gathering.found number =
     λ number within. after.been number (omega (arith, within, all)) in
     let stands = outcome_of_piece config start (pieces_in judged) records lent.first gathering.found c.requires.placed been found in
