@@ -1,9 +1,10 @@
 -- What the records of a round decide, and how a round is placed.
-use Rattle.std.specs.Prelude.{◌≡◌, ◌+◌, ◌⊎◌, List, ◌++◌, Option, Some, None, Result, Ok, Err, false, length}
+use Rattle.std.specs.Prelude.{◌≡◌, ◌+◌, ◌⊎◌, List, ◌++◌, Contains, Option, Some, None, Result, Ok, Err, false, length}
 use Rattle.apex_types.specs.declared.record.Ordered.{Ordered}
 use Rattle.apex_machine.specs.Configuration.{Configuration}
 use Rattle.apex_machine.specs.Runs.{ArePlaced, AreOfCores}
 use Rattle.order_cert.specs.Kept.{place_of}
+use Rattle.piece_check.specs.Parts.{holder}
 use Rattle.placement.specs.declared.fault.InputFault.{InputFault}
 use Rattle.placement.specs.declared.placer.Filled.{Filled}
 use Rattle.placement.specs.declared.placer.Filled.TheVariants.{Full}
@@ -11,8 +12,9 @@ use Rattle.placement.specs.Lanes.{AreHonest, IsFilled, Placing}
 use Rattle.placement.specs.Reading.{CanFail}
 use Rattle.user_rules.specs.declared.relation.Relation.{Relation}
 use Rattle.verdict_merge.specs.declared.verdict.Verdict.{Verdict}
+use Rattle.verdict_merge.specs.declared.verdict.Verdict.TheVariants.{No}
 use Rattle.verdict_merge.specs.Verdicts.{IsVerdictFrom, ViewsMeet}
-use Rattle.verdict_merge.specs.Rounds.{AllRun, IsReady, Judging, parts_of}
+use Rattle.verdict_merge.specs.Rounds.{AllRun, IsReady, Judging, Rejects, parts_of}
 use Rattle.report.specs.declared.fault.CheckFault.{CheckFault}
 use Rattle.report.specs.declared.fault.CheckFault.TheVariants.{Memory}
 use Rattle.report.specs.Outcome.{answer_with}
@@ -27,14 +29,22 @@ pub record MayJudge (configuration : Configuration) (judging : Judging) (records
 abbrev pub IsFinal : Verdict → Type 0
 IsFinal verdict = (end : Result (Unit {0}) InputFault) → Ok verdict ≡ answer_with verdict end
 
+-- where the answer is No, the record at its place is one of these, and the piece of its number, as it is now, rejects it for its cause
+abbrev pub StillRejects : Configuration → List Ordered → Result Verdict CheckFault → Judging → Type 0
+StillRejects configuration records (Ok (No place number cause)) judging =
+    (ordered : Ordered) × Contains records ordered × (ordered.pos ≡ place)
+    × Rejects configuration (holder (parts_of judging number)) (parts_of judging number) ordered cause
+StillRejects configuration records _ judging = Unit {0}
+
 -- what the records of a round decide: nothing, where each piece ran over them and each of their views meets every relation; or the
--- verdict over them, whatever comes after them
+-- verdict over them, whatever comes after them, and after a No its piece still rejects its record
 abbrev pub IsDecided : Configuration → List Relation → Judging → List Ordered → Option Verdict → Judging → Type 0
 IsDecided configuration relations old records None new =
     AllRun configuration (parts_of old) records (parts_of new) × (new.count ≡ old.count + length records)
     × ViewsMeet configuration relations (parts_of old) records × IsReady configuration new
 IsDecided configuration relations old records (Some verdict) new =
     ((later : List Ordered) → IsVerdictFrom configuration relations (parts_of old) old.count (records ++ later) verdict) × IsFinal verdict
+    × StillRejects configuration records (Ok verdict) new
 
 -- the answer over the last records, after which the input ends so; want of memory outranks it
 abbrev pub IsLastAnswer : Configuration → List Relation → Judging → List Ordered → Result (Unit {0}) InputFault → Result Verdict CheckFault → Type 0

@@ -11,8 +11,8 @@
 //! read ahead: the depth and two batches.
 //!
 //! `check_inputs` is the check; the other calls are the same one under other arguments. Whoever has relations, and no tests of their
-//! own, calls `check_relations`. A witness receives what is at the place of a No, to show it to a person; the answer is the
-//! same for every witness.
+//! own, calls `check_relations`. A witness receives what is at the place of a No, to show it to a person: a piece that rejects the
+//! record for the cause, in the state in which it is shown. The answer is the same for every witness.
 #![tactic(auto)]
 
 mod checking;

@@ -20,7 +20,7 @@ returns-in-Ended g c = λ honest.
     rw (rw (c.deref-in-Ended.ensures.value, c.count-first.ensures, outcome.3) at c.keep_behind.ensures)
     (last_on can_fail c.args.config.now (relations_of c.args.rules.now) c.args.placer.now c.rounds.placer c.rounds.judge outcome.0 round c.in-Ended.end c.judge_last-answer.result
     (subst (λ filled. IsFilled can_fail c.args.placer.now (outcome.0 ++ round) filled c.rounds.placer) c.in-Ended.is (outcome.1 honest)) outcome.2 c.rounds.invariant.may.placed
-    (rw c.deref.ensures.value at c.judge_last-answer.ensures))
+    (rw c.deref.ensures.value at c.judge_last-answer.ensures.answer))
 
 pub returns-in-Ok-Some : goal.returns-in-Ok-Some
 returns-in-Ok-Some g c =
