@@ -6,8 +6,7 @@ use crate::ending::Ending;
 use crate::explainer::Explainer;
 use crate::files::{open, open_text};
 use crate::usage::{Asked, FileNames, UsageFault, tell_usage};
-use csv::ByteRecord;
-use csv_rows::read_decimal;
+use csv_rows::{RowFields, read_decimal};
 use explanation::{Explanation, RecordNumber};
 use input_explanation::{
     FoundRow, find_row, tell_certificate, tell_configuration, tell_order, tell_row_fault,
@@ -178,7 +177,7 @@ impl<'a, R: Files<File = F>, F: Read + Drop> RunFiles<'a, R> {
 }
 
 // The fields of a row, where it is found.
-fn fields_of(alloc: Global, found: &Option<FoundRow>) -> Option<ByteRecord> {
+fn fields_of(alloc: Global, found: &Option<FoundRow>) -> Option<RowFields> {
     match found {
         Some(row) => row.fields(alloc),
         None => None,

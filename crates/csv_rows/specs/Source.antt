@@ -3,7 +3,7 @@ use Rattle.std.specs.Prelude.{◌≡◌, ◌⊎◌, ℕ, suc, List, [], ◌∷�
 use Rattle.csv_rows.specs.Stream.{Fields, rows_of}
 
 -- what callers see of a source: whether a fault has stopped it, whether its end was reported, whether the source of the
--- text has failed, whether `csv` gave up with no failed read, and the items that are left where the bytes are known
+-- text has failed, whether its rows stopped with no failed read, and the items that are left where the bytes are known
 pub record Source (Item : Type 0) : Type 0 where
   pub stopped : Bool
   pub ended : Bool

@@ -13,7 +13,7 @@ Fields = List (List ℕ)
 abbrev pub rows_of : List ℕ → List Fields
 rows_of text = records default_config (strip_bom text)
 
--- what callers see of a stream: whether it has stopped, for a failed read or because `csv` gave up, whether its end was
+-- what callers see of a stream: whether it has stopped, for a failed read or because memory was refused, whether its end was
 -- reported, whether the source of the text has failed, and the rows that are left where the bytes are known
 pub record Stream : Type 0 where
   pub stopped : Bool

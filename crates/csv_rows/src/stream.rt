@@ -1,13 +1,12 @@
 // The rows of a text, as raw fields.
 
-ghost use Rattle.std.specs.Prelude.{◌≡◌, ◌||◌, false, true, not, is_err, IfOk, IfSome, Ok, Err, Some, [], option_map, if◌then◌else◌};
-ghost use Rattle.csv.specs.Reading.{has_failed, reader_source};
-ghost use Rattle.csv.specs.Records.{fields_of};
-ghost use Rattle.csv_rows.specs.Stream.{IsSet, Takes, left_of, rows_of};
+ghost use Rattle.std.specs.Prelude.{◌≡◌, false, true, not, is_err, IfOk, IfSome, Ok, Err, option_map};
+ghost use Rattle.csv_rows.specs.Stream.{Takes, rows_of};
 
-use crate::source_reader::SourceReader;
+use crate::ahead::Ahead;
+use crate::fields::RowFields;
+use crate::text::{Text, source_in, take_row};
 use crate::text_source::TextSource;
-use csv::{ByteRecord, Reader, ReaderBuilder};
 use std::alloc::Global;
 use std::marker::Model;
 
@@ -24,31 +23,35 @@ pub enum StreamFault {
 /// fields a row, no header, nothing trimmed.
 #[derive(Drop)]
 pub struct CsvRows<R: TextSource> {
-    reader: Reader<SourceReader<R>>,
+    alloc: Global,
+    text: Text<R>,
     // Whether a row was asked for: a source that has failed before stops these rows at the first call, which tells of it.
     begun: bool,
     ended: bool,
+    // Whether memory was refused.
+    starved: bool,
 }
 
 impl<R: TextSource> Model for CsvRows<R> {
     ghost use Rattle.std.specs.Prelude.{◌≡◌, ◌&&◌, ◌||◌, if◌then◌else◌, Some, [], false, true};
-    ghost use Rattle.csv.specs.Reading.{has_failed, reader_source};
-    ghost use Rattle.csv_rows.specs.Stream.{Stream, IsSet, left_of};
+    ghost use Rattle.csv_rows.specs.Stream.{Stream};
+    ghost use Rattle.csv_rows.specs.Text.{IsHere, IsReady, failed_in, left_in};
 
     ghost Value = { Stream };
 
     ghost view = { λ rows. record {
-      stopped = rows.begun && (R.failed (reader_source rows.reader).source || has_failed rows.reader);
+      stopped = rows.starved || rows.begun && failed_in R.failed rows.text;
       ended = rows.ended;
-      failed = R.failed (reader_source rows.reader).source;
-      left = if rows.ended then Some [] else left_of (λ reader. R.remaining reader.source) rows.reader;
+      failed = failed_in R.failed rows.text;
+      left = if rows.ended then Some [] else left_in R.remaining rows.text;
     } };
 
-    ghost invariant = { λ rows. (rows.begun && (R.failed (reader_source rows.reader).source || has_failed rows.reader)) ≡ false → (rows.ended ≡ false → IsSet rows.reader) × (rows.ended ≡ true → R.failed (reader_source rows.reader).source ≡ false) };
+    ghost invariant = { λ rows. IsHere rows.text × ((rows.starved || rows.begun && failed_in R.failed rows.text) ≡ false → (rows.ended ≡ false → IsReady rows.text) × (rows.ended ≡ true → failed_in R.failed rows.text ≡ false)) };
 }
 
 impl<R: TextSource> CsvRows<R> {
     /// The rows of the text of this source. Takes no memory.
+    #[tactic(auto, using(crate::proofs::Texts::new_rows))]
     pub fn new(alloc: Global, source: R) -> CsvRows<R>
         ensures stopped { result.stopped ≡ false }
         ensures ended { result.ended ≡ false }
@@ -56,12 +59,16 @@ impl<R: TextSource> CsvRows<R> {
         ensures left { result.left ≡ option_map rows_of (R.remaining source) }
     {
         CsvRows {
-            reader: ReaderBuilder::new()
-                .has_headers(false)
-                .flexible(true)
-                .from_reader(alloc, SourceReader { source }),
+            alloc,
+            text: Text::Lines(Ahead {
+                source,
+                bytes: Vec::new(alloc),
+                at: 0,
+                is_begun: false,
+            }),
             begun: false,
             ended: false,
+            starved: false,
         }
     }
 
@@ -69,14 +76,14 @@ impl<R: TextSource> CsvRows<R> {
     pub fn source(&self) -> &R
         ensures failed { R.failed result.now ≡ self.now.failed }
     {
-        &self.reader.get_ref().source
+        source_in(&self.text)
     }
 
     /// Puts the next row into `fields`, and answers whether there was one. Once the end was reported, it is reported again.
     ///
-    /// Read where the source has failed, in this call or before the first, and else Memory where `csv` gave up, for which only
-    /// a refused growth is left as a reason; either stops these rows for good.
-    pub fn read(&mut self, fields: &mut ByteRecord) -> Result<bool, StreamFault>
+    /// Read where the source has failed, in this call or before the first, and else Memory where a growth of memory was refused;
+    /// either stops these rows for good.
+    pub fn read(&mut self, fields: &mut RowFields) -> Result<bool, StreamFault>
         requires going { self.old.stopped ≡ false }
         ensures stops { self.new.stopped ≡ is_err result }
         ensures ends { IfOk result (λ found. self.new.ended ≡ not found) }
@@ -85,7 +92,7 @@ impl<R: TextSource> CsvRows<R> {
         ensures failed { result ≡ Err StreamFault.Read → self.new.failed ≡ true }
         ensures reported { self.new.failed ≡ true → result ≡ Err StreamFault.Read }
         ensures can_fail { result ≡ Err StreamFault.Read → R.can_fail ≡ true }
-        ensures gives { IfOk result (λ found. IfSome self.old.left (λ rows. Takes found rows (fields_of fields.new) self.new.left)) }
+        ensures gives { IfOk result (λ found. IfSome self.old.left (λ rows. Takes found rows fields.new self.new.left)) }
     {
         if self.ended {
             return Ok(false);
@@ -94,31 +101,15 @@ impl<R: TextSource> CsvRows<R> {
         if self.source().has_failed() {
             return Err(StreamFault::Read);
         }
-        let found = take_row(&mut self.reader, fields)?;
-        self.ended = !found;
-        Ok(found)
-    }
-}
-
-// The next row of a reader that is set up and whose `csv` has not given up, and whether there was one.
-fn take_row<R: TextSource>(
-    reader: &mut Reader<SourceReader<R>>,
-    fields: &mut ByteRecord,
-) -> Result<bool, StreamFault>
-    requires { IsSet reader.old }
-    ensures takes { IfOk result (λ found. IfSome (left_of (λ reader. R.remaining reader.source) reader.old) (λ rows. Takes found rows (fields_of fields.new) (if found then left_of (λ reader. R.remaining reader.source) reader.new else Some []))) }
-    ensures set { IfOk result (λ _. IsSet reader.new) }
-    ensures stops { R.failed (reader_source reader.new).source || has_failed reader.new ≡ is_err result }
-    ensures failed { result ≡ Err StreamFault.Read → R.failed (reader_source reader.new).source ≡ true }
-    ensures reported { R.failed (reader_source reader.new).source ≡ true → result ≡ Err StreamFault.Read }
-    ensures can_fail { result ≡ Err StreamFault.Read → R.can_fail ≡ true }
-{
-    let found = reader.read_byte_record(fields).ok();
-    if reader.get_ref().source.has_failed() {
-        return Err(StreamFault::Read);
-    }
-    match found {
-        Some(found) => Ok(found),
-        None => Err(StreamFault::Memory),
+        match take_row(self.alloc, &mut self.text, fields) {
+            Ok(found) => {
+                self.ended = !found;
+                Ok(found)
+            }
+            Err(fault) => {
+                self.starved = fault == StreamFault::Memory;
+                Err(fault)
+            }
+        }
     }
 }

@@ -1,7 +1,6 @@
 // A row of a text, looked for once more: its line and its fields.
 
-use csv::ByteRecord;
-use csv_rows::CsvRows;
+use csv_rows::{CsvRows, RowFields};
 use std::alloc::Global;
 use std::io::Read;
 
@@ -137,8 +136,8 @@ fn found(walk: Walk) -> Option<FoundRow> {
 
 impl FoundRow {
     /// The fields of the row; None where memory is refused for them.
-    pub fn fields(&self, alloc: Global) -> Option<ByteRecord> {
-        let mut fields = ByteRecord::new(alloc);
+    pub fn fields(&self, alloc: Global) -> Option<RowFields> {
+        let mut fields = RowFields::new(alloc);
         let mut rows = CsvRows::new(alloc, self.text.as_slice());
         match rows.read(&mut fields) {
             Ok(true) => Some(fields),

@@ -1,11 +1,11 @@
 // The refusals of a certificate and of an order in words.
 
-use csv::ByteRecord;
+use csv_rows::RowFields;
 use order_cert::{CertFault, OrderFault};
 use wording::{Count, Found, Words};
 
 /// Tells the fault of a row of the certificate.
-pub fn tell_certificate(words: &mut Words, fault: CertFault, fields: Option<&ByteRecord>) {
+pub fn tell_certificate(words: &mut Words, fault: CertFault, fields: Option<&RowFields>) {
     words.say(fault);
     if let Some(fields) = fields {
         words.next_line();

@@ -5,13 +5,12 @@ use apex_types::limits::{
     LONGEST_NAME, MOST_RECORDS,
 };
 use apex_types::{Arguments, Service};
-use csv::ByteRecord;
-use csv_rows::{read_decimal, read_signed};
+use csv_rows::{RowFields, read_decimal, read_signed};
 use record_read::{COLUMNS, Column, Kind, RowFault, find_kind, find_service, text};
 use wording::{Count, Found, Words};
 
 /// Tells the fault of a row after so many sound ones: its field, where it is one of a field.
-pub fn tell_row_fault(words: &mut Words, fault: RowFault, seq: u64, fields: Option<&ByteRecord>) {
+pub fn tell_row_fault(words: &mut Words, fault: RowFault, seq: u64, fields: Option<&RowFields>) {
     words.say(fault);
     let Some(fields) = fields else {
         return;
@@ -61,13 +60,13 @@ pub fn tell_row_fault(words: &mut Words, fault: RowFault, seq: u64, fields: Opti
 }
 
 // Tells a field and what was expected in it.
-fn tell_expected(words: &mut Words, fields: &ByteRecord, column: Column, expected: &str) {
+fn tell_expected(words: &mut Words, fields: &RowFields, column: Column, expected: &str) {
     tell_field(words, fields, column);
     words.say(format_args!("; expected {expected}"));
 }
 
 // Tells a field with what it holds.
-fn tell_field(words: &mut Words, fields: &ByteRecord, column: Column) {
+fn tell_field(words: &mut Words, fields: &RowFields, column: Column) {
     words.say(format_args!(
         "the field {} is {}",
         column.name(),
@@ -76,7 +75,7 @@ fn tell_field(words: &mut Words, fields: &ByteRecord, column: Column) {
 }
 
 // Tells the first field that is no number of its range.
-fn tell_number(words: &mut Words, fields: &ByteRecord) {
+fn tell_number(words: &mut Words, fields: &RowFields) {
     for (column, _) in &COLUMNS {
         let given = text(fields, *column);
         let must_be_number = !given.is_empty() || *column == Column::Sequence;
@@ -121,7 +120,7 @@ fn is_no_number(column: Column, given: &[u8]) -> bool {
 }
 
 // Shows the message that is not one, or has the wrong length.
-fn tell_digits(words: &mut Words, fields: &ByteRecord, fault: RowFault) {
+fn tell_digits(words: &mut Words, fields: &RowFields, fault: RowFault) {
     let length = text(fields, Column::SecondNumber);
     let expected = message_length(length);
     let is_message = takes_message(fields)
@@ -146,7 +145,7 @@ fn tell_digits(words: &mut Words, fields: &ByteRecord, fault: RowFault) {
 }
 
 // Whether a row is a call of a service that is given a message.
-fn takes_message(fields: &ByteRecord) -> bool {
+fn takes_message(fields: &RowFields) -> bool {
     find_kind(text(fields, Column::Kind)) == Some(Kind::Call)
         && find_service(text(fields, Column::Service)).is_some_and(|service| service
             .arguments()
@@ -178,7 +177,7 @@ enum Filling {
 }
 
 // Tells the first field that is filled and may not be, or is empty and may not be.
-fn tell_misfit(words: &mut Words, fields: &ByteRecord) {
+fn tell_misfit(words: &mut Words, fields: &RowFields) {
     for column in [Column::Sequence, Column::Kind] {
         if text(fields, column).is_empty() {
             tell_field(words, fields, column);
@@ -213,12 +212,7 @@ fn tell_misfit(words: &mut Words, fields: &ByteRecord) {
 }
 
 // Whether a field of a row must be filled or empty.
-fn filling_of(
-    kind: Kind,
-    service: Option<Service>,
-    column: Column,
-    fields: &ByteRecord,
-) -> Filling {
+fn filling_of(kind: Kind, service: Option<Service>, column: Column, fields: &RowFields) -> Filling {
     match (kind, column) {
         (_, Column::Sequence | Column::Kind) => Filling::Either,
         (

@@ -1,20 +1,18 @@
 // The pair that the fields of a row are.
 
 ghost use Rattle.std.specs.Prelude.{◌≡◌, ◌<◌, ◌≤◌, IfOk, OnOk, IfErr, Ok, Err};
-ghost use Rattle.csv.specs.Records.{fields_of};
 ghost use Rattle.apex_types.specs.declared.limits.TheConstants.{PLACE_COUNT};
 ghost use Rattle.order_cert.specs.Row.{IsOfRow, item_of, number_at};
 
 use crate::fault::CertFault;
 use apex_types::Pair;
 use apex_types::limits::PLACE_COUNT;
-use csv::ByteRecord;
-use csv_rows::read_decimal;
+use csv_rows::{RowFields, read_decimal};
 
 /// The pair that the row of this number is, numbers from 0, or the first fault from left to right. Takes no memory.
 #[tactic(auto, unfolding(crate::specs::Row::pair_of))]
-pub fn read_item(number: u64, fields: &ByteRecord) -> Result<Pair, CertFault>
-    ensures value { result ≡ item_of number (fields_of fields.now) }
+pub fn read_item(number: u64, fields: &RowFields) -> Result<Pair, CertFault>
+    ensures value { result ≡ item_of number fields.now }
     ensures refused { IfErr result (λ fault. IsOfRow fault) }
     ensures bound { OnOk result (number < PLACE_COUNT) }
 {
@@ -34,8 +32,8 @@ pub fn read_item(number: u64, fields: &ByteRecord) -> Result<Pair, CertFault>
 
 // The number in the field at this place.
 #[tactic(auto, unfolding(crate::specs::Row::number_at))]
-fn read_number(fields: &ByteRecord, place: usize) -> Result<u64, CertFault>
-    ensures value { result ≡ number_at (fields_of fields.now) place }
+fn read_number(fields: &RowFields, place: usize) -> Result<u64, CertFault>
+    ensures value { result ≡ number_at fields.now place }
     ensures refused { IfErr result (λ fault. fault ≡ CertFault.BadNumber) }
     ensures bound { IfOk result (λ number. number ≤ 0xFFFFFFFF) }
 {

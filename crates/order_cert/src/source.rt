@@ -7,8 +7,7 @@ ghost use Rattle.order_cert.specs.Row.{IsOutside, pairs_of};
 use crate::fault::CertFault;
 use crate::pair::read_item;
 use apex_types::Pair;
-use csv::ByteRecord;
-use csv_rows::{CsvRows, StreamFault, TextSource};
+use csv_rows::{CsvRows, RowFields, StreamFault, TextSource};
 use std::alloc::Global;
 use std::marker::Model;
 
@@ -16,7 +15,7 @@ use std::marker::Model;
 #[derive(Drop)]
 pub struct CertSource<R: TextSource> {
     rows: CsvRows<R>,
-    fields: ByteRecord,
+    fields: RowFields,
     count: u64,
     stopped: bool,
 }
@@ -50,7 +49,7 @@ impl<R: TextSource> CertSource<R> {
     {
         CertSource {
             rows: CsvRows::new(alloc, source),
-            fields: ByteRecord::new(alloc),
+            fields: RowFields::new(alloc),
             count: 0,
             stopped: false,
         }
@@ -58,7 +57,7 @@ impl<R: TextSource> CertSource<R> {
 
     /// The next pair, or None after the last, then and from then on. After a fault every call answers Ended.
     ///
-    /// Read where the source has failed, Memory where `csv` gave up with no failed read; else the row's own fault.
+    /// Read where the source has failed, Memory where its rows stopped with no failed read; else the row's own fault.
     pub fn next(&mut self) -> Result<Option<Pair>, CertFault>
         ensures ended { self.old.stopped ≡ true → result ≡ Err CertFault.Ended }
         ensures fresh { self.old.stopped ≡ false → result ≢ Err CertFault.Ended }

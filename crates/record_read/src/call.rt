@@ -1,7 +1,6 @@
 // The rows of calls.
 
 ghost use Rattle.std.specs.Prelude.{◌≡◌, ◌≢◌, ◌⊎◌, [], IfOk, IfErr, OnOk, OnErr, Ok, Err};
-ghost use Rattle.csv.specs.Records.{fields_of};
 ghost use Rattle.apex_types.specs.declared.limits.TheConstants.{GREATEST_CHANNEL};
 ghost use Rattle.record_read.specs.Field.{maybe_number, text_at};
 ghost use Rattle.record_read.specs.Memory.{CallNeeds};
@@ -21,7 +20,7 @@ use apex_types::limits::{
     GREATEST_CHANNEL, GREATEST_NUMBER, GREATEST_PARTITION, GREATEST_PRIORITY,
 };
 use apex_types::{Call, ChanId, Claim, Format, Out, PartId, ProcId, Who};
-use csv::ByteRecord;
+use csv_rows::RowFields;
 use std::alloc::{AllocError, Global};
 
 // What a call claims beside its message and its list of processes.
@@ -37,9 +36,9 @@ struct PlainClaim {
 
 /// The call that these fields are in a recording of this format. The whole row is judged before memory is taken.
 #[tactic(auto, unfolding(crate::specs::Row::call_in))]
-pub fn read_call(alloc: Global, format: Format, fields: &ByteRecord) -> Result<Call, RowFault>
-    ensures value { IfOk result (λ call. call_in format (fields_of fields.now) ≡ Ok call) }
-    ensures refused { IfErr result (λ fault. Refuses CallNeeds fault (call_in format (fields_of fields.now))) }
+pub fn read_call(alloc: Global, format: Format, fields: &RowFields) -> Result<Call, RowFault>
+    ensures value { IfOk result (λ call. call_in format fields.now ≡ Ok call) }
+    ensures refused { IfErr result (λ fault. Refuses CallNeeds fault (call_in format fields.now)) }
 {
     let who = read_who(fields)?;
     let request = judge_request(format, fields)?;
@@ -59,8 +58,8 @@ pub fn read_call(alloc: Global, format: Format, fields: &ByteRecord) -> Result<C
 
 /// The process of a call or a return.
 #[tactic(auto, unfolding(crate::specs::Row::who_in))]
-pub fn read_who(fields: &ByteRecord) -> Result<Who, RowFault>
-    ensures value { result ≡ who_in (fields_of fields.now) }
+pub fn read_who(fields: &RowFields) -> Result<Who, RowFault>
+    ensures value { result ≡ who_in fields.now }
     ensures own { IfErr result (λ fault. IsOfRow fault) }
 {
     let part = required_number(text(fields, Column::Partition), GREATEST_PARTITION as u64)?;
@@ -73,11 +72,11 @@ pub fn read_who(fields: &ByteRecord) -> Result<Who, RowFault>
 
 // Judges what a call claims.
 #[tactic(auto, unfolding(crate::specs::Row::claim_in, crate::specs::Named::out_of))]
-fn judge_claim(fields: &ByteRecord) -> Result<PlainClaim, RowFault>
-    ensures value { IfOk result (λ plain. claim_in (fields_of fields.now) ≡ Ok (record { prio = plain.prio; out = plain.out; val = plain.val; val2 = plain.val2; val3 = plain.val3; bytes = hex_bytes (text_at (fields_of fields.now) Column.Data); chan = plain.chan; woken = processes_in (text_at (fields_of fields.now) Column.Woken) })) }
-    ensures hex { OnOk result (IsHex (text_at (fields_of fields.now) Column.Data)) }
-    ensures list { OnOk result (IsList (text_at (fields_of fields.now) Column.Woken)) }
-    ensures refused { IfErr result (λ fault. claim_in (fields_of fields.now) ≡ Err fault) }
+fn judge_claim(fields: &RowFields) -> Result<PlainClaim, RowFault>
+    ensures value { IfOk result (λ plain. claim_in fields.now ≡ Ok (record { prio = plain.prio; out = plain.out; val = plain.val; val2 = plain.val2; val3 = plain.val3; bytes = hex_bytes (text_at fields.now Column.Data); chan = plain.chan; woken = processes_in (text_at fields.now Column.Woken) })) }
+    ensures hex { OnOk result (IsHex (text_at fields.now Column.Data)) }
+    ensures list { OnOk result (IsList (text_at fields.now Column.Woken)) }
+    ensures refused { IfErr result (λ fault. claim_in fields.now ≡ Err fault) }
     ensures own { IfErr result (λ fault. IsOfRow fault) }
 {
     let prio = required_number(text(fields, Column::Priority), GREATEST_PRIORITY as u64)?;
@@ -100,11 +99,11 @@ fn judge_claim(fields: &ByteRecord) -> Result<PlainClaim, RowFault>
 }
 
 // The claim of a row that was judged. Memory is refused only where it has a message or a list of processes.
-fn make_claim(alloc: Global, plain: PlainClaim, fields: &ByteRecord) -> Result<Claim, AllocError>
-    requires digits { IsHex (text_at (fields_of fields.now) Column.Data) }
-    requires list { IsList (text_at (fields_of fields.now) Column.Woken) }
-    ensures value { IfOk result (λ claim. claim ≡ record { prio = plain.prio; out = plain.out; val = plain.val; val2 = plain.val2; val3 = plain.val3; bytes = hex_bytes (text_at (fields_of fields.now) Column.Data); chan = plain.chan; woken = processes_in (text_at (fields_of fields.now) Column.Woken) }) }
-    ensures memory { OnErr result ((hex_bytes (text_at (fields_of fields.now) Column.Data) ≢ []) ⊎ (processes_in (text_at (fields_of fields.now) Column.Woken) ≢ [])) }
+fn make_claim(alloc: Global, plain: PlainClaim, fields: &RowFields) -> Result<Claim, AllocError>
+    requires digits { IsHex (text_at fields.now Column.Data) }
+    requires list { IsList (text_at fields.now Column.Woken) }
+    ensures value { IfOk result (λ claim. claim ≡ record { prio = plain.prio; out = plain.out; val = plain.val; val2 = plain.val2; val3 = plain.val3; bytes = hex_bytes (text_at fields.now Column.Data); chan = plain.chan; woken = processes_in (text_at fields.now Column.Woken) }) }
+    ensures memory { OnErr result ((hex_bytes (text_at fields.now Column.Data) ≢ []) ⊎ (processes_in (text_at fields.now Column.Woken) ≢ [])) }
 {
     let bytes = copy_message(alloc, text(fields, Column::Data))?;
     let woken = copy_woken(alloc, text(fields, Column::Woken))?;

@@ -1,7 +1,6 @@
 // The rows of dispatches and ticks.
 
 ghost use Rattle.std.specs.Prelude.{◌≡◌, IfOk, IfErr, Ok};
-ghost use Rattle.csv.specs.Records.{fields_of};
 ghost use Rattle.record_read.specs.Memory.{TickNeeds};
 ghost use Rattle.record_read.specs.Row.{dispatch_in, proc_of, tick_in};
 ghost use Rattle.record_read.specs.Steps.{IsOfRow, Refuses};
@@ -12,13 +11,13 @@ use crate::field::{expect_empty, expect_empty_between, optional_number, required
 use crate::woken::{copy_woken, judge_woken};
 use apex_types::limits::{GREATEST_NUMBER, GREATEST_PARTITION};
 use apex_types::{PartId, ProcId, Who, Woken};
-use csv::ByteRecord;
+use csv_rows::RowFields;
 use std::alloc::Global;
 
 /// The process that a dispatch names, or none where the core stands idle.
 #[tactic(auto, unfolding(crate::specs::Row::dispatch_in))]
-pub fn read_dispatch(fields: &ByteRecord) -> Result<Option<Who>, RowFault>
-    ensures value { result ≡ dispatch_in (fields_of fields.now) }
+pub fn read_dispatch(fields: &RowFields) -> Result<Option<Who>, RowFault>
+    ensures value { result ≡ dispatch_in fields.now }
     ensures own { IfErr result (λ fault. IsOfRow fault) }
 {
     let part = match optional_number(text(fields, Column::Partition), GREATEST_PARTITION as u64)? {
@@ -49,9 +48,9 @@ fn read_proc(part: Option<u8>, text: &[u8]) -> Result<Option<Who>, RowFault>
 
 /// The processes whose wait ends at a tick. The whole row is judged before memory is taken.
 #[tactic(auto, unfolding(crate::specs::Row::tick_in))]
-pub fn read_tick(alloc: Global, fields: &ByteRecord) -> Result<Woken, RowFault>
-    ensures value { IfOk result (λ woken. tick_in (fields_of fields.now) ≡ Ok woken) }
-    ensures refused { IfErr result (λ fault. Refuses TickNeeds fault (tick_in (fields_of fields.now))) }
+pub fn read_tick(alloc: Global, fields: &RowFields) -> Result<Woken, RowFault>
+    ensures value { IfOk result (λ woken. tick_in fields.now ≡ Ok woken) }
+    ensures refused { IfErr result (λ fault. Refuses TickNeeds fault (tick_in fields.now)) }
 {
     expect_empty_between(fields, Column::Partition, Column::Channel)?;
     let list = text(fields, Column::Woken);

@@ -1,26 +1,24 @@
 // Fields of a row: filled or empty, and numbers.
 
 ghost use Rattle.std.specs.Prelude.{◌≡◌, ◌≤◌, ◌+◌, ◌<◌, ℕ, IfOk, IfErr, IfSome, Some};
-ghost use Rattle.csv.specs.Records.{fields_of};
 ghost use Rattle.record_read.specs.Column.{place_of};
 ghost use Rattle.record_read.specs.Field.{all_empty, argument, bytes_at, empty, empty_between, filled, maybe_number, maybe_signed, number, signed, text_at};
 ghost use Rattle.record_read.specs.Steps.{IsOfRow};
 
 use crate::column::Column;
 use crate::fault::RowFault;
-use csv::ByteRecord;
-use csv_rows::{read_decimal, read_signed};
+use csv_rows::{RowFields, read_decimal, read_signed};
 
 /// The text of a column; empty where the row ends before it.
-pub fn text(fields: &ByteRecord, column: Column) -> &[u8]
-    ensures { result.now ≡ text_at (fields_of fields.now) column }
+pub fn text(fields: &RowFields, column: Column) -> &[u8]
+    ensures { result.now ≡ text_at fields.now column }
 {
     bytes(fields, column.place())
 }
 
 // The bytes of the field at this place.
-fn bytes(fields: &ByteRecord, place: usize) -> &[u8]
-    ensures { result.now ≡ bytes_at (fields_of fields.now) place }
+fn bytes(fields: &RowFields, place: usize) -> &[u8]
+    ensures { result.now ≡ bytes_at fields.now place }
 {
     fields.get(place).unwrap_or(b"")
 }
@@ -37,13 +35,9 @@ pub fn expect_empty(text: &[u8]) -> Result<(), RowFault>
 }
 
 /// Sees that the fields from one column to another are empty.
-pub fn expect_empty_between(
-    fields: &ByteRecord,
-    first: Column,
-    last: Column,
-) -> Result<(), RowFault>
+pub fn expect_empty_between(fields: &RowFields, first: Column, last: Column) -> Result<(), RowFault>
     requires { place_of first ≤ place_of last }
-    ensures value { result ≡ empty_between (fields_of fields.now) first last }
+    ensures value { result ≡ empty_between fields.now first last }
     ensures own { IfErr result (λ fault. IsOfRow fault) }
 {
     expect_all_empty(fields, first.place(), last.place() + 1 - first.place())
@@ -51,9 +45,9 @@ pub fn expect_empty_between(
 
 // Sees that so many fields from this place on are empty.
 #[tactic(auto, using(crate::proofs::Empty::next_empty), unfolding(crate::specs::Field::all_empty))]
-fn expect_all_empty(fields: &ByteRecord, place: usize, count: usize) -> Result<(), RowFault>
+fn expect_all_empty(fields: &RowFields, place: usize, count: usize) -> Result<(), RowFault>
     requires { place + count ≤ 18 }
-    ensures value { result ≡ all_empty (fields_of fields.now) place count }
+    ensures value { result ≡ all_empty fields.now place count }
     ensures own { IfErr result (λ fault. IsOfRow fault) }
 {
     for step in 0..count {

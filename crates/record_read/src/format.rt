@@ -2,15 +2,14 @@
 
 ghost use Rattle.std.specs.Prelude.{◌≡◌};
 ghost use Rattle.std.specs.Option.{unwrap_or};
-ghost use Rattle.csv.specs.Records.{fields_of};
 ghost use Rattle.record_read.specs.Format.{begun_by};
 
 use apex_types::Format;
-use csv::ByteRecord;
+use csv_rows::RowFields;
 
 /// The format that the recording is known to have, or, where this is its first row, the one that the row gives.
-pub fn format_by(known: Option<Format>, fields: &ByteRecord) -> Format
-    ensures { result ≡ unwrap_or known (begun_by (fields_of fields.now)) }
+pub fn format_by(known: Option<Format>, fields: &RowFields) -> Format
+    ensures { result ≡ unwrap_or known (begun_by fields.now) }
 {
     match known {
         Some(format) => format,
@@ -19,8 +18,8 @@ pub fn format_by(known: Option<Format>, fields: &ByteRecord) -> Format
 }
 
 // The format of a recording that begins with this row.
-fn format_begun_by(fields: &ByteRecord) -> Format
-    ensures { result ≡ begun_by (fields_of fields.now) }
+fn format_begun_by(fields: &RowFields) -> Format
+    ensures { result ≡ begun_by fields.now }
 {
     if fields.len() == Format::Two.field_count() {
         Format::Two

@@ -1,7 +1,6 @@
 // The requests of rows.
 
 ghost use Rattle.std.specs.Prelude.{◌≡◌, ◌≢◌, ◌⊎◌, [], true, IfOk, IfErr, OnErr, Ok, Err};
-ghost use Rattle.csv.specs.Records.{fields_of};
 ghost use Rattle.apex_types.specs.Arguments.{request_of};
 ghost use Rattle.apex_types.specs.Services.{arguments_of};
 ghost use Rattle.record_read.specs.Payload.{IsHex, hex_bytes};
@@ -14,7 +13,7 @@ use crate::field::{read_argument, text};
 use crate::named::read_service;
 use crate::payload::{copy_message, copy_name, judge_message, judge_name};
 use apex_types::{ArgumentValues, Format, Request, Service};
-use csv::ByteRecord;
+use csv_rows::RowFields;
 use std::alloc::{AllocError, Global};
 
 /// What a call requests, judged, with its name and its message as they stand in the row.
@@ -30,12 +29,12 @@ pub struct RequestText<'a> {
 
 /// Judges the request of a call in a recording of this format: its service and the service's arguments.
 #[tactic(auto, unfolding(crate::specs::Row::request_in))]
-pub fn judge_request(format: Format, fields: &ByteRecord) -> Result<RequestText<'_>, RowFault>
-    ensures value { IfOk result (λ given. request_in format (fields_of fields.now) ≡ Ok (request_of given.service given.n1 given.n2 given.n3 given.name.now (hex_bytes given.message.now))) }
+pub fn judge_request(format: Format, fields: &RowFields) -> Result<RequestText<'_>, RowFault>
+    ensures value { IfOk result (λ given. request_in format fields.now ≡ Ok (request_of given.service given.n1 given.n2 given.n3 given.name.now (hex_bytes given.message.now))) }
     ensures hex { IfOk result (λ given. IsHex given.message.now) }
     ensures name { IfOk result (λ given. given.name.now ≢ [] → (arguments_of given.service).name ≡ true) }
     ensures message { IfOk result (λ given. hex_bytes given.message.now ≢ [] → (arguments_of given.service).message ≡ true) }
-    ensures refused { IfErr result (λ fault. request_in format (fields_of fields.now) ≡ Err fault) }
+    ensures refused { IfErr result (λ fault. request_in format fields.now ≡ Err fault) }
     ensures own { IfErr result (λ fault. IsOfRow fault) }
 {
     let service = read_service(format, text(fields, Column::Service))?;

@@ -1,7 +1,6 @@
 // The rows of returns.
 
 ghost use Rattle.std.specs.Prelude.{◌≡◌, IfOk, IfErr, Ok};
-ghost use Rattle.csv.specs.Records.{fields_of};
 ghost use Rattle.record_read.specs.Memory.{ReturnNeeds};
 ghost use Rattle.record_read.specs.Row.{return_in};
 ghost use Rattle.record_read.specs.Steps.{Refuses};
@@ -13,14 +12,14 @@ use crate::field::{expect_empty_between, optional_signed, required, text};
 use crate::named::{find_code, read_service};
 use crate::payload::{copy_message, judge_data};
 use apex_types::{Format, Return};
-use csv::ByteRecord;
+use csv_rows::RowFields;
 use std::alloc::Global;
 
 /// The return that these fields are in a recording of this format. The whole row is judged before memory is taken.
 #[tactic(auto, unfolding(crate::specs::Row::return_in, crate::specs::Named::code_of))]
-pub fn read_return(alloc: Global, format: Format, fields: &ByteRecord) -> Result<Return, RowFault>
-    ensures value { IfOk result (λ ret. return_in format (fields_of fields.now) ≡ Ok ret) }
-    ensures refused { IfErr result (λ fault. Refuses ReturnNeeds fault (return_in format (fields_of fields.now))) }
+pub fn read_return(alloc: Global, format: Format, fields: &RowFields) -> Result<Return, RowFault>
+    ensures value { IfOk result (λ ret. return_in format fields.now ≡ Ok ret) }
+    ensures refused { IfErr result (λ fault. Refuses ReturnNeeds fault (return_in format fields.now)) }
 {
     let who = read_who(fields)?;
     let service = read_service(format, text(fields, Column::Service))?;

@@ -1,7 +1,6 @@
 // The record that a row is.
 
 ghost use Rattle.std.specs.Prelude.{◌≡◌, ◌<◌, OnOk, IfOk, IfErr, Ok, Err};
-ghost use Rattle.csv.specs.Records.{fields_of};
 ghost use Rattle.apex_types.specs.declared.limits.TheConstants.{MOST_RECORDS};
 ghost use Rattle.record_read.specs.Memory.{NeedsMemory};
 ghost use Rattle.record_read.specs.Row.{record_of};
@@ -17,7 +16,7 @@ use crate::named::find_kind;
 use crate::ret::read_return;
 use apex_types::limits::MOST_RECORDS;
 use apex_types::{Body, Format, Record};
-use csv::ByteRecord;
+use csv_rows::RowFields;
 use std::alloc::Global;
 
 /// The record that the row of this number is in a recording of this format, numbers from 0, or its first fault from left to
@@ -27,10 +26,10 @@ pub fn read_record(
     alloc: Global,
     format: Format,
     next: u32,
-    fields: &ByteRecord,
+    fields: &RowFields,
 ) -> Result<Record, RowFault>
-    ensures value { IfOk result (λ made. record_of format next (fields_of fields.now) ≡ Ok made) }
-    ensures refused { IfErr result (λ fault. Refuses NeedsMemory fault (record_of format next (fields_of fields.now))) }
+    ensures value { IfOk result (λ made. record_of format next fields.now ≡ Ok made) }
+    ensures refused { IfErr result (λ fault. Refuses NeedsMemory fault (record_of format next fields.now)) }
     ensures bound { OnOk result (next < MOST_RECORDS) }
 {
     if next == MOST_RECORDS {

@@ -10,8 +10,7 @@ use crate::fault::RowFault;
 use crate::format::format_by;
 use crate::row::read_record;
 use apex_types::{Format, Record};
-use csv::ByteRecord;
-use csv_rows::{CsvRows, StreamFault, TextSource};
+use csv_rows::{CsvRows, RowFields, StreamFault, TextSource};
 use std::alloc::Global;
 use std::marker::Model;
 
@@ -19,7 +18,7 @@ use std::marker::Model;
 #[derive(Drop)]
 pub struct RowSource<R: TextSource> {
     rows: CsvRows<R>,
-    fields: ByteRecord,
+    fields: RowFields,
     // The format of the recording, once its first row was read.
     format: Option<Format>,
     count: u32,
@@ -56,7 +55,7 @@ impl<R: TextSource> RowSource<R> {
     {
         RowSource {
             rows: CsvRows::new(alloc, source),
-            fields: ByteRecord::new(alloc),
+            fields: RowFields::new(alloc),
             format: None,
             count: 0,
             stopped: false,
@@ -73,8 +72,8 @@ impl<R: TextSource> RowSource<R> {
 
     /// The next record, or None after the last, then and from then on. After a fault every call answers Ended.
     ///
-    /// Read where the source has failed, and else the row's first fault. Memory where `csv` gave up, and for a sound row with a
-    /// name, a message or a list of processes.
+    /// Read where the source has failed, and else the row's first fault. Memory where its rows stopped with no failed read, and for a
+    /// sound row with a name, a message or a list of processes.
     pub fn next(&mut self) -> Result<Option<Record>, RowFault>
         ensures ended { self.old.stopped ≡ true → result ≡ Err RowFault.Ended }
         ensures fresh { self.old.stopped ≡ false → result ≢ Err RowFault.Ended }

@@ -1,0 +1,200 @@
+// A text of which bytes are read ahead, and the plain lines at its front.
+
+ghost use Rattle.std.specs.Prelude.{◌≡◌, ◌<◌, ◌≤◌, IfOk, OnOk, false, true, drop, length};
+ghost use Rattle.std.specs.Io.KnownBytes.{IsAtEnd, Keeps};
+ghost use Rattle.csv_rows.specs.Front.{IsLine};
+ghost use Rattle.csv_rows.specs.Text.{IsFrontOf, ReportsFailure, TakesLine, mark_length as mark_length_of, rows_left, text_of, unread_of};
+
+use crate::fields::RowFields;
+use crate::front::{Front, Line, front_of};
+use crate::stream::StreamFault;
+use crate::text_source::TextSource;
+
+// How many bytes are read at once.
+const PIECE: usize = 8192;
+
+// A line that has so many bytes is left to `csv`.
+const LONGEST: usize = 65536;
+
+/// A text of which some bytes are read ahead.
+#[derive(Drop)]
+pub struct Ahead<R> {
+    pub source: R,
+    /// The bytes that were read ahead, and how many of them were taken.
+    pub bytes: Vec<u8>,
+    pub at: usize,
+    /// Whether a byte order mark was looked for.
+    pub is_begun: bool,
+}
+
+/// What was taken of a text.
+#[derive(Clone, Copy)]
+pub enum Taken {
+    /// A row.
+    Row,
+    /// Nothing: no row is left.
+    End,
+    /// Nothing: the next line that is not empty is not plain.
+    Other,
+}
+
+impl<R: TextSource> Ahead<R> {
+    // The bytes that were read ahead and not taken.
+    fn unread(&self) -> &[u8]
+        ensures { result.now ≡ drop self.now.at self.now.bytes.items }
+    {
+        &self.bytes[self.at.min(self.bytes.len())..]
+    }
+
+    // Forgets the bytes that were taken.
+    fn forget_taken(&mut self)
+        ensures at { self.new.at ≡ 0 }
+        ensures bytes { self.new.bytes.items ≡ drop self.old.at self.old.bytes.items }
+        ensures source { self.new.source ≡ self.old.source }
+        ensures begun { self.new.is_begun ≡ self.old.is_begun }
+    {
+        let len = self.bytes.len();
+        let at = self.at.min(len);
+        self.bytes.copy_within(at..len, 0);
+        self.bytes.truncate(len - at);
+        self.at = 0;
+    }
+
+    // Reads on, and answers whether that gave any bytes: none only at the end of the text.
+    fn fill(&mut self) -> Result<bool, StreamFault>
+        ensures keeps { OnOk result (Keeps (unread_of R.remaining self.old) (unread_of R.remaining self.new)) }
+        ensures same { IfOk result (λ more. more ≡ false → drop self.new.at self.new.bytes.items ≡ drop self.old.at self.old.bytes.items) }
+        ensures at_end { IfOk result (λ more. more ≡ false → IsAtEnd (R.remaining self.new.source)) }
+        ensures begun { self.new.is_begun ≡ self.old.is_begun }
+        ensures reports { ReportsFailure (R.failed self.old.source) (R.failed self.new.source) result }
+    {
+        self.forget_taken();
+        let mut piece = [0; PIECE];
+        let Ok(count) = self.source.read_some(&mut piece) else {
+            return Err(StreamFault::Read);
+        };
+        match self.bytes.extend_from_slice(&piece[..count]) {
+            Ok(()) => Ok(count > 0),
+            Err(_) => Err(StreamFault::Memory),
+        }
+    }
+
+    // What the front of the text is, for which it is read on as far as is needed.
+    #[tactic(auto, using(crate::proofs::Bytes::keeps_same, crate::proofs::Bytes::keeps_through))]
+    fn front(&mut self) -> Result<Front, StreamFault>
+        ensures keeps { OnOk result (Keeps (unread_of R.remaining self.old) (unread_of R.remaining self.new)) }
+        ensures front { IfOk result (λ front. IsFrontOf R.remaining self.new front) }
+        ensures begun { self.new.is_begun ≡ self.old.is_begun }
+        ensures reports { ReportsFailure (R.failed self.old.source) (R.failed self.new.source) result }
+    {
+        for _ in 0..u64::MAX {
+            let front = front_of(self.unread());
+            if let Front::Line(_) | Front::Other = front {
+                return Ok(front);
+            }
+            if self.unread().len() >= LONGEST {
+                return Ok(Front::Other);
+            }
+            if !self.fill()? {
+                return Ok(front);
+            }
+        }
+        Err(StreamFault::Memory)
+    }
+
+    /// Takes the next row into `fields`, where it is a plain line.
+    pub fn take_line(&mut self, fields: &mut RowFields) -> Result<Taken, StreamFault>
+        ensures takes { IfOk result (λ taken. TakesLine (rows_left (text_of R.remaining self.old)) taken fields.new (rows_left (text_of R.remaining self.new))) }
+        ensures begun { OnOk result (self.new.is_begun ≡ true) }
+        ensures reports { ReportsFailure (R.failed self.old.source) (R.failed self.new.source) result }
+    {
+        self.begin()?;
+        self.take_next(fields)
+    }
+
+    // Takes a byte order mark off the front of a text that was not begun.
+    #[tactic(auto, using(crate::proofs::Texts::strip_stays))]
+    fn begin(&mut self) -> Result<(), StreamFault>
+        ensures keeps { OnOk result (Keeps (text_of R.remaining self.old) (unread_of R.remaining self.new)) }
+        ensures begun { OnOk result (self.new.is_begun ≡ true) }
+        ensures reports { ReportsFailure (R.failed self.old.source) (R.failed self.new.source) result }
+    {
+        if self.is_begun {
+            return Ok(());
+        }
+        self.front()?;
+        self.at += mark_length(self.unread());
+        self.is_begun = true;
+        Ok(())
+    }
+
+    // The same of a text that was begun.
+    #[tactic(auto, using(crate::proofs::Texts::keeps_rows_same, crate::proofs::Texts::keeps_rows_through, crate::proofs::Texts::rows_stay, crate::proofs::Texts::takes_after))]
+    fn take_next(&mut self, fields: &mut RowFields) -> Result<Taken, StreamFault>
+        ensures takes { IfOk result (λ taken. TakesLine (rows_left (unread_of R.remaining self.old)) taken fields.new (rows_left (unread_of R.remaining self.new))) }
+        ensures begun { self.new.is_begun ≡ self.old.is_begun }
+        ensures reports { ReportsFailure (R.failed self.old.source) (R.failed self.new.source) result }
+    {
+        for _ in 0..u64::MAX {
+            match self.front()? {
+                Front::Line(line) => {
+                    if line.length > 0 {
+                        return self.take_first(line, fields);
+                    }
+                    self.at += line.taken;
+                }
+                Front::Open => return self.take_last(fields),
+                Front::Return | Front::Other => return Ok(Taken::Other),
+            }
+        }
+        Err(StreamFault::Memory)
+    }
+
+    // Takes the plain line at the front of the text.
+    #[tactic(auto, using(crate::proofs::Texts::line_takes))]
+    fn take_first(&mut self, line: Line, fields: &mut RowFields) -> Result<Taken, StreamFault>
+        requires line { IsLine (drop self.old.at self.old.bytes.items) line.length line.taken }
+        requires filled { 0 < line.length }
+        ensures takes { IfOk result (λ taken. TakesLine (rows_left (unread_of R.remaining self.old)) taken fields.new (rows_left (unread_of R.remaining self.new))) }
+        ensures begun { self.new.is_begun ≡ self.old.is_begun }
+        ensures reports { ReportsFailure (R.failed self.old.source) (R.failed self.new.source) result }
+    {
+        let made = fields.take_line(&self.unread()[..line.length]);
+        self.at += line.taken;
+        match made {
+            Ok(()) => Ok(Taken::Row),
+            Err(_) => Err(StreamFault::Memory),
+        }
+    }
+
+    // Takes the last line, which has no end and may be empty.
+    #[tactic(auto, using(crate::proofs::Texts::last_takes, crate::proofs::Texts::none_takes))]
+    fn take_last(&mut self, fields: &mut RowFields) -> Result<Taken, StreamFault>
+        requires { IsFrontOf R.remaining self.old Front.Open }
+        ensures takes { IfOk result (λ taken. TakesLine (rows_left (unread_of R.remaining self.old)) taken fields.new (rows_left (unread_of R.remaining self.new))) }
+        ensures begun { self.new.is_begun ≡ self.old.is_begun }
+        ensures reports { ReportsFailure (R.failed self.old.source) (R.failed self.new.source) result }
+    {
+        let line = self.unread();
+        if line.is_empty() {
+            return Ok(Taken::End);
+        }
+        let made = fields.take_line(line);
+        self.at = self.bytes.len();
+        match made {
+            Ok(()) => Ok(Taken::Row),
+            Err(_) => Err(StreamFault::Memory),
+        }
+    }
+}
+
+// How many bytes the byte order mark takes that comes first in a text.
+fn mark_length(text: &[u8]) -> usize
+    ensures length { result ≡ mark_length_of text.now }
+    ensures bound { result ≤ length text.now }
+{
+    match text {
+        [0xEF, 0xBB, 0xBF, ..] => 3,
+        _ => 0,
+    }
+}
