@@ -149,8 +149,8 @@ fn close_stops_the_readers(rt: HostRuntime) -> Result<(), Fail> {
     Ok(())
 }
 
-// Each read gives one row, and `csv` asks for one read more than the rows that it gives. Read and not yet answered are the rows
-// that wait in the channel, the batch that the thread has made, and what is left of the batch at hand.
+// Each read gives one row. Read and not yet answered are the rows that wait in the channel, the batch that the thread has made, and
+// what is left of the batch at hand.
 #[test]
 fn readers_do_not_run_ahead(rt: HostRuntime) -> Result<(), Fail> {
     let alloc = rt.alloc();
@@ -166,11 +166,11 @@ fn readers_do_not_run_ahead(rt: HostRuntime) -> Result<(), Fail> {
         let reader = Piecewise::new(text, Piece::Line, WHOLE, trace.share()?);
         let readers = vec![in alloc; Watched::new(reader)]?;
         let mut intake = Intake::open(rt, alloc, readers, depth)?;
-        let first = settled(&trace.reads, waiting + batch + 1);
-        assert_eq!(rt; first, waiting + batch + 1, "at {depth}");
+        let first = settled(&trace.reads, waiting + batch);
+        assert_eq!(rt; first, waiting + batch, "at {depth}");
         assert!(rt; has_row(&rt, &mut intake, 0, true, 0));
-        let second = settled(&trace.reads, waiting + 2 * batch + 1);
-        assert_eq!(rt; second, waiting + 2 * batch + 1, "at {depth}");
+        let second = settled(&trace.reads, waiting + 2 * batch);
+        assert_eq!(rt; second, waiting + 2 * batch, "at {depth}");
         intake.close(&rt);
     }
     Ok(())

@@ -1,0 +1,86 @@
+// The rows of texts: lines that are plain and lines that are not, after one another, whole and a byte at a time.
+
+use csv_rows::{CsvRows, RowFields, Watched};
+use std::alloc::{AllocError, Global};
+use std::io;
+use std::io::Read;
+use std::test::Fail;
+
+// Gives its text at most `step` bytes at a time.
+struct Stepwise {
+    text: &'static [u8],
+    step: usize,
+}
+
+impl Read for Stepwise {
+    fn read(&mut self, buf: &mut [u8]) -> io::Result<usize> {
+        let count = self.text.len().min(self.step).min(buf.len());
+        let (given, left) = self.text.split_at(count);
+        buf[..count].copy_from_slice(given);
+        self.text = left;
+        Ok(count)
+    }
+}
+
+// The rows of a text that is read so many bytes at a time: each field with a bar behind it, and each row with a slash. A text
+// whose rows do not end, or fail, has an exclamation mark at its end.
+fn rows_of(alloc: Global, text: &'static str, step: usize) -> Result<Vec<u8>, AllocError> {
+    let text = text.as_bytes();
+    let mut rows = CsvRows::new(alloc, Watched::new(Stepwise { text, step }));
+    let mut fields = RowFields::new(alloc);
+    let mut shown = Vec::new(alloc);
+    'turns: for _ in 0..10 {
+        match rows.read(&mut fields) {
+            Ok(true) => {}
+            Ok(false) => return Ok(shown),
+            Err(_) => break,
+        }
+        for place in 0..fields.len() {
+            shown.extend_from_slice(fields.get(place).unwrap_or(b"!"))?;
+            shown.push(b'|')?;
+        }
+        shown.push(b'/')?;
+    }
+    shown.push(b'!')?;
+    Ok(shown)
+}
+
+// Each text with its rows.
+const TEXTS: [(&'static str, &'static str); 24] = [
+    ("", ""),
+    ("a,b\nc,d\n", "a|b|/c|d|/"),
+    ("a,b\nc,d", "a|b|/c|d|/"),
+    ("\n\na\n\n\nb\n\n", "a|/b|/"),
+    (",", "||/"),
+    (",,\n,\na", "|||/||/a|/"),
+    ("a,\n", "a||/"),
+    ("a\r\nb,\r\n", "a|/b||/"),
+    ("\r\n\r\na\r\n\r\nb", "a|/b|/"),
+    ("a\rb\r", "a|/b|/"),
+    ("a\r\r\nb\n\r", "a|/b|/"),
+    ("a\n\rb", "a|/b|/"),
+    ("\"a,b\",c\nd\n", "a,b|c|/d|/"),
+    ("x\n\"a\n,\"\"b\"\ny\n", "x|/a\n,\"b|/y|/"),
+    ("x,\"y\r\nz\"\r\nw\r\n", "x|y\r\nz|/w|/"),
+    ("a\"b,c\nd\n", "a\"b|c|/d|/"),
+    ("a\n\"b", "a|/b|/"),
+    ("a\n\"", "a|/|/"),
+    ("\u{feff}a,b\nc\n", "a|b|/c|/"),
+    ("\u{feff}\"a\"\nb\n", "a|/b|/"),
+    ("\u{feff}", ""),
+    ("\u{feff}\n\u{feff}\"a\"\n", "\u{feff}\"a\"|/"),
+    ("\u{feff}\u{feff}a\n", "\u{feff}a|/"),
+    ("\0,\u{e4}\n\0", "\0|\u{e4}|/\0|/"),
+];
+
+#[test]
+fn texts_have_their_rows(rt: HostRuntime) -> Result<(), Fail> {
+    let alloc = rt.alloc();
+    for (text, expected) in TEXTS {
+        for step in [1, 2, 3, 1000] {
+            let rows = rows_of(alloc, text, step)?;
+            assert_eq!(rt; rows.as_slice(), expected.as_bytes(), "{text:?} by {step}");
+        }
+    }
+    Ok(())
+}
