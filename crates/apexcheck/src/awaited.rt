@@ -13,7 +13,7 @@ use std::time::{Clock, Duration};
 use std::{fs, io};
 use wording::Words;
 
-/// How many milliseconds a read may go on after the answer is known before a person is told.
+/// How many milliseconds a read may go on after the answer is known before it is reported.
 const PATIENCE: u64 = 1_000;
 
 /// How many bytes the stack of the thread has that tells it.

@@ -174,7 +174,7 @@ fn open_rules<R: Files<File = F>, F: Read + Drop>(
     }
 }
 
-// The files that may hold up the check once its answer is known, if a person is to be told of them.
+// The files that may hold up the check once its answer is known, if they are to be reported.
 fn awaited_of<R: Files>(rt: &R, alloc: Global, asked: &FilesAsked) -> Option<Arc<Awaited>> {
     if asked.quiet {
         return None;

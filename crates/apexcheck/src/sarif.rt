@@ -336,7 +336,7 @@ fn fill_and_rename<R: Files, F: Write + Drop>(
         Err(e) => Err(e),
     };
     if done.is_err() {
-        // What failed is told; that the new file stays is all that could be added.
+        // What failed is reported; that the new file stays is all that could be added.
         let _ = fs::remove_file(rt, new_name);
     }
     done

@@ -143,7 +143,7 @@ fn number_at(table: Option<&Table>, key: ConfigKey) -> Option<u64> {
     u64::try_from(table?.get(key.text())?.as_integer()?).ok()
 }
 
-// The least and the greatest number that may be under a key, where the value has to be a number with limits.
+// The least and the greatest number that may be under a key, if the value must be a number with limits.
 fn range_at(keys: &Table, place: ConfigPlace) -> Option<(u64, u64)> {
     let is_module = place.table == ConfigTable::Module;
     match place.key {
