@@ -10,7 +10,7 @@ use Rattle.record_read.specs.Steps.{IsOutside}
 abbrev pub Answer : Type 0
 Answer = Result (Option Record) RowFault
 
--- what callers see of a core: what the text of its reader is read as, where the reader tells its bytes, and the answers so far
+-- what callers see of a core: how the text of its reader is read, if the reader's bytes are known, and the answers so far
 pub record Answered : Type 0 where
   pub items : Option (List Item)
   pub given : List Answer
@@ -18,11 +18,11 @@ pub record Answered : Type 0 where
 abbrev pub answered : Option (List Item) → List Answer → Answered
 answered items given = record { items = items; given = given }
 
--- what is answered of the core of this number
+-- what is seen of the core with this number
 abbrev pub answered_at : List Answered → ℕ → Answered
 answered_at cores core = slice_index_or cores core (answered None [])
 
--- one answer more
+-- one more answer
 abbrev pub after : Answered → Answer → Answered
 after core answer = answered core.items (core.given ++ answer ∷ [])
 
@@ -37,14 +37,14 @@ abbrev pub has_ended : List Answer → Bool
 has_ended [] = false
 has_ended (answer ∷ later) = is_last answer || has_ended later
 
--- the answers of a source that can fail, or cannot, and has these items left, where they are known: each is one of what those
--- before it left, and none is after the end or a fault
+-- the answers of a source that can fail, or cannot, and has these items left, if they are known: each answer is one of what the answers
+-- before it left, and none follows the end or a fault
 abbrev pub AreAnswers : Bool → Option (List Item) → List Answer → Type 0
 AreAnswers can_fail left [] = Unit {0}
 AreAnswers can_fail left (answer ∷ later) =
     (next : Option (List Item)) × IfSome left (λ items. Gives (IsOutside can_fail) items answer next) × (is_last answer ≡ true → later ≡ [])
     × AreAnswers can_fail next later
 
--- what was answered of a core are answers of a source of its recording, which can fail or cannot
+-- the answers for a core are answers of a source of its recording, which can fail or cannot
 abbrev pub IsHonest : Bool → Answered → Type 0
 IsHonest can_fail core = AreAnswers can_fail core.items core.given

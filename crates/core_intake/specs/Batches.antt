@@ -17,13 +17,13 @@ use Rattle.crossbeam_channel.specs.declared.flavors.array.ruled.Sending.{Sending
 use Rattle.crossbeam_channel.specs.Claims.{Pass, view, IsSeatAt}
 use Rattle.crossbeam_channel.specs.Ends.{sends_on}
 
--- the answer that tells how a recording ends, where it does
+-- the answer that reports how a recording ends, if it does
 abbrev pub end_of : Option (Result (Unit {0}) RowFault) → List Answer
 end_of None = []
 end_of (Some (Ok ended)) = Ok None ∷ []
 end_of (Some (Err fault)) = Err fault ∷ []
 
--- the answers that tell these records
+-- the answers that give these records
 abbrev pub records_answered : List Record → List Answer
 records_answered records = map (λ rec. Ok (Some rec)) records
 
@@ -39,21 +39,21 @@ answers_in batch = answers_of batch.records.items batch.end
 abbrev pub all_answers : List Batch → List Answer
 all_answers batches = flat_map answers_in batches
 
--- what stands before these last answers
+-- what comes before these last answers
 abbrev pub before : List Answer → List Answer → List Answer
 before last all = take (length all - length last) all
 
--- what may come after a batch: nothing where it has an end, and else the answers of what is left
+-- what may come after a batch: nothing if it has an end, and else the answers of what is left
 abbrev pub GoesOn : Bool → Option (Result (Unit {0}) RowFault) → Option (List Item) → List Answer → Type 0
 GoesOn can_fail None left later = AreAnswers can_fail left later
 GoesOn can_fail (Some end) left later = later ≡ []
 
--- a batch was read of a source: its answers, and then those of what it left, are answers of the source; without an end it goes on
+-- a batch was read from a source: its answers, followed by those of what it left, are answers of the source; without an end it goes on
 pub record IsRead (can_fail : Bool) (old : Source Item) (batch : Batch) (new : Source Item) : Type 0 where
   pub answers : (later : List Answer) → GoesOn can_fail batch.end new.left later → AreAnswers can_fail old.left (answers_in batch ++ later)
   pub going : batch.end ≡ None → new.stopped ≡ false
 
--- an answer was taken of those that came after the ones given, of what was received and what was at hand
+-- an answer was taken from those after the ones given, among what was received and what was at hand
 abbrev pub IsTaken : List Batch → List Answer → Answer → List Batch → List Answer → Type 0
 IsTaken received hand answer received_now hand_now =
     (given : List Answer) → given ++ hand ≡ all_answers received → given ++ answer ∷ hand_now ≡ all_answers received_now

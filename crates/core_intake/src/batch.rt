@@ -1,4 +1,4 @@
-// What passes in one send.
+// What one send passes on.
 
 ghost use Rattle.std.specs.Prelude.{◌≡◌, ◌≤◌, IfSome, None, false, is_err};
 ghost use Rattle.std.specs.VecDeque.{deque_len};
@@ -16,7 +16,7 @@ use std::collections::VecDeque;
 use std::sync::Wait;
 use std::sync::atomic::{AtomicBool, Ordering};
 
-/// Records of a recording in their order, and how the recording ends where it ends after these.
+/// Records of a recording in their order, and how the recording ends, if it ends after them.
 #[derive(Drop)]
 pub struct Batch {
     pub records: VecDeque<Record>,
@@ -24,8 +24,8 @@ pub struct Batch {
 }
 
 impl Batch {
-    /// The next records of a recording, `length` of them, and fewer where it ends. They are in a room that came back, where one
-    /// did. None where the flag says to stop, between two rows or in a read that gave up for it.
+    /// The next records of a recording: `length` of them, or fewer if it ends. If the room of a used batch came back, they are in it.
+    /// None if the flag says to stop, between two rows or in a read that gave up because of it.
     pub fn read<R: TextSource, T: Wait>(
         rt: &T,
         alloc: Global,
@@ -65,7 +65,7 @@ impl Batch {
     }
 }
 
-// The next answer of a recording. None where a read of it gave up: that is no failure of the reader, and it is reported to nobody.
+// The next answer of a recording. None if a read of it gave up: this is no failure of the reader, and it is not reported.
 fn next_answer<R: TextSource>(
     source: &mut RowSource<Stoppable<'_, R>>,
 ) -> Option<Result<Option<Record>, RowFault>>

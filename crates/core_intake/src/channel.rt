@@ -10,7 +10,7 @@ use crate::cut::{Cut, cut_of};
 use crate::rule::{InOrder, Log, Receiver, Sender, Side};
 use std::alloc::{AllocError, Global};
 
-/// The two ends of a channel, what they know while they are not parted, and how it is cut into batches.
+/// The two ends of a channel, what they know before they are parted, and how it is cut into batches.
 #[derive(Drop)]
 pub struct Channel {
     pub sender: Sender,

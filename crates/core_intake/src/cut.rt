@@ -2,18 +2,17 @@
 
 ghost use Rattle.std.specs.Prelude.{◌≤◌, ◌<◌, ◌+◌, ◌*◌};
 
-// The most records of a batch: more would make no send cheaper for each of them.
+// The most records of a batch: with more, a send would cost no less for each of them.
 const LONGEST: usize = 256;
 
-/// How a channel of some depth is cut into batches: `slots` batches of at most `length` records.
+/// How a channel is cut into batches: `slots` batches of at most `length` records each.
 #[derive(Clone, Copy)]
 pub struct Cut {
     pub length: usize,
     pub slots: usize,
 }
 
-/// The cut of a depth: batches as long as it allows, since each send is paid for once. The thread makes the next batch while one
-/// waits.
+/// The cut of a depth: batches as long as it allows, since each send has its cost. The thread makes the next batch while one waits.
 pub fn cut_of(depth: usize) -> Cut
     requires some { 0 < depth }
     ensures slots { 0 < result.slots }

@@ -8,7 +8,7 @@ pub enum IntakeFault {
     /// The depth is 0: no record could wait.
     #[error("a channel of no depth")]
     NoDepth,
-    /// A growth of memory was refused, or a thread.
+    /// Memory or a thread was refused.
     #[error("out of memory")]
     Memory,
 }

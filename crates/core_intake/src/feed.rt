@@ -20,14 +20,14 @@ use std::sync::Wait;
 use std::sync::atomic::AtomicBool;
 use std::thread::Promise;
 
-/// What a reader's thread gives back: its end of the channel, with what was sent.
+/// What a reader's thread returns: its end of the channel, with what was sent.
 #[derive(Drop)]
 pub struct Fed {
     pub sender: Sender,
     pub side: Side,
 }
 
-/// The reader whose recording a thread sends, and the channel that it sends it on.
+/// A reader whose recording a thread sends, and the channel for it.
 #[derive(Drop)]
 pub struct FedBy<R: TextSource> {
     pub sender: Snapshot<Sender>,
@@ -42,8 +42,8 @@ impl<R: TextSource> Promise<Fed> for FedBy<R> {
     ghost kept_by = { λ promise fed. WasFed R.can_fail promise.sender.value (option_map records_of (R.remaining promise.reader.value)) fed.sender fed.side };
 }
 
-/// Sends the recording, batch after batch, until it has ended, the flag says to stop or nobody receives any more. Each read fails
-/// once the flag says to stop, and that failure is not sent.
+/// Sends the recording batch by batch, until it has ended, the flag says to stop or nobody receives any more. Once the flag says to
+/// stop, each read fails; that failure is not sent.
 pub fn feed<R: TextSource + Drop, T: Wait>(
     rt: &T,
     alloc: Global,
@@ -72,8 +72,8 @@ pub fn feed<R: TextSource + Drop, T: Wait>(
     Fed { sender, side }
 }
 
-// Sends what the source has left. Where the flag says to stop, the thread ends and sends no more: the flag is set only by the
-// `close` that consumes the lane, so nobody is left who waits for it.
+// Sends the rest of the source. If the flag says to stop, the thread ends and sends no more: only the `close` that consumes the lane
+// sets the flag, so nobody waits for a batch any more.
 fn send_all<R: TextSource, T: Wait>(
     rt: &T,
     alloc: Global,
@@ -106,7 +106,7 @@ fn send_all<R: TextSource, T: Wait>(
     unreachable!()
 }
 
-// Sends the batch, once the channel has room; or finds that nobody receives any more.
+// Sends the batch once the channel has room, or finds that nobody receives any more.
 fn send<T: Wait>(rt: &T, sender: &Sender, side: &mut Side, batch: Batch) -> bool
     requires seat { IsSeatAt (sends_on sender.now) side.old }
     requires sends { (view side.old).sends ≡ true }

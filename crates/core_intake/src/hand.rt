@@ -11,7 +11,7 @@ use std::alloc::Global;
 use std::collections::VecDeque;
 use std::marker::Model;
 
-/// What is left of the last batch that came.
+/// What is left of the last batch that was received.
 #[derive(Drop)]
 pub struct Hand {
     records: VecDeque<Record>,
@@ -47,7 +47,7 @@ impl Hand {
         Hand { records, end }
     }
 
-    /// The first answer that is left, or None where none is.
+    /// The first answer that is left, or None if none is.
     pub fn next(&mut self) -> Option<Result<Option<Record>, RowFault>>
         ensures first { self.old ≡ option_to_list result ++ self.new }
         ensures none { IfNone result (self.old ≡ []) }
@@ -62,7 +62,7 @@ impl Hand {
         }
     }
 
-    /// The room in which the batch came.
+    /// The room of the batch.
     pub fn into_room(self) -> VecDeque<Record>
         ensures { self ≡ [] → result.items ≡ [] }
     {

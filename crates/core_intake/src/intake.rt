@@ -15,9 +15,9 @@ use std::marker::Model;
 use std::sync::Wait;
 use std::thread::Threads;
 
-/// The recordings of all cores, each read by a thread of its own. Contracts see what is answered of each core, in order.
+/// The recordings of all cores, each read by a thread of its own. A contract sees the answers for each core, in order.
 ///
-/// It can only be given up by `close`, so that no thread is left behind, and what they answered is known in the end.
+/// It can be given up only by `close`, so every thread is joined, and what the threads answered is known in the end.
 pub struct Intake<R: TextSource> {
     lanes: Vec<Lane<R>>,
 }
@@ -32,11 +32,11 @@ impl<R: TextSource> Model for Intake<R> {
 }
 
 impl<R: TextSource + Drop + Send + 'static> Intake<R> {
-    /// Starts a thread for each reader, in the order of the cores. At most `depth` records of a core wait in its channel, in
-    /// batches of `depth` and at most 256; one batch more stands at either end of it.
+    /// Starts a thread for each reader, in the order of the cores. At most `depth` records of a core wait in its channel, in batches
+    /// of `depth` and at most 256 records. There is one more batch at each end of the channel.
     ///
-    /// NoDepth where the depth is 0. Memory where a growth or a thread was refused: the threads made so far are then stopped and
-    /// joined, and the readers are given up.
+    /// NoDepth if the depth is 0. Memory if memory or a thread was refused: the threads made so far are then stopped and joined, and
+    /// the readers are given up.
     pub fn open<T: Threads + Wait + Copy + Send + 'static>(
         rt: T,
         alloc: Global,
@@ -65,15 +65,15 @@ impl<R: TextSource + Drop + Send + 'static> Intake<R> {
 }
 
 impl<R: TextSource> Intake<R> {
-    /// How many cores there are.
+    /// The number of cores.
     pub fn count(&self) -> usize
         ensures { result ≡ length self.now }
     {
         self.lanes.len()
     }
 
-    /// The next record of a core, or None after the last; waits until its thread tells. After a fault, as after the end, every
-    /// call answers None. Memory also where the thread was refused room for a batch.
+    /// The next record of a core, or None after the last. Waits for the core's thread. After a fault, as after the end, every call
+    /// returns None. Memory also if the thread was refused room for a batch.
     pub fn next_of<T: Wait>(&mut self, rt: &T, core: usize) -> Result<Option<Record>, RowFault>
         requires core { core < length self.old }
         ensures gives { has_ended (answered_at self.old core).given ≡ false → self.new ≡ slice_set self.old core (after (answered_at self.old core) result) }
@@ -84,7 +84,7 @@ impl<R: TextSource> Intake<R> {
         self.lanes[core].next(rt)
     }
 
-    /// Stops the threads and waits for their ends. A thread ends once the read that it is in returns.
+    /// Stops the threads and joins them. A thread ends once its present read returns.
     pub fn close<T: Threads + Wait>(self, rt: &T)
         ensures honest { All (IsHonest R.can_fail) self }
     {
@@ -93,7 +93,7 @@ impl<R: TextSource> Intake<R> {
     }
 }
 
-// Stops the threads and waits for their ends.
+// Stops the threads and joins them.
 fn close_all<R: TextSource, T: Threads + Wait>(rt: &T, mut lanes: Vec<Lane<R>>)
     ensures { All (IsHonest R.can_fail) lanes.items }
 {

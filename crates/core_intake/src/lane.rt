@@ -25,8 +25,8 @@ use std::sync::{Arc, Wait};
 use std::thread::{PromisedHandle, Threads};
 use std::{mem, thread};
 
-/// A reader in a thread of its own, the channel on which its records come, what is left of the last batch, and the channel on which
-/// the rooms of batches go back. It can only be given up by `close`.
+/// A reader in a thread of its own, the channel that brings its records, what is left of the last batch, and the channel that takes the
+/// rooms of batches back. It can be given up only by `close`.
 pub struct Lane<R: TextSource> {
     receiver: Receiver,
     side: Side,
@@ -58,7 +58,7 @@ impl<R: TextSource> Model for Lane<R> {
 }
 
 impl<R: TextSource + Drop + Send + 'static> Lane<R> {
-    /// Starts the reader's thread, which sends through a channel of this depth. The only error is Memory.
+    /// Starts the reader's thread, which sends through a channel of this depth. Memory is the only error.
     pub fn open<T: Threads + Wait + Copy + Send + 'static>(
         rt: T,
         alloc: Global,
@@ -104,7 +104,7 @@ impl<R: TextSource + Drop + Send + 'static> Lane<R> {
 }
 
 impl<R: TextSource> Lane<R> {
-    /// The next answer; after an end or a fault, the end.
+    /// The next answer. After an end or a fault it is the end.
     pub fn next<T: Wait>(&mut self, rt: &T) -> Result<Option<Record>, RowFault>
         ensures ended { has_ended self.old.given ≡ true → result ≡ Ok None }
         ensures stays { has_ended self.old.given ≡ true → self.new ≡ self.old }
@@ -124,7 +124,7 @@ impl<R: TextSource> Lane<R> {
         answer
     }
 
-    /// Stops the thread and waits for its end.
+    /// Stops the thread and joins it.
     pub fn close<T: Threads + Wait>(self, rt: &T)
         ensures honest { IsHonest R.can_fail self }
     {
@@ -156,7 +156,7 @@ fn ends(answer: &Result<Option<Record>, RowFault>) -> bool
     !matches!(answer, Ok(Some(_)))
 }
 
-// The next answer: of the batch at hand, or else of the next that comes, when the room of the last one goes back.
+// The next answer: of the batch at hand, or else of the next batch; then the room of the last one goes back.
 fn take_answer<T: Wait>(
     rt: &T,
     receiver: &Receiver,
@@ -180,7 +180,7 @@ fn take_answer<T: Wait>(
     unreachable!()
 }
 
-// The next batch of the channel. That it is empty at a moment says nothing of the recording.
+// The next batch of the channel. An empty channel says nothing of the recording.
 fn take_batch<T: Wait>(rt: &T, receiver: &Receiver, side: &mut Side) -> Batch
     requires seat { IsSeatAt (receives_on receiver.now) side.old }
     requires receives { (view side.old).receives ≡ true }

@@ -1,13 +1,15 @@
-//! The recordings of all cores, each read by a thread of its own, beside what its records are used for.
+//! The recordings of all cores, each read by a thread of its own, in parallel with the use of its records.
 //!
-//! Promises: what is answered of a core are the answers of a source of its recording, one after another: none is passed over,
-//! given twice or taken for another core's, and the end is reported only after the last record. That they are is known once the
-//! threads are joined, so `close` promises it; before that, each call promises what it adds to the answers of which core. The
-//! end comes as an answer of the thread's, and never for the reason that nothing waits at a moment. A failed read is reported only of
-//! a reader that can fail, and never for the reason that the intake is closed.
+//! Promises:
 //!
-//! Not promised: that a thread gets on. A reader that waits in a read of its own holds `next_of` and `close`, and a record goes
-//! out with its batch: once the batch is full, or the recording ends.
+//! - The answers for a core are the answers of a source of its recording, one after another. None is skipped, repeated or given for
+//!   another core, and the end is reported only after the last record. This is known once the threads are joined, so `close` promises
+//!   it. Before that, each call promises what it adds to the answers of which core.
+//! - The thread itself reports the end: an empty channel is never taken for it. A failed read is reported only for a reader that can
+//!   fail, and never because the intake is closed.
+//!
+//! Not promised: that every thread makes progress. A reader that blocks in its own read holds up `next_of` and `close`. A record is
+//! sent with its batch, once the batch is full or the recording ends.
 #![tactic(auto)]
 
 mod batch;

@@ -1,4 +1,4 @@
-// The room in which a batch passes, and its way back.
+// The room of a batch, and its way back.
 
 ghost use Rattle.std.specs.Prelude.{◌≡◌, ◌≤◌, [], IfOk};
 ghost use Rattle.std.specs.VecDeque.{deque_capacity};
@@ -8,13 +8,13 @@ use std::alloc::{AllocError, Global};
 use std::collections::VecDeque;
 use std::sync::Wait;
 
-/// The end at which rooms come back to a reader's thread.
+/// The end of a channel at which rooms come back to a reader's thread.
 pub type Rooms = crossbeam_channel::Receiver<VecDeque<Record>>;
 
-/// The other end of it.
+/// The end of a channel from which rooms go back to a reader's thread.
 pub type Used = crossbeam_channel::Sender<VecDeque<Record>>;
 
-/// A room for so many records, in which there is none: one that came back, or a new one.
+/// An empty room for this many records: one that came back, or a new one.
 pub fn room_for<T: Wait>(
     rt: &T,
     alloc: Global,
@@ -33,7 +33,7 @@ pub fn room_for<T: Wait>(
     VecDeque::with_capacity(alloc, length)
 }
 
-/// Gives a room back. It is given up where nobody takes it.
+/// Gives a room back. If nobody takes it, it is given up.
 pub fn give_back<T: Wait>(rt: &T, used: &Used, room: VecDeque<Record>) {
     let _ = used.try_send(rt, room);
 }

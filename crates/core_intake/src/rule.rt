@@ -5,7 +5,7 @@ use crossbeam_channel::protocol::{Join, Lesson, Outcome, Protocol, Split};
 use crossbeam_channel::{Pass, RuledReceiver, RuledSender};
 use std::collections::LinkedList;
 
-/// What a pass may do, what was sent by it and what was received. No value of it is made.
+/// What a pass may do, what was sent by it and what was received. No value of this type is made.
 pub struct Log {
     pub sends: bool,
     pub receives: bool,
@@ -78,7 +78,7 @@ impl Lesson<Batch, Log> for Receives {
     ghost fact = { λ pass batches. ⊤ };
 }
 
-/// Who knows both sides knows what the channel holds.
+/// Both sides together know what the channel holds.
 pub struct Total;
 
 impl Lesson<Batch, Log> for Total {

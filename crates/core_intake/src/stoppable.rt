@@ -1,4 +1,4 @@
-// A source that gives up where a flag says to stop.
+// A source that gives up when a flag says to stop.
 
 ghost use Rattle.std.specs.Prelude.{◌≡◌, false};
 
@@ -7,8 +7,8 @@ use std::io;
 use std::io::ErrorKind;
 use std::sync::atomic::{AtomicBool, Ordering};
 
-/// A source of which each read fails once the flag says to stop. A row, or a run of empty lines, may have no end: a thread that
-/// reads one comes back by this.
+/// A source whose reads fail once the flag says to stop. A row or a run of empty lines may have no end; a thread that reads one can
+/// still stop by this.
 #[derive(Drop)]
 pub struct Stoppable<'a, R> {
     inner: R,
@@ -41,7 +41,7 @@ impl<'a, R: TextSource> TextSource for Stoppable<'a, R> {
 
     ghost fails_where_it_can = { λ stoppable failed. refl };
 
-    /// Reads from the source underneath, or fails where the flag says to stop.
+    /// Reads from the source below, or fails if the flag says to stop.
     fn read_some(&mut self, buf: &mut [u8]) -> io::Result<usize> {
         if self.stop.load(Ordering::SeqCst) {
             self.gave_up = true;

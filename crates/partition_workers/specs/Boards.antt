@@ -7,7 +7,7 @@ use Rattle.partition_workers.specs.declared.log.Event.{Event}
 use Rattle.partition_workers.specs.Contents.{Content, IsJudged}
 use Rattle.partition_workers.specs.Logs.{AreAllClaimed, IsLegal, claimant, is_posted}
 
--- the place of a piece: it has what became of that piece in the round where the piece is posted, and else nothing
+-- the place of a piece: it holds the result of that piece in the round if the piece is posted, and else nothing
 abbrev pub IsPlaced : Content → List Event → ℕ → Option Judged → Type 0
 IsPlaced round log piece None = is_posted log piece ≡ false
 IsPlaced round log piece (Some judged) = (is_posted log piece ≡ true) × IsJudged round piece judged
@@ -21,8 +21,8 @@ weight (Some judged) = 1
 abbrev pub filled : List (Option Judged) → ℕ
 filled places = sum_by weight places
 
--- what a board of a round keeps: so many of its pieces are claimed, in rising order; the others are left; the history is
--- legal; and the places have the values that were posted
+-- what a board of a round keeps: this many of its pieces are claimed, in ascending order; the others are left; the history is legal;
+-- and the places hold the results that were posted
 pub record IsBoard (round : Content) (left : List Part) (claimed : ℕ) (log : List Event) (places : List (Option Judged)) : Type 0 where
   pub legal : IsLegal (length round.parts) log
   pub rest : left ≡ drop claimed round.parts

@@ -1,4 +1,4 @@
--- What a round is, and what becomes of its pieces.
+-- What a round is, and the results of its pieces.
 use Rattle.std.specs.Prelude.{◌≡◌, ◌<◌, ℕ, zero, suc, List, [], ◌∷◌, None, false, length, map, slice_index_or}
 use Rattle.apex_types.specs.declared.record.Ordered.{Ordered}
 use Rattle.apex_machine.specs.Configuration.{Configuration}
@@ -10,7 +10,7 @@ use Rattle.verdict_merge.specs.declared.outcome.Lent.{Lent}
 use Rattle.verdict_merge.specs.Rounds.{IsGoing, IsJudgedOver}
 use Rattle.verdict_merge.specs.declared.judged.Judged.{Judged}
 
--- a round: the module, the place of its first record, its records, what the rules say, and the parts of the pieces before it
+-- a round: the module, the place of its first record, its records, what the rules mean, and the parts of the pieces before it
 pub record Content : Type 0 where
   pub configuration : Configuration
   pub first : ℕ
@@ -28,7 +28,7 @@ part_at [] number = ModulePart []
 part_at (part ∷ others) zero = part
 part_at (part ∷ others) (suc number) = part_at others number
 
--- the round of what is lent to pieces of these parts, under rules that say this
+-- the round of what is lent to pieces of these parts, under rules that mean this
 abbrev pub content_of : Lent → List Relation → List Part → Content
 content_of lent relations parts = record {
   configuration = lent.config.now;
@@ -48,13 +48,13 @@ no_content = record {
   parts = [];
 }
 
--- the round may be judged: all pieces are there, and its records stand in order and are of configured cores
+-- the round may be judged: all pieces are there, and its records are in order and of configured cores
 pub record IsOpen (content : Content) : Type 0 where
   pub whole : length content.parts ≡ length (pieces content.configuration)
   pub placed : ArePlaced content.first content.records
   pub cores : AreOfCores content.configuration.cores content.records
 
--- the pieces from this number on may go over records from this place on
+-- the pieces from this number on may judge records from this place on
 abbrev pub AreGoingFrom : Configuration → ℕ → ℕ → List Holding → Type 0
 AreGoingFrom configuration place number [] = Unit {0}
 AreGoingFrom configuration place number (holding ∷ others) = IsGoing configuration number place holding × AreGoingFrom configuration place (suc number) others
@@ -63,23 +63,23 @@ AreGoingFrom configuration place number (holding ∷ others) = IsGoing configura
 abbrev pub holding_of : Part → Holding
 holding_of part = record { part = part; settings = None; exhausted = false }
 
--- the piece of this number went over the records of the round, and this became of it
+-- the piece of this number judged the records of the round, with this result
 abbrev pub IsJudged : Content → ℕ → Judged → Type 0
 IsJudged content number judged =
     IsJudgedOver content.configuration number content.first content.records content.relations (holding_of (part_at content.parts number)) judged.outcome judged.piece
 
--- each piece of the round went over its records; one for each stands at its number
+-- each piece of the round judged its records; there is one result for each, at its number
 pub record AreJudged (content : Content) (judged : List Judged) : Type 0 where
   pub whole : length judged ≡ length content.parts
   pub each : (number : ℕ) → number < length content.parts → (one : Judged) → one ≡ slice_index_or judged number one → IsJudged content number one
 
--- what callers see of a claimed piece: who has claimed it, its number, and the piece
+-- what callers see of a claimed piece: the worker that has claimed it, its number, and the piece
 pub record Claimed : Type 0 where
   pub worker : ℕ
   pub number : ℕ
   pub piece : Holding
 
--- what callers see of a piece that went over the records: who has claimed it, its number, and what became of it
+-- what callers see of a piece that judged the records: the worker that has claimed it, its number, and its result
 pub record Finished : Type 0 where
   pub worker : ℕ
   pub number : ℕ

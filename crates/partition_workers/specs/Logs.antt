@@ -5,7 +5,7 @@ use Rattle.partition_workers.specs.declared.log.Event.TheVariants.{Claim, Post}
 use Rattle.partition_workers.specs.declared.fault.PostRefusal.{PostRefusal}
 use Rattle.partition_workers.specs.declared.fault.PostRefusal.TheVariants.{NotClaimed, Foreign, Repeated}
 
--- who has claimed the piece, if anyone has
+-- the worker that has claimed the piece, if any
 abbrev pub claimant : List Event → ℕ → Option ℕ
 claimant [] piece = None
 claimant (Claim worker claimed ∷ events) piece = cond (claimed == piece) (Some worker) (claimant events piece)
@@ -17,8 +17,8 @@ is_posted [] piece = false
 is_posted (Claim worker claimed ∷ events) piece = is_posted events piece
 is_posted (Post worker posted ∷ events) piece = (posted == piece) || is_posted events piece
 
--- the event may come after these ones, where there are so many pieces: a claim of a piece that nobody has claimed; a post of a piece
--- by the worker that has claimed it, where it is not posted yet
+-- the event may come after these ones, with this many pieces: a claim of a piece that nobody has claimed, or a post of a piece by the
+-- worker that has claimed it, if it is not posted yet
 abbrev pub MayFollow : ℕ → List Event → Event → Type 0
 MayFollow count log (Claim worker piece) = (piece < count) × (claimant log piece ≡ None)
 MayFollow count log (Post worker piece) = (claimant log piece ≡ Some worker) × (is_posted log piece ≡ false)
@@ -28,7 +28,7 @@ abbrev pub MayAllFollow : ℕ → List Event → List Event → Type 0
 MayAllFollow count log [] = Unit {0}
 MayAllFollow count log (event ∷ events) = MayFollow count log event × MayAllFollow count (log ++ event ∷ []) events
 
--- a history of a board of so many pieces is legal
+-- a history of a board with this many pieces is legal
 abbrev pub IsLegal : ℕ → List Event → Type 0
 IsLegal count log = MayAllFollow count [] log
 

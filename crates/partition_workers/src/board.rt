@@ -1,4 +1,4 @@
-// The board of a round: which pieces are left, who has claimed which, and what was posted.
+// The board of a round: which pieces are left, which worker has claimed which piece, and what was posted.
 
 ghost use Rattle.std.specs.Prelude.{◌≡◌, ◌<◌, ◌*◌, ◌≤◌, ◌++◌, [], ◌∷◌, All, IfErr, IfNone, IfOk, IfSome, None, OnErr, OnOk, Some, false, length};
 ghost use Rattle.std.specs.Vec.{vec_capacity};
@@ -17,7 +17,7 @@ use std::collections::VecDeque;
 use std::marker::{Model, PhantomData};
 use verdict_merge::{Judged, Lent, Memory};
 
-/// The board of a round. Contracts see its history, which is legal.
+/// The board of a round. A contract sees its history, which is legal.
 #[derive(Drop)]
 pub struct Board<'a, J: Naming> {
     lent: Lent<'a>,
@@ -43,9 +43,9 @@ impl<'a, J: Naming> Model for Board<'a, J> {
 }
 
 impl<'a, J: Naming> Board<'a, J> {
-    /// The board of a round in which no piece is claimed. It has room for all that comes.
+    /// The board of a round in which no piece is claimed. Its room is reserved, so claims and posts take no memory.
     ///
-    /// Memory where a growth was refused; the round is then given up.
+    /// Memory if memory was refused; the round is then given up.
     pub fn new(alloc: Global, round: Round<'a, J>) -> Result<Board<'a, J>, Memory>
         ensures { IfOk result (λ board. board ≡ []) }
     {
@@ -70,7 +70,7 @@ impl<'a, J: Naming> Board<'a, J> {
         })
     }
 
-    /// What happened so far.
+    /// The history so far.
     pub fn log(&self) -> &[Event]
         ensures log { result.now ≡ self.now }
         ensures legal { IsLegal (length J.round.parts) self.now }
@@ -78,7 +78,7 @@ impl<'a, J: Naming> Board<'a, J> {
         self.log.as_slice()
     }
 
-    /// Gives a worker the first piece that nobody has claimed; none where every piece has been claimed. Takes no memory.
+    /// Gives a worker the first piece that nobody has claimed, or None if every piece has been claimed. Takes no memory.
     pub fn claim(&mut self, worker: usize) -> Option<Job<'a, J>>
         ensures claimed { IfSome result (λ job. self.new ≡ self.old ++ Claim worker job.number ∷ []) }
         ensures first { IfSome result (λ job. IsFirstLeft (length J.round.parts) self.old job.number) }
@@ -103,10 +103,10 @@ impl<'a, J: Naming> Board<'a, J> {
         })
     }
 
-    /// Keeps what became of a piece. Takes no memory.
+    /// Keeps the result of a piece. Takes no memory.
     ///
-    /// It is given back, with nothing changed: as NotClaimed where nobody has claimed the piece, as Foreign where another worker
-    /// has, and as Repeated where its worker has posted it before.
+    /// A refused result is given back, and nothing is changed: NotClaimed if nobody has claimed the piece, Foreign if another worker
+    /// has, and Repeated if its worker has posted it before.
     pub fn post(&mut self, done: Done<J>) -> Result<(), PostFault<J>>
         ensures posted { OnOk result (self.new ≡ self.old ++ Post done.worker done.number ∷ []) }
         ensures may { OnOk result (refusal_of self.old done.worker done.number ≡ None) }
@@ -121,7 +121,7 @@ impl<'a, J: Naming> Board<'a, J> {
         Ok(())
     }
 
-    // Keeps what became of a piece that its worker has claimed, and that is not posted yet.
+    // Keeps the result of a piece that its worker has claimed and that is not posted yet.
     fn keep(&mut self, done: Done<J>)
         requires claimed { claimant self.old done.number ≡ Some done.worker }
         requires first { is_posted self.old done.number ≡ false }
@@ -132,13 +132,13 @@ impl<'a, J: Naming> Board<'a, J> {
             worker: done.worker(),
             piece: number,
         });
-        // An assignment would drop what was there part by part, each a step of this proof.
+        // An assignment would drop the former value part by part, and each part would be a step of this proof.
         drop(self.places[number].replace(done.into_judged()));
     }
 
-    /// What became of all pieces, each at its number.
+    /// The results of all pieces, each at its number.
     ///
-    /// Memory where a growth was refused, here or to a worker that has left a piece without a post.
+    /// Memory if memory was refused, here or to a worker that has left a piece without a post.
     pub fn finish(self, alloc: Global) -> Result<Vec<Judged>, Memory>
         ensures { IfOk result (λ judged. AreJudged J.round judged.items) }
     {

@@ -1,4 +1,4 @@
-// What became of a piece that a worker had claimed.
+// The result of a piece that a worker had claimed.
 
 ghost use Rattle.std.specs.Prelude.{◌≡◌, ◌<◌, length};
 ghost use Rattle.partition_workers.specs.Contents.{IsJudged};
@@ -7,8 +7,8 @@ use crate::round::Naming;
 use std::marker::{Model, PhantomData};
 use verdict_merge::Judged;
 
-/// What became of a piece of the round: by its type, it is what that very piece made of the records. It is not dropped: a board
-/// takes it by `post`, or else it is given up with the fault that `post` answers.
+/// The result of a piece of the round. By its type, it is what this very piece made of the records. It cannot be dropped: a board
+/// takes it by `post`, or it is given up with the fault that `post` returns.
 pub struct Done<J: Naming> {
     pub(crate) worker: usize,
     pub(crate) number: usize,
@@ -43,7 +43,7 @@ impl<J: Naming> Done<J> {
         self.number
     }
 
-    /// What became of the piece.
+    /// The result of the piece.
     pub(crate) fn into_judged(self) -> Judged
         ensures value { result ≡ self.judged }
         ensures judged { IsJudged J.round self.number result }

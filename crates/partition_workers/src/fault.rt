@@ -1,4 +1,4 @@
-// Why a board refused a value, and why a round gave none.
+// Why a board refuses a result, and why a round has none.
 
 ghost use Rattle.std.specs.Prelude.{◌≡◌};
 
@@ -6,7 +6,7 @@ use crate::done::Done;
 use crate::round::Naming;
 use thiserror::Error;
 
-/// Why a board refused what became of a piece.
+/// Why a board refuses the result of a piece.
 #[derive(Clone, Copy, Debug, Drop, PartialEq, Eq, Error)]
 pub enum PostRefusal {
     /// Nobody has claimed the piece.
@@ -20,15 +20,15 @@ pub enum PostRefusal {
     Repeated,
 }
 
-/// What a board refused, and why.
+/// A result that a board refused, and why.
 pub struct PostFault<J: Naming> {
     pub refusal: PostRefusal,
-    /// What was to be posted.
+    /// The refused result.
     pub done: Done<J>,
 }
 
 impl<J: Naming> PostFault<J> {
-    /// Gives up what the board refused, and says why it did.
+    /// Gives up the refused result, and returns the reason.
     pub fn give_up(self) -> PostRefusal
         ensures { result ≡ self.refusal }
     {
@@ -38,13 +38,13 @@ impl<J: Naming> PostFault<J> {
     }
 }
 
-/// Why a round gave no values.
+/// Why a round has no results.
 #[derive(Clone, Copy, Debug, Drop, PartialEq, Eq, Error)]
 pub enum RoundFault {
     /// There is no worker.
     #[error("no worker")]
     NoWorkers,
-    /// A growth of memory was refused, or a thread.
+    /// Memory or a thread was refused.
     #[error("out of memory")]
     Memory,
 }

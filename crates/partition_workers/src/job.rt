@@ -41,9 +41,9 @@ impl<'a, J: Naming> Job<'a, J> {
         self.number
     }
 
-    /// Lets the piece go over the records of the round, and tests its views by the rules, which say what those of the round do.
+    /// Lets the piece judge the records of the round, and tests its views by the rules, which must mean the same as those of the round.
     ///
-    /// Memory where a growth was refused; the piece is then given up.
+    /// Memory if memory was refused; the piece is then given up.
     pub fn run(self, rules: &[Rule]) -> Result<Done<J>, Memory>
         requires { relations_of rules.now ≡ J.round.relations }
         ensures worker { IfOk result (λ done. done.worker ≡ self.entry.worker) }

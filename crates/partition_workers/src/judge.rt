@@ -20,7 +20,7 @@ use std::thread::Threads;
 use user_rules::Rule;
 use verdict_merge::{Breach, Lent, Memory, Refused, gather_round, start_pieces};
 
-/// All pieces of a module, how many records they have judged, and the breach of a rule in the last round.
+/// All pieces of a module, the number of records that they have judged, and the breach of a rule in the last round.
 #[derive(Drop)]
 pub struct Judge {
     alloc: Global,
@@ -39,9 +39,9 @@ impl Model for Judge {
 }
 
 impl Judge {
-    /// All pieces as they stand before the first record.
+    /// All pieces as they are before the first record.
     ///
-    /// Memory where a growth is refused.
+    /// Memory if memory is refused.
     pub fn start(alloc: Global, config: &Config) -> Result<Judge, Memory>
         ensures cold { IfOk result (λ judge. (number : ℕ) → number < length (pieces config.now) → parts_of judge number ≡ cold_parts config.now number) }
         ensures count { IfOk result (λ judge. judge.count ≡ 0) }
@@ -60,36 +60,36 @@ impl Judge {
         })
     }
 
-    /// How many records were judged.
+    /// The number of records that were judged.
     pub fn count(&self) -> u64
         ensures { result ≡ self.now.count }
     {
         self.count
     }
 
-    /// The piece of this number, or None where there is none. After a round in which a record is refused, the piece that refuses it
-    /// is as it was before that record, as `round` says.
+    /// The piece of this number, or None if there is no such piece. After a round in which a record was rejected, the piece that rejected
+    /// it is as it was before that record, as `round` promises.
     pub fn piece(&self, number: usize) -> Option<&Piece>
         ensures { option_copied result ≡ slice_get self.now.pieces number }
     {
         self.pieces.get(number)
     }
 
-    /// The first view of the last round that breaks a rule, of the records up to the one that was refused, and the first rule that
-    /// it breaks.
+    /// The first view of the last round that breaks a rule, among the records up to the rejected one, with the first rule that it
+    /// breaks.
     pub fn breach(&self) -> Option<Breach>
         ensures { result ≡ self.now.breach }
     {
         self.breach
     }
 
-    /// Judges the next records by so many workers: each piece goes over those that touch it, up to its first refusal, and the view
-    /// of each record is tested by the rules. None where no piece refuses a record; else the least refusal, after which no further
-    /// round is judged, and whose piece is left as it was before the record that it refuses. The first view before it that breaks a
-    /// rule is given by `breach`. The gate sees each claim and each post.
+    /// Judges the next records with this number of workers. Each piece judges the records that touch it, up to the first that it
+    /// rejects, and each view is tested by the rules. Returns None if no piece rejects a record, and else the least refusal. After a
+    /// refusal no further round is judged, and its piece is left as it was before the rejected record. `breach` gives the first view
+    /// before it that breaks a rule. The gate sees each claim and each post.
     ///
-    /// NoWorkers where there is no worker; nothing is changed then. Memory where a growth or a thread was refused, after which no
-    /// further round is judged.
+    /// NoWorkers if there is no worker; then nothing is changed. Memory if memory or a thread was refused; then no further round is
+    /// judged.
     pub fn round<G: Gate + Sync, R: Threads + Wait + Sync>(
         &mut self,
         rt: &R,
@@ -128,7 +128,7 @@ impl Judge {
     }
 }
 
-// The place after these records, of which the first stands at this place.
+// The place after these records, the first of which is at this place.
 fn place_behind(first: u64, records: &[Ordered]) -> u64
     requires { ArePlaced first records.now }
     ensures { result ≡ first + length records.now }

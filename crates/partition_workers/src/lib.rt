@@ -1,12 +1,14 @@
 //! The pieces of a module, judged round by round by several threads.
 //!
-//! Promises: what is answered of a round is what each piece makes of its records by itself, one value for each piece at its
-//! number, for every number of workers and whatever order they claim and post in. A round in which nothing is refused is a run of
-//! each piece; else the least refusal is reported, with what holds up to its place, and its piece is left as it was before the record
-//! that it refuses. A board keeps the values: whenever its lock is free its history is legal, and each posted value is that of its
-//! own piece over the round that the board is of.
+//! Promises:
 //!
-//! Not promised: that a thread gets on.
+//! - The answer of a round is what each piece makes of its records by itself, one result for each piece at its number, for every number
+//!   of workers and in whatever order they claim and post.
+//! - A round in which no piece rejects a record is a run of each piece. Otherwise the least refusal is reported, and its piece is left as
+//!   it was before the rejected record.
+//! - Whenever the lock of a board is free, its history is legal, and each posted result is that of its own piece over the board's round.
+//!
+//! Not promised: that every thread makes progress.
 #![tactic(auto)]
 
 mod board;

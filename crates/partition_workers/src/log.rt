@@ -5,14 +5,14 @@ ghost use Rattle.partition_workers.specs.Logs.{claimant, is_posted, refusal_of};
 
 use crate::fault::PostRefusal;
 
-/// What happened at a board: a worker claimed a piece, or posted what became of it. A piece goes by its number.
+/// An event at a board: a worker claimed a piece, or posted its result. A piece is given by its number.
 #[derive(Clone, Copy, Debug, PartialEq, Eq)]
 pub enum Event {
     Claim { worker: usize, piece: usize },
     Post { worker: usize, piece: usize },
 }
 
-// Who has claimed the piece, if anyone has.
+// The worker that has claimed the piece, if any.
 fn find_claimant(log: &[Event], number: usize) -> Option<usize>
     ensures { result ≡ claimant log.now number }
 {

@@ -7,8 +7,8 @@ use piece_check::Piece;
 use std::marker::{Brand, Model, PhantomData};
 use verdict_merge::Lent;
 
-/// Names a round in the types of its board, its jobs and their values, so that a value of one round is none of another. The
-/// caller that judges a round picks what it is.
+/// Names a round in the types of its board, its jobs and their results, so that a result of one round is not a result of another. The
+/// caller that judges a round chooses it.
 pub trait Naming {
     ghost use Rattle.partition_workers.specs.Contents.{Content};
 
@@ -21,7 +21,7 @@ impl Naming for Brand {
     ghost round = { no_content };
 }
 
-/// A round: what is lent to its pieces, and the pieces. Contracts see what the round is.
+/// A round: the pieces, and what is lent to them. A contract sees which round it is.
 #[derive(Drop)]
 pub struct Round<'a, J: Naming> {
     pub(crate) lent: Lent<'a>,
@@ -45,7 +45,7 @@ impl<'a, J: Naming> Model for Round<'a, J> {
 }
 
 impl<'a, J: Naming> Round<'a, J> {
-    /// The round in which these pieces go over the records that are lent. Takes no memory.
+    /// The round in which these pieces judge the lent records. Takes no memory.
     pub fn new(lent: Lent<'a>, pieces: Vec<Piece>) -> Round<'a, J>
         requires named { content_of lent J.round.relations (parts_held pieces.items) ≡ J.round }
         requires open { IsOpen J.round }

@@ -1,4 +1,4 @@
-// Workers that claim the pieces of a round, let them go over its records, and post what became of them.
+// Workers that claim the pieces of a round, let them judge its records, and post their results.
 
 ghost use Rattle.std.specs.Prelude.{◌≡◌, ◌↔◌, Err, IfOk};
 ghost use Rattle.apex_machine.specs.Runs.{ArePlaced, AreOfCores};
@@ -19,12 +19,12 @@ use std::thread::Threads;
 use user_rules::Rule;
 use verdict_merge::{Judged, Lent, Memory};
 
-/// What stands between a worker and the board: it sees each claim and each post, while the board is free for others.
+/// Sees each claim and each post of a worker, while the board is free for the others.
 pub trait Gate {
-    /// This worker has claimed the piece of this number, and goes on once the call returns.
+    /// This worker has claimed the piece of this number. It goes on once the call returns.
     fn at_claim(&self, worker: usize, piece: usize);
 
-    /// This worker has posted the piece of this number, and goes on once the call returns.
+    /// This worker has posted the piece of this number. It goes on once the call returns.
     fn at_post(&self, worker: usize, piece: usize);
 
     /// The answer of the check is known, and nothing further is judged.
@@ -41,10 +41,10 @@ impl Gate for Open {
     fn at_post(&self, _worker: usize, _piece: usize) {}
 }
 
-/// Lets the pieces go over the records of a round, by so many workers, each in a thread of its own where there are several; one
-/// value for each piece, at its number. A worker tests the views of its pieces by the rules.
+/// Lets the pieces judge the records of a round with this number of workers, each in a thread of its own if there are several. Returns
+/// one result for each piece, at its number. A worker tests the views of its pieces by the rules.
 ///
-/// NoWorkers where there is no worker. Memory where a growth or a thread was refused; all threads are joined before the answer.
+/// NoWorkers if there is no worker. Memory if memory or a thread was refused. All threads are joined before the call returns.
 pub fn run_round<G: Gate + Sync, R: Threads + Wait + Sync>(
     rt: &R,
     alloc: Global,
@@ -103,8 +103,8 @@ fn judge_named<J: Naming + Send + Sync, G: Gate + Sync, R: Threads + Wait + Sync
     board.into_inner().finish(alloc)
 }
 
-// Claims a piece, lets it go over the records, its views tested by the rules, and posts what became of it, until no piece is left. Memory where a growth was
-// refused; the piece is then never posted.
+// Claims a piece, lets it judge the records, tests its views by the rules and posts its result, until no piece is left. Memory if
+// memory was refused; the piece is then never posted.
 fn work<J: Naming, G: Gate, R: Wait>(
     rt: &R,
     board: &Mutex<Board<J>>,
@@ -131,7 +131,7 @@ fn work<J: Naming, G: Gate, R: Wait>(
     unreachable!()
 }
 
-// Posts what became of a piece that its worker has claimed.
+// Posts the result of a piece that its worker has claimed.
 fn post<J: Naming, R: Wait>(rt: &R, board: &Mutex<Board<J>>, done: Done<J>) -> Result<(), Memory> {
     let posted = board.lock(rt).post(done);
     match posted {

@@ -14,7 +14,7 @@ use Rattle.apex_laws.specs.PartBounds.{IsBoundedPart}
 use Rattle.apex_laws.specs.PartLaws.{IsSoundPart}
 use Rattle.channel.specs.Held.{SaysTheSame, Settings}
 
--- a piece: its part of the state, what was given for its channel, if it is one, and whether memory was refused it
+-- a piece: its part of the state, the settings of its channel if it is a channel's, and whether memory was refused to it
 pub record Holding : Type 0 where
   pub part : Part
   pub settings : Option Settings
@@ -34,17 +34,17 @@ holder (ChannelPart number times channel) = OfChannel number
 abbrev pub IsPartOf : Piece → Part → Type 0
 IsPartOf piece part = holder part ≡ piece
 
--- a core of which no more than the time is known
+-- a core of which only the time is known
 abbrev pub core_at : ℕ → CoreState
 core_at time = record { time = time; occupant = None }
 
--- the cores as a part knows them: a channel knows their times alone
+-- the cores as a part knows them: a channel knows only their times
 abbrev pub cores_of : Part → List CoreState
 cores_of (ModulePart cores) = cores
 cores_of (PartitionPart number cores partition) = cores
 cores_of (ChannelPart number times channel) = map core_at times
 
--- a part knows so many cores
+-- a part knows this many cores
 abbrev pub HasCores : ℕ → Part → Type 0
 HasCores count part = length (cores_of part) ≡ count
 
@@ -85,24 +85,24 @@ KeepsBefore place (ModulePart cores) = Unit {0}
 KeepsBefore place (PartitionPart number cores partition) = IsKeptBefore number place partition
 KeepsBefore place (ChannelPart number times channel) = WaitBefore place channel
 
--- a part is one that records of smaller places have left
+-- a part as records at lower places have left it
 pub record HoldsBefore (place : ℕ) (part : Part) : Type 0 where
   pub times : NoTimeAbove place part
   pub kept : KeepsBefore place part
 
--- the number of who makes a call has 32 bits
+-- the number of a caller has 32 bits
 abbrev pub CallerFits : Body → Type 0
 CallerFits (Call call) = call.who.proc < 4294967296
 CallerFits _ = Unit {0}
 
--- calls alone may take memory
+-- only calls may take memory
 abbrev pub IsCall : Body → Type 0
 IsCall (Call call) = Unit {0}
 IsCall (Ret ret) = ⊥
 IsCall (Disp who) = ⊥
 IsCall (Tick woken) = ⊥
 
--- a refusal for want of memory comes to calls alone
+-- only a call is refused for a lack of memory
 abbrev pub WantsAtCalls : Body → ObjFault → Type 0
 WantsAtCalls body (Unlawful cause) = Unit {0}
 WantsAtCalls body Memory = IsCall body

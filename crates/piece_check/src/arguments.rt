@@ -7,21 +7,21 @@ use apex_machine::Direction;
 use apex_types::limits::{GREATEST_MAXIMUM, GREATEST_PRIORITY, LONGEST_MESSAGE, MOST_MESSAGES};
 use apex_types::{Discipline, ProcId};
 
-/// Whether a priority is one: 1 to 239.
+/// Whether a number is a priority: 1 to 239.
 pub(crate) fn is_priority(priority: i64) -> bool
     ensures { result ≡ numbers.is_priority priority }
 {
     1 <= priority && priority <= GREATEST_PRIORITY as i64
 }
 
-/// Whether a period is one, in ticks: above 0, or -1 for an aperiodic process.
+/// Whether a number is a period in ticks: above 0, or -1 for an aperiodic process.
 pub(crate) fn is_period(period: i64) -> bool
     ensures { result ≡ numbers.is_period period }
 {
     period > 0 || period == -1
 }
 
-/// Whether a period suits the partition's, both in ticks: it is a multiple of that, unless it is below 0.
+/// Whether a period suits the partition's, both in ticks: it is a multiple of the partition's, or below 0.
 pub(crate) fn suits_period(partition_period: u64, period: i64) -> bool
     requires { 0 < partition_period }
     ensures { result ≡ numbers.suits_period partition_period period }
@@ -36,7 +36,7 @@ pub(crate) fn is_negative(number: i64) -> bool
     number < 0
 }
 
-/// Whether a mode is one: 0 to 3.
+/// Whether a number is a mode: 0 to 3.
 pub(crate) fn is_mode(mode: i64) -> bool
     ensures { result ≡ numbers.is_mode mode }
 {
@@ -57,14 +57,14 @@ pub(crate) fn is_warm_start_mode(mode: i64) -> bool
     mode == 2
 }
 
-/// Whether a delay or a time-out is over at once: it is 0.
+/// Whether a delay or a time-out ends at once: it is 0.
 pub(crate) fn is_over(delay: i64) -> bool
     ensures { result ≡ numbers.is_over delay }
 {
     delay == 0
 }
 
-/// Whether a time-out is one: -1, which never falls due, or not below 0.
+/// Whether a number is a time-out: -1, which never falls due, or at least 0.
 pub(crate) fn is_time_out(time_out: i64) -> bool
     ensures { result ≡ numbers.is_time_out time_out }
 {
@@ -105,35 +105,35 @@ pub(crate) fn discipline_number(discipline: Discipline) -> u64
     }
 }
 
-/// Whether a message size is one: 1 to 8,192 bytes.
+/// Whether a number is a message size: 1 to 8,192 bytes.
 pub(crate) fn is_size(size: i64) -> bool
     ensures { result ≡ numbers.is_size size }
 {
     1 <= size && size <= LONGEST_MESSAGE as i64
 }
 
-/// Whether a capacity is one: 1 to 1,024 messages.
+/// Whether a number is a capacity: 1 to 1,024 messages.
 pub(crate) fn is_capacity(capacity: i64) -> bool
     ensures { result ≡ numbers.is_capacity capacity }
 {
     1 <= capacity && capacity <= MOST_MESSAGES as i64
 }
 
-/// Whether a maximum is one of a semaphore: 1 to 32,767.
+/// Whether a number is the maximum of a semaphore: 1 to 32,767.
 pub(crate) fn is_maximum(maximum: i64) -> bool
     ensures { result ≡ numbers.is_maximum maximum }
 {
     1 <= maximum && maximum <= GREATEST_MAXIMUM as i64
 }
 
-/// Whether a value suits a semaphore's maximum: it is not below 0, and at most that.
+/// Whether a value suits a semaphore's maximum: it is from 0 to the maximum.
 pub(crate) fn suits_maximum(maximum: i64, value: i64) -> bool
     ensures { result ≡ numbers.suits_maximum maximum value }
 {
     0 <= value && value <= maximum
 }
 
-/// Whether a discipline is one: 0 or 1.
+/// Whether a number is a discipline: 0 or 1.
 pub(crate) fn is_discipline(given: i64) -> bool
     ensures { result ≡ numbers.is_discipline given }
 {
@@ -147,7 +147,7 @@ pub(crate) fn is_longer(size: u16, length: i64) -> bool
     length > i64::from(size)
 }
 
-/// Whether a length is one of a message: 1 byte at least.
+/// Whether a number is the length of a message: at least 1 byte.
 pub(crate) fn is_length(length: i64) -> bool
     ensures { result ≡ numbers.is_length length }
 {

@@ -64,7 +64,7 @@ pub(crate) fn conditions_of(config: &Config, state: &PartitionState, call: &Call
     }
 }
 
-// These conditions, and those of a wait: a time-out that there is, and a caller that may wait or gives a time-out of 0.
+// These conditions, and those of a wait: the time-out must be valid, and the caller must be allowed to wait or give a time-out of 0.
 fn with_wait(conditions: Conditions, who: Who, state: &PartitionState, time_out: i64) -> Conditions
     requires { length conditions < 5 }
     ensures { result ≡ conditions ++ time_out_conditions time_out ++ waiting_conditions who state.now time_out }
@@ -77,7 +77,7 @@ fn with_wait(conditions: Conditions, who: Who, state: &PartitionState, time_out:
         )
 }
 
-// Each creation: not in NORMAL; a name not yet taken among its kind; no more than configured.
+// The conditions of each creation: the mode is not NORMAL, the name is not yet taken in its kind, and no more are created than configured.
 fn creation(state: &PartitionState, is_taken: bool, is_full: bool) -> Conditions
     ensures value { result ≡ creation_conditions state.now is_taken is_full }
     ensures few { length result ≤ 3 }
@@ -102,7 +102,7 @@ fn is_normal(mode: Mode) -> bool
     mode == Mode::Normal
 }
 
-// Whether as many are created as are configured.
+// Whether the configured number is reached.
 fn is_reached(limit: u32, count: usize) -> bool
     ensures { result ≡ nat_le limit count }
 {

@@ -1,10 +1,12 @@
 //! The pieces that judge a recording side by side: the module, each partition, and each channel.
 //!
-//! Promises: a piece starts with its part of the cold state; its step accepts a record exactly where all that it demands
-//! of the record holds, and its part is then the part after the record; else it names the cause of the first demand that
-//! fails, with nothing changed. A step takes memory at a call alone; where memory was refused, every later step says so.
-//! Before a step the piece that judges the record gives the view of it that a user's relation sees, and no other piece does.
-//! For the records of a round, `Touched` lists for each piece the very records that touch it.
+//! Promises:
+//!
+//! - A piece starts with its part of the cold state. Its step accepts a record exactly if all its demands on the record hold, and its part
+//!   is then the part after the record. Otherwise the step reports the cause of the first demand that fails, and nothing is changed.
+//! - A step takes memory only at a call. After memory was refused, every later step reports it.
+//! - Before a step, the piece that judges the record gives the view of it that a user's relation sees, and no other piece does.
+//! - For the records of a round, `Touched` lists for each piece exactly the records that touch it.
 #![tactic(auto)]
 
 mod arguments;

@@ -1,4 +1,4 @@
-// For each piece a list of the records that touch it, ticks apart.
+// For each piece a list of the records that touch it, without the ticks.
 
 ghost use Rattle.std.specs.Prelude.{◌≡◌, ◌≤◌, IfOk, OnOk, [], length};
 ghost use Rattle.apex_machine.specs.Pieces.{Piece, pieces};
@@ -15,13 +15,13 @@ use std::marker::Model;
 /// Where the lists of the partitions begin, after that of the module.
 const PARTITIONS_FROM: usize = 1;
 
-/// Where the lists of the channels begin: a partition's number has 8 bits.
+/// Where the lists of the channels begin; a partition's number has 8 bits.
 const CHANNELS_FROM: usize = 257;
 
-/// How many lists there are: the last is that of the channel of the greatest number.
+/// The number of lists: the last is that of the channel with the greatest number.
 const SLOT_COUNT: usize = CHANNELS_FROM + GREATEST_CHANNEL as usize + 1;
 
-/// For each piece, which records of a round touch it, ticks apart: their indices in the round, in rising order. The lists keep
+/// For each piece, which records of a round touch it, without the ticks: their indices in the round, in ascending order. The lists keep
 /// their memory from round to round.
 #[derive(Drop)]
 pub(crate) struct Lists {
@@ -43,7 +43,7 @@ impl Model for Lists {
 impl Lists {
     /// Lists of no record.
     ///
-    /// AllocError where memory is refused.
+    /// AllocError if memory is refused.
     pub(crate) fn new(alloc: Global) -> Result<Lists, AllocError>
         ensures { IfOk result (λ lists. (piece : Piece) → list_of lists piece ≡ []) }
     {
@@ -71,9 +71,9 @@ impl Lists {
         }
     }
 
-    /// Puts the index of a record into the lists of the pieces that it touches; that of a tick into none.
+    /// Adds the index of a record to the lists of the pieces that it touches; the index of a tick is added to none.
     ///
-    /// AllocError where a list could not grow: nothing is said of the lists then.
+    /// AllocError if a list could not grow; nothing is then said of the lists.
     pub(crate) fn enter(
         &mut self,
         config: &Config,
@@ -96,7 +96,7 @@ impl Lists {
         }
     }
 
-    // Looks at the first pieces, so many, and puts the index of a record into the lists of those that it touches.
+    // Looks at this many of the first pieces, and adds the index of a record to the lists of those that it touches.
     fn enter_first(
         &mut self,
         config: &Config,
@@ -135,7 +135,7 @@ impl Lists {
         self.put(&Subject::Partition(ret.who.part), index)
     }
 
-    // Puts an index into the lists of the partitions of these processes.
+    // Adds an index to the lists of the partitions of these processes.
     fn enter_homes(&mut self, index: usize, named: &[Who]) -> Result<(), AllocError>
         ensures { OnOk result (IsPut index (is_home_of named.now) (list_of self.old) (list_of self.new)) }
     {
@@ -145,7 +145,7 @@ impl Lists {
         Ok(())
     }
 
-    // Puts an index into the list of the channel, if one is claimed.
+    // Adds an index to the list of the channel, if one is claimed.
     fn enter_channel(&mut self, index: usize, claimed: &Option<ChanId>) -> Result<(), AllocError>
         ensures { OnOk result (IsPut index (is_claimed claimed.now) (list_of self.old) (list_of self.new)) }
     {
@@ -155,7 +155,7 @@ impl Lists {
         }
     }
 
-    // Puts an index into the list of a piece, if one is kept, unless it is there already.
+    // Adds an index to the list of a piece, if one is kept, unless it is there already.
     fn put(&mut self, subject: &Subject, index: usize) -> Result<(), AllocError>
         ensures { OnOk result (IsPut index (is_same_piece (piece_of subject.now)) (list_of self.old) (list_of self.new)) }
     {

@@ -1,5 +1,4 @@
-// The outcome that a partition judges by itself: of a call on which an error condition holds, and of one that goes through a
-// channel.
+// The outcomes that a partition judges by itself: of a call on which an error condition holds, and of a call through a channel.
 
 ghost use Rattle.std.specs.Prelude.{◌≢◌, ◌↔◌, ℕ, [], Some, IsTrue, Option, is_some};
 ghost use Rattle.apex_types.specs.declared.request.Request.{Request as RequestValue};
@@ -14,7 +13,7 @@ use crate::names::names_one_of;
 use apex_types::{Call, Cause, ChanId, Claim, Code, Out, PartId, QueuingOperation, Request};
 use wait_set::{Conditions, has_no_values};
 
-/// Judges the outcome of a call on which some error condition holds: it is the code of one that holds, and nothing else is claimed.
+/// Judges the outcome of a call on which an error condition holds: it is the code of one that holds, and nothing else is claimed.
 pub(crate) fn judge_refused(conditions: &Conditions, claim: &Claim) -> Result<(), Cause>
     requires { conditions.now ≢ [] }
     ensures { (channel : Option ℕ) (number : ℕ) (asked : RequestValue) (answer : services.Answer) → Judges (outcome_demands conditions.now channel number asked answer claim.now) result }
@@ -37,8 +36,8 @@ pub(crate) fn judge_refused(conditions: &Conditions, claim: &Claim) -> Result<()
     Ok(())
 }
 
-/// Judges what a partition can see of the outcome of a call through this channel of one of its processes: the channel, an outcome
-/// that the service can have, and that it names no other process of the partition. The channel judges the rest.
+/// Judges what a partition can see of the outcome of its own process's call through this channel: that the call claims the channel and
+/// an outcome that the service can have, and names no other process of the partition. The channel judges the rest.
 pub(crate) fn judge_through(channel: ChanId, number: PartId, call: &Call) -> Result<(), Cause>
     requires { IsTrue (is_some (use_of call.now.request)) }
     ensures { (answer : services.Answer) → Judges (outcome_demands [] (Some channel) number call.now.request answer call.now.claim) result }
@@ -55,8 +54,8 @@ pub(crate) fn judge_through(channel: ChanId, number: PartId, call: &Call) -> Res
     Ok(())
 }
 
-// Whether a call through a channel can have this outcome, as far as its partition sees: it returns, with no code of an error
-// condition and not timed out, or it waits with a time-out that lets it.
+// Whether a call through a channel can have this outcome, as far as its partition sees: it returns, with no code of an error condition
+// and not timed out, or it waits with a time-out that allows it.
 fn can_have(request: &Request, out: Out) -> bool
     requires { IsTrue (is_some (use_of request.now)) }
     ensures { IsTrue result ↔ CanHave request.now out }

@@ -8,8 +8,7 @@ use apex_types::{CallerOperation, ProcessOperation, Request, Who};
 use partition_state::PartitionState;
 use wait_set::Conditions;
 
-/// Whether a call is within the profile, where these error conditions hold: where none holds the service is used as the
-/// profile has it.
+/// Whether a call is within the profile, if these error conditions hold: if none holds, the service is used as the profile allows.
 pub(crate) fn is_within(
     conditions: &Conditions,
     state: &PartitionState,
@@ -21,9 +20,8 @@ pub(crate) fn is_within(
     !conditions.is_empty() || in_profile(state, who, request)
 }
 
-/// Whether a request on which no error condition holds is used as the profile has it: nobody stops the owner of a mutex, and
-/// the initialising process does not stop itself; and nobody suspends the owner of a mutex or one that waits for a mutex, or
-/// sets its priority.
+/// Whether the profile allows a request on which no error condition holds: nobody stops the owner of a mutex, the initialising process
+/// does not stop itself, and nobody suspends the owner of a mutex or a process that waits for a mutex, or sets its priority.
 fn in_profile(state: &PartitionState, who: Who, request: &Request) -> bool
     ensures { result ≡ services.in_profile who state.now request.now }
 {

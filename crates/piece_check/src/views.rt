@@ -9,7 +9,7 @@ ghost use Rattle.apex_machine.specs.Views.{core_view, elapsed_field, priority_fi
 use apex_machine::Process;
 use apex_types::{Call, CoreId, Return, View, Who, Woken};
 
-/// What a field says that the record has not.
+/// The number of a field that the record does not have.
 const ABSENT: i64 = -1;
 
 /// The view of a call, at this time of its core.
@@ -122,14 +122,14 @@ fn value_field(val: Option<i64>) -> i64
     }
 }
 
-// How many processes a record names.
+// The number of processes that a record names.
 fn count_field(woken: &Woken) -> i64
     ensures { result ≡ pos (length woken.now) }
 {
     woken.as_slice().len() as i64
 }
 
-// The current priority of who returns.
+// The current priority of the process that returns.
 fn priority_of(returner: Option<&Process>) -> i64
     ensures { result ≡ priority_field (option_copied returner.entry) }
 {
@@ -139,7 +139,7 @@ fn priority_of(returner: Option<&Process>) -> i64
     }
 }
 
-// How long ago the last call of who returns was.
+// The time since the last call of the process that returns.
 fn elapsed_since(now: u64, returner: Option<&Process>) -> i64
     requires { now < PLACE_COUNT }
     ensures { result ≡ elapsed_field now (option_copied returner.entry) }

@@ -15,7 +15,7 @@ use Rattle.placement.specs.declared.placer.Filled.TheVariants as filled
 use Rattle.placement.specs.Reading.{CanFail, Reads}
 use Rattle.placement.specs.Scan.{Scan, ends_of, ends_so, led_by, scan}
 
--- what an answer leaves of these items, where they are known: a record is the first of them; after a fault nothing is known
+-- what an answer leaves of these items, if they are known: a record is the first of them; after a fault nothing is known
 abbrev pub left_after : Option (List Item) → Answer → Option (List Item)
 left_after None answer = None
 left_after (Some items) (Ok (Some rec)) = Some (drop 1 items)
@@ -27,17 +27,17 @@ abbrev pub left_behind : Option (List Item) → List Answer → Option (List Ite
 left_behind left [] = left
 left_behind left (answer ∷ later) = left_behind (left_after left answer) later
 
--- what is left of the recording of which this was answered
+-- what is left of a recording after these answers
 abbrev pub standing : Answered → Option (List Item)
 standing lane = left_behind lane.items lane.given
 
--- what the recording of a core has left: nothing where there is no such core
+-- what the recording of a core has left: nothing if there is no such core
 abbrev pub left_at : List Answered → ℕ → Option (List Item)
 left_at [] core = Some []
 left_at (lane ∷ others) zero = standing lane
 left_at (lane ∷ others) (suc core) = left_at others core
 
--- what was answered of each core are answers of a source of its recording, which can fail or cannot
+-- the answers for each core are answers of a source of its recording, which can fail or cannot
 abbrev pub AreHonest : Bool → List Answered → Type 0
 AreHonest can_fail lanes = All (IsHonest can_fail) lanes
 
@@ -58,38 +58,38 @@ IsEnded can_fail lanes place taken result =
     (items : ℕ → List Item) → AreLeft lanes items
     → (left : ℕ → List Item) × ((core : ℕ) → Reads can_fail row.Read (items core) (left core)) × (ends_of (length lanes) place taken left ≡ result)
 
--- what callers see of a placer: what was answered of the recordings; what the certificate has left, where that is known; how many
--- numbers of each core were taken; and whether the input has ended
+-- what callers see of a placer: the answers of the recordings; what the certificate has left, if that is known; how many numbers of each
+-- core were taken; and whether the input has ended
 pub record Placing : Type 0 where
   pub lanes : List Answered
   pub pairs : Option (List CertItem)
   pub kept : Kept
   pub ended : Bool
 
--- these records are ahead, and the input ends so after them, for some readings of what is left, where that is known
+-- these records are ahead, and the input ends so after them, for some readings of what is left, if that is known
 abbrev pub IsAhead : CanFail → Placing → Scan → Type 0
 IsAhead can_fail placing scanned =
     (items : ℕ → List Item) (certificate : List CertItem) → AreLeft placing.lanes items → placing.pairs ≡ Some certificate
     → IsScanOf can_fail (length placing.lanes) (taken_of placing.kept) (place_of placing.kept) items certificate scanned
 
--- a fact of how the input ends, where an answer says so: want of memory says nothing of the input
+-- a fact about how the input ends, if an answer reports it: a lack of memory says nothing about the input
 abbrev pub OnEnd : (Result (Unit {0}) InputFault → Type 0) → Result (Unit {0}) PlacingFault → Type 0
 OnEnd Fact (Ok ended) = Fact (Ok ended)
 OnEnd Fact (Err (Input fault)) = Fact (Err fault)
 OnEnd Fact (Err Memory) = Unit {0}
 
--- these records stood before all that is still ahead
+-- these records came before all that is still ahead
 abbrev pub Lead : CanFail → Placing → List Ordered → Placing → Type 0
 Lead can_fail old records new = (scanned : Scan) → IsAhead can_fail new scanned → IsAhead can_fail old (led_by records scanned)
 
--- one answer of a placer: the first record that was ahead; or none was, and the input ends
+-- one answer of a placer: the first record that was ahead, or None if none was and the input ends
 abbrev pub IsNext : CanFail → Placing → Result (Option Ordered) PlacingFault → Placing → Type 0
 IsNext can_fail old (Ok (Some ordered)) new = Lead can_fail old (ordered ∷ []) new
 IsNext can_fail old (Ok None) new = IsAhead can_fail old (ends_so (Ok tt))
 IsNext can_fail old (Err fault) new = OnEnd (λ end. IsAhead can_fail old (ends_so end)) (Err fault)
 
--- one round of a placer: records that stood before all that is still ahead; or all that were ahead, and the input ends so; want of memory
--- says nothing of the input
+-- one round of a placer: records that came before all that is still ahead; or all that were ahead, and the input ends so; a lack of memory
+-- says nothing about the input
 abbrev pub IsFilled : CanFail → Placing → List Ordered → Filled → Placing → Type 0
 IsFilled can_fail old records filled.Full new = Lead can_fail old records new
 IsFilled can_fail old records (filled.Ended end) new = IsAhead can_fail old (record { placed = records; end = end })

@@ -49,8 +49,8 @@ IsLeastLeft cores left certificate pairs core item =
     (next_row certificate pairs ≡ None) × (core < cores) × ((below : ℕ) → below < core → next_item left pairs below ≡ None)
     × (next_item left pairs core ≡ Some item)
 
--- the order has this fault after these pairs, at this core: the next pair may not stand there, since there is no such core, or its number was
--- taken, or is above the core's next one or one that no recording has; or the pair may stand there, and its core's recording has ended; or there
+-- the order has this fault after these pairs, at this core: the next pair may not be there, since there is no such core, or its number was
+-- taken, or is above the core's next one or one that no recording has; or the pair may be there, and its core's recording has ended; or there
 -- is no further row, and a record is left
 abbrev pub IsOrderFault : ℕ → (ℕ → List Item) → List CertItem → List Pair → ℕ → OrderFault → Type 0
 IsOrderFault cores left certificate pairs core NoSuchCore = (seq : ℕ) × MayNotStand cores certificate pairs core seq × (cores ≤ core)
@@ -71,14 +71,14 @@ IsFirstFault cores left certificate pairs (input.Row core seq fault) =
     (MayStand cores certificate pairs core seq × (next_item left pairs core ≡ Some (Err fault)))
     ⊎ ((seq ≡ taken_by pairs core) × IsLeastLeft cores left certificate pairs core (Err fault))
 
--- the law: where the input ends with a fault, all before its place is good, and the fault is there
+-- the law: if the input ends with a fault, everything before its place is good, and the fault is there
 abbrev pub RefusedAtTheFirstFault : Type 0
 RefusedAtTheFirstFault =
     (cores : ℕ) (left : ℕ → List Item) (certificate : List CertItem) (scanned : Scan) (fault : InputFault)
     → scan cores none_taken 0 left certificate ≡ scanned → scanned.end ≡ Err fault
     → (pairs : List Pair) × AreTaken cores left certificate pairs × (length scanned.placed ≡ length pairs) × IsFirstFault cores left certificate pairs fault
 
--- the converse: where all before its place is good, and a fault is there, the input ends with it
+-- the converse: if everything before a place is good, and a fault is there, the input ends with it
 abbrev pub FirstFaultIsRefused : Type 0
 FirstFaultIsRefused =
     (cores : ℕ) (left : ℕ → List Item) (certificate : List CertItem) (scanned : Scan) (fault : InputFault) (pairs : List Pair)

@@ -51,19 +51,19 @@ abbrev pub ends_of : ℕ → ℕ → (ℕ → ℕ) → (ℕ → List Item) → R
 ends_of zero place taken left = Ok tt
 ends_of (suc core) place taken left = and_then (ends_of core place taken left) (end_of place core (taken core) (left core))
 
--- a pair that may not stand ends the input
+-- a pair that may not be there ends the input
 abbrev pub keeping : Option OrderFault → ℕ → Pair → Scan → Scan
 keeping (Some fault) place pair later = ends_so (Err (input.Order place pair.core fault))
 keeping None place pair later = later
 
--- a pair takes the next record of its core; it ends the input where that is absent or faulty
+-- a pair takes the next record of its core; it ends the input if that record is absent or faulty
 abbrev pub taking : ℕ → Pair → List Item → (Record → List Item → Scan) → Scan
 taking place pair [] later = ends_so (Err (input.Order place pair.core Absent))
 taking place pair (Err fault ∷ rest) later = ends_so (Err (input.Row pair.core pair.seq fault))
 taking place pair (Ok rec ∷ rest) later = led_by (placed_at place pair.core rec ∷ []) (later rec rest)
 
--- pair after pair of the certificate takes the next record of its core, the first at this place, where so many records of each
--- core were taken before
+-- each pair of the certificate takes the next record of its core, the first at this place, after this many records of each core were
+-- taken
 unfoldable pub scan : ℕ → (ℕ → ℕ) → ℕ → (ℕ → List Item) → List CertItem → Scan
 scan cores taken place left [] = ends_so (ends_of cores place taken left)
 scan cores taken place left (Err fault ∷ rest) = ends_so (Err (input.Cert place fault))
@@ -72,14 +72,14 @@ scan cores taken place left (Ok pair ∷ rest) =
     (taking place pair (left pair.core) (λ rec more.
     scan cores (put taken pair.core (suc (taken pair.core))) (suc place) (put left pair.core more) rest))
 
--- faults as a placer reports them; want of memory is none of the input
+-- faults as a placer reports them; a lack of memory is no fault of the input
 
 -- a fault of the certificate's row for a place
 abbrev pub cert_fault : ℕ → CertFault → PlacingFault
 cert_fault place cert.Memory = placing.Memory
 cert_fault place fault = placing.Input (input.Cert place fault)
 
--- a fault of a core's recording after so many records
+-- a fault of a core's recording after this many records
 abbrev pub row_fault : ℕ → ℕ → RowFault → PlacingFault
 row_fault core seq row.Memory = placing.Memory
 row_fault core seq fault = placing.Input (input.Row core seq fault)

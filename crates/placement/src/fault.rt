@@ -4,7 +4,7 @@ use order_cert::{CertFault, OrderFault};
 use record_read::RowFault;
 use thiserror::Error;
 
-/// Why the certificate and the recordings can't be followed further.
+/// Why the certificate and the recordings cannot be followed further.
 #[derive(Clone, Copy, Debug, Drop, PartialEq, Eq, Error)]
 pub enum InputFault {
     /// The row of the certificate for this place has a fault.
@@ -13,14 +13,14 @@ pub enum InputFault {
         place: u64,
         fault: CertFault,
     },
-    /// The pair of the certificate for this place, of this core, may not stand there.
+    /// The pair of the certificate for this place, of this core, may not be there.
     #[error("the order at place {place}, core {core}: {fault}")]
     Order {
         place: u64,
         core: u32,
         fault: OrderFault,
     },
-    /// The recording of this core has a fault after so many records.
+    /// The recording of this core has a fault after this many records.
     #[error("the recording of core {core} after {seq} records: {fault}")]
     Row {
         core: u32,
@@ -35,7 +35,7 @@ pub enum PlacingFault {
     /// The input ends with this fault.
     #[error("{0}")]
     Input(InputFault),
-    /// A growth of memory was refused, which says nothing of the input.
+    /// Memory was refused, which says nothing about the input.
     #[error("out of memory")]
     Memory,
 }

@@ -1,9 +1,12 @@
-//! The records of all cores at their places, one after another or a round at a time: in the order that a certificate proposes.
+//! The records of all cores at their places, in the order that a certificate proposes, one by one or a round at a time.
 //!
-//! Promises: the records, and how the input ends after them, are what the certificate and the recordings say; a reader that
-//! fails ends its own text early, and nothing else. A fault with which the input ends is its first: all before its place is
-//! good. Each recording is read by a thread of its own, so that this is known once the threads are joined: each call promises
-//! it if what was answered of every core is honest, and `close` promises that.
+//! Promises:
+//!
+//! - The records, and how the input ends after them, are what the certificate and the recordings say. A reader that fails ends its own
+//!   text early, and nothing else.
+//! - A fault that ends the input is its first: everything before its place is good.
+//! - Each recording is read by a thread of its own, so this is known once the threads are joined. Each call promises it on the condition
+//!   that the answers for every core are honest, and `close` promises that they are.
 #![tactic(auto)]
 
 mod fault;

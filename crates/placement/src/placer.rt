@@ -24,15 +24,15 @@ use std::thread::Threads;
 pub enum Filled {
     /// The round is full, and more may be ahead.
     Full,
-    /// The input ended after the records of the round: well, or with this fault.
+    /// The input ended after the records of the round, without a fault or with this one.
     Ended(Result<(), InputFault>),
-    /// A growth of memory was refused.
+    /// Memory was refused.
     Memory,
 }
 
-/// The records of all cores, one after another in the order of the certificate.
+/// The records of all cores, one by one in the order of the certificate.
 ///
-/// It can only be given up by `close`, as the intake from which it takes them.
+/// It can be given up only by `close`, like the intake that gives it the records.
 pub struct Placer<R: TextSource, C: TextSource> {
     intake: Intake<R>,
     pairs: CertSource<C>,
@@ -78,10 +78,10 @@ impl<R: TextSource, C: TextSource> Placer<R, C> {
         }
     }
 
-    /// The next record at its place, or None where the input ends well; waits until the core's thread tells it. No call comes
-    /// after None or a fault.
+    /// The next record at its place, or None if the input ends without a fault. Waits for the core's thread. After None or a fault there
+    /// is no further call.
     ///
-    /// Memory where a growth was refused; else the fault with which the input ends.
+    /// Memory if memory was refused, and else the fault that ends the input.
     pub fn next<T: Wait>(&mut self, rt: &T) -> Result<Option<Ordered>, PlacingFault>
         requires going { self.old.ended ≡ false }
         ensures next { AreHonest R.can_fail self.new.lanes → IsNext (record { recordings = R.can_fail; certificate = C.can_fail }) self.old result self.new }
@@ -146,7 +146,7 @@ impl<R: TextSource, C: TextSource> Placer<R, C> {
 }
 
 impl<R: TextSource, C: TextSource + Drop> Placer<R, C> {
-    /// Stops the threads that read the recordings and waits for their ends. A thread ends once the read that it is in returns.
+    /// Stops the threads that read the recordings, and joins them. A thread ends once its present read returns.
     pub fn close<T: Threads + Wait>(self, rt: &T)
         ensures honest { AreHonest R.can_fail self.lanes }
     {
@@ -177,7 +177,7 @@ fn order_fault(place: u64, core: u32, fault: OrderFault) -> PlacingFault
     PlacingFault::Input(InputFault::Order { place, core, fault })
 }
 
-// A fault of a core's recording after so many records, as the placer reports it.
+// A fault of a core's recording after this many records, as the placer reports it.
 fn row_fault(core: u32, seq: u64, fault: RowFault) -> PlacingFault
     ensures { result ≡ scan.row_fault core seq fault }
 {
@@ -187,7 +187,7 @@ fn row_fault(core: u32, seq: u64, fault: RowFault) -> PlacingFault
     }
 }
 
-// The next record of a core, given by what is left of its recording before and after it.
+// The next record of a core, by what is left of its recording before and after it.
 fn next_of<R: TextSource, T: Wait>(
     rt: &T,
     intake: &mut Intake<R>,
@@ -202,7 +202,7 @@ fn next_of<R: TextSource, T: Wait>(
     intake.next_of(rt, core)
 }
 
-// Whether each recording has ended after the last pair; the least core that has not decides.
+// Whether each recording has ended after the last pair. The least core that has not ended decides.
 fn finish<R: TextSource, T: Wait>(
     rt: &T,
     intake: &mut Intake<R>,

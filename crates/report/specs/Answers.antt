@@ -13,13 +13,13 @@ use Rattle.report.specs.Outcome.{IsOutcome}
 use Rattle.report.specs.Refused.{RefusalMeansFault}
 use Rattle.report.specs.Yes.{YesMeansRun}
 
--- what is said of an answer over these texts, whose readers can fail or cannot, and of the last records that it leaves
+-- what an answer means for these texts, whose readers can fail or cannot, and which last records it leaves
 pub record IsAnswer (settings : Settings) (texts : Texts) (can_fail : CanFail) (relations : List Relation) (result : Result Verdict CheckFault) (last : List LastItem) : Type 0 where
   -- it is the one outcome of the texts as far as they were read, which settings that are not refused do not change
   pub readings : Readings
   pub read : MayRead can_fail readings
   pub outcome : IsOutcome settings texts readings relations result
-  -- a Yes: the records are a lawful run in the order of the certificate, and every relation holds in it
+  -- a Yes: the records are a lawful run in the order of the certificate, in which every relation holds
   pub yes : YesMeansRun texts relations result
   -- a No: the records before its place are a lawful run, and the record there has no step; a broken rule: the first that is broken
   pub no : NoMeansRefusal texts relations result
@@ -28,7 +28,7 @@ pub record IsAnswer (settings : Settings) (texts : Texts) (can_fail : CanFail) (
   -- the last records before the place of a No and of a broken rule, and none after any other answer
   pub last_records : IsLastOf texts relations result last
 
--- what is known of the inputs of a check: of a reader the bytes that it gives, where they are known, and whether it can fail
+-- what is known of the inputs of a check: for each reader the bytes that it gives, if they are known, and whether it can fail
 pub record Given : Type 0 where
   pub config : List ℕ
   pub recordings : List (Option (List ℕ))
@@ -44,12 +44,12 @@ given_by config recordings recordings_fail certificate certificate_fails = recor
   can_fail = record { recordings = recordings_fail; certificate = certificate_fails };
 }
 
--- the answer, and the last records that it leaves, are those of the texts that the readers give, where these are known
+-- the answer, and the last records that it leaves, are those of the texts that the readers give, if these are known
 abbrev pub AnswersWith : Given → List Relation → Settings → Result Verdict CheckFault → List LastItem → Type 0
 AnswersWith given relations settings result last =
     (recordings : List (List ℕ)) (certificate : List ℕ) → given.recordings ≡ map Some recordings → given.certificate ≡ Some certificate
     → IsAnswer settings (record { config = given.config; recordings = recordings; certificate = certificate }) given.can_fail relations result last
 
--- the same, where the last records are not asked for
+-- the same without the last records
 abbrev pub Answers : Given → List Relation → Settings → Result Verdict CheckFault → Type 0
 Answers given relations settings result = (last : List LastItem) × AnswersWith given relations settings result last

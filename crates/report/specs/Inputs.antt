@@ -33,7 +33,7 @@ abbrev pub given : {Value Fault : Type 0} → Fault → Option ℕ → List (Res
 given failure None items = items
 given failure (Some row) items = take row items ++ Err failure ∷ []
 
--- what the text of a core's recording is read as: nothing where there is no such core
+-- what the text of a core's recording is read as: nothing if there is no such core
 abbrev pub items_at : List (List ℕ) → ℕ → List Item
 items_at [] core = []
 items_at (text ∷ texts) zero = records_of text

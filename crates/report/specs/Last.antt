@@ -31,7 +31,7 @@ kind_in (body.Tick woken) = kind.Tick
 abbrev pub item_of : Ordered → LastItem
 item_of ordered = record { place = ordered.pos; core = ordered.core; seq = ordered.rec.seq; kind = kind_in ordered.rec.body }
 
--- the last of the records before a place, the earliest first, where the records stand at the places 0, 1, 2, ..
+-- the last of the records before a place, the earliest first; the records are at the places 0, 1, 2, ..
 abbrev pub last_before : ℕ → List Ordered → List LastItem
 last_before place records = keep_last most_last (map item_of (take place records))
 
@@ -41,13 +41,13 @@ last_of (Ok (No pos piece cause)) records = last_before pos records
 last_of (Ok (Broken pos rule)) records = last_before pos records
 last_of _ records = []
 
--- what is kept after an answer, where these were kept before, and the records that come next begin at this place
+-- what is kept after an answer, if these were kept before and the records that come next begin at this place
 abbrev pub kept_behind : Result Verdict CheckFault → ℕ → List LastItem → List Ordered → List LastItem
 kept_behind (Ok (No pos piece cause)) first kept records = keep_last most_last (kept ++ map item_of (take (pos - first) records))
 kept_behind (Ok (Broken pos rule)) first kept records = keep_last most_last (kept ++ map item_of (take (pos - first) records))
 kept_behind _ first kept records = []
 
--- what stays of these after an answer: nothing after a refusal and want of memory
+-- what stays of these after an answer: nothing after a refusal or a lack of memory
 abbrev pub settled : Result Verdict CheckFault → List LastItem → List LastItem
 settled (Ok verdict) kept = kept
 settled (Err fault) kept = []

@@ -31,8 +31,8 @@ pub record IsLawfulUpTo (texts : Texts) (Fact : Configuration → List Ordered �
   pub ordered : AreInOrder configuration.cores 0 pairs recordings records
   pub holds : Fact configuration records
 
--- where the answer is No, the records before its place are a run of the machine, which has no step that takes the record at the place;
--- where a rule is broken, the records up to its place are a run, and the view there is the first that breaks a rule
+-- if the answer is No, the records before its place are a run of the machine, which has no step for the record at the place; if a rule is
+-- broken, the records up to its place are a run, and the view there is the first that breaks a rule
 abbrev pub NoMeansRefusal : Texts → List Relation → Result Verdict CheckFault → Type 0
 NoMeansRefusal texts relations (Ok (No pos piece cause)) =
     IsLawfulUpTo texts (λ configuration records. IsRefusedAt configuration relations records pos)

@@ -22,12 +22,12 @@ use Rattle.report.specs.declared.fault.CheckFault.TheVariants.{Arguments, Config
 use Rattle.report.specs.declared.settings.Settings.{Settings}
 use Rattle.report.specs.Inputs.{Readings, Texts, scan_of, whole}
 
--- the refusal that a fault of the configuration is; want of memory is the check's own
+-- the refusal that a fault of the configuration means; a lack of memory is the check's own
 abbrev pub config_refusal_of : ConfigFault → CheckFault
 config_refusal_of config.Memory = Memory
 config_refusal_of fault = Config fault
 
--- a No and a broken rule stand at a place before the end of the input, so they decide; a Yes needs an input without a fault
+-- a No and a broken rule are at a place before the end of the input, so they decide; a Yes needs an input without a fault
 abbrev pub answer_with : Verdict → Result (Unit {0}) InputFault → Result Verdict CheckFault
 answer_with (Yes records) (Err fault) = Err (Input fault)
 answer_with verdict end = Ok verdict
@@ -37,7 +37,7 @@ abbrev pub IsJudged : Configuration → List Relation → Scan → Result Verdic
 IsJudged configuration relations scanned result =
     (verdict : Verdict) × IsVerdict configuration relations scanned.placed verdict × (result ≡ answer_with verdict scanned.end)
 
--- the outcome under a configuration: there has to be one recording for each core
+-- the outcome under a configuration, which requires one recording for each core
 abbrev pub IsOutcomeUnder : Bool → Configuration → Texts → Readings → List Relation → Result Verdict CheckFault → Type 0
 IsOutcomeUnder false configuration texts readings relations result = result ≡ Err (Arguments ReaderCount)
 IsOutcomeUnder true configuration texts readings relations result = IsJudged configuration relations (scan_of texts readings) result
@@ -48,7 +48,7 @@ IsOutcomeBy (Err fault) texts readings relations result = result ≡ Err (Config
 IsOutcomeBy (Ok configuration) texts readings relations result =
     IsOutcomeUnder (nat_eq (length texts.recordings) configuration.cores) configuration texts readings relations result
 
--- what is wrong with a number that must be from 1 to this most: it is 0, or more
+-- what is wrong with a number that must be from 1 to this maximum: it is 0, or above the maximum
 abbrev pub range_fault_of : ℕ → ArgumentFault → ArgumentFault → ℕ → Option ArgumentFault
 range_fault_of most none too_many number = if nat_eq number 0 then Some none else if nat_lt most number then Some too_many else None
 
@@ -58,12 +58,12 @@ abbrev pub argument_fault_of : Settings → Option ArgumentFault
 argument_fault_of settings =
     option_or (range_fault_of MOST_WORKERS NoWorkers TooManyWorkers settings.workers) (range_fault_of GREATEST_DEPTH NoDepth TooDeep settings.depth)
 
--- the outcome of these texts, by what is wrong with the settings: where nothing is, it is the same for all settings
+-- the outcome of these texts, by what is wrong with the settings: if nothing is wrong, it is the same for all settings
 abbrev pub IsOutcomeWith : Option ArgumentFault → Texts → Readings → List Relation → Result Verdict CheckFault → Type 0
 IsOutcomeWith (Some fault) texts readings relations result = result ≡ Err (Arguments fault)
 IsOutcomeWith None texts readings relations result = IsOutcomeBy (configuration_of texts.config) texts readings relations result
 
--- the outcome of a check with these settings, of these texts as far as they are read, and of the rules' relations; want of memory outranks it
+-- the outcome of a check with these settings, of these texts as far as they are read, and of the rules' relations; a lack of memory outranks it
 abbrev pub IsOutcome : Settings → Texts → Readings → List Relation → Result Verdict CheckFault → Type 0
 IsOutcome settings texts readings relations result =
     (result ≡ Err Memory) ⊎ IsOutcomeWith (argument_fault_of settings) texts readings relations result
@@ -74,14 +74,14 @@ IsOutcome settings texts readings relations result =
 abbrev pub one_by_one : Settings
 one_by_one = record { workers = 1; depth = 1 }
 
--- whatever the settings, where nothing is wrong with them, the outcomes are those of one worker
+-- for all settings with which nothing is wrong, the outcomes are those of one worker
 abbrev pub SettingsChangeNoOutcome : Type 0
 SettingsChangeNoOutcome =
     (settings : Settings) (texts : Texts) (readings : Readings) (relations : List Relation) (result : Result Verdict CheckFault)
     → argument_fault_of settings ≡ None
     → IsOutcome settings texts readings relations result ↔ IsOutcome one_by_one texts readings relations result
 
--- for the same texts, readings and relations there is one outcome beside want of memory, for all settings that are refused alike or not at all
+-- for the same texts, readings and relations there is one outcome, a lack of memory aside, for all settings that are refused alike or not at all
 abbrev pub OneOutcome : Type 0
 OneOutcome =
     (some others : Settings) (texts : Texts) (readings : Readings) (relations : List Relation) (one other : Result Verdict CheckFault)
@@ -95,7 +95,7 @@ TellsNoFailure (Err (Input (input.Cert place fault))) = fault ≢ cert.Read
 TellsNoFailure (Err (Input (input.Row core seq fault))) = fault ≢ row.Read
 TellsNoFailure _ = Unit {0}
 
--- where no reader failed, no outcome is a failure of one
+-- if no reader failed, no outcome is a reader's failure
 abbrev pub WholeReadingsTellNoFailure : Type 0
 WholeReadingsTellNoFailure =
     (settings : Settings) (texts : Texts) (relations : List Relation) (result : Result Verdict CheckFault)

@@ -108,7 +108,7 @@ report_of (Err (Input (input.Row core seq fault))) =
     codes "REFUSED row core=" ++ (decimal core ++ (codes " seq=" ++ (decimal seq ++ (codes " fault=" ++ (row_fault_name fault ++ codes "\n")))))
 report_of (Err Memory) = codes "MEMORY\n"
 
--- 0 for a Yes, 1 for a No and a broken rule, 3 for want of memory, and 2 for every other refusal
+-- 0 for a Yes, 1 for a No and a broken rule, 3 for a lack of memory, and 2 for every other refusal
 abbrev pub outcome_status_of : Result Verdict CheckFault → ℕ
 outcome_status_of (Ok (Yes records)) = 0
 outcome_status_of (Ok (No pos piece cause)) = 1

@@ -47,7 +47,7 @@ pub record IsLawfulRun (texts : Texts) (relations : List Relation) (count : ℕ)
   pub meets : All (MeetsAll relations) (run_views configuration (cold_state configuration) records final run)
   pub counted : count ≡ length records
 
--- where the answer is Yes, the recordings are lawful in the order of the certificate, and every relation holds in their run
+-- if the answer is Yes, the recordings are lawful in the order of the certificate, and every relation holds in their run
 abbrev pub YesMeansRun : Texts → List Relation → Result Verdict CheckFault → Type 0
 YesMeansRun texts relations (Ok (Yes records)) = IsLawfulRun texts relations records
 YesMeansRun texts relations _ = Unit {0}

@@ -28,27 +28,27 @@ use verdict_merge::Verdict;
 
 /// Checks the recordings against the configuration, the order that the certificate proposes, and the user's rules.
 ///
-/// Each recording is read by a thread of its own, beside the judging of what was read. The pieces of a round are judged by the
-/// workers, and the gate sees each claim and each post. No more is held at a time than two rounds, of which one is judged while
-/// the other is filled, and of each core what was read ahead. After a round in which a record is refused no more is taken than
-/// the round that was filled meanwhile, and the threads are stopped.
+/// A thread of its own reads each recording while records are judged. The workers judge the pieces of a round, and the gate sees
+/// each claim and each post. At most two rounds are held at a time, of which one is judged while the other is filled, and for each core
+/// the records that were read ahead. After a round with a rejected record, no more is taken than the round that was filled meanwhile,
+/// and the threads are stopped.
 ///
-/// Yes with the number of records where the order is lawful, the records in it are a run of the machine, and each rule holds of
-/// the view of each record; No with the first place that is not, the piece that refuses it and its cause; or the first place
-/// whose view breaks a rule, with the number of the rule; else the refusal that comes first: that of the settings, of the
-/// configuration, of the number of readers, and then of the least place. It is the same for all settings that are not refused,
-/// for every gate and every size of rounds, and however the threads take turns. Memory comes where a growth or a thread was
-/// refused, at whatever point. A reader that answers an error ends its text there, with the fault Read.
+/// The answer is Yes with the number of records if the order is lawful, the records in this order are a run of the machine, and each
+/// rule holds of each record's view. It is No with the first place that has no step, the piece that rejects the record and its cause; or
+/// the first place whose view breaks a rule, with the number of the rule. Else it is the first refusal: of the settings, of the
+/// configuration, of the number of readers, and then at the least place. The answer is the same for all settings that are not refused,
+/// for every gate and every size of rounds, and however the threads interleave. It is Memory if memory or a thread was refused at any
+/// point. A reader that returns an error ends its text there, with the fault Read.
 ///
-/// A No and a broken rule speak of the machine too. The certificate's first pairs are then a lawful order of the first records of
-/// the recordings. Those before the place of a No are a run of the machine in which each rule holds, and the machine has no step
-/// that takes the record at the place. Those up to the place of a broken rule, with the one there, are a run, and the view there is
-/// the first that breaks a rule.
+/// A No and a broken rule also hold of the machine. The certificate's first pairs are then a lawful order of the first records of the
+/// recordings. The records before the place of a No are a run of the machine in which each rule holds, and the machine has no step for
+/// the record at the place. The records up to and including the place of a broken rule are a run, and the view there is the first that
+/// breaks a rule.
 ///
-/// `last` gets the last records before the place of a No or of a broken rule, at most eight, and none after any other answer. The
+/// `last` receives the last records before the place of a No or of a broken rule, at most eight, and none after any other answer. The
 /// witness receives what is at that place.
 ///
-/// All threads have ended when it answers. A reader that waits in a read of its own holds it until that read returns.
+/// All threads have ended when the call returns. A reader that blocks in its own read holds up the call until that read returns.
 pub fn check_inputs<T, R, C, G, V>(
     rt: T,
     alloc: Global,
@@ -78,7 +78,7 @@ where
         return Err(CheckFault::Arguments(ArgumentFault::ReaderCount));
     }
     config.keeps_limits();
-    // Workers read it while the placer is written to: apart from it, no line of the cache has both.
+    // Workers read it while the placer is written to. In a box of its own it shares no cache line with the placer.
     let Ok(config) = Box::new(alloc, config) else {
         return Err(CheckFault::Memory);
     };
@@ -107,9 +107,9 @@ where
     answer
 }
 
-/// What `check_inputs` answers under the rules of these relations, each of which is its own test, and what it leaves.
+/// The answer of `check_inputs` under the rules of these relations, each of which is its own test, and what it leaves.
 ///
-/// Memory also where it is refused for the tests.
+/// Memory also if it is refused for the tests.
 #[tactic(auto, using(crate::proofs::Answering::want_of_memory))]
 pub fn check_relations<T, R, C, G, V>(
     rt: T,
@@ -176,7 +176,7 @@ where
     )
 }
 
-/// The same check, which leaves the last records before the place of a No or of a broken rule.
+/// The same check, which also leaves the last records before the place of a No or of a broken rule.
 pub fn check_with_last<T, R, C, G>(
     rt: T,
     alloc: Global,

@@ -7,29 +7,28 @@ use module_config::ConfigFault;
 use placement::InputFault;
 use thiserror::Error;
 
-/// What is wrong with the arguments of a check. The faults are looked for in this order; those of the configuration come before
-/// the last.
+/// What is wrong with the arguments of a check. The faults are looked for in this order, and those of the configuration before the last
+/// of these.
 #[derive(Clone, Copy, Debug, Drop, PartialEq, Eq, Error)]
 pub enum ArgumentFault {
-    /// There are to be 0 workers.
+    /// 0 workers are asked for.
     #[error("no worker is to judge")]
     NoWorkers,
-    /// There are to be more than 64 workers.
+    /// More than 64 workers are asked for.
     #[error("more than 64 workers are to judge")]
     TooManyWorkers,
-    /// There are to be 0 records of a core that are read ahead.
+    /// A depth of 0 is asked for: no record of a core could be read ahead.
     #[error("no record is to be read ahead")]
     NoDepth,
-    /// There are to be more than 4,096 records of a core that are read ahead.
+    /// A depth above 4,096 records of a core is asked for.
     #[error("more than 4,096 records of a core are to be read ahead")]
     TooDeep,
-    /// There is not one recording for each core.
+    /// The number of recordings is not the number of cores.
     #[error("there is not one recording for each core")]
     ReaderCount,
 }
 
-/// Why there is no verdict. The least place decides; at one place the certificate comes first, then the order, then the
-/// recording.
+/// Why there is no verdict. The least place decides. At one place the certificate comes first, then the order, then the recording.
 #[derive(Clone, Copy, Debug, Drop, PartialEq, Eq, Error)]
 pub enum CheckFault {
     /// The arguments are refused.
@@ -41,13 +40,13 @@ pub enum CheckFault {
     /// The certificate, the order or a recording is refused.
     #[error("{0}")]
     Input(InputFault),
-    /// A growth of memory was refused, to whichever part of the check asked for it. It is a refusal of its own, and none of the
-    /// part's: it says nothing of what was read, so it may come where another run has a verdict.
+    /// Memory was refused, whichever part of the check asked for it. This says nothing about what was read, so another run may have a
+    /// verdict.
     #[error("out of memory")]
     Memory,
 }
 
-// The refusal that a fault of the configuration is.
+// The refusal that a fault of the configuration means.
 pub(crate) fn config_refusal(fault: ConfigFault) -> CheckFault
     ensures { result ≡ config_refusal_of fault }
 {

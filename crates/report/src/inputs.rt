@@ -6,8 +6,8 @@ ghost use Rattle.report.specs.Answers.{given_by};
 use csv_rows::TextSource;
 use std::marker::Model;
 
-/// What a check is given: the text of the configuration, a reader of each core's recording in the order of the cores, and a
-/// reader of the certificate. Contracts see the bytes that the readers give, where these are known.
+/// What a check is given: the text of the configuration, a reader of each core's recording in the order of the cores, and a reader of
+/// the certificate. A contract sees the bytes that the readers give, if they are known.
 #[derive(Drop)]
 pub struct Inputs<'a, R: TextSource, C: TextSource> {
     pub(crate) config: &'a [u8],

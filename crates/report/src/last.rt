@@ -1,4 +1,4 @@
-// The last records before the place where a check says No.
+// The last records before the place of a No.
 
 ghost use Rattle.std.specs.Prelude.{◌≡◌, ◌≤◌, ◌-◌, ◌++◌, [], IfOk, length, map, option_copied, slice_get, take};
 ghost use Rattle.circular_buffer.specs.Buffer.{keep_last};
@@ -24,7 +24,7 @@ pub struct LastItem {
     pub kind: Kind,
 }
 
-/// The last records before the place where a check said No, the earliest first; none after any other answer.
+/// The last records before the place of a No or of a broken rule, the earliest first; none after any other answer.
 #[derive(Drop)]
 pub struct Last {
     items: HeapCircularBuffer<LastItem>,
@@ -43,9 +43,9 @@ impl Model for Last {
 }
 
 impl Last {
-    /// No records, with room for all that can come.
+    /// No records, with room for the most that can be kept.
     ///
-    /// Memory where it is refused for them.
+    /// Memory if it is refused for them.
     pub fn new(alloc: Global) -> Result<Last, Memory>
         ensures { IfOk result (λ last. last ≡ []) }
     {
@@ -55,7 +55,7 @@ impl Last {
         }
     }
 
-    /// How many records there are, at most eight.
+    /// The number of records, at most eight.
     pub fn len(&self) -> usize
         ensures count { result ≡ length self.now }
         ensures most { result ≤ most_last }
@@ -70,7 +70,7 @@ impl Last {
         self.items.get(index)
     }
 
-    // Takes in the records that come next, and keeps the last. Takes no memory.
+    // Adds the records that come next, and keeps the last. Takes no memory.
     pub(crate) fn keep(&mut self, records: &[Ordered])
         ensures { self.new ≡ keep_last most_last (self.old ++ map item_of records.now) }
     {
@@ -80,7 +80,7 @@ impl Last {
         }
     }
 
-    // Keeps what is reported after an answer over these records, of which the first stands at this place. Takes no memory.
+    // Keeps what is reported after an answer over these records, the first of which is at this place. Takes no memory.
     pub(crate) fn keep_behind(
         &mut self,
         answer: &Result<Verdict, CheckFault>,
@@ -96,7 +96,7 @@ impl Last {
         }
     }
 
-    // Keeps none after a refusal and want of memory.
+    // Keeps none after a refusal or a lack of memory.
     pub(crate) fn settle(&mut self, answer: &Result<Verdict, CheckFault>)
         ensures { self.new ≡ settled answer.now self.old }
     {
@@ -113,7 +113,7 @@ impl Last {
     }
 }
 
-// Those of these records, of which the first stands at this place, that stand before another place.
+// Of these records, the first of which is at this place, those before another place.
 fn before(pos: Place, first: u64, records: &[Ordered]) -> &[Ordered]
     ensures { result.now ≡ take (pos - first) records.now }
 {

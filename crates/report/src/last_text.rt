@@ -9,9 +9,9 @@ use crate::names::name_of_kind;
 use itoa::Buffer;
 use sink::{Sink, WriteFault, put_parts};
 
-/// Puts out the last records, one line each, the earliest first. Takes no memory.
+/// Writes the last records, one line each, the earliest first. Takes no memory.
 ///
-/// Where the sink fails, only first bytes of the lines went out.
+/// If the sink fails, it has only the first bytes of the lines.
 pub fn write_last<W: Sink>(w: &mut W, last: &Last) -> Result<(), WriteFault>
     ensures whole { OnOk result (IsWritten (W.bytes w.old) (last_lines last.now) (W.bytes w.new)) }
     ensures same { OnOk result (W.failures w.new ≡ W.failures w.old) }
@@ -27,7 +27,7 @@ pub fn write_last<W: Sink>(w: &mut W, last: &Last) -> Result<(), WriteFault>
     Ok(())
 }
 
-// Puts out the line of one record.
+// Writes the line of one record.
 fn write_item<W: Sink>(w: &mut W, item: &LastItem) -> Result<(), WriteFault>
     ensures whole { OnOk result (IsWritten (W.bytes w.old) (last_line item.now) (W.bytes w.new)) }
     ensures same { OnOk result (W.failures w.new ≡ W.failures w.old) }

@@ -1,4 +1,4 @@
-// The laws on outcomes, each the contract of a function without code.
+// The laws of outcomes, each the contract of a function without code.
 
 ghost use Rattle.report.specs.Outcome.{OneOutcome, SettingsChangeNoOutcome, WholeReadingsTellNoFailure};
 
@@ -7,12 +7,12 @@ pub fn settings_change_no_outcome()
     ensures { SettingsChangeNoOutcome }
 {}
 
-/// For the same texts, readings and relations there is one outcome beside want of memory.
+/// For the same texts, readings and relations there is one outcome, a lack of memory aside.
 pub fn one_outcome()
     ensures { OneOutcome }
 {}
 
-/// Where no reader failed, no outcome is a failure of one.
+/// If no reader failed, no outcome is a reader's failure.
 pub fn whole_readings_tell_no_failure()
     ensures { WholeReadingsTellNoFailure }
 {}

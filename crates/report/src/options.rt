@@ -12,9 +12,9 @@ use apex_types::limits::LARGEST_ROUND;
 pub struct Options<'a, G> {
     /// The workers and the depth.
     pub settings: Settings,
-    /// What sees claims and posts.
+    /// The gate, which sees claims and posts.
     pub gate: &'a G,
-    /// How many records a round holds at most, from 1 to the largest round.
+    /// The most records of a round, from 1 to the largest round.
     pub size: usize,
     ghost is_size: { (1 ≤ size) × (size ≤ LARGEST_ROUND) },
 }

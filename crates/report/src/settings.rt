@@ -6,12 +6,13 @@ ghost use Rattle.report.specs.Outcome.{argument_fault_of, range_fault_of};
 use crate::fault::ArgumentFault::{self, NoDepth, NoWorkers, TooDeep, TooManyWorkers};
 use apex_types::limits::{GREATEST_DEPTH, MOST_WORKERS};
 
-/// How a check is carried out. What it answers is the same for all settings that are not refused.
+/// How a check is carried out. The answer is the same for all settings that are not refused.
 #[derive(Clone, Copy, Debug, PartialEq, Eq)]
 pub struct Settings {
-    /// How many workers judge the pieces of a round, 1 to `MOST_WORKERS`. Several have a thread each; one has the caller's.
+    /// The number of workers that judge the pieces of a round, from 1 to `MOST_WORKERS`. Each of several has a thread of its own; a single
+    /// one uses the caller's.
     pub workers: usize,
-    /// How many records of a core wait at most in its channel until they are judged: 1 to `GREATEST_DEPTH`.
+    /// The most records of a core that wait in its channel until they are judged, from 1 to `GREATEST_DEPTH`.
     pub depth: usize,
 }
 
@@ -26,7 +27,7 @@ impl Settings {
     }
 }
 
-// What is wrong with a number that must be from 1 to this most, if anything is.
+// What is wrong with a number that must be from 1 to this maximum, if anything is.
 fn range_fault(
     number: usize,
     most: usize,

@@ -15,9 +15,9 @@ use placement::InputFault;
 use sink::{Sink, WriteFault, put_parts};
 use verdict_merge::Verdict;
 
-/// Puts out the report of an outcome, one line. Takes no memory.
+/// Writes the report of an outcome, one line. Takes no memory.
 ///
-/// Where the sink fails, only first bytes of the line went out.
+/// If the sink fails, it has only the first bytes of the line.
 pub fn write_report<W: Sink>(
     w: &mut W,
     outcome: &Result<Verdict, CheckFault>,
@@ -45,7 +45,7 @@ pub fn status_of_outcome(outcome: &Result<Verdict, CheckFault>) -> u8
     }
 }
 
-// Puts out the report of a verdict.
+// Writes the report of a verdict.
 fn write_verdict<W: Sink>(w: &mut W, verdict: &Verdict) -> Result<(), WriteFault>
     ensures whole { OnOk result (IsWritten (W.bytes w.old) (report_of (Ok verdict.now)) (W.bytes w.new)) }
     ensures same { OnOk result (W.failures w.new ≡ W.failures w.old) }
@@ -84,7 +84,7 @@ fn write_verdict<W: Sink>(w: &mut W, verdict: &Verdict) -> Result<(), WriteFault
     }
 }
 
-// Puts out the report of a refusal.
+// Writes the report of a refusal.
 fn write_refusal<W: Sink>(w: &mut W, fault: &CheckFault) -> Result<(), WriteFault>
     ensures whole { OnOk result (IsWritten (W.bytes w.old) (report_of (Err fault.now)) (W.bytes w.new)) }
     ensures same { OnOk result (W.failures w.new ≡ W.failures w.old) }
@@ -105,7 +105,7 @@ fn write_refusal<W: Sink>(w: &mut W, fault: &CheckFault) -> Result<(), WriteFaul
     }
 }
 
-// Puts out the report of a refusal of the certificate, the order or a recording.
+// Writes the report of a refusal of the certificate, the order or a recording.
 fn write_input_refusal<W: Sink>(w: &mut W, fault: &InputFault) -> Result<(), WriteFault>
     ensures whole { OnOk result (IsWritten (W.bytes w.old) (report_of (Err (Input fault.now))) (W.bytes w.new)) }
     ensures same { OnOk result (W.failures w.new ≡ W.failures w.old) }

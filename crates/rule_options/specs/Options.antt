@@ -12,13 +12,13 @@ use Rattle.rule_options.specs.declared.given.RuleOptions.{RuleOptions}
 use Rattle.rule_options.specs.declared.option.RuleOption.{RuleOption}
 use Rattle.rule_options.specs.declared.option.RuleOption.TheVariants.{MaxElapsed, Forbid}
 
--- whether a view keeps to an option: to `--max-elapsed` where its time since the call is not above so many ticks, to `--forbid`
--- where it is not of a call of the service
+-- whether a view keeps to an option: to `--max-elapsed` if its time since the call is at most this many ticks, to `--forbid` if it is
+-- not the view of a call of the service
 abbrev pub keeps : RuleOption → View → Bool
 keeps (MaxElapsed ticks) view = not (int_lt (pos ticks) view.elapsed)
 keeps (Forbid service) view = not (int_eq view.kind (pos 0) && int_eq view.service (pos (service_number service)))
 
--- a relation says what an option asks for: a view meets it exactly where it keeps to the option
+-- a relation says what an option asks for: a view meets it exactly if it keeps to the option
 abbrev pub Says : RuleOption → Relation → Type 0
 Says option relation = (view : View) → meets relation view ≡ keeps option view
 
@@ -26,7 +26,7 @@ Says option relation = (view : View) → meets relation view ≡ keeps option vi
 abbrev pub SayInTurn : List RuleOption → List Relation → Type 0
 SayInTurn options relations = (view : View) → map (λ relation. meets relation view) relations ≡ map (λ option. keeps option view) options
 
--- an option, if its value is given
+-- an option whose value is given
 abbrev pub if_given : {A : Type 0} → (A → RuleOption) → Option A → List RuleOption
 if_given option None = []
 if_given option (Some value) = option value ∷ []
@@ -35,12 +35,12 @@ if_given option (Some value) = option value ∷ []
 abbrev pub in_order : RuleOptions → List RuleOption
 in_order given = if_given MaxElapsed given.max_elapsed ++ if_given Forbid given.forbidden
 
--- the value of an option that may be left out, by its text; none where there is a text that is no value
+-- the value of an option that may be omitted, by its text; none if there is a text that is no value
 abbrev pub optional : {A : Type 0} → (List ℕ → Option A) → Option (List ℕ) → Option (Option A)
 optional value None = Some None
 optional value (Some text) = option_map Some (value text)
 
--- the values that two texts give: so many ticks, and a service by its name; none where one of them is no value
+-- the values that two texts give: a number of ticks, and a service by its name; none if one of them is no value
 abbrev pub values_of : Option (List ℕ) → Option (List ℕ) → Option RuleOptions
 values_of ticks service =
     option_and_then (λ max_elapsed. option_map (λ forbidden. record { max_elapsed = max_elapsed; forbidden = forbidden }) (optional service_named service))

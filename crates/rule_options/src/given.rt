@@ -12,18 +12,18 @@ use csv_rows::read_decimal;
 use record_read::find_service;
 use std::alloc::{AllocError, Global};
 
-/// The values of the options, as far as they are given.
+/// The values of the options that are given.
 #[derive(Clone, Copy, Debug, PartialEq, Eq)]
 pub struct RuleOptions {
-    /// That of `--max-elapsed`, in ticks.
+    /// The value of `--max-elapsed`, in ticks.
     pub max_elapsed: Option<u32>,
-    /// That of `--forbid`.
+    /// The value of `--forbid`.
     pub forbidden: Option<Service>,
 }
 
 impl RuleOptions {
-    /// The values that these texts give, as far as there are texts: ticks from 0 to 4,294,967,295, with no zero before another
-    /// digit, and a service by its name. None where a text is no such value. Takes no memory.
+    /// The values of these texts, if they are given: ticks from 0 to 4,294,967,295 without leading zeros, and a service by its name.
+    /// None if a text is no such value. Takes no memory.
     pub fn read(max_elapsed: Option<&[u8]>, forbidden: Option<&[u8]>) -> Option<RuleOptions>
         ensures { result ≡ values_of (option_map (λ text. text.now) max_elapsed.entry) (option_map (λ text. text.now) forbidden.entry) }
     {

@@ -1,7 +1,7 @@
 //! The rules that a command line asks for by options of their own, `--max-elapsed` and `--forbid`.
 //!
-//! Promises: the values of the options are read exactly where their texts are such values. The options that are given stand in
-//! the order in which their rules are numbered. The relation of an option is met by exactly the views that keep to it.
+//! Promises: the values of the options are read exactly if their texts are such values. The given options are in the order in which
+//! their rules are numbered. Exactly the views that keep to an option meet its relation.
 //!
 //! ```text
 //! let given = RuleOptions::read(Some(b"4"), Some(b"SIGNAL_SEMAPHORE"));

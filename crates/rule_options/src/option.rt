@@ -8,20 +8,20 @@ use std::alloc::{AllocError, Global};
 use std::{fmt, str};
 use user_rules::Relation;
 
-// The number by which a view tells that it is of a call.
+// The number that a view of a call has for its kind.
 const CALL: i64 = 0;
 
 /// An option that asks for a rule.
 #[derive(Clone, Copy, Debug, PartialEq, Eq)]
 pub enum RuleOption {
-    /// `--max-elapsed`: no call returns more than so many ticks later.
+    /// `--max-elapsed`: every call returns within this many ticks.
     MaxElapsed(u32),
-    /// `--forbid`: the service is not called.
+    /// `--forbid`: no process calls the service.
     Forbid(Service),
 }
 
 impl RuleOption {
-    /// The relation that the option asks for: exactly the views that keep to the option meet it.
+    /// The relation that the option asks for. Exactly the views that keep to the option meet it.
     pub fn relation(self, alloc: Global) -> Result<Relation, AllocError>
         ensures { IfOk result (λ relation. Says self relation) }
     {

@@ -38,7 +38,7 @@ pub record IsBrokenAt (configuration : Configuration) (relations : List Relation
   pub run : Run configuration (cold_state configuration) through final
   pub first : IsFirstBroken relations (run_views configuration (cold_state configuration) through final run) (Some (record { view = pos; rule = rule }))
 
--- what a No and a broken rule mean: up to there the records are a run of the machine, and there is what the verdict tells
+-- what a No and a broken rule mean: up to the place the records are a run of the machine, and the verdict's finding is there
 abbrev pub IsRunUpToNo : Configuration → List Relation → List Ordered → Verdict → Type 0
 IsRunUpToNo configuration relations records (Yes count) = Unit {0}
 IsRunUpToNo configuration relations records (No pos piece cause) = IsRefusedAt configuration relations records pos
@@ -46,8 +46,8 @@ IsRunUpToNo configuration relations records (Broken pos rule) = IsBrokenAt confi
 
 -- the law
 
--- where each window is of a configured partition, and no partition is at both ends of a queuing channel, a verdict says of the machine
--- what it means
+-- if each window is of a configured partition, and no partition is at both ends of a queuing channel, a verdict means for the machine
+-- what it says
 abbrev pub VerdictIsOfTheMachine : Type 0
 VerdictIsOfTheMachine =
     (configuration : Configuration) (relations : List Relation) (records : List Ordered) (verdict : Verdict)

@@ -34,8 +34,8 @@ abbrev pub AllRun : Configuration → (ℕ → Part) → List Ordered → (ℕ �
 AllRun configuration old records new =
     (number : ℕ) → number < length (pieces configuration) → PieceRun configuration (piece_at configuration number) (old number) records (new number)
 
--- a No among records: the piece runs up to the record at that place and refuses it for that cause; the pieces of smaller number
--- run through it, all others run up to it; nothing is said of the records after it
+-- a No among records: the piece runs up to the record at that place and rejects it for that cause; the lower-numbered pieces run
+-- through it, and all others run up to it; nothing is said of the records after it
 pub record IsNo (configuration : Configuration) (parts : ℕ → Part) (records : List Ordered) (found : Refused) : Type 0 where
   pub before : List Ordered
   pub ordered : Ordered
@@ -49,43 +49,43 @@ pub record IsNo (configuration : Configuration) (parts : ℕ → Part) (records 
 
 -- one piece among them
 
--- in this part a piece rejects a record for a cause: the record touches the piece, and the first demand that fails has the cause
+-- with this part a piece rejects a record for a cause: the record touches the piece, and the first demand that fails has the cause
 abbrev pub Rejects : Configuration → Piece → Part → Ordered → Cause → Type 0
 Rejects configuration piece part ordered cause = IsTrue (touches configuration piece ordered) × FirstFails (demands configuration part ordered) cause
 
--- somewhere among these records a piece refuses one, at this place and for this cause: it runs over those before it to its new part,
--- in which it rejects that record
+-- a piece rejects one of these records, at this place and for this cause: it runs over the records before it to its new part, with which
+-- it rejects that record
 abbrev pub RefusesAmong : Configuration → Piece → Part → List Ordered → ℕ → Cause → Part → Type 0
 RefusesAmong configuration piece old records place cause new =
     (before : List Ordered) × (ordered : Ordered) × (after : List Ordered) × (records ≡ before ++ ordered ∷ after) × (place ≡ ordered.pos)
     × PieceRun configuration piece old before new × Rejects configuration piece new ordered cause
 
--- what became of the piece of this number: it ran over the records, or refused one of them
+-- the outcome of the piece of this number: it ran over the records, or rejected one of them
 abbrev pub HasRunOver : Configuration → ℕ → Part → List Ordered → Option Refused → Part → Type 0
 HasRunOver configuration number old records None new = PieceRun configuration (piece_at configuration number) old records new
 HasRunOver configuration number old records (Some found) new =
     (found.piece ≡ number) × RefusesAmong configuration (piece_at configuration number) old records found.pos found.cause new
 
--- the piece of this number may go over records from this place on: it is of this module, and holds before the place
+-- the piece of this number may judge records from this place on: it is of this module, and holds before the place
 pub record IsGoing (configuration : Configuration) (number place : ℕ) (holding : Holding) : Type 0 where
   pub of_module : IsOf configuration holding
   pub whose : IsPartOf (piece_at configuration number) holding.part
   pub holds_before : HoldsBefore place holding.part
 
--- what the piece of this number made of a record that touches it: its step; or a refusal with the first demand that fails, which leaves
--- its part
+-- how the piece of this number judged a record that touches it: it made its step, or rejected the record for the first demand that
+-- fails and kept its part
 abbrev pub HasJudged : Configuration → ℕ → Ordered → Holding → Option Refused → Holding → Type 0
 HasJudged configuration number ordered old None new = LocalStep configuration old.part ordered new.part × HoldsBefore (ordered.pos + 1) new.part
 HasJudged configuration number ordered old (Some refused) new =
     (refused.pos ≡ ordered.pos) × (refused.piece ≡ number) × FirstFails (demands configuration old.part ordered) refused.cause × (new.part ≡ old.part)
 
--- the refusal that a fault of the piece of this number is
+-- the refusal that a fault of the piece of this number means
 abbrev pub IsRefusal : PieceFault → ℕ → Option Refused → Type 0
 IsRefusal fault number None = ⊥
 IsRefusal fault number (Some refused) = refusal_of fault number ≡ Some refused
 
--- the piece of this number went over records from this place on: what became of it, what it has seen up to its refusal, and the first
--- of that which breaks a rule; it may go over those after them
+-- the piece of this number judged records from this place on: its outcome, the views that it saw up to its refusal, and the first of
+-- them that breaks a rule; it may judge the records after these
 pub record IsJudgedOver (configuration : Configuration) (number first : ℕ) (records : List Ordered) (relations : List Relation) (old : Holding) (outcome : PieceOutcome) (new : Holding) : Type 0 where
   pub found : HasRunOver configuration number old.part records outcome.found new.part
   pub seen : List Seen
@@ -95,8 +95,8 @@ pub record IsJudgedOver (configuration : Configuration) (number first : ℕ) (re
 
 -- all pieces together
 
--- what callers see of the pieces: how many records they have judged, each piece by its number, and the breach of a rule in the last
--- round
+-- what callers see of the pieces: the number of records that they have judged, the pieces in the order of their numbers, and the breach
+-- of a rule in the last round
 pub record Judging : Type 0 where
   pub count : ℕ
   pub pieces : List Holding
@@ -116,51 +116,51 @@ parts_in holdings number = (holding_at holdings number).part
 abbrev pub parts_of : Judging → ℕ → Part
 parts_of judging number = parts_in judging.pieces number
 
--- all pieces are there, and may go over records from this place on
+-- all pieces are there, and may judge records from this place on
 pub record AreGoing (configuration : Configuration) (place : ℕ) (holdings : List Holding) : Type 0 where
   pub whole : length holdings ≡ length (pieces configuration)
   pub each : (number : ℕ) → number < length (pieces configuration) → IsGoing configuration number place (holding_at holdings number)
 
--- a No among records; the piece that refuses the one at its place is left as it was before that record, and so rejects it
+-- a No among records; the piece that rejects the record at its place is left as it was before that record, and so still rejects it
 abbrev pub EndsInNo : Configuration → (ℕ → Part) → List Ordered → Refused → (ℕ → Part) → Type 0
 EndsInNo configuration old records found new =
     IsNo configuration old records found
     × RefusesAmong configuration (piece_at configuration found.piece) (old found.piece) records found.pos found.cause (new found.piece)
 
--- what became of all pieces: each ran over the records; or one is the first to refuse a record among them
+-- the outcome of all pieces: each ran over the records, or one has the least refusal among them
 abbrev pub HaveRunOver : Configuration → List Holding → List Ordered → Option Refused → List Holding → Type 0
 HaveRunOver configuration old records None new = AllRun configuration (parts_in old) records (parts_in new)
 HaveRunOver configuration old records (Some found) new = EndsInNo configuration (parts_in old) records found (parts_in new)
 
--- each of these pieces went over records from this place on; one for each stands at its number
+-- each of these pieces judged records from this place on; there is one answer for each, at its number
 pub record AreJudgedOver (configuration : Configuration) (first : ℕ) (records : List Ordered) (relations : List Relation) (old : List Holding) (judged : List Judged) : Type 0 where
   pub whole : length judged ≡ length old
   pub each : (number : ℕ) → number < length old → (one : Judged) → one ≡ slice_index_or judged number one
       → IsJudgedOver configuration number first records relations (holding_at old number) one.outcome one.piece
 
--- the pieces, as they were left
+-- the pieces after the round
 abbrev pub pieces_in : List Judged → List Holding
 pieces_in judged = map (λ one. one.piece) judged
 
--- the views of the records before the one that is refused, of which this one is the first that breaks a rule, and the breach tells it
+-- among the views of the records before the rejected one, the first that breaks a rule is this one, and the breach reports it
 pub record IsTested (configuration : Configuration) (relations : List Relation) (parts : ℕ → Part) (records : List Ordered) (found : Option Refused) (breach : Option Breach) : Type 0 where
   pub views : List View
   pub viewed : AreViews configuration parts (up_to found records) views
   pub first : IsFirstBroken relations views (broken_of breach)
   pub reported : IfSome breach (λ one. slice_get views one.seen.index ≡ Some one.seen.view)
 
--- all pieces went over records from this place on: what became of them, and the first view that breaks a rule; they may go over those
--- after them
+-- all pieces judged records from this place on: their outcome, and the first view that breaks a rule; they may judge the records after
+-- these
 pub record IsSurveyed (configuration : Configuration) (first : ℕ) (records : List Ordered) (relations : List Relation) (old : List Holding) (survey : Survey) : Type 0 where
   pub outcome : HaveRunOver configuration old records survey.found survey.pieces.items
   pub tested : IsTested configuration relations (parts_in old) records survey.found survey.breach
   pub going : AreGoing configuration (first + length records) survey.pieces.items
 
--- all pieces are there, and may go over the records after those that they have judged
+-- all pieces are there, and may judge the records after those that they have judged
 abbrev pub IsReady : Configuration → Judging → Type 0
 IsReady configuration judging = AreGoing configuration judging.count judging.pieces
 
--- a round: where nothing is refused each piece ran over the records, and may go on; else it ends in a No among them
+-- a round: without a refusal each piece ran over the records, and may go on; with one it ends in a No among them
 abbrev pub IsRound : Configuration → Judging → List Ordered → Option Refused → Judging → Type 0
 IsRound configuration old records None new =
     AllRun configuration (parts_of old) records (parts_of new) × (new.count ≡ old.count + length records) × IsReady configuration new

@@ -19,18 +19,19 @@ use Rattle.verdict_merge.specs.Findings.{IsLeast, Precedes}
 use Rattle.verdict_merge.specs.Rounds.{AllRun, IsNo, Runs, cold_parts}
 use Rattle.verdict_merge.specs.Views.{AreViews}
 
--- the No of a refusal
+-- the No that a refusal gives
 abbrev pub no_of : Refused → Verdict
 no_of found = No found.pos found.piece found.cause
 
--- each view of these records meets every relation; where there is no relation nothing is said
+-- each view of these records meets every relation; without relations this says nothing
 abbrev pub ViewsMeet : Configuration → List Relation → (ℕ → Part) → List Ordered → Type 0
 ViewsMeet configuration [] parts records = Unit {0}
 ViewsMeet configuration (relation ∷ relations) parts records =
     (views : List View) × AreViews configuration parts records views × All (MeetsAll (relation ∷ relations)) views
 
--- a broken rule among records after so many that the pieces have judged: all pieces run through the record at that place, the views
--- before it meet every relation, and its own view is the first that does not, by this rule; nothing is said of the records after it
+-- a broken rule among records, after the number of records that the pieces have judged: all pieces run through the record at that
+-- place, the views before it meet every relation, and its own view is the first that does not, by this rule; nothing is said of the
+-- records after it
 pub record IsBroken (configuration : Configuration) (relations : List Relation) (parts : ℕ → Part) (count : ℕ) (records : List Ordered) (pos rule : ℕ) : Type 0 where
   pub through : List Ordered
   pub after : List Ordered
@@ -44,9 +45,9 @@ pub record IsBroken (configuration : Configuration) (relations : List Relation) 
   pub place : pos ≡ count + broken.view
   pub number : rule ≡ broken.rule
 
--- the verdict over records after so many that the pieces have judged, where these are their parts: Yes with the number of all
--- where each piece has a run over them and each view meets every relation; else a No by what stands up to its place, whose views
--- meet every relation; or the first rule that is broken
+-- the verdict over records, after the number of records that the pieces have judged, from these parts: Yes with the number of all
+-- records, if each piece has a run over them and each view meets every relation; a No, if the views before its place meet every
+-- relation; or the first rule that is broken
 abbrev pub IsVerdictFrom : Configuration → List Relation → (ℕ → Part) → ℕ → List Ordered → Verdict → Type 0
 IsVerdictFrom configuration relations parts count records (Yes all) =
     (all ≡ length records + count) × ((final : ℕ → Part) × AllRun configuration parts records final) × ViewsMeet configuration relations parts records
@@ -66,7 +67,7 @@ IsRunWhereYes configuration relations records (Yes count) =
 IsRunWhereYes configuration relations records (No pos piece cause) = Unit {0}
 IsRunWhereYes configuration relations records (Broken pos rule) = Unit {0}
 
--- what decides against a recording in a round whose first record stands at this place: the rule that is broken, else the refusal
+-- what decides against a recording in a round whose first record is at this place: the rule that is broken, else the refusal
 abbrev pub against : ℕ → Option Refused → Option BrokenView → Option Verdict
 against first found (Some broken) = Some (Broken (first + broken.view) broken.rule)
 against first (Some refused) None = Some (no_of refused)
@@ -88,7 +89,7 @@ AllFind configuration number (piece ∷ others) records findings =
     × AllFind configuration (suc number) others records later
     × (findings ≡ findings_of number found ++ later)
 
--- what follows from these findings: Yes with the number of records where there is none, else No with the least
+-- what follows from these findings: Yes with the number of records if there are none, else No with the least
 abbrev pub Follows : List Refused → ℕ → Verdict → Type 0
 Follows findings count (Yes records) = (findings ≡ []) × (records ≡ count)
 Follows findings count (No pos piece cause) = IsLeast Precedes findings (Some (record { pos = pos; piece = piece; cause = cause }))
@@ -102,7 +103,7 @@ OneVerdict =
     (configuration : Configuration) (relations : List Relation) (records : List Ordered) (one other : Verdict) → ArePlaced 0 records
     → IsVerdict configuration relations records one → IsVerdict configuration relations records other → one ≡ other
 
--- where there is no rule, and it is known what each piece finds in all the records, the verdict is exactly what follows from that
+-- without rules, the verdict is exactly what follows from what each piece finds in all the records
 abbrev pub VerdictIsOfTheFindings : Type 0
 VerdictIsOfTheFindings =
     (configuration : Configuration) (records : List Ordered) (findings : List Refused) (verdict : Verdict) → ArePlaced 0 records

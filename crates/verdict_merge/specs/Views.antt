@@ -17,41 +17,41 @@ use Rattle.verdict_merge.specs.declared.finding.Refused.{Refused}
 
 -- what a piece sees
 
--- what is seen of one record, whose index this is
+-- the view of the record with this index
 abbrev pub seen_of : Option View → ℕ → List Seen
 seen_of None index = []
 seen_of (Some view) index = record { index = index; view = view } ∷ []
 
--- what is seen of one record and after it: its view, at this index, where the piece gives one
+-- the views of one record and of those after it: first its own, at this index, if the piece gives one
 abbrev pub SeesNext : Option View → ℕ → List Seen → (List Seen → Type 0) → Type 0
 SeesNext None index seen More = More seen
 SeesNext (Some view) index seen More = (more : List Seen) × (seen ≡ record { index = index; view = view } ∷ more) × More more
 
--- what a piece sees of the records that it runs over, counted from this index on: the view of each that it judges
+-- what a piece sees of the records that it runs over, counted from this index: the view of each record that it judges
 abbrev pub AreSeen : Configuration → Piece → Part → ℕ → List Ordered → List Seen → Type 0
 AreSeen configuration piece old index [] seen = seen ≡ []
 AreSeen configuration piece old index (ordered ∷ others) seen =
     (next : Part) × Goes (touches configuration piece ordered) configuration old ordered next
     × SeesNext (view_in old ordered) index seen (AreSeen configuration piece next (suc index) others)
 
--- the records that stand before this place
+-- the records before this place
 abbrev pub before_place : ℕ → List Ordered → List Ordered
 before_place place [] = []
 before_place place (ordered ∷ others) = if nat_lt ordered.pos place then ordered ∷ before_place place others else []
 
--- the records before the one that is refused, or all of them
+-- the records before the rejected one, or all of them
 abbrev pub up_to : Option Refused → List Ordered → List Ordered
 up_to None records = records
 up_to (Some found) records = before_place found.pos records
 
--- how many records, of which the first stands at this place, come before the one that is refused
+-- how many records, counted from this place on, come before the rejected one
 abbrev pub count_before : ℕ → List Ordered → Option Refused → ℕ
 count_before first records None = length records
 count_before first records (Some found) = found.pos - first
 
 -- what breaks a rule
 
--- the first of those seen that breaks a rule, and the first rule that it breaks; none where each meets every rule
+-- the first of these views that breaks a rule, with the first rule that it breaks; none if each meets every rule
 abbrev pub IsFirstBreach : List Relation → List Seen → Option Breach → Type 0
 IsFirstBreach relations seen None = (one : Seen) → Contains seen one → MeetsAll relations one.view
 IsFirstBreach relations seen (Some breach) =
@@ -64,19 +64,18 @@ abbrev pub first_some : Option Breach → Option Breach → Option Breach
 first_some None next = next
 first_some (Some breach) next = Some breach
 
--- the breach once a record is judged, whose index this is: that so far, or else that of the view that is given of it; where the record is
--- refused it is as it was
+-- the breach after the record with this index is judged: the one so far, or else that of its view; if the record is rejected, the one so far
 abbrev pub HasTested : List Relation → Option View → ℕ → Option Refused → Option Breach → Option Breach → Type 0
 HasTested relations given index None old new = (next : Option Breach) × IsFirstBreach relations (seen_of given index) next × (new ≡ first_some old next)
 HasTested relations given index (Some refused) old new = new ≡ old
 
--- of two breaches the one of the record that comes first
+-- the breach of the earlier record of two
 abbrev pub earlier : Option Breach → Option Breach → Option Breach
 earlier None other = other
 earlier (Some one) None = Some one
 earlier (Some one) (Some other) = if nat_lt other.seen.index one.seen.index then Some other else Some one
 
--- the breach where it is among so many of the first records
+-- the breach, if its record is among so many of the first records
 abbrev pub breach_before : ℕ → Option Breach → Option Breach
 breach_before count None = None
 breach_before count (Some breach) = if nat_lt breach.seen.index count then Some breach else None
@@ -87,7 +86,7 @@ broken_of breach = option_map (λ one. record { view = one.seen.index; rule = on
 
 -- the views of all records
 
--- this is the view of a record that comes after these ones: what the piece that judges it sees in it, once it has run over them
+-- this is the view of a record after these ones: what the piece that judges it sees in it once it has run over them
 pub record IsViewOf (configuration : Configuration) (parts : ℕ → Part) (before : List Ordered) (ordered : Ordered) (view : View) : Type 0 where
   pub number : ℕ
   pub within : number < length (pieces configuration)
@@ -96,7 +95,7 @@ pub record IsViewOf (configuration : Configuration) (parts : ℕ → Part) (befo
   pub run : PieceRun configuration (piece_at configuration number) (parts number) before reached
   pub seen : view_in reached ordered ≡ Some view
 
--- these are the views of these records, one for each in their order, where these others stand before them
+-- these are the views of these records, one for each in their order, after these other records
 abbrev pub AreViewsBehind : Configuration → (ℕ → Part) → List Ordered → List Ordered → List View → Type 0
 AreViewsBehind configuration parts before [] views = views ≡ []
 AreViewsBehind configuration parts before (ordered ∷ others) views =

@@ -19,7 +19,7 @@ pub struct Breach {
     pub rule: usize,
 }
 
-// Of two breaches the one of the record that comes first.
+// The breach of the earlier record of two.
 pub(crate) fn earlier(one: Option<Breach>, other: Option<Breach>) -> Option<Breach>
     ensures { result ≡ earlier one other }
 {
@@ -33,7 +33,7 @@ pub(crate) fn earlier(one: Option<Breach>, other: Option<Breach>) -> Option<Brea
     }
 }
 
-// The breach where it is among so many of the first records.
+// The breach, if its record is among so many of the first records.
 pub(crate) fn breach_before(breach: Option<Breach>, count: usize) -> Option<Breach>
     ensures { result ≡ breach_before count breach }
 {

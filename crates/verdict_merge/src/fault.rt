@@ -2,7 +2,7 @@
 
 use thiserror::Error;
 
-/// A growth of memory was refused.
+/// Memory was refused.
 #[derive(Clone, Copy, Debug, Drop, PartialEq, Eq, Error)]
 #[error("out of memory")]
 pub struct Memory;

@@ -1,4 +1,4 @@
-// What decides against a recording: a piece that refuses a record, or a rule that a view breaks; and the least of it.
+// What decides against a recording: a piece that rejects a record, or a view that breaks a rule; and the first of these findings.
 
 ghost use Rattle.std.specs.Prelude.{◌≡◌, ◌↔◌, IsTrue};
 ghost use Rattle.verdict_merge.specs.Findings.{ComesBefore, IsLeast, IsLeastWith, IsLesser, Precedes, refusal_of};
@@ -6,11 +6,11 @@ ghost use Rattle.verdict_merge.specs.Findings.{ComesBefore, IsLeast, IsLeastWith
 use apex_types::{Cause, Place};
 use piece_check::PieceFault;
 
-/// A piece refuses the record at a place.
+/// A piece rejects the record at a place.
 #[derive(Clone, Copy, Debug, PartialEq, Eq)]
 pub struct Refused {
     pub pos: Place,
-    /// The number of the piece: 0 is the module, then come the partitions and then the channels, each in rising order.
+    /// The number of the piece: 0 is the module; the partitions follow, and then the channels, each in ascending order.
     pub piece: usize,
     pub cause: Cause,
 }
@@ -18,13 +18,13 @@ pub struct Refused {
 /// What decides against a recording at a place.
 #[derive(Clone, Copy, Debug, PartialEq, Eq)]
 pub enum Finding {
-    /// A piece refuses the record.
+    /// A piece rejects the record.
     Piece(Refused),
     /// The view of the record breaks the rule of this number.
     Rule { pos: Place, rule: usize },
 }
 
-// The refusal of the piece of this number, as its step tells it; want of memory is none.
+// The refusal that the piece of this number reports; a lack of memory is no refusal.
 pub(crate) fn refused_by(fault: PieceFault, piece: usize) -> Option<Refused>
     ensures { result ≡ refusal_of fault piece }
 {
@@ -34,7 +34,7 @@ pub(crate) fn refused_by(fault: PieceFault, piece: usize) -> Option<Refused>
     }
 }
 
-// Whether the first stands at a smaller place, or at the same one with a smaller piece.
+// Whether the first is at a lower place, or at the same place with a lower-numbered piece.
 fn precedes(first: &Refused, second: &Refused) -> bool
     ensures { IsTrue result ↔ Precedes first.now second.now }
 {
@@ -42,7 +42,7 @@ fn precedes(first: &Refused, second: &Refused) -> bool
         || (first.pos.number() == second.pos.number() && first.piece < second.piece)
 }
 
-// The lesser of the least refusal so far and what was found next, if anything was.
+// The lesser of the least refusal so far and the next one, if there is a next one.
 pub(crate) fn least_with(least: Option<Refused>, found: Option<Refused>) -> Option<Refused>
     ensures { IsLeastWith least found result }
 {
@@ -53,7 +53,8 @@ pub(crate) fn least_with(least: Option<Refused>, found: Option<Refused>) -> Opti
     }
 }
 
-// Whether a finding comes before another: at a smaller place; at one place pieces come by number, then rules by number.
+// Whether a finding comes before another: it is at a lower place, or at the same place, where pieces come first, by number, and then
+// rules, by number.
 fn comes_before(first: &Finding, second: &Finding) -> bool
     ensures { IsTrue result ↔ ComesBefore first.now second.now }
 {
@@ -82,9 +83,9 @@ fn first_of(first: Option<Finding>, next: Finding) -> Finding
     if first { next } else { found }
 }
 
-/// The first of the findings: the one that no other comes before; none where there is none. Takes no memory.
+/// The first of the findings, which no other comes before, or None if there are none. Takes no memory.
 ///
-/// A finding at a smaller place comes first; at one place come the pieces by number, then the rules by number.
+/// A finding at a lower place comes first. At one place, pieces come first, by number, and then rules, by number.
 pub fn merge(findings: &[Finding]) -> Option<Finding>
     ensures { IsLeast ComesBefore findings.now result }
 {

@@ -1,4 +1,4 @@
-// What the pieces found in a round, gathered from one after another.
+// What the pieces found in a round, gathered piece by piece.
 
 ghost use Rattle.std.specs.Prelude.{◌≡◌, ◌≤◌, ◌-◌, IfSome, None, length};
 ghost use Rattle.verdict_merge.specs.Findings.{IsLeastWith};
@@ -9,7 +9,7 @@ use crate::finding::{Refused, least_with};
 use crate::outcome::PieceOutcome;
 use apex_types::Ordered;
 
-/// The least refusal so far, and the breach of the first record so far.
+/// The least refusal so far, and the breach of the earliest record so far.
 #[derive(Clone, Copy, Debug)]
 pub struct Gathering {
     pub found: Option<Refused>,
@@ -28,7 +28,7 @@ impl Gathering {
         }
     }
 
-    /// Takes in what became of the next piece.
+    /// Adds the outcome of the next piece.
     pub fn take_in(&mut self, outcome: &PieceOutcome)
         ensures found { IsLeastWith self.old.found outcome.now.found self.new.found }
         ensures breach { self.new.breach ≡ earlier self.old.breach outcome.now.breach }
@@ -37,7 +37,7 @@ impl Gathering {
         self.found = least_with(self.found, outcome.found);
     }
 
-    /// The breach of the first record, where it comes before the record that is refused. The first record stands at this place.
+    /// The breach of the earliest record, if that record comes before the rejected one. `first` is the place of the first record.
     pub fn breach_in(&self, first: u64, records: &[Ordered]) -> Option<Breach>
         requires { IfSome self.now.found (λ refused. (first ≤ refused.pos) × (refused.pos - first ≤ length records.now)) }
         ensures { result ≡ breach_before (count_before first records.now self.now.found) self.now.breach }
@@ -46,7 +46,7 @@ impl Gathering {
     }
 }
 
-// How many records, of which the first stands at this place, come before the one that is refused.
+// How many records, counted from this place on, come before the rejected one.
 fn records_before(first: u64, records: &[Ordered], found: &Option<Refused>) -> usize
     requires { IfSome found.now (λ refused. (first ≤ refused.pos) × (refused.pos - first ≤ length records.now)) }
     ensures { result ≡ count_before first records.now found.now }

@@ -1,4 +1,4 @@
-// The pieces of a round go over its records, each by itself.
+// Each piece judges the records of a round by itself.
 
 ghost use Rattle.std.specs.Prelude.{◌<◌, IfOk, length};
 ghost use Rattle.apex_machine.specs.Pieces.{pieces};
@@ -12,17 +12,17 @@ use piece_check::Piece;
 use std::alloc::Global;
 use user_rules::Rule;
 
-/// A piece that went over the records of a round: as it was left, and what became of it.
+/// A piece after the records of a round, with its outcome.
 #[derive(Drop)]
 pub struct Judged {
     pub piece: Piece,
     pub outcome: PieceOutcome,
 }
 
-/// The piece of this number goes over the records of the round that touch it, up to its first refusal, and its views are tested
-/// by the rules.
+/// Lets the piece of this number judge the records of the round that touch it, up to the first that it rejects, and tests its views by
+/// the rules.
 ///
-/// Memory where a growth was refused; the piece is then given up.
+/// Memory if memory was refused; the piece is then given up.
 pub fn judge_piece(
     lent: &Lent,
     rules: &[Rule],
@@ -44,10 +44,10 @@ pub fn judge_piece(
     }
 }
 
-/// Each piece goes over the records that touch it, one after another, and its views are tested by the rules; one answer for each,
-/// in order of number.
+/// Lets each piece in turn judge the records that touch it, and tests its views by the rules. The answers are in the order of the
+/// pieces' numbers.
 ///
-/// Memory where a growth was refused; the pieces are then given up.
+/// Memory if memory was refused; the pieces are then given up.
 pub fn judge_in_turn(
     alloc: Global,
     lent: &Lent,

@@ -1,14 +1,15 @@
 //! The verdict over one order of records, judged in rounds, with the user's rules.
 //!
-//! Promises: the first of a list of findings is one of them that no other comes before. A round in which nothing is refused is a
-//! run of each piece; else the least refusal is reported, with what holds up to its place: its piece runs up to that record and
-//! refuses it, the pieces of smaller number run through it, all others run up to it. That piece is left as it was before the record
-//! that it refuses. The views of a round are tested where they are made, and what is reported is the first of them that breaks a
-//! rule, with the first rule that it breaks.
-//! Where the verdict is Yes, the records are a run of the machine from the cold state, in which the view of each record meets
-//! every rule. Where it is No, the records before its place are such a run, after which the machine has no step that takes the
-//! record at the place. Where a rule is broken, the records up to its place are a run, and the view there is the first that breaks
-//! a rule.
+//! Promises:
+//!
+//! - The first of a list of findings is one of them, and no other comes before it.
+//! - A round in which no piece rejects a record is a run of each piece. Otherwise the least refusal is reported. Its piece runs up to
+//!   that record and rejects it, and is left as it was before the record. The lower-numbered pieces run through the record, and all
+//!   others run up to it.
+//! - Each view is tested where it is made. The round reports the first view that breaks a rule, with the first rule that it breaks.
+//! - A Yes means that the records are a run of the machine from the cold state, in which each view meets every rule. A No means that
+//!   the records before its place are such a run, after which the machine has no step for the record at the place. A broken rule
+//!   means that the records up to its place are a run, and that the view there is the first that breaks a rule.
 #![tactic(auto)]
 
 mod breach;

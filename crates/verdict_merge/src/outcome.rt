@@ -1,4 +1,4 @@
-// A piece goes over the records of a round.
+// One piece judges the records of a round.
 
 ghost use Rattle.std.specs.Prelude.{◌≡◌, ◌<◌, IfOk, OnErr, IsTrue, length};
 ghost use Rattle.apex_machine.specs.Pieces.{pieces};
@@ -32,7 +32,7 @@ pub struct Lent<'a> {
 }
 
 impl<'a> Lent<'a> {
-    /// What is lent of records that are sorted out. Takes no memory.
+    /// Lends records that are sorted out. Takes no memory.
     pub fn new(
         config: &'a Config,
         first: u64,
@@ -53,19 +53,19 @@ impl<'a> Lent<'a> {
     }
 }
 
-/// What became of a piece that went over the records of a round.
+/// The outcome of a piece that judged the records of a round.
 #[derive(Clone, Copy, Debug)]
 pub struct PieceOutcome {
-    /// Its refusal, if it refused a record.
+    /// Its refusal, if it rejected a record.
     pub found: Option<Refused>,
-    /// The first view that breaks a rule, of the records that it judges up to the one that it refused.
+    /// The first view that breaks a rule, among the records that it judged up to the rejected one.
     pub breach: Option<Breach>,
 }
 
-/// The piece of this number goes over the records that touch it, up to its first refusal, which leaves it as it was before that
-/// record. The view of each record that it judges is tested by the rules; where there is no rule it makes no view.
+/// Lets the piece of this number judge the records that touch it, up to the first that it rejects, which leaves the piece as it was
+/// before that record. The view of each record that it judges is tested by the rules. Without rules no view is made.
 ///
-/// Memory where the piece was refused memory.
+/// Memory if the piece was refused memory.
 pub fn go_over(
     lent: &Lent,
     rules: &[Rule],
@@ -108,8 +108,8 @@ pub fn go_over(
     })
 }
 
-// The piece of this number judges a record that touches it, of this index: its refusal, if it refuses it; else the breach so far is
-// kept, or that of the view that the piece gives of the record. Memory where the piece was refused memory.
+// Lets the piece of this number judge a record that touches it. Returns its refusal if it rejects the record. Else the breach so far
+// is kept, or that of the record's view. Memory if the piece was refused memory.
 fn judge_one(
     lent: &Lent,
     rules: &[Rule],
@@ -138,7 +138,7 @@ fn judge_one(
     }
 }
 
-// The refusal of the piece of this number; want of memory is none.
+// The refusal of the piece of this number; a lack of memory is no refusal.
 fn refused(fault: PieceFault, number: usize) -> Result<Option<Refused>, Memory>
     ensures judged { IfOk result (IsRefusal fault number) }
     ensures memory { OnErr result (fault ≡ PieceFault.Memory) }
@@ -149,7 +149,7 @@ fn refused(fault: PieceFault, number: usize) -> Result<Option<Refused>, Memory>
     }
 }
 
-// The breach of the view that the piece gives of the record of this index, if it gives one that breaks a rule.
+// The breach of the piece's view of the record with this index, if there is a view and it breaks a rule.
 fn breach_of(rules: &[Rule], piece: &Piece, index: usize, ordered: &Ordered) -> Option<Breach>
     requires { HoldsBefore ordered.now.pos piece.now.part }
     ensures { IsFirstBreach (relations_of rules.now) (seen_of (view_in piece.now.part ordered.now) index) result }
@@ -165,7 +165,7 @@ fn breach_of(rules: &[Rule], piece: &Piece, index: usize, ordered: &Ordered) -> 
     })
 }
 
-// Keeps the next breach where there is none so far. Where there is no next one nothing is copied, as at each record without rules.
+// Keeps the next breach if there is none so far. If there is no next one, nothing is copied, as at each record without rules.
 fn keep_first(breach: &mut Option<Breach>, next: Option<Breach>)
     ensures { breach.new ≡ first_some breach.old next }
 {

@@ -18,15 +18,15 @@ use piece_check::Touched;
 use std::alloc::Global;
 use user_rules::Rule;
 
-/// The verdict over the records in this order. It is Yes where each piece makes its local steps over all of them and each view
-/// meets every rule; else what comes first, the least refusal of the pieces or a view before it that breaks a rule. The
-/// records stand at the places 0, 1, 2, .. and are of configured cores.
+/// The verdict over the records in this order, which are at the places 0, 1, 2, .. and of configured cores. It is Yes if each piece
+/// makes its local steps over all of them and each view meets every rule. Otherwise it reports what comes first: the least refusal of
+/// the pieces, or a view before it that breaks a rule.
 ///
-/// Of the machine, from its cold state: where it is No, the records before the place are a run in which each view meets every
-/// rule, and there is no step that takes the record at the place. Where a rule is broken, the records up to the place are a run,
-/// and the view there is the first that breaks a rule.
+/// For the machine, from its cold state, a No means that the records before the place are a run in which each view meets every rule,
+/// and that there is no step for the record at the place. A broken rule means that the records up to the place are a run, and that the
+/// view there is the first that breaks a rule.
 ///
-/// Memory where a growth is refused.
+/// Memory if memory is refused.
 pub fn check_plain(
     alloc: Global,
     config: &Config,
@@ -47,7 +47,7 @@ pub fn check_plain(
     if touched.sort_out(config, records).is_err() {
         return Err(Memory);
     }
-    // All pieces go over all the records in one round, one piece after another.
+    // All records are one round, which the pieces judge one after another.
     let lent = Lent::new(config, 0, records, &touched);
     let judged = judge_in_turn(alloc, &lent, rules, pieces)?;
     let surveyed = gather_round(alloc, &lent, judged)?;

@@ -9,9 +9,9 @@ use module_config::Config;
 use piece_check::{Piece, count};
 use std::alloc::Global;
 
-/// All pieces as they stand before the first record, in order of number.
+/// All pieces as they are before the first record, in the order of their numbers.
 ///
-/// Memory where a growth is refused.
+/// Memory if memory is refused.
 pub fn start_pieces(alloc: Global, config: &Config) -> Result<Vec<Piece>, Memory>
     ensures cold { IfOk result (λ started. (number : ℕ) → number < length (pieces config.now) → parts_in started.items number ≡ cold_parts config.now number) }
     ensures going { IfOk result (λ started. AreGoing config.now 0 started.items) }

@@ -1,4 +1,4 @@
-// What all pieces made of a round, gathered.
+// The outcome of a round over all pieces.
 
 ghost use Rattle.std.specs.Prelude.{◌≡◌, List, IfOk};
 ghost use Rattle.apex_machine.specs.Runs.{ArePlaced, AreOfCores};
@@ -15,20 +15,20 @@ use crate::outcome::Lent;
 use piece_check::Piece;
 use std::alloc::Global;
 
-/// What all pieces made of a round.
+/// The outcome of a round over all pieces.
 #[derive(Drop)]
 pub struct Survey {
-    /// The least refusal, if a piece refused a record.
+    /// The least refusal, if a piece rejected a record.
     pub found: Option<Refused>,
-    /// The first view that breaks a rule, of the records up to the one that was refused.
+    /// The first view that breaks a rule, among the records up to the rejected one.
     pub breach: Option<Breach>,
-    /// The pieces, as they were left.
+    /// The pieces after the round.
     pub pieces: Vec<Piece>,
 }
 
-/// Gathers what became of each piece in a round, in order of number.
+/// Gathers the outcomes of the pieces of a round, which are in the order of their numbers.
 ///
-/// Memory where a growth was refused.
+/// Memory if memory was refused.
 pub fn gather_round(alloc: Global, lent: &Lent, judged: Vec<Judged>) -> Result<Survey, Memory>
     requires outcome { (relations : List Relation) × (old : List Holding) × AreGoing lent.now.config.now lent.now.first old × AreJudgedOver lent.now.config.now lent.now.first lent.now.records.now relations old judged.items }
     requires placed { ArePlaced lent.now.first lent.now.records.now }
@@ -51,7 +51,7 @@ pub fn gather_round(alloc: Global, lent: &Lent, judged: Vec<Judged>) -> Result<S
     }
 }
 
-// The pieces, as they were left. Memory where it is refused for their list.
+// The pieces after the round. Memory if memory is refused for their list.
 fn pieces_left(alloc: Global, judged: Vec<Judged>) -> Result<Vec<Piece>, Memory>
     ensures { IfOk result (λ left. left.items ≡ pieces_in judged.items) }
 {

@@ -12,11 +12,11 @@ use apex_types::{Cause, Ordered, Place};
 /// The verdict over a recording.
 #[derive(Clone, Copy, Debug, PartialEq, Eq)]
 pub enum Verdict {
-    /// The recording is lawful, and each rule holds; so many records were judged.
+    /// The recording is lawful and each rule holds, with the number of its records.
     Yes {
         records: u64,
     },
-    /// The record at this place is not lawful: this piece refuses it, for this cause.
+    /// The record at this place is not lawful: this piece rejects it, for this cause.
     No {
         pos: Place,
         piece: usize,
@@ -30,7 +30,7 @@ pub enum Verdict {
 }
 
 impl Verdict {
-    /// The No of a piece's refusal.
+    /// The No that a piece's refusal gives.
     pub fn no(found: Refused) -> Verdict
         ensures { result ≡ no_of found }
     {
@@ -41,8 +41,8 @@ impl Verdict {
         }
     }
 
-    /// What decides against a recording in a round: the rule that a view breaks, since only a view before the record that is refused
-    /// counts; else the refusal, if there is one.
+    /// What decides against a recording in a round: the rule that a view breaks, since only views before the rejected record count;
+    /// else the refusal, if there is one.
     pub fn against(
         records: &[Ordered],
         found: Option<Refused>,
