@@ -85,6 +85,7 @@ impl<'a> Case<'a> {
             Heading::Last => self.last = Some(section.body),
             Heading::Status => self.status = Some(section.body),
             Heading::Cuts => self.cuts = Some(section.body),
+            Heading::Said => {}
         }
         Ok(())
     }

@@ -29,6 +29,8 @@ pub enum Heading<'a> {
     Last,
     /// `status`: the exit status that belongs to it.
     Status,
+    /// `said`, `said of NAME..`: the words that the built program must say of it, which is tested elsewhere.
+    Said,
     /// `cuts of core0.csv`: the lines that have to come where the recording of that core is cut.
     Cuts,
 }
@@ -78,6 +80,9 @@ impl<'a> Heading<'a> {
         let (first, rest) = split_word(heading);
         if first == b"case".as_slice() {
             return Some(Heading::Case(rest));
+        }
+        if first == b"said".as_slice() {
+            return Some(Heading::Said);
         }
         if first == b"workers".as_slice() {
             return Some(Heading::Workers(read_decimal(rest, LAST_SETTING)? as usize));

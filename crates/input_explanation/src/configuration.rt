@@ -13,8 +13,9 @@ use std::fmt;
 use toml::{Table, Value};
 use wording::{Count, Found, Part, Words};
 
-/// How many bytes a text has at most that is read once more.
-const LONGEST: usize = 65_536;
+/// How many bytes a text has at most that is read once more, which takes memory for it twice. A text with a window too many has
+/// some 200,000.
+const LONGEST: usize = 262_144;
 
 /// Tells the refusal of a configuration, of which this is the text, if it could be read once more.
 pub fn tell_configuration(
