@@ -9,7 +9,8 @@ use Rattle.report.specs.Answers.{AnswersWith, Given}
 use Rattle.rule_options.specs.declared.option.RuleOption.{RuleOption}
 use Rattle.rule_options.specs.Options.{SayInTurn}
 use Rattle.rules_file.specs.declared.fault.RulesFault.{RulesFault}
-use Rattle.rules_file.specs.Reading.{SaidRule, rules_of}
+use Rattle.rules_file.specs.declared.refusal.RulesRefusal.{RulesRefusal}
+use Rattle.rules_file.specs.Reading.{SaidRule, walk_of, without_key}
 use Rattle.user_rules.specs.declared.relation.Relation.{Relation}
 use Rattle.user_rules.specs.Meets.{meets}
 use Rattle.verdict_merge.specs.declared.verdict.Verdict.{Verdict}
@@ -17,10 +18,14 @@ use Rattle.apexcheck.specs.declared.ending.Ending.{Ending}
 use Rattle.apexcheck.specs.declared.ending.Ending.TheVariants.{Checked}
 use Rattle.apexcheck.specs.Endings.{out_of_memory, refused_by}
 
--- the rules that a text says, or its first refusal; there are none where there is no text
+-- the rules that a text says, or where the walk over it stops; there are none where there is no text
+abbrev pub walk_given : Option (List ℕ) → Result (List SaidRule) RulesRefusal
+walk_given None = Ok []
+walk_given (Some text) = walk_of text
+
+-- the rules that a text says, or its first fault
 abbrev pub rules_given : Option (List ℕ) → Result (List SaidRule) RulesFault
-rules_given None = Ok []
-rules_given (Some text) = rules_of text
+rules_given text = without_key (walk_given text)
 
 -- relations hold of exactly the views of which rules of a text say so, one for each, in their order
 abbrev pub HoldInTurn : List SaidRule → List Relation → Type 0

@@ -8,11 +8,11 @@ use input_explanation::{Compression, tell_compression, tell_unknown_keys};
 use module_config::Config;
 use piece_check::Piece;
 use report::{Last, LastItem, Witness};
-use rules_file::RulesFault;
+use rules_file::{RuleFault, RulesFault, RulesRefusal, unknown_field};
 use std::alloc::Global;
 use std::fmt::Display;
 use user_rules::Relation;
-use wording::Words;
+use wording::{Found, Words};
 
 /// What explains the end of a run. As the witness of a check it explains the record at the place of a No or of a broken rule.
 #[derive(Drop)]
@@ -108,11 +108,14 @@ impl Explainer {
     }
 
     /// Notes why the rules file with this text is refused. A refusal of memory is reported by the line alone.
-    pub fn note_rules(&mut self, names: &FileNames, fault: &RulesFault, text: Option<&[u8]>) {
-        match (&names.rules, fault) {
+    pub fn note_rules(&mut self, names: &FileNames, refusal: &RulesRefusal, text: Option<&[u8]>) {
+        match (&names.rules, refusal.fault) {
             (None, _) | (_, RulesFault::Memory) => {}
             (Some(name), fault) => {
-                self.note.say(format_args!("{name}: {fault}"));
+                self.note.say(format_args!("{name}: {refusal}"));
+                if let Some(word) = unknown_word(self.alloc, fault, text) {
+                    self.note.say(format_args!(": {}", Found(word.as_bytes())));
+                }
                 tell_compression(&mut self.note, name, compression_of(text));
             }
         }
@@ -127,6 +130,17 @@ impl Explainer {
     /// Adds the fields of the record's view that this relation names, where the record breaks a rule.
     pub fn tell_fields(&mut self, relation: &Relation) {
         self.explanation.tell_fields(relation);
+    }
+}
+
+// The word that names no field, where a rules file with this text is refused for it.
+fn unknown_word(alloc: Global, fault: RulesFault, text: Option<&[u8]>) -> Option<String> {
+    match fault {
+        RulesFault::Rule {
+            rule,
+            fault: RuleFault::UnknownField,
+        } => unknown_field(alloc, text?, rule),
+        RulesFault::Rule { .. } | RulesFault::File(_) | RulesFault::Memory => None,
     }
 }
 

@@ -122,9 +122,9 @@ impl<S: TextSource + Drop + Send + 'static> Opened<S> {
         let rules_text = rules.as_deref();
         let rules = match read_rules(alloc, rules_text) {
             Ok(rules) => rules,
-            Err(fault) => {
-                explainer.note_rules(&asked.names, &fault, rules_text);
-                return refused_by(fault);
+            Err(refusal) => {
+                explainer.note_rules(&asked.names, &refusal, rules_text);
+                return refused_by(refusal.fault);
             }
         };
         let Ok(mut last) = Last::new(alloc) else {

@@ -1,10 +1,8 @@
 // The check under the rules that options ask for and those of a text.
 
 ghost use Rattle.std.specs.Prelude.{[], ◌≡◌, IfOk, map, option_map};
-ghost use Rattle.rules_file.specs.declared.fault.RulesFault.TheVariants as fault;
-ghost use Rattle.rules_file.specs.Keys.{Gives};
-ghost use Rattle.rules_file.specs.Reading.{said};
-ghost use Rattle.apexcheck.specs.Ruled.{AnswersRuled, HoldInTurn, SayBoth, rules_given};
+ghost use Rattle.rules_file.specs.Reading.{GivesPlaced, said};
+ghost use Rattle.apexcheck.specs.Ruled.{AnswersRuled, HoldInTurn, SayBoth, walk_given};
 
 use crate::explainer::Explainer;
 use csv_rows::TextSource;
@@ -12,18 +10,18 @@ use report::{
     CheckFault, Gate, Inputs, Last, Options, Settings, Verdict, Witness, check_relations,
 };
 use rule_options::{RuleOption, relations_of};
-use rules_file::{NamedRule, RulesFault};
+use rules_file::{NamedRule, RulesRefusal};
 use std::alloc::{AllocError, Global};
 use std::sync::Wait;
 use std::thread::Threads;
 use user_rules::Relation;
 
-/// The rules that a text gives, in its order; none where there is no text.
-pub fn read_rules(alloc: Global, text: Option<&[u8]>) -> Result<Vec<NamedRule>, RulesFault>
-    ensures { Gives fault.Memory (λ rules. map said rules.items) result (rules_given (option_map (λ text. text.now) text.entry)) }
+/// The rules that a text gives, in its order; none where there is no text. A refusal has the key at which the walk over the text stops.
+pub fn read_rules(alloc: Global, text: Option<&[u8]>) -> Result<Vec<NamedRule>, RulesRefusal>
+    ensures { GivesPlaced (λ rules. map said rules.items) result (walk_given (option_map (λ text. text.now) text.entry)) }
 {
     match text {
-        Some(text) => rules_file::read(alloc, text),
+        Some(text) => rules_file::read_explained(alloc, text),
         None => Ok(Vec::new(alloc)),
     }
 }

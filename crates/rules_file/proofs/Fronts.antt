@@ -5,19 +5,19 @@ use Rattle.std.specs.Prelude.{IfSome, IsOk, Option, Result}
 use Rattle.toml.specs.View.{view, items_view}
 use Rattle.toml.specs.declared.value.Value.{Value}
 use Rattle.toml.proofs.Views.{items_view-drop}
-use Rattle.rules_file.specs.declared.fault.RuleFault.{RuleFault}
-use Rattle.rules_file.specs.declared.fault.RulesFault.{RulesFault}
+use Rattle.rules_file.specs.declared.refusal.RuleRefusal.{RuleRefusal}
+use Rattle.rules_file.specs.declared.refusal.RulesRefusal.{RulesRefusal}
 use Rattle.rules_file.specs.declared.rule.NamedRule.{NamedRule}
 use Rattle.rules_file.specs.Keys.{◌>>=◌, Builds}
 use Rattle.rules_file.specs.Reading.{IsAdded, SaidRule, rule_in, rules_from, said}
 
 -- what is read, after what was read before
-abbrev pub behind : List SaidRule → Result (List SaidRule) RulesFault → Result (List SaidRule) RulesFault
+abbrev pub behind : List SaidRule → Result (List SaidRule) RulesRefusal → Result (List SaidRule) RulesRefusal
 behind front (Ok rest) = Ok (front ++ rest)
 behind front (Err fault) = Err fault
 
 -- one rule goes over from what is left to what was read
-behind-more : (front : List SaidRule) (first : SaidRule) (reading : Result (List SaidRule) RulesFault)
+behind-more : (front : List SaidRule) (first : SaidRule) (reading : Result (List SaidRule) RulesRefusal)
     → behind front (reading >>= (λ rest. Ok (first ∷ rest))) ≡ behind (front ++ first ∷ []) reading
 behind-more front first (Ok rest) = ap (λ all. Ok all) (sym (append_assoc front (first ∷ []) rest))
 behind-more front first (Err fault) = refl
@@ -58,6 +58,6 @@ pub one_more : (values : List Value) (i : ℕ) (before after : Option (Vec Named
 one_more values i before after value (Some rule) kept below is read added = goes_on values i before after value (Some rule) (said rule) kept below is read refl added
 one_more values i before after value None kept below is read added = by (rule_in (view value)) refl read
   where
-    by : (reading : Result SaidRule RuleFault) → rule_in (view value) ≡ reading → IsOk reading → KeepsReading values (i + 1) after
+    by : (reading : Result SaidRule RuleRefusal) → rule_in (view value) ≡ reading → IsOk reading → KeepsReading values (i + 1) after
     by (Ok first) same ok = goes_on values i before after value None first kept below is same tt added
     by (Err fault) same ok = cc

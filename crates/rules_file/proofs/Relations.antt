@@ -8,7 +8,7 @@ use Rattle.toml.specs.View.{view, items_view}
 use Rattle.toml.specs.declared.value.Value.{Value}
 use Rattle.user_rules.specs.Meets.{meets}
 use Rattle.user_rules.specs.declared.relation.Relation.{Relation}
-use Rattle.rules_file.specs.declared.fault.RuleFault.{RuleFault}
+use Rattle.rules_file.specs.declared.refusal.RuleRefusal.{RuleRefusal}
 use Rattle.rules_file.specs.declared.relation.Join.{Join}
 use Rattle.rules_file.specs.Joins.{IsJoined, joins}
 use Rattle.rules_file.specs.Keys.{◌>>=◌, Builds}
@@ -25,29 +25,29 @@ a_level_down (suc levels) (table given) keys some is =
 a_level_down (suc levels) _ keys some is = cc
 
 -- two readings, put together
-abbrev pub two_joined : (Bool → Bool → Bool) → Result Holds RuleFault → Result Holds RuleFault → Result Holds RuleFault
+abbrev pub two_joined : (Bool → Bool → Bool) → Result Holds RuleRefusal → Result Holds RuleRefusal → Result Holds RuleRefusal
 two_joined join one other = one >>= (λ first. other >>= (λ others. Ok (λ seen. join (first seen) (others seen))))
 
 -- an item that others come after is put together with them
-pub joined-more : (join : Bool → Bool → Bool) (reading : Data → Result Holds RuleFault) (values : List Value) (value : Value) (rest : List Value)
+pub joined-more : (join : Bool → Bool → Bool) (reading : Data → Result Holds RuleRefusal) (values : List Value) (value : Value) (rest : List Value)
     → IsFirstAndRest values value rest → 0 < length rest
     → joined join reading (items_view values) ≡ two_joined join (reading (view value)) (joined join reading (items_view rest))
 joined-more join reading values value [] is some = absurd (omega arith)
 joined-more join reading values value (next ∷ rest) is some = rw is.0 refl
 
 -- what was built is no refusal
-is_read : (found : Option Relation) (reading : Result Holds RuleFault) → Builds meets (Ok found) reading → IsOk reading
+is_read : (found : Option Relation) (reading : Result Holds RuleRefusal) → Builds meets (Ok found) reading → IsOk reading
 is_read (Some relation) reading is = rw is refl
 is_read None reading is = is
 
 -- nor is what is put together of two that are none
-both_read : (join : Bool → Bool → Bool) (one other : Result Holds RuleFault) → IsOk one → IsOk other → IsOk (two_joined join one other)
+both_read : (join : Bool → Bool → Bool) (one other : Result Holds RuleRefusal) → IsOk one → IsOk other → IsOk (two_joined join one other)
 both_read join (Ok first) (Ok others) first_is others_is = refl
 both_read join (Ok first) (Err fault) first_is others_is = cc
 both_read join (Err fault) other first_is others_is = cc
 
 -- what is built of two that were built
-pub both_built : (join : Join) (one other : Result Holds RuleFault) (first others both : Option Relation)
+pub both_built : (join : Join) (one other : Result Holds RuleRefusal) (first others both : Option Relation)
     → Builds meets (Ok first) one → Builds meets (Ok others) other → IsJoined join first others both → Builds meets (Ok both) (two_joined (joins join) one other)
 both_built join one other first others None first_is others_is together = both_read (joins join) one other (is_read first one first_is) (is_read others other others_is)
 both_built join one other (Some first) (Some others) (Some both) first_is others_is together = rw (first_is, others_is, together) refl
@@ -55,8 +55,8 @@ both_built join one other (Some first) None (Some both) first_is others_is toget
 both_built join one other None others (Some both) first_is others_is together = absurd together
 
 -- where those after an item are refused, the list is
-pub behind_refused : (join : Bool → Bool → Bool) (one other : Result Holds RuleFault) (first : Option Relation) (fault : RuleFault) → Builds meets (Ok first) one → other ≡ Err fault
-    → (result : Result (Option Relation) RuleFault) → IsErrAnd result (λ given. given ≡ fault) → Builds meets result (two_joined join one other)
+pub behind_refused : (join : Bool → Bool → Bool) (one other : Result Holds RuleRefusal) (first : Option Relation) (fault : RuleRefusal) → Builds meets (Ok first) one → other ≡ Err fault
+    → (result : Result (Option Relation) RuleRefusal) → IsErrAnd result (λ given. given ≡ fault) → Builds meets result (two_joined join one other)
 behind_refused join one other first fault is refused (Ok found) same = absurd same
 behind_refused join (Ok holds) other first fault is refused (Err given) same = rw (refused, same) refl
 behind_refused join (Err found) other (Some first) fault is refused (Err given) same = cc

@@ -6,6 +6,9 @@ use Rattle.apex_types.specs.declared.limits.TheConstants.{LONGEST_RULE_NAME}
 use Rattle.record_read.specs.Payload.{is_printable}
 use Rattle.rules_file.specs.declared.fault.RuleFault.{RuleFault}
 use Rattle.rules_file.specs.declared.fault.RuleFault.TheVariants.{BadName, Missing, UnknownKey, WrongType}
+use Rattle.rules_file.specs.declared.refusal.RuleKey.{RuleKey}
+use Rattle.rules_file.specs.declared.refusal.RuleKey.TheVariants.{Name}
+use Rattle.rules_file.specs.declared.refusal.RuleRefusal.{RuleRefusal}
 
 infixl 10 ◌>>=◌
 -- a reading and then the next one; the first refusal stands
@@ -29,10 +32,18 @@ abbrev pub Gives : {A B F : Type 0} → F → (A → B) → Result A F → Resul
 Gives memory view (Ok value) reading = reading ≡ Ok (view value)
 Gives memory view (Err fault) reading = fault ≢ memory → reading ≡ Err fault
 
--- a value that has to be there
-abbrev pub required : Option Data → Result Data RuleFault
-required None = Err Missing
-required (Some value) = Ok value
+-- a refusal at this key
+abbrev pub at : RuleKey → RuleFault → RuleRefusal
+at key fault = record { fault = fault; key = Some key }
+
+-- a refusal at no key
+abbrev pub nowhere : RuleFault → RuleRefusal
+nowhere fault = record { fault = fault; key = None }
+
+-- the value under a key, which has to be there
+abbrev pub required : RuleKey → Option Data → Result Data RuleRefusal
+required key None = Err (at key Missing)
+required key (Some value) = Ok value
 
 -- how many keys a table has
 abbrev pub member_count : Members → ℕ
@@ -40,23 +51,23 @@ member_count no_members = 0
 member_count (member key value members) = suc (member_count members)
 
 -- a table has this many keys at most
-abbrev pub no_more : ℕ → Members → Result Unit RuleFault
-no_more count keys = if nat_le (member_count keys) count then Ok tt else Err UnknownKey
+abbrev pub no_more : ℕ → Members → Result Unit RuleRefusal
+no_more count keys = if nat_le (member_count keys) count then Ok tt else Err (nowhere UnknownKey)
 
--- a string
-abbrev pub text_in : Data → Result (List ℕ) RuleFault
-text_in (string text) = Ok text
-text_in _ = Err WrongType
+-- a string, under this key
+abbrev pub text_in : RuleKey → Data → Result (List ℕ) RuleRefusal
+text_in key (string text) = Ok text
+text_in key _ = Err (at key WrongType)
 
 -- a list
-abbrev pub list_in : Data → Result Items RuleFault
+abbrev pub list_in : Data → Result Items RuleRefusal
 list_in (array items) = Ok items
-list_in _ = Err WrongType
+list_in _ = Err (nowhere WrongType)
 
 -- a text of 1 to 64 bytes, all printable
 abbrev pub is_name : List ℕ → Bool
 is_name text = nat_le 1 (length text) && (nat_le (length text) LONGEST_RULE_NAME && list_all is_printable text)
 
 -- the name of a rule
-abbrev pub name_in : Data → Result (List ℕ) RuleFault
-name_in value = text_in value >>= (λ text. if is_name text then Ok text else Err BadName)
+abbrev pub name_in : Data → Result (List ℕ) RuleRefusal
+name_in value = text_in Name value >>= (λ text. if is_name text then Ok text else Err (at Name BadName))

@@ -7,9 +7,10 @@ use Rattle.apex_types.specs.declared.limits.TheConstants.{MOST_RELATIONS}
 use Rattle.apex_types.specs.declared.view.Field.{Field}
 use Rattle.apex_types.specs.declared.view.View.{View}
 use Rattle.apex_types.specs.Fields.{field_of}
-use Rattle.rules_file.specs.declared.fault.RuleFault.{RuleFault}
 use Rattle.rules_file.specs.declared.fault.RuleFault.TheVariants.{Empty, Missing, TooDeep, TooMany, UnknownField, UnknownName, WrongType}
-use Rattle.rules_file.specs.Keys.{◌>>=◌, list_in, no_more, required, text_in}
+use Rattle.rules_file.specs.declared.refusal.RuleKey.TheVariants as key
+use Rattle.rules_file.specs.declared.refusal.RuleRefusal.{RuleRefusal}
+use Rattle.rules_file.specs.Keys.{◌>>=◌, at, list_in, no_more, nowhere, required, text_in}
 use Rattle.rules_file.specs.Names.{field_named, number_named}
 
 -- of which views a relation holds
@@ -17,32 +18,32 @@ abbrev pub Holds : Type 0
 Holds = View → Bool
 
 -- the field of this name
-abbrev pub field_in : Data → Result Field RuleFault
-field_in value = text_in value >>= (λ name. ok_or (field_named name) UnknownField)
+abbrev pub field_in : Data → Result Field RuleRefusal
+field_in value = text_in key.Field value >>= (λ name. ok_or (field_named name) (at key.Field UnknownField))
 
 -- the number that a field is compared with: an integer, or a name that stands for one in this field
-abbrev pub number_in : Field → Data → Result ℤ RuleFault
+abbrev pub number_in : Field → Data → Result ℤ RuleRefusal
 number_in field (integer number) = Ok number
-number_in field (string name) = ok_or (number_named field name) UnknownName
-number_in field _ = Err WrongType
+number_in field (string name) = ok_or (number_named field name) (at key.Number UnknownName)
+number_in field _ = Err (at key.Number WrongType)
 
 -- the field is compared by the first of `less`, `equal` and `greater` that is there
-abbrev pub compared : Field → Option Data → Option Data → Option Data → Result Holds RuleFault
+abbrev pub compared : Field → Option Data → Option Data → Option Data → Result Holds RuleRefusal
 compared field (Some value) equal greater = number_in field value >>= (λ number. Ok (λ view. int_lt (field_of view field) number))
 compared field None (Some value) greater = number_in field value >>= (λ number. Ok (λ view. int_eq (field_of view field) number))
 compared field None None (Some value) = number_in field value >>= (λ number. Ok (λ view. int_lt number (field_of view field)))
-compared field None None None = Err Missing
+compared field None None None = Err (at key.Number Missing)
 
 -- the comparison that a table describes: `field`, one of `less`, `equal` and `greater`, and no other key
-abbrev pub comparison_under : Members → Result Holds RuleFault
+abbrev pub comparison_under : Members → Result Holds RuleRefusal
 comparison_under keys =
     no_more 2 keys >>= (λ _.
-    required (get_member (codes "field") keys) >>= field_in >>= (λ field.
+    required key.Field (get_member (codes "field") keys) >>= field_in >>= (λ field.
     compared field (get_member (codes "less") keys) (get_member (codes "equal") keys) (get_member (codes "greater") keys)))
 
 -- relations put together, one after the other
-abbrev pub joined : (Bool → Bool → Bool) → (Data → Result Holds RuleFault) → Items → Result Holds RuleFault
-joined join reading no_items = Err Empty
+abbrev pub joined : (Bool → Bool → Bool) → (Data → Result Holds RuleRefusal) → Items → Result Holds RuleRefusal
+joined join reading no_items = Err (nowhere Empty)
 joined join reading (item value no_items) = reading value
 joined join reading (item value (item next items)) =
     reading value >>= (λ first.
@@ -55,30 +56,30 @@ item_count no_items = 0
 item_count (item value items) = suc (item_count items)
 
 -- a list of this many items at most
-abbrev pub at_most : ℕ → Items → Result Items RuleFault
-at_most most items = if nat_le (item_count items) most then Ok items else Err TooMany
+abbrev pub at_most : ℕ → Items → Result Items RuleRefusal
+at_most most items = if nat_le (item_count items) most then Ok items else Err (nowhere TooMany)
 
 -- the relations of a list of 1 to 64, put together
-abbrev pub joined_in : (Bool → Bool → Bool) → (Data → Result Holds RuleFault) → Data → Result Holds RuleFault
+abbrev pub joined_in : (Bool → Bool → Bool) → (Data → Result Holds RuleRefusal) → Data → Result Holds RuleRefusal
 joined_in join reading value = list_in value >>= at_most MOST_RELATIONS >>= joined join reading
 
 -- a relation that holds where the one of a value does not
-abbrev pub negated_in : (Data → Result Holds RuleFault) → Data → Result Holds RuleFault
+abbrev pub negated_in : (Data → Result Holds RuleRefusal) → Data → Result Holds RuleRefusal
 negated_in reading value = reading value >>= (λ negated. Ok (λ view. not (negated view)))
 
 -- the relation that a table describes by what stands under `not`, `and` and `or`, else by a comparison
-abbrev pub described : (Data → Result Holds RuleFault) → Members → Option Data → Option Data → Option Data → Result Holds RuleFault
+abbrev pub described : (Data → Result Holds RuleRefusal) → Members → Option Data → Option Data → Option Data → Result Holds RuleRefusal
 described reading keys (Some value) all any = no_more 1 keys >>= (λ _. negated_in reading value)
 described reading keys None (Some value) any = no_more 1 keys >>= (λ _. joined_in (λ one other. one && other) reading value)
 described reading keys None None (Some value) = no_more 1 keys >>= (λ _. joined_in (λ one other. one || other) reading value)
 described reading keys None None None = comparison_under keys
 
 -- the relation that a table describes
-abbrev pub relation_under : (Data → Result Holds RuleFault) → Members → Result Holds RuleFault
+abbrev pub relation_under : (Data → Result Holds RuleRefusal) → Members → Result Holds RuleRefusal
 relation_under reading keys = described reading keys (get_member (codes "not") keys) (get_member (codes "and") keys) (get_member (codes "or") keys)
 
 -- the relation that a value describes, which has to be a table, with this many levels at most
-unfoldable pub relation_in : ℕ → Data → Result Holds RuleFault
-relation_in zero value = Err TooDeep
+unfoldable pub relation_in : ℕ → Data → Result Holds RuleRefusal
+relation_in zero value = Err (nowhere TooDeep)
 relation_in (suc levels) (table keys) = relation_under (relation_in levels) keys
-relation_in (suc levels) _ = Err WrongType
+relation_in (suc levels) _ = Err (nowhere WrongType)

@@ -10,23 +10,24 @@ ghost use Rattle.rules_file.specs.Relations.{field_in, number_in};
 
 use crate::fault::RuleFault;
 use crate::keys::text;
+use crate::refusal::{RuleKey, RuleRefusal};
 use apex_types::Field;
 use record_read::{Kind, find_kind, find_out, find_service};
 use toml::Value;
 
 /// The field whose name a value is.
-pub(crate) fn read_field(value: &Value) -> Result<Field, RuleFault>
+pub(crate) fn read_field(value: &Value) -> Result<Field, RuleRefusal>
     ensures { result ≡ field_in (view value.now) }
 {
-    let name = text(value)?;
+    let name = text(value, RuleKey::Field)?;
     match find_field(name) {
         Some(field) => Ok(field),
-        None => Err(RuleFault::UnknownField),
+        None => Err(RuleRefusal::at(RuleKey::Field, RuleFault::UnknownField)),
     }
 }
 
-// The field of this name.
-fn find_field(name: &str) -> Option<Field>
+/// The field of this name.
+pub(crate) fn find_field(name: &str) -> Option<Field>
     ensures { result ≡ field_named name.now }
 {
     match name {
@@ -46,16 +47,16 @@ fn find_field(name: &str) -> Option<Field>
 }
 
 /// The number that a field is compared with: the integer that a value is, or the number for which a name stands.
-pub(crate) fn read_number(field: Field, value: &Value) -> Result<i64, RuleFault>
+pub(crate) fn read_number(field: Field, value: &Value) -> Result<i64, RuleRefusal>
     ensures { result ≡ number_in field (view value.now) }
 {
     if let Some(number) = value.as_integer() {
         return Ok(number);
     }
-    let name = text(value)?;
+    let name = text(value, RuleKey::Number)?;
     match number_named(field, name.as_bytes()) {
         Some(number) => Ok(number),
-        None => Err(RuleFault::UnknownName),
+        None => Err(RuleRefusal::at(RuleKey::Number, RuleFault::UnknownName)),
     }
 }
 

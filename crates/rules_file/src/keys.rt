@@ -8,6 +8,7 @@ ghost use Rattle.record_read.specs.Payload.{is_printable};
 ghost use Rattle.rules_file.specs.Keys.{Reads, is_name, list_in, member_count, name_in, no_more, required, text_in};
 
 use crate::fault::RuleFault;
+use crate::refusal::{RuleKey, RuleRefusal};
 use apex_types::limits::LONGEST_RULE_NAME;
 use toml::{Table, Value};
 
@@ -18,54 +19,58 @@ pub(crate) fn member<'a>(table: &'a Table, key: &str) -> Option<&'a Value>
     table.get(key)
 }
 
-/// The value under a key, which must be there.
-pub(crate) fn required<'a>(table: &'a Table, key: &str) -> Result<&'a Value, RuleFault>
-    ensures { Reads (λ value. view value.now) result (required (get_member key.now (table_view table.now))) }
+/// The value under the key of this text, which must be there.
+pub(crate) fn required<'a>(
+    table: &'a Table,
+    text: &str,
+    key: RuleKey,
+) -> Result<&'a Value, RuleRefusal>
+    ensures { Reads (λ value. view value.now) result (required key (get_member text.now (table_view table.now))) }
 {
-    match member(table, key) {
+    match member(table, text) {
         Some(value) => Ok(value),
-        None => Err(RuleFault::Missing),
+        None => Err(RuleRefusal::at(key, RuleFault::Missing)),
     }
 }
 
 /// Refuses a table of more keys than these.
 #[tactic(auto, using(crate::proofs::Counts::keys_counted))]
-pub(crate) fn no_more(table: &Table, count: usize) -> Result<(), RuleFault>
+pub(crate) fn no_more(table: &Table, count: usize) -> Result<(), RuleRefusal>
     ensures { result ≡ no_more count (table_view table.now) }
 {
     if table.len() > count {
-        return Err(RuleFault::UnknownKey);
+        return Err(RuleRefusal::nowhere(RuleFault::UnknownKey));
     }
     Ok(())
 }
 
-/// The text that a value is.
-pub(crate) fn text<'a>(value: &'a Value) -> Result<&'a str, RuleFault>
-    ensures { Reads (λ text. text.now) result (text_in (view value.now)) }
+/// The text that the value under a key is.
+pub(crate) fn text<'a>(value: &'a Value, key: RuleKey) -> Result<&'a str, RuleRefusal>
+    ensures { Reads (λ text. text.now) result (text_in key (view value.now)) }
 {
     match value.as_str() {
         Some(text) => Ok(text),
-        None => Err(RuleFault::WrongType),
+        None => Err(RuleRefusal::at(key, RuleFault::WrongType)),
     }
 }
 
 /// The items of the list that a value is.
-pub(crate) fn list<'a>(value: &'a Value) -> Result<&'a [Value], RuleFault>
+pub(crate) fn list<'a>(value: &'a Value) -> Result<&'a [Value], RuleRefusal>
     ensures { Reads (λ items. items_view items.now) result (list_in (view value.now)) }
 {
     match value.as_array() {
         Some(array) => Ok(array.as_slice()),
-        None => Err(RuleFault::WrongType),
+        None => Err(RuleRefusal::nowhere(RuleFault::WrongType)),
     }
 }
 
 /// The name that a value is: 1 to 64 bytes, all printable ASCII.
-pub(crate) fn name<'a>(value: &'a Value) -> Result<&'a str, RuleFault>
+pub(crate) fn name<'a>(value: &'a Value) -> Result<&'a str, RuleRefusal>
     ensures { Reads (λ name. name.now) result (name_in (view value.now)) }
 {
-    let name = text(value)?;
+    let name = text(value, RuleKey::Name)?;
     if !is_name(name.as_bytes()) {
-        return Err(RuleFault::BadName);
+        return Err(RuleRefusal::at(RuleKey::Name, RuleFault::BadName));
     }
     Ok(name)
 }

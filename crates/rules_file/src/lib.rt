@@ -8,10 +8,14 @@
 mod fault;
 mod field;
 mod keys;
+mod refusal;
 mod relation;
 mod rule;
 mod text;
+mod unknown;
 
 pub use fault::{RuleFault, RulesFault};
+pub use refusal::{RuleKey, RulesRefusal};
 pub use rule::NamedRule;
-pub use text::read;
+pub use text::{read, read_explained};
+pub use unknown::unknown_field;

@@ -11,6 +11,7 @@ ghost use Rattle.rules_file.specs.Relations.{comparison_under, joined, joined_in
 use crate::fault::RuleFault;
 use crate::field::{read_field, read_number};
 use crate::keys::{list, member, no_more, required};
+use crate::refusal::{RuleKey, RuleRefusal};
 use apex_types::limits::MOST_RELATIONS;
 use std::alloc::Global;
 use toml::{Table, Value};
@@ -32,21 +33,21 @@ pub(crate) fn read_relation(
     alloc: Global,
     value: &Value,
     levels: u8,
-) -> Result<Option<Relation>, RuleFault>
+) -> Result<Option<Relation>, RuleRefusal>
     ensures { Builds meets result (relation_in levels (view value.now)) }
 {
     if levels == 0 {
-        return Err(RuleFault::TooDeep);
+        return Err(RuleRefusal::nowhere(RuleFault::TooDeep));
     }
     match value.as_table() {
         Some(keys) => relation_under(alloc, keys, levels - 1),
-        None => Err(RuleFault::WrongType),
+        None => Err(RuleRefusal::nowhere(RuleFault::WrongType)),
     }
 }
 
 // The relation that a table describes, with at most this many levels below it.
 #[cycle(relation)]
-fn relation_under(alloc: Global, keys: &Table, levels: u8) -> Result<Option<Relation>, RuleFault>
+fn relation_under(alloc: Global, keys: &Table, levels: u8) -> Result<Option<Relation>, RuleRefusal>
     ensures { Builds meets result (relation_under (relation_in levels) (table_view keys.now)) }
 {
     if let Some(value) = member(keys, "not") {
@@ -66,7 +67,7 @@ fn relation_under(alloc: Global, keys: &Table, levels: u8) -> Result<Option<Rela
 
 // The relation that holds where the one that a value describes does not.
 #[cycle(relation)]
-fn negated(alloc: Global, value: &Value, levels: u8) -> Result<Option<Relation>, RuleFault>
+fn negated(alloc: Global, value: &Value, levels: u8) -> Result<Option<Relation>, RuleRefusal>
     ensures { Builds meets result (negated_in (relation_in levels) (view value.now)) }
 {
     let relation = read_relation(alloc, value, levels)?;
@@ -84,12 +85,12 @@ fn joined_in(
     value: &Value,
     join: Join,
     levels: u8,
-) -> Result<Option<Relation>, RuleFault>
+) -> Result<Option<Relation>, RuleRefusal>
     ensures { Builds meets result (joined_in (joins join) (relation_in levels) (view value.now)) }
 {
     let items = list(value)?;
     if items.len() > MOST_RELATIONS {
-        return Err(RuleFault::TooMany);
+        return Err(RuleRefusal::nowhere(RuleFault::TooMany));
     }
     joined(alloc, items, join, levels)
 }
@@ -101,12 +102,12 @@ fn joined(
     items: &[Value],
     join: Join,
     levels: u8,
-) -> Result<Option<Relation>, RuleFault>
+) -> Result<Option<Relation>, RuleRefusal>
     requires { length items.now ≤ MOST_RELATIONS }
     ensures { Builds meets result (joined (joins join) (relation_in levels) (items_view items.now)) }
 {
     let Some((item, rest)) = items.split_first() else {
-        return Err(RuleFault::Empty);
+        return Err(RuleRefusal::nowhere(RuleFault::Empty));
     };
     let first = read_relation(alloc, item, levels)?;
     if rest.is_empty() {
@@ -144,11 +145,11 @@ fn boxed(alloc: Global, relation: Option<Relation>) -> Option<Box<Relation>>
 }
 
 // The comparison that a table describes.
-fn comparison(keys: &Table) -> Result<Relation, RuleFault>
+fn comparison(keys: &Table) -> Result<Relation, RuleRefusal>
     ensures { Reads meets result (comparison_under (table_view keys.now)) }
 {
     no_more(keys, 2)?;
-    let field = read_field(required(keys, "field")?)?;
+    let field = read_field(required(keys, "field", RuleKey::Field)?)?;
     if let Some(value) = member(keys, "less") {
         return Ok(Relation::Less(field, read_number(field, value)?));
     }
@@ -158,5 +159,5 @@ fn comparison(keys: &Table) -> Result<Relation, RuleFault>
     if let Some(value) = member(keys, "greater") {
         return Ok(Relation::Greater(field, read_number(field, value)?));
     }
-    Err(RuleFault::Missing)
+    Err(RuleRefusal::at(RuleKey::Number, RuleFault::Missing))
 }

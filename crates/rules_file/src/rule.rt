@@ -7,6 +7,7 @@ ghost use Rattle.rules_file.specs.Reading.{rule_in, rule_under, said};
 
 use crate::fault::RuleFault;
 use crate::keys::{name, no_more, required};
+use crate::refusal::{RuleKey, RuleRefusal};
 use crate::relation::read_relation;
 use apex_types::limits::MOST_LEVELS;
 use std::alloc::Global;
@@ -22,22 +23,23 @@ pub struct NamedRule {
 
 impl NamedRule {
     /// The rule that a value describes; none where memory ran out.
-    pub(crate) fn read(alloc: Global, value: &Value) -> Result<Option<NamedRule>, RuleFault>
+    pub(crate) fn read(alloc: Global, value: &Value) -> Result<Option<NamedRule>, RuleRefusal>
         ensures { Builds said result (rule_in (view value.now)) }
     {
         match value.as_table() {
             Some(keys) => NamedRule::from_table(alloc, keys),
-            None => Err(RuleFault::WrongType),
+            None => Err(RuleRefusal::nowhere(RuleFault::WrongType)),
         }
     }
 
     // The rule that a table describes.
-    fn from_table(alloc: Global, keys: &Table) -> Result<Option<NamedRule>, RuleFault>
+    fn from_table(alloc: Global, keys: &Table) -> Result<Option<NamedRule>, RuleRefusal>
         ensures { Builds said result (rule_under (table_view keys.now)) }
     {
         no_more(keys, 2)?;
-        let name = name(required(keys, "name")?)?;
-        let relation = read_relation(alloc, required(keys, "holds")?, MOST_LEVELS as u8)?;
+        let name = name(required(keys, "name", RuleKey::Name)?)?;
+        let holds = required(keys, "holds", RuleKey::Holds)?;
+        let relation = read_relation(alloc, holds, MOST_LEVELS as u8)?;
         Ok(named(alloc, name, relation))
     }
 }

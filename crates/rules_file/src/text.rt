@@ -7,10 +7,11 @@ ghost use Rattle.apex_types.specs.declared.limits.TheConstants.{LONGEST_RULES_FI
 ghost use Rattle.rules_file.specs.declared.fault.RuleFault.TheVariants.{NotToml, TooMany};
 ghost use Rattle.rules_file.specs.declared.fault.RulesFault.TheVariants.{File, Memory};
 ghost use Rattle.rules_file.specs.Keys.{Gives, Reads};
-ghost use Rattle.rules_file.specs.Reading.{IsAdded, listed_under, rules_from, rules_of, rules_under, said};
+ghost use Rattle.rules_file.specs.Reading.{GivesPlaced, IsAdded, keyless, listed_under, rules_from, rules_of, rules_under, said, walk_of};
 
 use crate::fault::{RuleFault, RulesFault};
 use crate::keys::{list, no_more, required};
+use crate::refusal::{RuleKey, RuleRefusal, RulesRefusal};
 use crate::rule::NamedRule;
 use apex_types::limits::{LONGEST_RULES_FILE, MOST_RULES};
 use std::alloc::Global;
@@ -25,12 +26,25 @@ pub fn read(alloc: Global, text: &[u8]) -> Result<Vec<NamedRule>, RulesFault>
     ensures value { Gives Memory (λ rules. map said rules.items) result (rules_of text.now) }
     ensures too_long { LONGEST_RULES_FILE < length text.now → result ≡ Err (File TooMany) }
 {
+    match read_explained(alloc, text) {
+        Ok(rules) => Ok(rules),
+        Err(refusal) => Err(refusal.fault),
+    }
+}
+
+/// Reads the rules that a text gives, as `read` does. A refusal has the key at which the walk over the text stops.
+///
+/// The fault of the refusal is the one of `read`, and so is the number of the rule that has it.
+pub fn read_explained(alloc: Global, text: &[u8]) -> Result<Vec<NamedRule>, RulesRefusal>
+    ensures value { GivesPlaced (λ rules. map said rules.items) result (walk_of text.now) }
+    ensures too_long { LONGEST_RULES_FILE < length text.now → result ≡ Err (keyless (File TooMany)) }
+{
     if text.len() > LONGEST_RULES_FILE {
-        return Err(RulesFault::File(RuleFault::TooMany));
+        return Err(RulesRefusal::keyless(RulesFault::File(RuleFault::TooMany)));
     }
     match toml::table_from_slice(alloc, text) {
         Ok(keys) => rules_under(alloc, &keys),
-        Err(fault) => Err(text_fault(&fault)),
+        Err(fault) => Err(RulesRefusal::keyless(text_fault(&fault))),
     }
 }
 
@@ -47,49 +61,55 @@ fn text_fault(fault: &Error) -> RulesFault
 }
 
 // The rules of a table.
-fn rules_under(alloc: Global, keys: &Table) -> Result<Vec<NamedRule>, RulesFault>
-    ensures value { Gives Memory (λ rules. map said rules.items) result (rules_under (table_view keys.now)) }
-    ensures refused { IfErr (rules_under (table_view keys.now)) (λ fault. result ≡ Err fault) }
+fn rules_under(alloc: Global, keys: &Table) -> Result<Vec<NamedRule>, RulesRefusal>
+    ensures value { GivesPlaced (λ rules. map said rules.items) result (rules_under (table_view keys.now)) }
+    ensures refused { IfErr (rules_under (table_view keys.now)) (λ refusal. result ≡ Err refusal) }
 {
     match listed_under(keys) {
         Ok(items) => rules_from(alloc, items),
-        Err(fault) => Err(RulesFault::File(fault)),
+        Err(refusal) => Err(RulesRefusal {
+            fault: RulesFault::File(refusal.fault),
+            key: refusal.key,
+        }),
     }
 }
 
 // The list of rules of a table.
 #[tactic(auto, using(crate::proofs::Counts::items_counted))]
-fn listed_under<'a>(keys: &'a Table) -> Result<&'a [Value], RuleFault>
+fn listed_under<'a>(keys: &'a Table) -> Result<&'a [Value], RuleRefusal>
     ensures { Reads (λ items. items_view items.now) result (listed_under (table_view keys.now)) }
 {
     no_more(keys, 1)?;
-    let items = list(required(keys, "rule")?)?;
+    let items = list(required(keys, "rule", RuleKey::Rule)?)?;
     if items.len() > MOST_RULES {
-        return Err(RuleFault::TooMany);
+        return Err(RuleRefusal::nowhere(RuleFault::TooMany));
     }
     Ok(items)
 }
 
 // The rules that the items of a list describe. Where memory runs out the rules after are judged all the same.
-fn rules_from(alloc: Global, items: &[Value]) -> Result<Vec<NamedRule>, RulesFault>
-    ensures value { Gives Memory (λ rules. map said rules.items) result (rules_from 0 (items_view items.now)) }
-    ensures refused { IfErr (rules_from 0 (items_view items.now)) (λ fault. result ≡ Err fault) }
+fn rules_from(alloc: Global, items: &[Value]) -> Result<Vec<NamedRule>, RulesRefusal>
+    ensures value { GivesPlaced (λ rules. map said rules.items) result (rules_from 0 (items_view items.now)) }
+    ensures refused { IfErr (rules_from 0 (items_view items.now)) (λ refusal. result ≡ Err refusal) }
 {
     let mut rules = Some(Vec::new(alloc));
     for (number, item) in items.iter().enumerate() {
         match NamedRule::read(alloc, item) {
             Ok(rule) => rules = added(rules, rule),
-            Err(fault) => {
-                return Err(RulesFault::Rule {
-                    rule: number,
-                    fault,
+            Err(refusal) => {
+                return Err(RulesRefusal {
+                    fault: RulesFault::Rule {
+                        rule: number,
+                        fault: refusal.fault,
+                    },
+                    key: refusal.key,
                 });
             }
         }
     }
     match rules {
         Some(rules) => Ok(rules),
-        None => Err(RulesFault::Memory),
+        None => Err(RulesRefusal::keyless(RulesFault::Memory)),
     }
 }
 

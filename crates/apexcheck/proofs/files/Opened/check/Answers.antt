@@ -5,7 +5,7 @@ use Rattle.report.specs.declared.settings.Settings.{Settings}
 use Rattle.report.specs.Answers.{Given}
 use Rattle.rule_options.specs.declared.option.RuleOption.{RuleOption}
 use Rattle.rule_options.specs.Options.{in_order}
-use Rattle.rules_file.specs.Reading.{SaidRule, said}
+use Rattle.rules_file.specs.Reading.{SaidRule, said, without_key}
 use Rattle.verdict_merge.specs.declared.verdict.Verdict.{Verdict}
 use Rattle.apexcheck.specs.declared.ending.Ending.TheVariants.{Checked}
 use Rattle.apexcheck.specs.Files.{given_of}
@@ -29,5 +29,5 @@ returns g c =
     let answers : AnswersRuled given c.in-Ok.options.items rules asked.settings outcome last =
     rw (c.new-inputs.ensures, c.deref.ensures.value, c.deref-2.ensures.value, c.deref-3.ensures.value) at (c.check_ruled-outcome.ensures c.in-Ok-new.ensures) in
     subst (λ reported. IsRuledEnding given (in_order asked.options) text asked.settings asked.last (Checked outcome reported)) (sym c.where_asked.ensures)
-    (ends given (in_order asked.options) text asked.settings asked.last rules outcome last (ap rules_given (sym same) ∙ c.in-Ok-read_rules.ensures)
+    (ends given (in_order asked.options) text asked.settings asked.last rules outcome last (ap rules_given (sym same) ∙ ap (λ walked. without_key walked) c.in-Ok-read_rules.ensures)
     (subst (λ (options : List RuleOption). AnswersRuled given options rules asked.settings outcome last) c.in-Ok.ensures answers))
