@@ -2,55 +2,55 @@
 
 ghost use Rattle.std.specs.Prelude.{◌≤◌, ◌+◌, ◌*◌};
 
-/// How much a search has spent.
+/// How much a search has tried.
 #[derive(Clone, Copy, Debug, PartialEq, Eq)]
-pub struct Spent {
+pub struct Effort {
     /// How many records may be tried for each record placed.
-    pub effort: u64,
+    pub allowed: u64,
     /// How many were tried.
     pub tried: u64,
     /// The most records that were placed at one time.
     pub reached: u64,
 }
 
-/// How many records may still be tried: the effort for each record placed, and once more at the start.
+/// How many records may still be tried: so many for each record placed, and once more at the start.
 #[derive(Clone, Copy, Debug)]
 pub struct Budget {
-    pub(crate) spent: Spent,
+    pub(crate) effort: Effort,
     left: u64,
-    ghost within: { spent.tried + left ≤ spent.effort * (spent.reached + 1) },
+    ghost within: { effort.tried + left ≤ effort.allowed * (effort.reached + 1) },
 }
 
 impl Budget {
-    /// The budget of a search that has tried nothing.
-    pub fn new(effort: u64) -> Budget {
+    /// The budget of a search that has tried nothing and may try so many records for each record placed.
+    pub fn new(allowed: u64) -> Budget {
         Budget {
-            spent: Spent {
-                effort,
+            effort: Effort {
+                allowed,
                 tried: 0,
                 reached: 0,
             },
-            left: effort,
+            left: allowed,
         }
     }
 
     /// Whether nothing is left.
-    pub fn is_spent(&self) -> bool {
+    pub fn is_used_up(&self) -> bool {
         self.left == 0
     }
 
     /// So many records are tried, as far as the budget goes.
-    pub fn spend(&mut self, count: u64) {
+    pub fn charge(&mut self, count: u64) {
         let count = count.min(self.left);
         self.left -= count;
-        self.spent.tried = self.spent.tried.saturating_add(count);
+        self.effort.tried = self.effort.tried.saturating_add(count);
     }
 
     /// So many records are placed: at most one more than ever before.
     pub fn reach(&mut self, placed: u64) {
-        if placed > self.spent.reached {
-            self.spent.reached += 1;
-            self.left = self.left.saturating_add(self.spent.effort);
+        if placed > self.effort.reached {
+            self.effort.reached += 1;
+            self.left = self.left.saturating_add(self.effort.allowed);
         }
     }
 }

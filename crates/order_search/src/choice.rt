@@ -13,9 +13,9 @@ use std::alloc::AllocError;
 /// What is to be done next.
 #[derive(Clone, Copy, Debug, PartialEq, Eq)]
 pub enum Choice {
-    /// This core's next record is taken, and records of other cores cannot tell.
+    /// This core's next record is taken, and no record of another core sees that.
     Free(usize),
-    /// This core's next record is taken, and records of other cores can tell.
+    /// This core's next record is taken, and records of other cores see that.
     Shared(usize),
     /// No core has a record left.
     AtEnd,
@@ -23,7 +23,7 @@ pub enum Choice {
     Blocked,
 }
 
-// A record that can be taken, and that records of other cores can tell from its absence.
+// A record that can be taken, and that records of other cores see.
 #[derive(Clone, Copy, Debug)]
 struct Candidate {
     is_tick: bool,
@@ -41,7 +41,7 @@ impl Candidate {
     }
 }
 
-/// Which core's next record is taken. One that no other core can tell is taken at once, that of the last core first.
+/// Which core's next record is taken. One that no other core sees is taken at once, that of the last core first.
 pub fn choose<T: Tip>(tip: &mut T, placed: &Placed, tree: &Tree) -> Result<Choice, AllocError>
     ensures undecided { OnOk result (T.undecided tip.new ≡ T.undecided tip.old) }
     ensures decided { OnOk result (T.decided tip.new ≡ T.decided tip.old) }
@@ -84,7 +84,7 @@ pub fn choose<T: Tip>(tip: &mut T, placed: &Placed, tree: &Tree) -> Result<Choic
     }
 }
 
-// Whether a core's next record is to be taken, and no other core can tell.
+// Whether a core's next record can be taken, and no other core sees that.
 fn is_free<T: Tip>(
     tip: &mut T,
     core: usize,

@@ -1,4 +1,4 @@
-// What comes of a search.
+// How a search goes on, and how it ends.
 
 /// How a search ends.
 #[derive(Clone, Copy, Debug, PartialEq, Eq)]

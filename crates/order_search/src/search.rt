@@ -1,6 +1,6 @@
-// The search: depth first, with two records swapped where it comes to a dead end.
+// The search: depth first, with two records swapped when it comes to a dead end.
 
-use crate::budget::{Budget, Spent};
+use crate::budget::{Budget, Effort};
 use crate::choice::{Choice, choose};
 use crate::end::{End, Step};
 use crate::longest::Longest;
@@ -43,7 +43,7 @@ pub struct Search {
 
 impl Search {
     ghost use Rattle.std.specs.Prelude.{◌≡◌, ◌<◌, ◌≤◌, ◌+◌, ◌*◌, [], IfOk, OnOk, Ok, None};
-    ghost use Rattle.order_search.specs.Agreement.{Agrees, AllEnded, IsLast, IsOfModule, IsOverWith, cores_of, decided_by, undecided_of};
+    ghost use Rattle.order_search.specs.Agreement.{Agrees, AllEnded, DecidesNone, IsLast, IsOfModule, IsOpen, IsOverWith, cores_of, decided_by, undecided_of};
     ghost use Rattle.order_search.specs.declared.end.Step.TheVariants.{Over};
     ghost use Rattle.order_search.specs.declared.end.End.TheVariants.{Whole};
 
@@ -66,16 +66,16 @@ impl Search {
         })
     }
 
-    /// How much it has spent: at most the effort for each record that was placed, and once more.
-    pub fn spent(&self) -> Spent
-        ensures { result.tried ≤ result.effort * (result.reached + 1) }
+    /// How much it has tried: at most what is allowed for each record that was placed, and once more.
+    pub fn effort(&self) -> Effort
+        ensures { result.tried ≤ result.allowed * (result.reached + 1) }
     {
-        self.budget.spent
+        self.budget.effort
     }
 
     /// What comes next: the oldest undecided record, once as many are undecided as may be, or the end of the search.
     ///
-    /// The machine has taken exactly the undecided records, in their order, before and after; where it refuses memory, nothing is
+    /// The machine has taken exactly the undecided records, in their order, before and after. If it refuses memory, nothing is
     /// said of the search.
     pub fn next<T: Tip>(&mut self, tip: &mut T) -> Result<Step, AllocError>
         requires agrees { Agrees self.old (T.undecided tip.old) (T.is_ended tip.old) }
@@ -88,15 +88,18 @@ impl Search {
         ensures none_left { IfOk result (IsOverWith (undecided_of self.new)) }
     {
         self.fill(tip)?;
-        self.decide(tip)
+        let Some(core) = self.placed.pop_oldest() else {
+            return Ok(Step::Over(self.finished.unwrap_or(End::Stuck)));
+        };
+        tip.decide(core);
+        self.forget_oldest();
+        Ok(Step::Next(core))
     }
 
     // Places records until as many are undecided as may be, or the search is over.
     fn fill<T: Tip>(&mut self, tip: &mut T) -> Result<(), AllocError>
         requires agrees { Agrees self.old (T.undecided tip.old) (T.is_ended tip.old) }
-        ensures agrees { OnOk result (Agrees self.new (T.undecided tip.new) (T.is_ended tip.new)) }
-        ensures decided { OnOk result (T.decided tip.new ≡ T.decided tip.old) }
-        ensures cores { OnOk result (cores_of self.new ≡ cores_of self.old) }
+        ensures keeps { OnOk result (DecidesNone self.old (T.decided tip.old) self.new (T.decided tip.new) (T.undecided tip.new) (T.is_ended tip.new)) }
     {
         for _ in 0..u64::MAX {
             if self.placed.len() >= self.window {
@@ -104,46 +107,32 @@ impl Search {
             }
             match self.finished {
                 Some(_) => break,
-                None => self.turn(tip)?,
+                None => self.advance(tip)?,
             }
         }
         Ok(())
     }
 
-    // The oldest undecided record is decided.
-    fn decide<T: Tip>(&mut self, tip: &mut T) -> Result<Step, AllocError>
-        requires agrees { Agrees self.old (T.undecided tip.old) (T.is_ended tip.old) }
-        ensures agrees { OnOk result (Agrees self.new (T.undecided tip.new) (T.is_ended tip.new)) }
-        ensures decided { IfOk result (λ step. T.decided tip.new ≡ T.decided tip.old + decided_by step) }
-        ensures core { IfOk result (IsOfModule (cores_of self.old)) }
-        ensures last { IfOk result (IsLast (T.last_decided tip.new)) }
-        ensures cores { OnOk result (cores_of self.new ≡ cores_of self.old) }
-        ensures whole { result ≡ Ok (Over Whole) → AllEnded (cores_of self.old) (T.is_ended tip.new) }
-        ensures none_left { IfOk result (IsOverWith (undecided_of self.new)) }
+    // The oldest undecided record is decided: what was noted of it is forgotten.
+    fn forget_oldest(&mut self)
+        ensures placed { self.new.placed ≡ self.old.placed }
+        ensures finished { self.new.finished ≡ self.old.finished }
     {
-        let Some(core) = self.placed.pop_oldest() else {
-            return Ok(Step::Over(self.finished.unwrap_or(End::Stuck)));
-        };
-        tip.decide(core);
         self.first = self.first.saturating_add(1);
         self.touches.forget_before(self.first);
         self.tree.forget_before(&self.placed, self.first);
         self.longest.clear();
-        Ok(Step::Next(core))
     }
 
     // Places one more record, or goes back from a dead end, or ends the search.
-    fn turn<T: Tip>(&mut self, tip: &mut T) -> Result<(), AllocError>
-        requires agrees { T.undecided tip.old ≡ self.old.placed.cores.items }
-        requires open { self.old.finished ≡ None }
-        ensures agrees { OnOk result (Agrees self.new (T.undecided tip.new) (T.is_ended tip.new)) }
-        ensures decided { OnOk result (T.decided tip.new ≡ T.decided tip.old) }
-        ensures cores { OnOk result (cores_of self.new ≡ cores_of self.old) }
+    fn advance<T: Tip>(&mut self, tip: &mut T) -> Result<(), AllocError>
+        requires open { IsOpen self.old (T.undecided tip.old) }
+        ensures keeps { OnOk result (DecidesNone self.old (T.decided tip.old) self.new (T.decided tip.new) (T.undecided tip.new) (T.is_ended tip.new)) }
     {
-        if self.budget.is_spent() {
+        if self.budget.is_used_up() {
             return self.give_up(tip);
         }
-        self.budget.spend(1);
+        self.budget.charge(1);
         match choose(tip, &self.placed, &self.tree)? {
             Choice::Free(core) => self.place(tip, core),
             Choice::Shared(core) => {
@@ -159,19 +148,11 @@ impl Search {
         }
     }
 
-    // The level of the next record: how many records come before it.
-    fn level(&self) -> u64 {
-        self.first.saturating_add(self.placed.len() as u64)
-    }
-
     // Takes the next record of a core.
     fn place<T: Tip>(&mut self, tip: &mut T, core: usize) -> Result<(), AllocError>
         requires core { core < cores_of self.old }
-        requires agrees { T.undecided tip.old ≡ self.old.placed.cores.items }
-        requires open { self.old.finished ≡ None }
-        ensures agrees { OnOk result (Agrees self.new (T.undecided tip.new) (T.is_ended tip.new)) }
-        ensures decided { OnOk result (T.decided tip.new ≡ T.decided tip.old) }
-        ensures cores { OnOk result (cores_of self.new ≡ cores_of self.old) }
+        requires open { IsOpen self.old (T.undecided tip.old) }
+        ensures keeps { OnOk result (DecidesNone self.old (T.decided tip.old) self.new (T.decided tip.new) (T.undecided tip.new) (T.is_ended tip.new)) }
     {
         if !tip.take(core)? {
             self.finished = Some(End::Stuck);
@@ -183,13 +164,15 @@ impl Search {
         Ok(())
     }
 
-    // At a dead end: goes back to where two records are swapped, or ends the search where no swap is left.
+    // The level of the next record: how many records come before it.
+    fn level(&self) -> u64 {
+        self.first.saturating_add(self.placed.len() as u64)
+    }
+
+    // At a dead end: goes back to swap two records, or ends the search if no swap is left.
     fn turn_back<T: Tip>(&mut self, tip: &mut T) -> Result<(), AllocError>
-        requires agrees { T.undecided tip.old ≡ self.old.placed.cores.items }
-        requires open { self.old.finished ≡ None }
-        ensures agrees { OnOk result (Agrees self.new (T.undecided tip.new) (T.is_ended tip.new)) }
-        ensures decided { OnOk result (T.decided tip.new ≡ T.decided tip.old) }
-        ensures cores { OnOk result (cores_of self.new ≡ cores_of self.old) }
+        requires open { IsOpen self.old (T.undecided tip.old) }
+        ensures keeps { OnOk result (DecidesNone self.old (T.decided tip.old) self.new (T.decided tip.new) (T.undecided tip.new) (T.is_ended tip.new)) }
     {
         self.longest.keep(&self.placed)?;
         let swaps = self.swaps(tip)?;
@@ -285,13 +268,9 @@ impl Search {
 
     // Goes back to a level.
     fn go_back<T: Tip>(&mut self, tip: &mut T, level: u64) -> Result<(), AllocError>
-        requires agrees { T.undecided tip.old ≡ self.old.placed.cores.items }
-        requires open { self.old.finished ≡ None }
-        ensures undecided { OnOk result (T.undecided tip.new ≡ self.new.placed.cores.items) }
-        ensures open { OnOk result (self.new.finished ≡ None) }
-        ensures agrees { OnOk result (Agrees self.new (T.undecided tip.new) (T.is_ended tip.new)) }
-        ensures decided { OnOk result (T.decided tip.new ≡ T.decided tip.old) }
-        ensures cores { OnOk result (cores_of self.new ≡ cores_of self.old) }
+        requires open { IsOpen self.old (T.undecided tip.old) }
+        ensures open { OnOk result (IsOpen self.new (T.undecided tip.new)) }
+        ensures keeps { OnOk result (DecidesNone self.old (T.decided tip.old) self.new (T.decided tip.new) (T.undecided tip.new) (T.is_ended tip.new)) }
     {
         let kept = level.saturating_sub(self.first);
         if kept >= self.placed.len() as u64 {
@@ -299,18 +278,15 @@ impl Search {
         }
         let again = tip.back(kept as usize)?;
         self.placed.keep(kept as usize);
-        self.budget.spend(again);
+        self.budget.charge(again);
         self.touches.keep_before(level);
         Ok(())
     }
 
     // Ends the search, with the longest beginning that it met.
     fn give_up<T: Tip>(&mut self, tip: &mut T) -> Result<(), AllocError>
-        requires agrees { T.undecided tip.old ≡ self.old.placed.cores.items }
-        requires open { self.old.finished ≡ None }
-        ensures agrees { OnOk result (Agrees self.new (T.undecided tip.new) (T.is_ended tip.new)) }
-        ensures decided { OnOk result (T.decided tip.new ≡ T.decided tip.old) }
-        ensures cores { OnOk result (cores_of self.new ≡ cores_of self.old) }
+        requires open { IsOpen self.old (T.undecided tip.old) }
+        ensures keeps { OnOk result (DecidesNone self.old (T.decided tip.old) self.new (T.decided tip.new) (T.undecided tip.new) (T.is_ended tip.new)) }
     {
         if self.placed.len() < self.longest.cores.len() {
             self.return_to_longest(tip)?;
@@ -321,8 +297,7 @@ impl Search {
 
     // Goes to the longest beginning.
     fn return_to_longest<T: Tip>(&mut self, tip: &mut T) -> Result<(), AllocError>
-        requires agrees { T.undecided tip.old ≡ self.old.placed.cores.items }
-        requires open { self.old.finished ≡ None }
+        requires open { IsOpen self.old (T.undecided tip.old) }
         ensures undecided { OnOk result (T.undecided tip.new ≡ self.new.placed.cores.items) }
         ensures decided { OnOk result (T.decided tip.new ≡ T.decided tip.old) }
         ensures cores { OnOk result (cores_of self.new ≡ cores_of self.old) }

@@ -15,8 +15,8 @@ pub struct Wait {
 }
 
 impl Wait {
-    /// Whether another wait is this one, or the opposite.
-    pub fn speaks_of(self, other: Wait) -> bool {
+    /// Whether another wait is of the same two records: this one, or the opposite.
+    pub fn is_about_the_same(self, other: Wait) -> bool {
         self == other || self.held == other.until && self.until == other.held
     }
 

@@ -12,14 +12,14 @@ pub enum Answer {
     Ended,
     /// The machine rejects it here.
     Refused,
-    /// The machine accepts it, and no record of another core can tell whether it was taken.
+    /// The machine accepts it, and no record of another core sees whether it was taken.
     Free,
-    /// The machine accepts it, and records of other cores can tell.
+    /// The machine accepts it, and records of other cores see whether it was taken.
     Shared { is_tick: bool, time: u64 },
 }
 
-/// Two records that the machine names where it rejects another, each by how many records come before it: it would look further where
-/// the first of them came after the second, or, where there is no second, after the rejected one.
+/// Two records that the machine names when it rejects another, each by how many records come before it: it would look further if
+/// the first of them came after the second, or, if there is no second, after the rejected one.
 #[derive(Clone, Copy, Debug, PartialEq, Eq)]
 pub struct Rivals {
     pub first: u64,
@@ -43,20 +43,20 @@ pub trait Tip {
     // Whether a core is at the end of its recording.
     ghost is_ended: { Self → ℕ → Bool };
 
-    /// What is said of a core's next record. Nothing is taken.
+    /// What the machine says of a core's next record. Nothing is taken.
     fn judge(&mut self, core: usize) -> Result<Answer, AllocError>
         ensures undecided { OnOk result (undecided self.new ≡ undecided self.old) }
         ensures decided { OnOk result (decided self.new ≡ decided self.old) }
         ensures ended { result ≡ Ok Ended → is_ended self.new core ≡ true }
         ensures stays_ended { OnOk result ((other : ℕ) → is_ended self.old other ≡ true → is_ended self.new other ≡ true) };
 
-    /// Takes a core's next record. Where it is rejected, nothing is taken and the answer is false.
+    /// Takes a core's next record. If it is rejected, nothing is taken and the answer is false.
     fn take(&mut self, core: usize) -> Result<bool, AllocError>
         ensures taken { result ≡ Ok true → undecided self.new ≡ undecided self.old ++ core ∷ [] }
         ensures rejected { result ≡ Ok false → undecided self.new ≡ undecided self.old }
         ensures decided { OnOk result (decided self.new ≡ decided self.old) };
 
-    /// Goes back to where only so many of the undecided records were taken, and tells how many it took again for that.
+    /// Goes back to when only so many of the undecided records were taken, and returns how many it took again for that.
     fn back(&mut self, kept: usize) -> Result<u64, AllocError>
         requires { kept ≤ length (undecided self.old) }
         ensures undecided { OnOk result (undecided self.new ≡ take kept (undecided self.old)) }
@@ -75,12 +75,12 @@ pub trait Tip {
         ensures undecided { OnOk result (undecided self.new ≡ undecided self.old) }
         ensures decided { OnOk result (decided self.new ≡ decided self.old) };
 
-    /// Adds what the machine looked at where it rejects a core's next record.
+    /// Adds what the machine looks at when it rejects a core's next record.
     fn blamed(&mut self, core: usize, things: &mut Vec<u64>) -> Result<(), AllocError>
         ensures undecided { OnOk result (undecided self.new ≡ undecided self.old) }
         ensures decided { OnOk result (decided self.new ≡ decided self.old) };
 
-    /// Names two records on whose order it rests that a core's next record is rejected, where it can tell.
+    /// Names two records because of whose order a core's next record is rejected, if the machine knows two.
     fn rivals(&mut self, core: usize) -> Result<Option<Rivals>, AllocError>
         ensures undecided { OnOk result (undecided self.new ≡ undecided self.old) }
         ensures decided { OnOk result (decided self.new ≡ decided self.old) };

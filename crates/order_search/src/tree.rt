@@ -134,7 +134,7 @@ impl Tree {
         self.nodes.get(node).map_or(0, |node| node.mark)
     }
 
-    /// Forgets all dead ends, where they are before this level.
+    /// Forgets all dead ends, if all are before this level.
     pub fn forget_before(&mut self, placed: &Placed, level: u64) {
         if self.furthest < level && !self.nodes.is_empty() {
             self.clear(placed);
@@ -187,7 +187,7 @@ impl Tree {
         node.swaps.pop()
     }
 
-    // Puts a swap in force together with those that led to its dead end, where these leave it open and they were not all tried
+    // Puts a swap in force together with those that led to its dead end, if these leave it open and they were not all tried
     // together. Gives the level to go back to.
     fn try_swap(&mut self, first: u64, node: usize, swap: Swap) -> Result<Option<u64>, AllocError> {
         let path = self.path(node)?;
@@ -219,11 +219,11 @@ impl Tree {
         Ok(path)
     }
 
-    // Whether a swap repeats one of those that led to a dead end, or says the opposite, or was tried together with them.
+    // Whether a swap repeats one of those that led to a dead end, or is the opposite of one, or was tried together with them.
     fn is_ruled_out(&self, path: &[usize], swap: Swap, mark: u64) -> bool {
         for node in path {
             if let Some(other) = self.swap(*node) {
-                if other.wait.speaks_of(swap.wait) {
+                if other.wait.is_about_the_same(swap.wait) {
                     return true;
                 }
             }

@@ -1,119 +1,114 @@
-// The places in the specification where the rule of a service is.
+// The places in the specification where the rules of a service are.
 
-use apex_types::{
-    BlackboardOperation, BufferOperation, CallerOperation, EventOperation, MutexOperation,
-    ObjectKind, ProcessOperation, QueuingOperation, Request, SamplingOperation, SemaphoreOperation,
-};
+use apex_types::{Request, Service};
+
+// Where the rules of a service are.
+#[derive(Clone, Copy)]
+struct Rules {
+    // What it gives if no error condition holds.
+    answer: &'static str,
+    // The definition of its error conditions.
+    conditions: &'static str,
+}
+
+const ANSWER: &str = "part 7, what a service gives (IsAnswer)";
 
 const SENDING: &str = "part 4, Sending (IsSending)";
 
 const RECEIVING: &str = "part 4, Receiving (IsReceiving)";
 
-const ANSWER: &str = "part 7, what a service gives (IsAnswer)";
+// Definitions that give the error conditions of several services.
 
-/// Where the specification tells what a service gives that meets no error condition.
+const SHARED: &str = "conditions_of";
+
+const MESSAGE: &str = "message_conditions";
+
+const OBJECT: &str = "object_conditions";
+
+const SOURCE: &str = "source_conditions";
+
+const DESTINATION: &str = "destination_conditions";
+
+const STATUS: &str = "get_status_conditions";
+
+/// Where the specification says what a service gives that meets no error condition.
 pub fn answer_rule(request: &Request) -> &'static str {
-    match request {
-        Request::Process(_, operation) => match operation {
-            ProcessOperation::Resume => "part 7, RESUME (IsResuming)",
-            ProcessOperation::InitializeCoreAffinity { .. }
-            | ProcessOperation::Start
-            | ProcessOperation::Stop
-            | ProcessOperation::Suspend
-            | ProcessOperation::SetPriority { .. } => ANSWER,
-        },
-        Request::CreateProcess { .. }
-        | Request::Caller(_)
-        | Request::SetPartitionMode(..)
-        | Request::Create(..) => ANSWER,
-        Request::Buffer(_, operation) => match operation {
-            BufferOperation::Send { .. } => SENDING,
-            BufferOperation::Receive { .. } => RECEIVING,
-        },
-        Request::Blackboard(_, operation) => match operation {
-            BlackboardOperation::Display { .. } => "part 4, DISPLAY_BLACKBOARD (IsDisplay)",
-            BlackboardOperation::Read { .. } => "part 4, READ_BLACKBOARD (IsReading)",
-            BlackboardOperation::Clear => "part 4, CLEAR_BLACKBOARD (IsClearing)",
-        },
-        Request::Semaphore(_, operation) => match operation {
-            SemaphoreOperation::Wait { .. } => "part 4, WAIT_SEMAPHORE (IsSemaphoreWait)",
-            SemaphoreOperation::Signal => "part 4, SIGNAL_SEMAPHORE (IsSignal)",
-        },
-        Request::Event(_, operation) => match operation {
-            EventOperation::Set => "part 4, SET_EVENT (IsSetting)",
-            EventOperation::Reset => "part 4, RESET_EVENT (IsResetting)",
-            EventOperation::Wait { .. } => "part 4, WAIT_EVENT (IsEventWait)",
-        },
-        Request::Mutex(_, operation) => match operation {
-            MutexOperation::Acquire { .. } => "part 4, ACQUIRE_MUTEX (IsAcquiring)",
-            MutexOperation::Release => "part 4, RELEASE_MUTEX (IsReleasing)",
-        },
-        Request::SamplingPort(_, operation) => match operation {
-            SamplingOperation::Write { .. } => "part 5, WRITE_SAMPLING_MESSAGE (IsWriting)",
-            SamplingOperation::Read => "part 5, READ_SAMPLING_MESSAGE (IsSampling)",
-        },
-        Request::QueuingPort(_, operation) => match operation {
-            QueuingOperation::Send { .. } => SENDING,
-            QueuingOperation::Receive { .. } => RECEIVING,
-        },
-        Request::GetId(..) => "part 7, the number under a name (number_of)",
-        Request::GetStatus(ObjectKind::QueuingPort, _) =>
-            "part 5, GET_QUEUING_PORT_STATUS (channel_status)",
-        Request::GetStatus(..) => "part 7, the status of an object (status_of)",
-    }
+    rules_of(request.service()).answer
 }
 
 /// The definition that gives the error conditions of a service.
 pub fn conditions_rule(request: &Request) -> &'static str {
-    match request {
-        Request::CreateProcess { .. } => "create_process_conditions",
-        Request::Process(_, operation) => match operation {
-            ProcessOperation::InitializeCoreAffinity { .. } => "affinity_conditions",
-            ProcessOperation::Start => "start_conditions",
-            ProcessOperation::Stop => "stop_conditions",
-            ProcessOperation::Suspend => "suspend_conditions",
-            ProcessOperation::Resume => "resume_conditions",
-            ProcessOperation::SetPriority { .. } => "set_priority_conditions",
-        },
-        Request::Caller(operation) => match operation {
-            CallerOperation::SuspendSelf { .. } => "suspend_self_conditions",
-            CallerOperation::GetMyId => "get_my_id_conditions",
-            CallerOperation::TimedWait { .. } => "timed_wait_conditions",
-            CallerOperation::PeriodicWait => "periodic_wait_conditions",
-            CallerOperation::StopSelf | CallerOperation::GetTime => "conditions_of",
-        },
-        Request::SetPartitionMode(..) => "set_mode_conditions",
-        Request::Create(..) => "create_conditions",
-        Request::Buffer(_, operation) => match operation {
-            BufferOperation::Send { .. } => "message_conditions",
-            BufferOperation::Receive { .. } => "object_conditions",
-        },
-        Request::Blackboard(_, operation) => match operation {
-            BlackboardOperation::Display { .. } => "message_conditions",
-            BlackboardOperation::Read { .. } => "object_conditions",
-            BlackboardOperation::Clear => "conditions_of",
-        },
-        Request::Semaphore(_, operation) => match operation {
-            SemaphoreOperation::Wait { .. } => "object_conditions",
-            SemaphoreOperation::Signal => "conditions_of",
-        },
-        Request::Event(_, operation) => match operation {
-            EventOperation::Set | EventOperation::Reset => "conditions_of",
-            EventOperation::Wait { .. } => "object_conditions",
-        },
-        Request::Mutex(_, operation) => match operation {
-            MutexOperation::Acquire { .. } => "acquire_conditions",
-            MutexOperation::Release => "release_conditions",
-        },
-        Request::SamplingPort(_, operation) => match operation {
-            SamplingOperation::Write { .. } => "source_conditions",
-            SamplingOperation::Read => "destination_conditions",
-        },
-        Request::QueuingPort(_, operation) => match operation {
-            QueuingOperation::Send { .. } => "source_conditions",
-            QueuingOperation::Receive { .. } => "destination_conditions",
-        },
-        Request::GetId(..) => "get_id_conditions",
-        Request::GetStatus(..) => "get_status_conditions",
+    rules_of(request.service()).conditions
+}
+
+// The rules of each service.
+fn rules_of(service: Service) -> Rules {
+    match service {
+        Service::CreateProcess => row(ANSWER, "create_process_conditions"),
+        Service::InitializeProcessCoreAffinity => row(ANSWER, "affinity_conditions"),
+        Service::Start => row(ANSWER, "start_conditions"),
+        Service::Stop => row(ANSWER, "stop_conditions"),
+        Service::StopSelf | Service::GetTime => row(ANSWER, SHARED),
+        Service::Suspend => row(ANSWER, "suspend_conditions"),
+        Service::SuspendSelf => row(ANSWER, "suspend_self_conditions"),
+        Service::Resume => row("part 7, RESUME (IsResuming)", "resume_conditions"),
+        Service::SetPriority => row(ANSWER, "set_priority_conditions"),
+        Service::GetMyId => row(ANSWER, "get_my_id_conditions"),
+        Service::TimedWait => row(ANSWER, "timed_wait_conditions"),
+        Service::PeriodicWait => row(ANSWER, "periodic_wait_conditions"),
+        Service::SetPartitionMode => row(ANSWER, "set_mode_conditions"),
+        Service::CreateBuffer
+        | Service::CreateBlackboard
+        | Service::CreateSemaphore
+        | Service::CreateEvent
+        | Service::CreateMutex
+        | Service::CreateSamplingPort
+        | Service::CreateQueuingPort => row(ANSWER, "create_conditions"),
+        Service::SendBuffer => row(SENDING, MESSAGE),
+        Service::ReceiveBuffer => row(RECEIVING, OBJECT),
+        Service::DisplayBlackboard => row("part 4, DISPLAY_BLACKBOARD (IsDisplay)", MESSAGE),
+        Service::ReadBlackboard => row("part 4, READ_BLACKBOARD (IsReading)", OBJECT),
+        Service::ClearBlackboard => row("part 4, CLEAR_BLACKBOARD (IsClearing)", SHARED),
+        Service::WaitSemaphore => row("part 4, WAIT_SEMAPHORE (IsSemaphoreWait)", OBJECT),
+        Service::SignalSemaphore => row("part 4, SIGNAL_SEMAPHORE (IsSignal)", SHARED),
+        Service::SetEvent => row("part 4, SET_EVENT (IsSetting)", SHARED),
+        Service::ResetEvent => row("part 4, RESET_EVENT (IsResetting)", SHARED),
+        Service::WaitEvent => row("part 4, WAIT_EVENT (IsEventWait)", OBJECT),
+        Service::AcquireMutex => row("part 4, ACQUIRE_MUTEX (IsAcquiring)", "acquire_conditions"),
+        Service::ReleaseMutex => row("part 4, RELEASE_MUTEX (IsReleasing)", "release_conditions"),
+        Service::WriteSamplingMessage => row("part 5, WRITE_SAMPLING_MESSAGE (IsWriting)", SOURCE),
+        Service::ReadSamplingMessage => row(
+            "part 5, READ_SAMPLING_MESSAGE (IsSampling)",
+            DESTINATION,
+        ),
+        Service::SendQueuingMessage => row(SENDING, SOURCE),
+        Service::ReceiveQueuingMessage => row(RECEIVING, DESTINATION),
+        Service::GetBufferId
+        | Service::GetBlackboardId
+        | Service::GetSemaphoreId
+        | Service::GetEventId
+        | Service::GetMutexId
+        | Service::GetSamplingPortId
+        | Service::GetQueuingPortId => row(
+            "part 7, the number under a name (number_of)",
+            "get_id_conditions",
+        ),
+        Service::GetQueuingPortStatus => row(
+            "part 5, GET_QUEUING_PORT_STATUS (channel_status)",
+            STATUS,
+        ),
+        Service::GetBufferStatus
+        | Service::GetBlackboardStatus
+        | Service::GetSemaphoreStatus
+        | Service::GetEventStatus
+        | Service::GetMutexStatus
+        | Service::GetSamplingPortStatus => row(
+            "part 7, the status of an object (status_of)",
+            STATUS,
+        ),
     }
+}
+
+fn row(answer: &'static str, conditions: &'static str) -> Rules {
+    Rules { answer, conditions }
 }
