@@ -1,6 +1,6 @@
 // A partition, and its parts.
 
-ghost use Rattle.std.specs.Prelude.{◌≡◌, ℕ, IfOk};
+ghost use Rattle.std.specs.Prelude.{◌≡◌, ℕ, [], IfOk, OnOk};
 ghost use Rattle.apex_machine.specs.Configuration.{Configuration, first_core as first_core_of};
 ghost use Rattle.apex_machine.specs.State.{cold_partition};
 ghost use Rattle.process_state.specs.Processes.{processes_of};
@@ -47,9 +47,17 @@ impl PartitionState {
     pub fn new(alloc: Global, first_core: CoreId) -> Result<PartitionState, AllocError>
         ensures { IfOk result (λ state. (configuration : Configuration) (number : ℕ) → first_core_of configuration number ≡ first_core → state ≡ cold_partition configuration number) }
     {
-        Ok(PartitionState {
+        let processes = ProcTable::new(alloc, first_core)?;
+        Ok(PartitionState::without_objects(alloc, processes))
+    }
+
+    // The partition of this mode and these processes, without an object or a port. Takes no memory.
+    fn without_objects(alloc: Global, processes: ProcTable) -> PartitionState
+        ensures { result ≡ record { mode = processes.mode; table = processes.table; buffers = []; blackboards = []; semaphores = []; events = []; mutexes = []; sampling_ports = []; queuing_ports = [] } }
+    {
+        PartitionState {
             alloc,
-            processes: ProcTable::new(alloc, first_core)?,
+            processes,
             buffers: ObjectTable::new(alloc),
             blackboards: ObjectTable::new(alloc),
             semaphores: ObjectTable::new(alloc),
@@ -57,7 +65,44 @@ impl PartitionState {
             mutexes: ObjectTable::new(alloc),
             sampling_ports: PortTable::new(alloc),
             queuing_ports: PortTable::new(alloc),
-        })
+        }
+    }
+
+    // The partition with copies of another's objects in the place of its own.
+    fn with_objects(mut self, other: &PartitionState) -> Result<PartitionState, AllocError>
+        ensures { IfOk result (λ state. state ≡ record self { buffers = other.now.buffers; blackboards = other.now.blackboards; semaphores = other.now.semaphores; events = other.now.events; mutexes = other.now.mutexes }) }
+    {
+        self.copy_objects(other)?;
+        Ok(self)
+    }
+
+    // The partition with copies of another's ports in the place of its own.
+    fn with_ports(mut self, other: &PartitionState) -> Result<PartitionState, AllocError>
+        ensures { IfOk result (λ state. state ≡ record self { sampling_ports = other.now.sampling_ports; queuing_ports = other.now.queuing_ports }) }
+    {
+        self.copy_ports(other)?;
+        Ok(self)
+    }
+
+    // Copies of another partition's objects take the place of its own.
+    fn copy_objects(&mut self, other: &PartitionState) -> Result<(), AllocError>
+        ensures { OnOk result (self.new ≡ record self.old { buffers = other.now.buffers; blackboards = other.now.blackboards; semaphores = other.now.semaphores; events = other.now.events; mutexes = other.now.mutexes }) }
+    {
+        self.buffers = buffers_copied(&other.buffers)?;
+        self.blackboards = blackboards_copied(&other.blackboards)?;
+        self.semaphores = semaphores_copied(&other.semaphores)?;
+        self.events = events_copied(&other.events)?;
+        self.mutexes = mutexes_copied(&other.mutexes)?;
+        Ok(())
+    }
+
+    // Copies of another partition's ports take the place of its own.
+    fn copy_ports(&mut self, other: &PartitionState) -> Result<(), AllocError>
+        ensures { OnOk result (self.new ≡ record self.old { sampling_ports = other.now.sampling_ports; queuing_ports = other.now.queuing_ports }) }
+    {
+        self.sampling_ports = other.sampling_ports.clone()?;
+        self.queuing_ports = other.queuing_ports.clone()?;
+        Ok(())
     }
 
     // Says of a state what each keeps: the numbers of its objects fit 32 bits. It does nothing.
@@ -126,4 +171,50 @@ impl PartitionState {
     {
         &self.queuing_ports
     }
+}
+
+impl Clone for PartitionState {
+    ghost is_clone = { λ state copy. copy ≡ state };
+
+    fn clone(&self) -> Result<PartitionState, AllocError> {
+        PartitionState::without_objects(self.alloc, self.processes.clone()?)
+            .with_objects(self)?
+            .with_ports(self)
+    }
+}
+
+// A table of the same objects under the same numbers, of each kind: the contract of `clone` speaks of any kind of object.
+
+fn buffers_copied(buffers: &ObjectTable<Buffer>) -> Result<ObjectTable<Buffer>, AllocError>
+    ensures { IfOk result (λ copy. copy ≡ buffers.now) }
+{
+    buffers.clone()
+}
+
+fn blackboards_copied(
+    blackboards: &ObjectTable<Blackboard>,
+) -> Result<ObjectTable<Blackboard>, AllocError>
+    ensures { IfOk result (λ copy. copy ≡ blackboards.now) }
+{
+    blackboards.clone()
+}
+
+fn semaphores_copied(
+    semaphores: &ObjectTable<Semaphore>,
+) -> Result<ObjectTable<Semaphore>, AllocError>
+    ensures { IfOk result (λ copy. copy ≡ semaphores.now) }
+{
+    semaphores.clone()
+}
+
+fn events_copied(events: &ObjectTable<Event>) -> Result<ObjectTable<Event>, AllocError>
+    ensures { IfOk result (λ copy. copy ≡ events.now) }
+{
+    events.clone()
+}
+
+fn mutexes_copied(mutexes: &ObjectTable<Mutex653>) -> Result<ObjectTable<Mutex653>, AllocError>
+    ensures { IfOk result (λ copy. copy ≡ mutexes.now) }
+{
+    mutexes.clone()
 }

@@ -1,5 +1,5 @@
 -- The judgement of one of the partition's own calls: what stands before the outcome, and the outcome after it.
-use Rattle.std.proofs.Common.{◌≡◌, ◌≢◌, ℕ, List, [], ◌∷◌, ◌++◌, Some, None, false, inr, refl}
+use Rattle.std.proofs.Common.{◌≡◌, ◌≢◌, ℕ, List, [], ◌∷◌, ◌++◌, Option, Some, None, Result, Ok, Err, false, inr, refl}
 use Rattle.apex_types.specs.declared.cause.Cause.{Cause}
 use Rattle.apex_types.specs.declared.record.Call.{Call as CallRecord}
 use Rattle.apex_types.specs.declared.record.Claim.{Claim}
@@ -7,7 +7,8 @@ use Rattle.apex_types.specs.declared.request.Request.{Request}
 use Rattle.apex_machine.specs.declared.condition.Condition.{Condition}
 use Rattle.apex_machine.specs.declared.state.CoreState.{CoreState}
 use Rattle.apex_machine.specs.Configuration.{Configuration}
-use Rattle.apex_machine.specs.Demands.{AllHold, Demand, FirstFails, caller_demands, outcome_demands, own_call_demands}
+use Rattle.apex_machine.specs.Demands.{AllHold, Demand, FirstFails, Judges, caller_demands, outcome_demands, own_call_demands}
+use Rattle.apex_types.specs.declared.record.Who.{Who}
 use Rattle.apex_machine.specs.After.{is_done}
 use Rattle.apex_machine.specs.Ports.{channel_of}
 use Rattle.apex_laws.proofs.Codes.{not_done}
@@ -28,6 +29,31 @@ pub fails_later : (demands others : List {1} Demand) (why : Cause) → AllHold d
 fails_later [] others why hold fails = fails
 fails_later (demand ∷ demands) others why hold fails = inr (hold.0, fails_later demands others why hold.1 fails)
 
+pub judged_later : (demands others : List {1} Demand) (judgement : Result (Unit {0}) Cause) → AllHold demands → Judges others judgement
+    → Judges (demands ++ others) judgement
+judged_later demands others (Ok done) hold judged = AllHold-append demands others hold judged
+judged_later demands others (Err why) hold judged = fails_later demands others why hold judged
+
+-- a call whose demands before the outcome hold is judged by its outcome
+
+pub refused_judged : (configuration : Configuration) (number : ℕ) (cores : List CoreState) (partition : Partition) (core : ℕ) (call : CallRecord) (codes : List Code)
+    (judgement : Result (Unit {0}) Cause) → AllHold (caller_demands configuration number cores partition core call)
+    → codes ≡ condition_codes configuration call.who partition call.request
+    → ((channel : Option ℕ) (number : ℕ) (asked : Request) (answer : Answer) → Judges (outcome_demands codes channel number asked answer call.claim) judgement)
+    → Judges (own_call_demands configuration number cores partition core call) judgement
+refused_judged configuration number cores partition core call codes judgement caller are judged =
+    judged_later (caller_demands configuration number cores partition core call) _ judgement caller
+    (rw (← are) (judged (channel_of partition call.request) number call.request (answer_of (time_of cores core) call.who partition call.request)))
+
+pub through_judged : (configuration : Configuration) (number : ℕ) (cores : List CoreState) (partition : Partition) (core : ℕ) (call : CallRecord) (channel : ℕ)
+    (judgement : Result (Unit {0}) Cause) → AllHold (caller_demands configuration number cores partition core call)
+    → condition_codes configuration call.who partition call.request ≡ [] → channel_of partition call.request ≡ Some channel
+    → ((answer : Answer) → Judges (outcome_demands [] (Some channel) number call.request answer call.claim) judgement)
+    → Judges (own_call_demands configuration number cores partition core call) judgement
+through_judged configuration number cores partition core call channel judgement caller none goes judged =
+    judged_later (caller_demands configuration number cores partition core call) _ judgement caller
+    (rw (none, goes) (judged (answer_of (time_of cores core) call.who partition call.request)))
+
 -- where no error condition holds
 
 -- where no channel is used either, what fails of the claim fails of the call
@@ -39,6 +65,15 @@ served_fails configuration number cores partition core now call (Unlawful why) c
     fails_later (caller_demands configuration number cores partition core call) _ why caller
     (rw (none, nowhere) (inr (apart, rw at at fails)))
 served_fails configuration number cores partition core now call Memory caller none nowhere apart at wants = tt
+
+pub served_judged : (configuration : Configuration) (number : ℕ) (cores : List CoreState) (partition : Partition) (core now : ℕ) (call : CallRecord)
+    (judgement : Result (Unit {0}) Cause) → AllHold (caller_demands configuration number cores partition core call)
+    → condition_codes configuration call.who partition call.request ≡ [] → channel_of partition call.request ≡ None → call.claim.chan ≡ None → now ≡ time_of cores core
+    → Judges (served_demands now partition call) judgement → Judges (own_call_demands configuration number cores partition core call) judgement
+served_judged configuration number cores partition core now call (Ok done) caller none nowhere apart at hold =
+    AllHold-append (caller_demands configuration number cores partition core call) _ caller (rw (none, nowhere) (apart, rw at at hold))
+served_judged configuration number cores partition core now call (Err why) caller none nowhere apart at fails =
+    served_fails configuration number cores partition core now call (Unlawful why) caller none nowhere apart at fails
 
 -- where a channel is used, what is demanded of the outcome, whatever the service gives, holds of the call, or fails of it
 pub through_holds : (configuration : Configuration) (number : ℕ) (cores : List CoreState) (partition : Partition) (core : ℕ) (call : CallRecord) (channel : ℕ)

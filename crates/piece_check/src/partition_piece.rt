@@ -35,7 +35,7 @@ use std::alloc::{AllocError, Global};
 use wait_set::{Conditions, ObjFault};
 
 /// The piece of a partition: its number, the cores, and its state.
-#[derive(Drop)]
+#[derive(Clone, Drop)]
 pub(crate) struct PartitionPiece {
     pub(crate) number: PartId,
     pub(crate) clock: Clock,
@@ -109,6 +109,24 @@ impl PartitionPiece {
         }
     }
 
+    /// Judges a record. Takes no memory.
+    ///
+    /// Refused with the cause of the first demand that fails.
+    pub(crate) fn judge(&self, config: &Config, ordered: &Ordered) -> Result<(), Cause>
+        requires place { ordered.now.pos < PLACE_COUNT }
+        requires holds_before { HoldsBefore ordered.now.pos (partition_part self.now) }
+        ensures { Judges (demands config.now (partition_part self.now) ordered.now) result }
+    {
+        let core = ordered.core;
+        match &ordered.rec.body {
+            Body::Call(call) if self.is_own(call.who) => self.judge_own_call(config, ordered, call),
+            Body::Call(call) => self.judge_foreign_call(config, core, call),
+            Body::Ret(ret) => self.judge_return(config, core, ret),
+            Body::Disp(who) => self.judge_dispatch(config, core, *who),
+            Body::Tick(woken) => self.judge_tick(config, core, woken),
+        }
+    }
+
     /// The view of one of the partition's own calls or returns, from the part before it. Takes no memory.
     pub(crate) fn view(&self, ordered: &Ordered) -> Option<View>
         requires { time_of self.now.clock.cores ordered.now.core < PLACE_COUNT }
@@ -163,6 +181,25 @@ impl PartitionPiece {
         match self.state.channel_of(&call.request) {
             Some(channel) => self.pass(config, ordered, call, channel),
             None => self.serve(config, ordered, call),
+        }
+    }
+
+    // Judges a call of one of the partition's own processes: what is demanded before its outcome, then the outcome.
+    #[tactic(auto, using(crate::proofs::Passing::refused_judged, crate::proofs::Passing::through_judged, crate::proofs::Passing::served_judged))]
+    fn judge_own_call(&self, config: &Config, ordered: &Ordered, call: &Call) -> Result<(), Cause>
+        requires own { call.now.who.part ≡ self.now.number }
+        ensures { Judges (own_demands config.now self.now ordered.now.core call.now) result }
+    {
+        let conditions = self.judge_caller(config, ordered.core, call)?;
+        if !conditions.is_empty() {
+            return judge_refused(&conditions, &call.claim);
+        }
+        match self.state.channel_of(&call.request) {
+            Some(channel) => judge_through(channel, self.number, call),
+            None if call.claim.chan.is_some() => Err(Cause::Chan),
+            None => self
+                .state
+                .judge(self.clock.now(ordered.core), ordered.pos, call),
         }
     }
 
