@@ -1,106 +1,62 @@
-//! The program: proposes an order.
+//! The program: searches for an order of the recordings of several cores, and prints it as a certificate.
+//!
+//! Promises: what goes to standard output are rows of a certificate, of which `order_run` says what they are; the exit status is the one
+//! of the end. Standard error shows a person the end, and what stops each core where no order was found.
 #![tactic(auto)]
 
-mod machine;
-mod serve;
-mod standing;
-mod things;
+mod ending;
+mod files;
+mod found;
+mod progress;
+mod seen;
+mod told;
+mod usage;
 
-use csv_rows::Watched;
-use machine::Machine;
-use module_config::Config;
-use order_search::{End, Limits, Search, Step};
-use record_read::RowSource;
-use std::alloc::{AllocError, Global};
-use std::fs;
-use std::fs::{File, Files, OpenOptions};
+use ending::{Ending, refused_words};
+use files::propose_for;
+use seen::Seen;
+use sink::WriterSink;
+use std::alloc::Global;
+use std::fs::{File, Files};
 use std::io;
-use std::io::{BufWriter, Write};
+use std::io::IsTerminal;
 use std::process::ExitCode;
-use std::rt::Env;
-use std::env;
+use std::rt::{Clock, Env};
+use told::tell;
+use usage::{Asked, UsageFault, from_words};
 
-fn main(rt: HostRuntime) -> io::Result<ExitCode> {
+fn main(rt: HostRuntime) -> ExitCode {
     let alloc = rt.alloc();
-    let words: Vec<String> = env::args(&rt)?.collect(alloc)?;
-    let Some(name) = words.get(1) else {
-        return Ok(ExitCode::from(2));
-    };
-    let effort = match words.get(2) {
-        Some(word) => word.as_str().parse::<u64>().unwrap_or(1000),
-        None => 1000,
-    };
-    let window = match words.get(3) {
-        Some(word) => word.as_str().parse::<usize>().unwrap_or(65536),
-        None => 65536,
-    };
-    let text = fs::read(&rt, name.as_str())?;
-    let Ok(config) = Config::read(alloc, &text) else {
-        rt.eprintln("config refused")?;
-        return Ok(ExitCode::from(2));
-    };
-    let mut machine = Machine::start(alloc, &config)?;
-    for index in 4..words.len() {
-        let Some(name) = words.get(index) else { break; };
-        let file: File = OpenOptions::new().read(true).open(&rt, name.as_str())?;
-        let mut source = RowSource::new(alloc, Watched::new(file));
-        for _ in 0..u64::MAX {
-            match source.next() {
-                Ok(Some(record)) => machine.give(index - 4, record)?,
-                Ok(None) => break,
-                Err(_) => {
-                    rt.eprintln("row refused")?;
-                    return Ok(ExitCode::from(2));
-                }
-            }
-        }
-        drop(source);
+    let asked = from_words(&rt, alloc);
+    let mut seen = Seen::new(&rt, alloc, wants_progress(&asked, rt.stderr().is_terminal()));
+    let ending = run(&rt, alloc, &asked, &mut seen);
+    seen.clear();
+    let mut output = WriterSink::new(rt.stderr());
+    tell(&rt, alloc, &mut output, &asked, &ending, &seen);
+    ExitCode::from(ending.status())
+}
+
+// Whether the progress is shown: on a terminal, unless it is not wanted.
+fn wants_progress(asked: &Result<Asked, UsageFault>, is_terminal: bool) -> bool {
+    match asked {
+        Ok(Asked::Order(asked)) => is_terminal && !asked.quiet,
+        Ok(Asked::Version) | Err(_) => false,
     }
-    let cores = config.cores() as usize;
-    if window == 0 {
-        serve::serve(&rt, alloc, &mut machine)?;
-        return Ok(ExitCode::from(0));
+}
+
+// Does what the command line asks for.
+fn run<R: Files<File = File> + Clock + Print + Eprint + AllocGlobal>(
+    rt: &R,
+    alloc: Global,
+    asked: &Result<Asked, UsageFault>,
+    seen: &mut Seen<'_, R>,
+) -> Ending {
+    match asked {
+        Ok(Asked::Order(asked)) => propose_for(rt, alloc, asked, seen),
+        Ok(Asked::Version) => match rt.println("apexorder 0.1.0") {
+            Ok(()) => Ending::Version,
+            Err(_) => Ending::Unwritten,
+        },
+        Err(fault) => refused_words(*fault),
     }
-    let mut search = Search::new(alloc, cores, Limits { window, effort })?;
-    let mut out = BufWriter::new(alloc, io::writer(&rt))?;
-    let mut counts: Vec<u64> = vec![in alloc; 0u64; cores]?;
-    let mut total = 0u64;
-    let mut found = false;
-    for _ in 0..u64::MAX {
-        match search.next(&mut machine)? {
-            Step::Next(core) => {
-                let count = counts.get(core).copied().unwrap_or(0);
-                if let Some(held) = counts.get_mut(core) { *held = count + 1; }
-                total += 1;
-                writeln!(out, "{core},{count}")?;
-            }
-            Step::Over(end) => {
-                found = end == End::Whole;
-                break;
-            }
-        }
-    }
-    let word = if found { "FOUND" } else { "STUCK" };
-    let records = machine.records();
-    let judged = machine.judged;
-    let spent = search.spent();
-    let tried = spent.tried;
-    let dead_ends = 0;
-    rt.eprintln(format_args!("{word} placed={total} records={records} tried={tried} again=0 deadends={dead_ends} judged={judged}"))?;
-    if !found {
-        for core in 0..cores {
-            machine.tell(&rt, core)?;
-        }
-        for core in 0..cores {
-            let from = counts.get(core).copied().unwrap_or(0);
-            for count in from..machine.length(core) {
-                writeln!(out, "{core},{count}")?;
-            }
-        }
-    }
-    out.flush()?;
-    drop(out);
-    drop(machine);
-    drop(config);
-    Ok(ExitCode::from(if found { 0 } else { 1 }))
 }

@@ -81,6 +81,7 @@ impl Search {
         requires agrees { Agrees self.old (T.undecided tip.old) (T.is_ended tip.old) }
         ensures agrees { OnOk result (Agrees self.new (T.undecided tip.new) (T.is_ended tip.new)) }
         ensures decided { IfOk result (λ step. T.decided tip.new ≡ T.decided tip.old + decided_by step) }
+        ensures input { OnOk result (T.input tip.new ≡ T.input tip.old) }
         ensures core { IfOk result (IsOfModule (cores_of self.old)) }
         ensures last { IfOk result (IsLast (T.last_decided tip.new)) }
         ensures cores { OnOk result (cores_of self.new ≡ cores_of self.old) }
@@ -96,6 +97,7 @@ impl Search {
         requires agrees { Agrees self.old (T.undecided tip.old) (T.is_ended tip.old) }
         ensures agrees { OnOk result (Agrees self.new (T.undecided tip.new) (T.is_ended tip.new)) }
         ensures decided { OnOk result (T.decided tip.new ≡ T.decided tip.old) }
+        ensures input { OnOk result (T.input tip.new ≡ T.input tip.old) }
         ensures cores { OnOk result (cores_of self.new ≡ cores_of self.old) }
     {
         for _ in 0..u64::MAX {
@@ -115,6 +117,7 @@ impl Search {
         requires agrees { Agrees self.old (T.undecided tip.old) (T.is_ended tip.old) }
         ensures agrees { OnOk result (Agrees self.new (T.undecided tip.new) (T.is_ended tip.new)) }
         ensures decided { IfOk result (λ step. T.decided tip.new ≡ T.decided tip.old + decided_by step) }
+        ensures input { OnOk result (T.input tip.new ≡ T.input tip.old) }
         ensures core { IfOk result (IsOfModule (cores_of self.old)) }
         ensures last { IfOk result (IsLast (T.last_decided tip.new)) }
         ensures cores { OnOk result (cores_of self.new ≡ cores_of self.old) }
@@ -138,6 +141,7 @@ impl Search {
         requires open { self.old.finished ≡ None }
         ensures agrees { OnOk result (Agrees self.new (T.undecided tip.new) (T.is_ended tip.new)) }
         ensures decided { OnOk result (T.decided tip.new ≡ T.decided tip.old) }
+        ensures input { OnOk result (T.input tip.new ≡ T.input tip.old) }
         ensures cores { OnOk result (cores_of self.new ≡ cores_of self.old) }
     {
         if self.budget.is_spent() {
@@ -171,6 +175,7 @@ impl Search {
         requires open { self.old.finished ≡ None }
         ensures agrees { OnOk result (Agrees self.new (T.undecided tip.new) (T.is_ended tip.new)) }
         ensures decided { OnOk result (T.decided tip.new ≡ T.decided tip.old) }
+        ensures input { OnOk result (T.input tip.new ≡ T.input tip.old) }
         ensures cores { OnOk result (cores_of self.new ≡ cores_of self.old) }
     {
         if !tip.take(core)? {
@@ -189,6 +194,7 @@ impl Search {
         requires open { self.old.finished ≡ None }
         ensures agrees { OnOk result (Agrees self.new (T.undecided tip.new) (T.is_ended tip.new)) }
         ensures decided { OnOk result (T.decided tip.new ≡ T.decided tip.old) }
+        ensures input { OnOk result (T.input tip.new ≡ T.input tip.old) }
         ensures cores { OnOk result (cores_of self.new ≡ cores_of self.old) }
     {
         self.longest.keep(&self.placed)?;
@@ -205,6 +211,7 @@ impl Search {
     fn swaps<T: Tip>(&self, tip: &mut T) -> Result<Vec<Swap>, AllocError>
         ensures undecided { OnOk result (T.undecided tip.new ≡ T.undecided tip.old) }
         ensures decided { OnOk result (T.decided tip.new ≡ T.decided tip.old) }
+        ensures input { OnOk result (T.input tip.new ≡ T.input tip.old) }
     {
         let mut swaps: Vec<Swap> = Vec::new(self.alloc);
         for core in 0..self.placed.most {
@@ -229,6 +236,7 @@ impl Search {
     ) -> Result<(), AllocError>
         ensures undecided { OnOk result (T.undecided tip.new ≡ T.undecided tip.old) }
         ensures decided { OnOk result (T.decided tip.new ≡ T.decided tip.old) }
+        ensures input { OnOk result (T.input tip.new ≡ T.input tip.old) }
     {
         let number = self.placed.count(core);
         let next = RecordName { core, number };
@@ -291,6 +299,7 @@ impl Search {
         ensures open { OnOk result (self.new.finished ≡ None) }
         ensures agrees { OnOk result (Agrees self.new (T.undecided tip.new) (T.is_ended tip.new)) }
         ensures decided { OnOk result (T.decided tip.new ≡ T.decided tip.old) }
+        ensures input { OnOk result (T.input tip.new ≡ T.input tip.old) }
         ensures cores { OnOk result (cores_of self.new ≡ cores_of self.old) }
     {
         let kept = level.saturating_sub(self.first);
@@ -310,6 +319,7 @@ impl Search {
         requires open { self.old.finished ≡ None }
         ensures agrees { OnOk result (Agrees self.new (T.undecided tip.new) (T.is_ended tip.new)) }
         ensures decided { OnOk result (T.decided tip.new ≡ T.decided tip.old) }
+        ensures input { OnOk result (T.input tip.new ≡ T.input tip.old) }
         ensures cores { OnOk result (cores_of self.new ≡ cores_of self.old) }
     {
         if self.placed.len() < self.longest.cores.len() {
@@ -325,6 +335,7 @@ impl Search {
         requires open { self.old.finished ≡ None }
         ensures undecided { OnOk result (T.undecided tip.new ≡ self.new.placed.cores.items) }
         ensures decided { OnOk result (T.decided tip.new ≡ T.decided tip.old) }
+        ensures input { OnOk result (T.input tip.new ≡ T.input tip.old) }
         ensures cores { OnOk result (cores_of self.new ≡ cores_of self.old) }
     {
         let same = self.longest.common(&self.placed);

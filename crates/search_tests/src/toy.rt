@@ -111,6 +111,10 @@ impl<'a> Tip for Toy<'a> {
 
     ghost last_decided = { λ toy. toy.last };
 
+    ghost Input = { Unit {0} };
+
+    ghost input = { λ toy. tt };
+
     ghost is_ended = { λ toy core. nat_le (slice_index toy.lengths.items core) (slice_index toy.next.items core) };
 
     fn judge(&mut self, core: usize) -> Result<Answer, AllocError> {

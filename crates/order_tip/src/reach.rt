@@ -6,7 +6,7 @@ use apex_types::{
     PartId, ProcessOperation, QueuingOperation, Request, SamplingOperation, Who,
 };
 use module_config::{ChannelKind, Config};
-use std::alloc::AllocError;
+use std::alloc::{AllocError, Global};
 
 /// Whether no core but its own ever changes what a partition's processes do.
 pub fn is_alone(config: &Config, part: PartId) -> bool {
@@ -38,6 +38,20 @@ pub struct Reach {
     pub number: PartId,
     pub alone: bool,
     pub one_core: bool,
+}
+
+/// What is known of each partition.
+pub fn reaches(alloc: Global, config: &Config) -> Result<Vec<Reach>, AllocError> {
+    let mut reaches = Vec::new(alloc);
+    for index in 0..config.partition_count() {
+        let number = config.partition_number(index);
+        reaches.push(Reach {
+            number,
+            alone: is_alone(config, number),
+            one_core: has_one_core(config, number),
+        })?;
+    }
+    Ok(reaches)
 }
 
 pub fn reach_of(reaches: &[Reach], part: PartId) -> Reach {

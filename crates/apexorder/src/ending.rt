@@ -1,0 +1,53 @@
+// How a run of the program ends.
+
+use crate::usage::UsageFault;
+use order_run::{Proposal, ProposalFault};
+use report::CheckFault;
+
+/// How a run of the program ends.
+#[derive(Clone, Copy, Debug, Drop)]
+pub enum Ending {
+    /// All records are in an order, in which they are a run of the machine or not.
+    Proposed(Proposal),
+    /// The inputs are refused, or memory is.
+    Refused(CheckFault),
+    /// The words of the command line are not those of the usage.
+    BadUsage,
+    /// A file could not be opened, or the configuration could not be read.
+    Unopened,
+    /// The certificate could not be written.
+    Unwritten,
+    /// The version was asked for.
+    Version,
+}
+
+impl Ending {
+    /// The exit status: 0 for an order or the version, 1 where none was found, 2 where an input is refused, 3 for want of memory, and 4
+    /// where the output failed.
+    pub fn status(&self) -> u8 {
+        match self {
+            Ending::Proposed(Proposal::Found { .. }) | Ending::Version => 0,
+            Ending::Proposed(Proposal::NotFound(_)) => 1,
+            Ending::Refused(CheckFault::Memory) => 3,
+            Ending::Refused(_) | Ending::BadUsage | Ending::Unopened => 2,
+            Ending::Unwritten => 4,
+        }
+    }
+}
+
+/// The end that a refusal of the command line is.
+pub fn refused_words(fault: UsageFault) -> Ending {
+    match fault {
+        UsageFault::Usage => Ending::BadUsage,
+        UsageFault::Memory => Ending::Refused(CheckFault::Memory),
+    }
+}
+
+/// The end where there is no proposal.
+pub fn refused_by(fault: ProposalFault) -> Ending {
+    match fault {
+        ProposalFault::Input(fault) => Ending::Refused(CheckFault::Input(fault)),
+        ProposalFault::Memory => Ending::Refused(CheckFault::Memory),
+        ProposalFault::Output => Ending::Unwritten,
+    }
+}

@@ -1,0 +1,64 @@
+// Where a row is in a file, which is read once more for it.
+
+use crate::files::open;
+use input_explanation::{Compression, FoundRow, LONGEST_SIGNATURE, find_row};
+use std::alloc::Global;
+use std::fs;
+use std::fs::Files;
+use std::io::Read;
+use wording::Words;
+
+/// Says where the row of this number is: its file and its line, or its number where it is not found once more. The answer is the row.
+pub fn tell_place<R: Files<File = F>, F: Read + Drop>(
+    rt: &R,
+    alloc: Global,
+    words: &mut Words,
+    name: &str,
+    number: u64,
+) -> Option<FoundRow> {
+    let row = row_of(rt, alloc, name, number);
+    match &row {
+        Some(row) => words.say(format_args!("{name}, line {}: ", row.line)),
+        None => words.say(format_args!("{name}, row {number}, counted from 0: ")),
+    }
+    row
+}
+
+// The row of this number in the file of this name. None where it is no regular file: a pipe gives its text once.
+fn row_of<R: Files<File = F>, F: Read + Drop>(
+    rt: &R,
+    alloc: Global,
+    name: &str,
+    number: u64,
+) -> Option<FoundRow> {
+    if !is_regular(rt, name) {
+        return None;
+    }
+    match open(rt, name) {
+        Ok(file) => find_row(alloc, file, number),
+        Err(_) => None,
+    }
+}
+
+/// How the file of this name is compressed, if it is. None where it is no regular file.
+pub fn compression_of<R: Files<File = F>, F: Read + Drop>(rt: &R, name: &str) -> Option<Compression> {
+    if !is_regular(rt, name) {
+        return None;
+    }
+    let mut first = [0u8; LONGEST_SIGNATURE];
+    match open(rt, name) {
+        Ok(mut file) => match file.read(&mut first) {
+            Ok(count) => Compression::of(first.get(..count)?),
+            Err(_) => None,
+        },
+        Err(_) => None,
+    }
+}
+
+/// Whether a file can be read once more.
+pub fn is_regular(rt: &impl Files, name: &str) -> bool {
+    match fs::metadata(rt, name) {
+        Ok(metadata) => metadata.is_file(),
+        Err(_) => false,
+    }
+}

@@ -1,0 +1,40 @@
+-- What the recordings of all cores have left.
+use Rattle.std.specs.Prelude.{◌≡◌, ◌≢◌, ℕ, List, [], ◌∷◌, ◌++◌, Option, Some, None, Ok, IfSome, get_or, length, map}
+use Rattle.std.specs.Option.{option_map}
+use Rattle.apex_types.specs.declared.record.Ordered.{Ordered}
+use Rattle.apex_types.specs.declared.record.Record.{Record}
+use Rattle.record_read.specs.Row.{Item}
+
+-- what each core's recording has left, core 0 first; None where its bytes are not known
+abbrev pub Lefts : Type 0
+Lefts = List (Option (List Item))
+
+-- what the recording of a core has left: nothing where there is no such core
+abbrev pub left_at : Lefts → ℕ → Option (List Item)
+left_at lefts core = get_or lefts core (Some [])
+
+-- records that were read ahead, and what is after them
+abbrev pub behind : List Ordered → List Item → List Item
+behind ahead items = map (λ ordered. Ok ordered.rec) ahead ++ items
+
+-- what a recording has left of which these records were read ahead; where its bytes were not known at first they never are
+abbrev pub left_since : Option (List ℕ) → List Ordered → Option (List Item) → Option (List Item)
+left_since None ahead left = None
+left_since (Some bytes) ahead left = option_map (behind ahead) left
+
+-- what a recording has left is known still, where its bytes were known at first
+abbrev pub IsStillKnown : Option (List ℕ) → Option (List Item) → Type 0
+IsStillKnown None left = Unit {0}
+IsStillKnown (Some bytes) None = ⊥
+IsStillKnown (Some bytes) (Some items) = Unit {0}
+
+-- the first of these items was taken, a record; or there was none
+abbrev pub Leaves : List Item → Option Record → Option (List Item) → Type 0
+Leaves items (Some rec) left = (rest : List Item) × (items ≡ Ok rec ∷ rest) × (left ≡ Some rest)
+Leaves items None left = (items ≡ []) × (left ≡ Some [])
+
+-- the next record of a core was taken, or its recording has ended; those of other cores have left what they had
+pub record IsTaken (core : ℕ) (old : Lefts) (made : Option Record) (new : Lefts) : Type 0 where
+  pub gives : IfSome (left_at old core) (λ items. Leaves items made (left_at new core))
+  pub others : (other : ℕ) → other ≢ core → left_at new other ≡ left_at old other
+  pub count : length new ≡ length old
