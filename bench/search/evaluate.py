@@ -1,33 +1,42 @@
 #!/usr/bin/env python3
-"""evaluate.py PROGRAM CHECKER EFFORT FOLDER.. : how many orders are found."""
-import subprocess, sys, os, glob, re, statistics, time
-prog, checker, effort = sys.argv[1], sys.argv[2], sys.argv[3]
-found = total = wrong = 0
-rates = []
-stuck = []
-for d in sys.argv[4:]:
-    cores = sorted(glob.glob(d + "/core*.csv"), key=lambda f: int(re.findall(r"core(\d+)", f)[-1]))
+"""evaluate.py PROGRAM CHECKER EFFORT FOLDER.. : for how many recordings an order is found, and what the checker says of it."""
+import glob, os, re, subprocess, sys, tempfile, time
+program, checker, effort = sys.argv[1:4]
+found = total = wrong = honest = 0
+left = []
+seconds = 0.0
+order = tempfile.NamedTemporaryFile(suffix=".csv", delete=False).name
+for folder in sys.argv[4:]:
+    cores = sorted(glob.glob(folder + "/core*.csv"), key=lambda f: int(re.findall(r"core(\d+)", f)[-1]))
     total += 1
-    t = time.time()
+    begun = time.time()
     try:
-        p = subprocess.run([prog, d + "/config.toml", effort, "65536"] + cores, capture_output=True, timeout=120)
+        ran = subprocess.run([program, "--config", folder + "/config.toml", "--effort", effort, "--quiet"] + cores, capture_output=True, timeout=120)
     except subprocess.TimeoutExpired:
-        stuck.append((d, "TIMEOUT")); continue
-    err = p.stderr.decode().split("\n")
-    m = re.match(r"(\w+) placed=(\d+) records=(\d+) tried=(\d+) again=(\d+) deadends=(\d+) judged=(\d+)", err[0])
-    if not m:
-        stuck.append((d, err[0][:200])); continue
-    word, placed, records, tried, again, dead, judged = m.group(1), *map(int, m.groups()[1:])
-    rates.append((tried + again) / max(1, placed))
-    if word == "FOUND":
-        open("/tmp/ev_order.csv", "wb").write(p.stdout)
-        q = subprocess.run([checker, "--config", d + "/config.toml", "--order", "/tmp/ev_order.csv", "--workers", "1", "--quiet"] + cores, capture_output=True)
-        if q.stdout.startswith(b"YES"): found += 1
-        else: wrong += 1; stuck.append((d, "WRONG " + q.stdout.decode()))
+        left.append((folder, "TIMEOUT"))
+        continue
+    seconds += time.time() - begun
+    end = ran.stderr.decode().strip().split("\n")[-1]
+    open(order, "wb").write(ran.stdout)
+    checked = subprocess.run([checker, "--config", folder + "/config.toml", "--order", order, "--workers", "1", "--quiet"] + cores, capture_output=True)
+    line = checked.stdout.decode().strip()
+    if ran.returncode == 0:
+        if line.startswith("YES"):
+            found += 1
+        else:
+            wrong += 1
+            left.append((folder, "WRONG " + line))
     else:
-        stuck.append((d, err[0]))
-print("%s found %d of %d, wrong %d" % (os.environ.get("NAME",""), found, total, wrong))
-if rates:
-    rates.sort()
-    print("tries per record: median %.2f, ninth decile %.2f, most %.2f" % (statistics.median(rates), rates[int(len(rates) * 0.9)], rates[-1]))
-for s in stuck[:40]: print("  ", *s)
+        place = re.search(r"up to place (\d+)", end)
+        said = re.match(r"NO place=(\d+)", line)
+        if ran.returncode != 1 or not place or not said or place.group(1) != said.group(1):
+            wrong += 1
+            left.append((folder, "WRONG status %d, %s, %s" % (ran.returncode, end, line)))
+        else:
+            honest += 1
+            left.append((folder, end))
+os.remove(order)
+print("%s found %d of %d, none found and No at the same place %d, wrong %d, %.1f s" % (os.environ.get("NAME", ""), found, total, honest, wrong, seconds))
+left.sort(key=lambda one: "WRONG" not in one[1])
+for one in left[:40]:
+    print("  ", *one)

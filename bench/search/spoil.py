@@ -41,13 +41,13 @@ for i, d in enumerate(sys.argv[3:]):
     if not m: continue
     own = int(m.group(1))
     try:
-        p = subprocess.run([prog, out + "/config.toml", "1000", "65536"] + cores, capture_output=True, text=True, timeout=60)
+        p = subprocess.run([prog, "--config", out + "/config.toml", "--quiet"] + cores, capture_output=True, text=True, timeout=60)
     except subprocess.TimeoutExpired:
         total += 1; bad.append((out, kind, own, "timeout")); continue
-    m = re.match(r"(\w+) placed=(\d+)", p.stderr)
+    m = re.search(r"up to place (\d+)", p.stderr)
     total += 1
-    placed = int(m.group(2))
-    if m.group(1) == "FOUND" or placed >= own: good += 1
+    placed = int(m.group(1)) if m else own
+    if p.returncode == 0 or placed >= own: good += 1
     else: bad.append((out, kind, own, placed))
     if placed > own: later += 1
     kinds[kind] += 1

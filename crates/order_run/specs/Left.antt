@@ -33,8 +33,17 @@ abbrev pub Leaves : List Item → Option Record → Option (List Item) → Type 
 Leaves items (Some rec) left = (rest : List Item) × (items ≡ Ok rec ∷ rest) × (left ≡ Some rest)
 Leaves items None left = (items ≡ []) × (left ≡ Some [])
 
+-- what was taken of a recording, where its bytes are known
+abbrev pub Takes : Option (List Item) → Option Record → Option (List Item) → Type 0
+Takes None made new = new ≡ None
+Takes (Some items) made new = Leaves items made new
+
 -- the next record of a core was taken, or its recording has ended; those of other cores have left what they had
 pub record IsTaken (core : ℕ) (old : Lefts) (made : Option Record) (new : Lefts) : Type 0 where
-  pub gives : IfSome (left_at old core) (λ items. Leaves items made (left_at new core))
+  pub takes : Takes (left_at old core) made (left_at new core)
   pub others : (other : ℕ) → other ≢ core → left_at new other ≡ left_at old other
   pub count : length new ≡ length old
+
+-- the recording of a core has ended
+abbrev pub HasEnded : Lefts → ℕ → Type 0
+HasEnded lefts core = IfSome (left_at lefts core) (λ items. items ≡ [])

@@ -1,16 +1,20 @@
 -- How far a run has come.
-use Rattle.std.specs.Prelude.{◌≡◌, ◌+◌, ℕ, List, [], ◌++◌, Option, Some, None, Ok, length, map}
+use Rattle.std.specs.Prelude.{◌≡◌, ◌+◌, ℕ, List, [], ◌++◌, Option, Some, None, Result, Ok, Err, length, map}
 use Rattle.apex_machine.specs.Configuration.{Configuration}
 use Rattle.apex_machine.specs.Runs.{ArePlaced, AreOfCores}
 use Rattle.apex_types.specs.declared.record.Ordered.{Ordered}
 use Rattle.apex_types.specs.declared.record.Pair.{Pair}
 use Rattle.order_cert.specs.Kept.{Follows, place_of, taken_of, none_taken}
+use Rattle.order_cert.specs.Order.{IsPrefixOfLawful}
 use Rattle.order_cert.specs.Row.{Item as CertItem}
 use Rattle.placement.specs.Scan.{led_by, scan}
 use Rattle.record_read.specs.Row.{Item}
+use Rattle.sink.specs.Taken.{with_more}
+use Rattle.sink.specs.Written.{IsCut}
 use Rattle.verdict_merge.specs.declared.finding.Refused.{Refused}
 use Rattle.verdict_merge.specs.Rounds.{AllRun, IsReady, Judging, cold_parts, parts_of}
 use Rattle.verdict_merge.specs.Verdicts.{IsVerdict, no_of}
+use Rattle.order_run.specs.declared.proposal.ProposalFault.{ProposalFault}
 use Rattle.order_run.specs.declared.run.Run.{Run}
 use Rattle.order_run.specs.Left.{Lefts, left_at}
 use Rattle.order_run.specs.Rows.{rows_of}
@@ -37,3 +41,24 @@ Leads cores items run lefts pairs records =
     (left : ℕ → List Item) × ((core : ℕ) → left_at lefts core ≡ Some (left core))
     × ((more : List CertItem)
     → scan cores none_taken 0 items (map Ok pairs ++ more) ≡ led_by records (scan cores (taken_of run.keeper) (place_of run.keeper) left more))
+
+-- a run under way, which began with these recordings and after these bytes of the output: what has gone out since are its rows, and
+-- whatever the recordings had left at first begins with what was put
+pub record IsUnderWay (configuration : Configuration) (bytes : Option (List ℕ)) (start : Lefts) (run : Run) (lefts : Lefts) (now : Option (List ℕ)) : Type 0 where
+  pub gone : List Pair
+  pub waiting : List Pair
+  pub before : List Ordered
+  pub come : HasCome configuration run gone waiting before
+  pub written : now ≡ with_more bytes (rows_of gone)
+  pub cores : length lefts ≡ configuration.cores
+  pub leads : (items : ℕ → List Item) → ((core : ℕ) → left_at start core ≡ Some (items core))
+      → Leads configuration.cores items run lefts (gone ++ waiting) (before ++ run.round.items)
+
+-- the first bytes of a prefix of a lawful order have gone out
+abbrev pub HasBegun : Configuration → Option (List ℕ) → Option (List ℕ) → Type 0
+HasBegun configuration bytes now = (pairs : List Pair) × IsPrefixOfLawful configuration.cores pairs × IsCut bytes (rows_of pairs) now
+
+-- a run goes on, or has begun
+abbrev pub GoesOn : {A : Type 0} → Configuration → Option (List ℕ) → Lefts → Result A ProposalFault → Run → Lefts → Option (List ℕ) → Type 0
+GoesOn configuration bytes start (Ok value) run lefts now = IsUnderWay configuration bytes start run lefts now
+GoesOn configuration bytes start (Err fault) run lefts now = HasBegun configuration bytes now

@@ -1,8 +1,8 @@
 // A core's recording, of which records are read ahead.
 
-ghost use Rattle.std.specs.Prelude.{◌≡◌, IfOk, IfSome, OnOk, option_map};
+ghost use Rattle.std.specs.Prelude.{◌≡◌, IfOk, OnOk, option_map};
 ghost use Rattle.record_read.specs.Row.{records_of};
-ghost use Rattle.order_run.specs.Left.{Leaves};
+ghost use Rattle.order_run.specs.Left.{Takes};
 
 use apex_types::{CoreId, Ordered, Place, Record};
 use csv_rows::TextSource;
@@ -38,6 +38,7 @@ impl<R: TextSource> Model for Lane<R> {
 
 impl<R: TextSource> Lane<R> {
     /// The recording of a core whose text this source gives. Takes no memory.
+    #[tactic(auto, using(crate::proofs::Lefts::opened, crate::proofs::Lefts::opened_known))]
     pub fn new(alloc: Global, core: CoreId, source: R) -> Lane<R>
         ensures { result ≡ option_map records_of (R.remaining source) }
     {
@@ -54,31 +55,35 @@ impl<R: TextSource> Lane<R> {
     pub fn reach(&mut self, index: usize) -> Result<bool, RowFault>
         ensures { OnOk result (self.new ≡ self.old) }
     {
-        while self.ahead.len() <= index {
+        for _ in 0..u64::MAX {
+            if self.ahead.len() > index {
+                return Ok(true);
+            }
             if !self.read_on()? {
                 return Ok(false);
             }
         }
-        Ok(true)
+        Err(RowFault::Memory)
     }
 
     // Reads one record more. The answer is false where there is none.
+    #[tactic(auto, using(crate::proofs::Lefts::read_ahead, crate::proofs::Lefts::read_known, crate::proofs::Lefts::read_none))]
     fn read_on(&mut self) -> Result<bool, RowFault>
         ensures { OnOk result (self.new ≡ self.old) }
     {
         let Some(rec) = self.rows.next()? else {
             return Ok(false);
         };
+        self.count = self.count.saturating_add(1);
         let ordered = Ordered {
             pos: Place::new(0),
             core: self.core,
             rec,
         };
-        if self.ahead.push_back(ordered).is_err() {
-            return Err(RowFault::Memory);
+        match self.ahead.push_back(ordered) {
+            Ok(()) => Ok(true),
+            Err(_) => Err(RowFault::Memory),
         }
-        self.count = self.count.saturating_add(1);
-        Ok(true)
     }
 
     /// The record of this index, where it is ahead.
@@ -96,15 +101,17 @@ impl<R: TextSource> Lane<R> {
     }
 
     /// Takes the next record, or None where the recording has ended.
+    #[tactic(auto, using(crate::proofs::Lefts::takes_first, crate::proofs::Lefts::takes_next, crate::proofs::Lefts::read_known))]
     pub fn take(&mut self) -> Result<Option<Record>, RowFault>
-        ensures { IfOk result (λ made. IfSome self.old (λ items. Leaves items made self.new)) }
+        ensures { IfOk result (λ made. Takes self.old made self.new) }
     {
-        if !self.reach(0)? {
-            return Ok(None);
-        }
         match self.ahead.pop_front() {
             Some(ordered) => Ok(Some(ordered.rec)),
-            None => Ok(None),
+            None => {
+                let made = self.rows.next()?;
+                self.count = self.count.saturating_add(u64::from(made.is_some()));
+                Ok(made)
+            }
         }
     }
 }

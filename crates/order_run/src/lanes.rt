@@ -1,7 +1,6 @@
 // The recordings of all cores.
 
-ghost use Rattle.std.specs.Prelude.{◌≡◌, ◌<◌, ◌≤◌, IfOk, OnOk, length, map, option_map};
-ghost use Rattle.apex_types.specs.declared.limits.TheConstants.{MOST_CORES};
+ghost use Rattle.std.specs.Prelude.{◌≡◌, ◌<◌, IfOk, OnOk, length, map, option_map};
 ghost use Rattle.record_read.specs.Row.{records_of};
 ghost use Rattle.order_run.specs.Left.{IsTaken};
 
@@ -32,13 +31,13 @@ impl<R: TextSource + Drop> Lanes<R> {
     ///
     /// AllocError where memory is refused.
     pub fn open(alloc: Global, sources: Vec<R>) -> Result<Lanes<R>, AllocError>
-        requires { length sources.items ≤ MOST_CORES }
         ensures { IfOk result (λ lanes. lanes ≡ map (λ source. option_map records_of (R.remaining source)) sources.items) }
     {
-        let mut lanes = Vec::with_capacity(alloc, sources.len())?;
+        let mut lanes = Vec::new(alloc);
+        let mut core = 0u8;
         for source in sources {
-            let core = CoreId::new(lanes.len() as u8);
-            lanes.push(Lane::new(alloc, core, source))?;
+            lanes.push(Lane::new(alloc, CoreId::new(core), source))?;
+            core = core.saturating_add(1);
         }
         Ok(Lanes { lanes })
     }

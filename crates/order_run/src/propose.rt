@@ -1,5 +1,16 @@
 // An order is proposed.
 
+ghost use Rattle.std.specs.Prelude.{◌≡◌, ◌≢◌, ◌<◌, ℕ, List, Option, Some, Ok, IfOk, OnOk, false, length, map};
+ghost use Rattle.apex_types.specs.declared.record.Pair.{Pair};
+ghost use Rattle.module_config.specs.Reading.{configuration_of};
+ghost use Rattle.order_cert.specs.Order.{IsPrefixOfLawful};
+ghost use Rattle.record_read.specs.Row.{records_of};
+ghost use Rattle.sink.specs.Taken.{with_more};
+ghost use Rattle.order_run.specs.Left.{HasEnded, Lefts, left_at};
+ghost use Rattle.order_run.specs.Proposal.{HaveGoneOut, IsProposed};
+ghost use Rattle.order_run.specs.Rows.{rows_of};
+ghost use Rattle.order_run.specs.Stands.{GoesOn, IsUnderWay};
+
 use crate::guide::Guide;
 use crate::proposal::{Proposal, ProposalFault};
 use crate::run::Run;
@@ -8,7 +19,7 @@ use sink::Sink;
 use std::alloc::Global;
 
 /// Puts all records in one order, as the guide says, and writes its certificate row by row. A row is written once its record was
-/// judged, or after the one that is refused.
+/// judged, or after that of the one that is refused.
 ///
 /// Where the guide knows no further record, those that are left follow in the order of the cores.
 pub fn propose_by<G: Guide, W: Sink>(
@@ -18,12 +29,13 @@ pub fn propose_by<G: Guide, W: Sink>(
     out: &mut W,
 ) -> Result<Proposal, ProposalFault>
     requires { length (G.left guide.old) ≡ config.now.cores }
+    ensures prefix { (pairs : List Pair) × IsPrefixOfLawful config.now.cores pairs × HaveGoneOut (W.bytes out.old) (rows_of pairs) result (W.bytes out.new) }
+    ensures proposed { (text : List ℕ) (recordings : List (List ℕ)) → configuration_of text ≡ Ok config.now → G.left guide.old ≡ map (λ recording. Some (records_of recording)) recordings → IfOk result (λ proposal. (certificate : List ℕ) × (W.bytes out.new ≡ with_more (W.bytes out.old) certificate) × IsProposed config.now (record { config = text; recordings = recordings; certificate = certificate }) proposal) }
 {
+    config.keeps_limits();
     let mut run = Run::start(alloc, config)?;
     follow(config, guide, &mut run, out)?;
-    for core in 0..config.cores() as usize {
-        drain(config, guide, &mut run, core, out)?;
-    }
+    drain_all(config, guide, &mut run, out)?;
     run.settle(config, out)?;
     Ok(run.proposal())
 }
@@ -34,7 +46,10 @@ fn follow<G: Guide, W: Sink>(
     guide: &mut G,
     run: &mut Run,
     out: &mut W,
-) -> Result<(), ProposalFault> {
+) -> Result<(), ProposalFault>
+    requires { (bytes : Option (List ℕ)) × (start : Lefts) × IsUnderWay config.now bytes start run.old (G.left guide.old) (W.bytes out.old) }
+    ensures { (bytes : Option (List ℕ)) (start : Lefts) → IsUnderWay config.now bytes start run.old (G.left guide.old) (W.bytes out.old) → GoesOn config.now bytes start result run.new (G.left guide.new) (W.bytes out.new) }
+{
     for _ in 0..u64::MAX {
         if run.refused.is_some() {
             break;
@@ -49,6 +64,23 @@ fn follow<G: Guide, W: Sink>(
     Ok(())
 }
 
+// Puts what is left of all cores, one core after another.
+fn drain_all<G: Guide, W: Sink>(
+    config: &Config,
+    guide: &mut G,
+    run: &mut Run,
+    out: &mut W,
+) -> Result<(), ProposalFault>
+    requires { (bytes : Option (List ℕ)) × (start : Lefts) × IsUnderWay config.now bytes start run.old (G.left guide.old) (W.bytes out.old) }
+    ensures goes { (bytes : Option (List ℕ)) (start : Lefts) → IsUnderWay config.now bytes start run.old (G.left guide.old) (W.bytes out.old) → GoesOn config.now bytes start result run.new (G.left guide.new) (W.bytes out.new) }
+    ensures ended { OnOk result ((core : ℕ) → core < config.now.cores → HasEnded (G.left guide.new) core) }
+{
+    for core in 0..config.cores() as usize {
+        drain(config, guide, run, core, out)?;
+    }
+    Ok(())
+}
+
 // Puts what is left of a core.
 fn drain<G: Guide, W: Sink>(
     config: &Config,
@@ -56,7 +88,13 @@ fn drain<G: Guide, W: Sink>(
     run: &mut Run,
     core: usize,
     out: &mut W,
-) -> Result<(), ProposalFault> {
+) -> Result<(), ProposalFault>
+    requires core { core < config.now.cores }
+    requires way { (bytes : Option (List ℕ)) × (start : Lefts) × IsUnderWay config.now bytes start run.old (G.left guide.old) (W.bytes out.old) }
+    ensures goes { (bytes : Option (List ℕ)) (start : Lefts) → IsUnderWay config.now bytes start run.old (G.left guide.old) (W.bytes out.old) → GoesOn config.now bytes start result run.new (G.left guide.new) (W.bytes out.new) }
+    ensures others { OnOk result ((other : ℕ) → other ≢ core → left_at (G.left guide.new) other ≡ left_at (G.left guide.old) other) }
+    ensures ended { OnOk result (HasEnded (G.left guide.new) core) }
+{
     for _ in 0..u64::MAX {
         if !put_next(config, guide, run, core, out)? {
             return Ok(());
@@ -72,7 +110,13 @@ fn put_next<G: Guide, W: Sink>(
     run: &mut Run,
     core: usize,
     out: &mut W,
-) -> Result<bool, ProposalFault> {
+) -> Result<bool, ProposalFault>
+    requires core { core < config.now.cores }
+    requires way { (bytes : Option (List ℕ)) × (start : Lefts) × IsUnderWay config.now bytes start run.old (G.left guide.old) (W.bytes out.old) }
+    ensures goes { (bytes : Option (List ℕ)) (start : Lefts) → IsUnderWay config.now bytes start run.old (G.left guide.old) (W.bytes out.old) → GoesOn config.now bytes start result run.new (G.left guide.new) (W.bytes out.new) }
+    ensures others { OnOk result ((other : ℕ) → other ≢ core → left_at (G.left guide.new) other ≡ left_at (G.left guide.old) other) }
+    ensures ended { result ≡ Ok false → HasEnded (G.left guide.new) core }
+{
     if run.is_full() {
         run.settle(config, out)?;
     }

@@ -1,6 +1,7 @@
 // The records of an order, put one after another.
 
 ghost use Rattle.std.specs.Prelude.{◌≡◌, ◌<◌, ◌++◌, ◌∷◌, [], ℕ, suc, List, IfOk, OnErr, OnOk, length};
+ghost use Rattle.apex_machine.specs.Configuration.{Configuration};
 ghost use Rattle.apex_types.specs.declared.record.Ordered.{Ordered};
 ghost use Rattle.apex_types.specs.declared.record.Pair.{Pair};
 ghost use Rattle.order_cert.specs.Kept.{place_of, put, taken_of};
@@ -66,7 +67,11 @@ impl Run {
         let seq = self.keeper.taken(core);
         let pos = match self.keeper.take(core, seq) {
             Ok(pos) => pos,
-            Err(fault) => return Err(ProposalFault::Input(InputFault::Order { place, core, fault })),
+            Err(fault) => return Err(ProposalFault::Input(InputFault::Order {
+                place,
+                core,
+                fault,
+            })),
         };
         if add_row(&mut self.text, core, seq).is_err() {
             return Err(ProposalFault::Memory);

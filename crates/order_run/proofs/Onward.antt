@@ -1,0 +1,93 @@
+-- How a run goes on.
+use Rattle.std.proofs.Common.{◌≡◌, ◌<◌, ◌+◌, ◌∙◌, ℕ, suc, List, [], ◌∷◌, ◌++◌, length, Option, Some, None, refl, sym, ap, subst, arith, append_assoc, append-nil, length-append}
+use Rattle.apex_machine.specs.Configuration.{Configuration}
+use Rattle.apex_machine.specs.Pieces.{Part, pieces}
+use Rattle.apex_machine.specs.Runs.{ArePlaced, AreOfCores}
+use Rattle.apex_types.specs.declared.record.Ordered.{Ordered}
+use Rattle.apex_types.specs.declared.record.Pair.{Pair}
+use Rattle.apex_types.specs.declared.record.Record.{Record}
+use Rattle.order_cert.specs.Kept.{Follows, place_of, taken_of}
+use Rattle.order_cert.specs.Order.{pair_of}
+use Rattle.placement.specs.Scan.{placed_at}
+use Rattle.verdict_merge.specs.declared.finding.Refused.{Refused}
+use Rattle.verdict_merge.specs.Rounds.{IsReady, IsRound, Judging, cold_parts, parts_of}
+use Rattle.verdict_merge.specs.Verdicts.{IsVerdict, IsVerdictFrom, no_of}
+use Rattle.verdict_merge.proofs.Rounds.{all_run_on}
+use Rattle.verdict_merge.proofs.Ruled.{no_here, verdict_on}
+use Rattle.order_run.specs.declared.run.Run.{Run}
+use Rattle.order_run.specs.Rows.{row_of, rows_of}
+use Rattle.order_run.specs.Stands.{HasCome, HaveJudged}
+use Rattle.order_run.proofs.Text.{rows_push}
+
+-- one record more at its place
+placed_push : (place : ℕ) (records : List Ordered) (ordered : Ordered) → ArePlaced place records → ordered.pos ≡ place + length records → ArePlaced place (records ++ ordered ∷ [])
+placed_push place [] ordered placed is = (omega (arith, is), tt)
+placed_push place (one ∷ records) ordered (here, placed) is = (here, placed_push (suc place) records ordered placed (omega (arith, is)))
+
+of_cores_push : (cores : ℕ) (records : List Ordered) (ordered : Ordered) → AreOfCores cores records → ordered.core < cores → AreOfCores cores (records ++ ordered ∷ [])
+of_cores_push cores [] ordered of_cores within = (within, tt)
+of_cores_push cores (one ∷ records) ordered (here, of_cores) within = (here, of_cores_push cores records ordered of_cores within)
+
+-- before the first record
+pub begun : (configuration : Configuration) (judging : Judging) → IsReady configuration judging
+    → ((number : ℕ) → number < length (pieces configuration) → parts_of judging number ≡ cold_parts configuration number) → judging.count ≡ 0
+    → HaveJudged configuration [] None judging
+begun configuration judging ready cold count = (ready, (λ number within. cold number within), count)
+
+-- a record is put next
+pub put_on : (configuration : Configuration) (old new : Run) (gone waiting : List Pair) (before : List Ordered) (core : ℕ) (rec : Record)
+    → HasCome configuration old gone waiting before → new.keeper.cores ≡ old.keeper.cores → core < old.keeper.cores
+    → place_of new.keeper ≡ suc (place_of old.keeper)
+    → ((pairs : List Pair) → Follows old.keeper pairs → Follows new.keeper (pairs ++ pair_of core (taken_of old.keeper core) ∷ []))
+    → new.text.items ≡ old.text.items ++ row_of (pair_of core (taken_of old.keeper core))
+    → new.round.items ≡ old.round.items ++ placed_at (place_of old.keeper) core rec ∷ []
+    → new.refused ≡ old.refused → new.base ≡ old.base
+    → HasCome configuration new gone (waiting ++ pair_of core (taken_of old.keeper core) ∷ []) before
+put_on configuration old new gone waiting before core rec come cores within place follows text round refused base =
+    let pair : Pair = pair_of core (taken_of old.keeper core) in
+    record {
+      cores = cores ∙ come.cores;
+      follows = subst (Follows new.keeper) (append_assoc gone waiting (pair ∷ [])) (follows (gone ++ waiting) come.follows);
+      text = text ∙ ap (λ rows. rows ++ row_of pair) come.text ∙ sym (rows_push waiting pair);
+      place = omega (arith, place, come.place, ap length round, length-append old.round.items (placed_at (place_of old.keeper) core rec ∷ []));
+      placed = subst (ArePlaced (length before)) (sym round) (placed_push (length before) old.round.items (placed_at (place_of old.keeper) core rec) come.placed come.place);
+      of_cores = subst (AreOfCores configuration.cores) (sym round)
+          (of_cores_push configuration.cores old.round.items (placed_at (place_of old.keeper) core rec) come.of_cores (subst (λ n. core < n) come.cores within));
+      judged = subst (λ found. HaveJudged configuration before found new.base) (sym refused) (subst (HaveJudged configuration before old.refused) (sym base) come.judged);
+    }
+
+-- the records of a round are judged
+pub round_judged : (configuration : Configuration) (before round : List Ordered) (found : Option Refused) (old new : Judging)
+    → HaveJudged configuration before None old → ArePlaced (length before) round → IsRound configuration old round found new
+    → HaveJudged configuration (before ++ round) found new
+round_judged configuration before round None old new (ready, run, count) placed (more, counted, now_ready) = (
+  now_ready,
+  all_run_on configuration (cold_parts configuration) (parts_of old) (parts_of new) before round run more,
+  omega (arith, counted, count, length-append before round),
+)
+round_judged configuration before round (Some found) old new (ready, run, count) placed no = λ later.
+    subst (λ records. IsVerdict configuration [] records (no_of found)) (sym (append_assoc before round later))
+    (verdict_on configuration [] (cold_parts configuration) (parts_of old) 0 before (round ++ later) (no_of found) run tt
+    (subst (λ count. IsVerdictFrom configuration [] (parts_of old) count (round ++ later) (no_of found)) (let e : length before ≡ 0 + length before = omega arith in e)
+    (no_here configuration [] (parts_of old) (length before) round later found placed no.0 tt)))
+
+-- once a record was refused nothing more is judged
+pub still_refused : (configuration : Configuration) (before round : List Ordered) (found : Refused) (old new : Judging)
+    → HaveJudged configuration before (Some found) old → HaveJudged configuration (before ++ round) (Some found) new
+still_refused configuration before round found old new judged = λ later.
+    subst (λ records. IsVerdict configuration [] records (no_of found)) (sym (append_assoc before round later)) (judged (round ++ later))
+
+-- the rows of a round have gone out
+pub gone_on : (configuration : Configuration) (old new : Run) (gone waiting : List Pair) (before : List Ordered)
+    → HasCome configuration old gone waiting before → new.keeper ≡ old.keeper → new.text.items ≡ [] → new.round.items ≡ []
+    → HaveJudged configuration (before ++ old.round.items) new.refused new.base
+    → HasCome configuration new (gone ++ waiting) [] (before ++ old.round.items)
+gone_on configuration old new gone waiting before come keeper text round judged = record {
+  cores = ap (λ kept. kept.cores) keeper ∙ come.cores;
+  follows = subst (λ kept. Follows kept ((gone ++ waiting) ++ [])) (sym keeper) (subst (Follows old.keeper) (sym (append-nil (gone ++ waiting))) come.follows);
+  text = text;
+  place = omega (arith, ap place_of keeper, come.place, length-append before old.round.items, ap length round);
+  placed = subst (ArePlaced (length (before ++ old.round.items))) (sym round) tt;
+  of_cores = subst (AreOfCores configuration.cores) (sym round) tt;
+  judged = judged;
+}
