@@ -1,6 +1,7 @@
 mod Lefts
 mod Onward
-mod Scanned
 mod Printed
+mod Scanned
 mod Text
+mod Way
 mod Whole

@@ -1,22 +1,25 @@
 -- How a run goes on.
-use Rattle.std.proofs.Common.{◌≡◌, ◌<◌, ◌+◌, ◌∙◌, ℕ, suc, List, [], ◌∷◌, ◌++◌, length, Option, Some, None, refl, sym, ap, subst, arith, append_assoc, append-nil, length-append}
+use Rattle.std.proofs.Common.{◌≡◌, ◌<◌, ◌≤◌, ◌+◌, ◌∙◌, ℕ, suc, List, [], ◌∷◌, ◌++◌, length, Option, Some, None, refl, sym, ap, subst, arith, append_assoc, append-nil, length-append}
 use Rattle.apex_machine.specs.Configuration.{Configuration}
 use Rattle.apex_machine.specs.Pieces.{Part, pieces}
 use Rattle.apex_machine.specs.Runs.{ArePlaced, AreOfCores}
+use Rattle.apex_types.specs.declared.limits.TheConstants.{MOST_RECORDS, PLACE_COUNT}
 use Rattle.apex_types.specs.declared.record.Ordered.{Ordered}
 use Rattle.apex_types.specs.declared.record.Pair.{Pair}
 use Rattle.apex_types.specs.declared.record.Record.{Record}
 use Rattle.order_cert.specs.Kept.{Follows, place_of, taken_of}
-use Rattle.order_cert.specs.Order.{pair_of}
+use Rattle.order_cert.specs.Order.{misplaced, pair_of}
 use Rattle.placement.specs.Scan.{placed_at}
+use Rattle.placement.proofs.Refusal.{IsWhy, why}
 use Rattle.verdict_merge.specs.declared.finding.Refused.{Refused}
+use Rattle.verdict_merge.specs.declared.verdict.Verdict.TheVariants.{Yes}
 use Rattle.verdict_merge.specs.Rounds.{IsReady, IsRound, Judging, cold_parts, parts_of}
 use Rattle.verdict_merge.specs.Verdicts.{IsVerdict, IsVerdictFrom, no_of}
 use Rattle.verdict_merge.proofs.Rounds.{all_run_on}
 use Rattle.verdict_merge.proofs.Ruled.{no_here, verdict_on}
 use Rattle.order_run.specs.declared.run.Run.{Run}
 use Rattle.order_run.specs.Rows.{row_of, rows_of}
-use Rattle.order_run.specs.Stands.{HasCome, HaveJudged}
+use Rattle.order_run.specs.Stands.{AllFit, HasCome, HaveJudged}
 use Rattle.order_run.proofs.Text.{rows_push}
 
 -- one record more at its place
@@ -28,29 +31,52 @@ of_cores_push : (cores : ℕ) (records : List Ordered) (ordered : Ordered) → A
 of_cores_push cores [] ordered of_cores within = (within, tt)
 of_cores_push cores (one ∷ records) ordered (here, of_cores) within = (here, of_cores_push cores records ordered of_cores within)
 
+placed_after : (place : ℕ) (front back : List Ordered) → ArePlaced place (front ++ back) → ArePlaced (place + length front) back
+placed_after place [] back placed = subst (λ n. ArePlaced n back) (let e : place ≡ place + 0 = omega arith in e) placed
+placed_after place (one ∷ front) back (here, placed) =
+    subst (λ n. ArePlaced n back) (let e : suc place + length front ≡ place + suc (length front) = omega arith in e) (placed_after (suc place) front back placed)
+
+-- the records of a round stand after those that were judged
+pub round_placed : (configuration : Configuration) (run : Run) (gone waiting : List Pair) (before : List Ordered) → HasCome configuration run gone waiting before
+    → ArePlaced (length before) run.round.items
+round_placed configuration run gone waiting before come =
+    subst (λ n. ArePlaced n run.round.items) (let e : 0 + length before ≡ length before = omega arith in e) (placed_after 0 before run.round.items come.placed)
+
 -- before the first record
 pub begun : (configuration : Configuration) (judging : Judging) → IsReady configuration judging
     → ((number : ℕ) → number < length (pieces configuration) → parts_of judging number ≡ cold_parts configuration number) → judging.count ≡ 0
     → HaveJudged configuration [] None judging
 begun configuration judging ready cold count = (ready, (λ number within. cold number within), count)
 
+all_fit_push : (pairs : List Pair) (pair : Pair) → AllFit pairs → pair.core ≤ 0xFFFFFFFF → pair.seq ≤ 0xFFFFFFFF → AllFit (pairs ++ pair ∷ [])
+all_fit_push [] pair fit core seq = (core, seq, tt)
+all_fit_push (one ∷ pairs) pair (here, also, fit) core seq = (here, also, all_fit_push pairs pair fit core seq)
+
 -- a record is put next
 pub put_on : (configuration : Configuration) (old new : Run) (gone waiting : List Pair) (before : List Ordered) (core : ℕ) (rec : Record)
-    → HasCome configuration old gone waiting before → new.keeper.cores ≡ old.keeper.cores → core < old.keeper.cores
+    → HasCome configuration old gone waiting before → new.keeper.cores ≡ old.keeper.cores → core < old.keeper.cores → core ≤ 0xFFFFFFFF
+    → misplaced old.keeper.cores (taken_of old.keeper) (pair_of core (taken_of old.keeper core)) ≡ None
+    → ((pairs : List Pair) → Follows old.keeper pairs → length pairs < PLACE_COUNT)
     → place_of new.keeper ≡ suc (place_of old.keeper)
     → ((pairs : List Pair) → Follows old.keeper pairs → Follows new.keeper (pairs ++ pair_of core (taken_of old.keeper core) ∷ []))
     → new.text.items ≡ old.text.items ++ row_of (pair_of core (taken_of old.keeper core))
     → new.round.items ≡ old.round.items ++ placed_at (place_of old.keeper) core rec ∷ []
     → new.refused ≡ old.refused → new.base ≡ old.base
     → HasCome configuration new gone (waiting ++ pair_of core (taken_of old.keeper core) ∷ []) before
-put_on configuration old new gone waiting before core rec come cores within place follows text round refused base =
+put_on configuration old new gone waiting before core rec come cores within small fits few place follows text round refused base =
     let pair : Pair = pair_of core (taken_of old.keeper core) in
+    let fitting = subst (IsWhy old.keeper.cores (taken_of old.keeper) pair) fits (why old.keeper.cores (taken_of old.keeper) pair) in
     record {
       cores = cores ∙ come.cores;
       follows = subst (Follows new.keeper) (append_assoc gone waiting (pair ∷ [])) (follows (gone ++ waiting) come.follows);
+      few = omega (arith, few (gone ++ waiting) come.follows, ap length (append_assoc gone waiting (pair ∷ [])), length-append (gone ++ waiting) (pair ∷ []));
+      fit = subst AllFit (append_assoc gone waiting (pair ∷ [])) (all_fit_push (gone ++ waiting) pair come.fit small (omega (arith, fitting.below)));
       text = text ∙ ap (λ rows. rows ++ row_of pair) come.text ∙ sym (rows_push waiting pair);
       place = omega (arith, place, come.place, ap length round, length-append old.round.items (placed_at (place_of old.keeper) core rec ∷ []));
-      placed = subst (ArePlaced (length before)) (sym round) (placed_push (length before) old.round.items (placed_at (place_of old.keeper) core rec) come.placed come.place);
+      placed = subst (λ records. ArePlaced 0 (before ++ records)) (sym round)
+          (subst (ArePlaced 0) (append_assoc before old.round.items (placed_at (place_of old.keeper) core rec ∷ []))
+          (placed_push 0 (before ++ old.round.items) (placed_at (place_of old.keeper) core rec) come.placed
+          (omega (arith, come.place, length-append before old.round.items))));
       of_cores = subst (AreOfCores configuration.cores) (sym round)
           (of_cores_push configuration.cores old.round.items (placed_at (place_of old.keeper) core rec) come.of_cores (subst (λ n. core < n) come.cores within));
       judged = subst (λ found. HaveJudged configuration before found new.base) (sym refused) (subst (HaveJudged configuration before old.refused) (sym base) come.judged);
@@ -85,9 +111,21 @@ pub gone_on : (configuration : Configuration) (old new : Run) (gone waiting : Li
 gone_on configuration old new gone waiting before come keeper text round judged = record {
   cores = ap (λ kept. kept.cores) keeper ∙ come.cores;
   follows = subst (λ kept. Follows kept ((gone ++ waiting) ++ [])) (sym keeper) (subst (Follows old.keeper) (sym (append-nil (gone ++ waiting))) come.follows);
+  few = subst (λ pairs. length pairs ≤ PLACE_COUNT) (sym (append-nil (gone ++ waiting))) come.few;
+  fit = subst AllFit (sym (append-nil (gone ++ waiting))) come.fit;
   text = text;
   place = omega (arith, ap place_of keeper, come.place, length-append before old.round.items, ap length round);
-  placed = subst (ArePlaced (length (before ++ old.round.items))) (sym round) tt;
+  placed = subst (λ records. ArePlaced 0 ((before ++ old.round.items) ++ records)) (sym round) (subst (ArePlaced 0) (sym (append-nil (before ++ old.round.items))) come.placed);
   of_cores = subst (AreOfCores configuration.cores) (sym round) tt;
   judged = judged;
 }
+
+-- what is proposed, once every record is judged
+
+pub all_found : (configuration : Configuration) (before : List Ordered) (judging : Judging) (records : ℕ) → HaveJudged configuration before None judging → records ≡ length before
+    → IsVerdict configuration [] before (Yes records)
+all_found configuration before judging records (ready, run, count) is = (omega (arith, is), (parts_of judging, run), tt)
+
+pub none_found : (configuration : Configuration) (before : List Ordered) (judging : Judging) (found : Refused) → HaveJudged configuration before (Some found) judging
+    → IsVerdict configuration [] before (no_of found)
+none_found configuration before judging found judged = subst (λ records. IsVerdict configuration [] records (no_of found)) (append-nil before) (judged [])

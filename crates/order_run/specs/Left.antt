@@ -1,9 +1,9 @@
 -- What the recordings of all cores have left.
-use Rattle.std.specs.Prelude.{◌≡◌, ◌≢◌, ℕ, List, [], ◌∷◌, ◌++◌, Option, Some, None, Ok, IfSome, get_or, length, map}
+use Rattle.std.specs.Prelude.{◌≡◌, ◌≢◌, ℕ, zero, suc, List, [], ◌∷◌, ◌++◌, Option, Some, None, Ok, IfSome, get_or, length, map}
 use Rattle.std.specs.Option.{option_map}
 use Rattle.apex_types.specs.declared.record.Ordered.{Ordered}
 use Rattle.apex_types.specs.declared.record.Record.{Record}
-use Rattle.record_read.specs.Row.{Item}
+use Rattle.record_read.specs.Row.{Item, records_of}
 
 -- what each core's recording has left, core 0 first; None where its bytes are not known
 abbrev pub Lefts : Type 0
@@ -12,6 +12,12 @@ Lefts = List (Option (List Item))
 -- what the recording of a core has left: nothing where there is no such core
 abbrev pub left_at : Lefts → ℕ → Option (List Item)
 left_at lefts core = get_or lefts core (Some [])
+
+-- what the text of a core's recording is read as: nothing where there is no such core
+abbrev pub items_at : List (List ℕ) → ℕ → List Item
+items_at [] core = []
+items_at (text ∷ texts) zero = records_of text
+items_at (text ∷ texts) (suc core) = items_at texts core
 
 -- records that were read ahead, and what is after them
 abbrev pub behind : List Ordered → List Item → List Item

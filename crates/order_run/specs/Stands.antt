@@ -1,9 +1,11 @@
 -- How far a run has come.
-use Rattle.std.specs.Prelude.{◌≡◌, ◌+◌, ℕ, List, [], ◌++◌, Option, Some, None, Result, Ok, Err, length, map}
+use Rattle.std.specs.Prelude.{◌≡◌, ◌≤◌, ◌+◌, ℕ, List, [], ◌∷◌, ◌++◌, Option, Some, None, Result, Ok, Err, length, map}
 use Rattle.apex_machine.specs.Configuration.{Configuration}
 use Rattle.apex_machine.specs.Runs.{ArePlaced, AreOfCores}
+use Rattle.apex_types.specs.declared.limits.TheConstants.{PLACE_COUNT}
 use Rattle.apex_types.specs.declared.record.Ordered.{Ordered}
 use Rattle.apex_types.specs.declared.record.Pair.{Pair}
+use Rattle.apex_types.specs.declared.record.Record.{Record}
 use Rattle.order_cert.specs.Kept.{Follows, place_of, taken_of, none_taken}
 use Rattle.order_cert.specs.Order.{IsPrefixOfLawful}
 use Rattle.order_cert.specs.Row.{Item as CertItem}
@@ -25,22 +27,33 @@ HaveJudged configuration before None judging =
     IsReady configuration judging × AllRun configuration (cold_parts configuration) before (parts_of judging) × (judging.count ≡ length before)
 HaveJudged configuration before (Some refused) judging = (later : List Ordered) → IsVerdict configuration [] (before ++ later) (no_of refused)
 
+-- the numbers of pairs are those that a row can have
+abbrev pub AllFit : List Pair → Type 0
+AllFit [] = Unit {0}
+AllFit (pair ∷ pairs) = (pair.core ≤ 0xFFFFFFFF) × (pair.seq ≤ 0xFFFFFFFF) × AllFit pairs
+
 -- these pairs have gone out, with the records of which they are; those wait with the records of the round
 pub record HasCome (configuration : Configuration) (run : Run) (gone waiting : List Pair) (before : List Ordered) : Type 0 where
   pub cores : run.keeper.cores ≡ configuration.cores
   pub follows : Follows run.keeper (gone ++ waiting)
+  pub few : length (gone ++ waiting) ≤ PLACE_COUNT
+  pub fit : AllFit (gone ++ waiting)
   pub text : run.text.items ≡ rows_of waiting
   pub place : place_of run.keeper ≡ length before + length run.round.items
-  pub placed : ArePlaced (length before) run.round.items
+  pub placed : ArePlaced 0 (before ++ run.round.items)
   pub of_cores : AreOfCores configuration.cores run.round.items
   pub judged : HaveJudged configuration before run.refused run.base
 
--- whatever pairs come after these, a scan of the recordings begins with these records, and goes on with what is left
-abbrev pub Leads : ℕ → (ℕ → List Item) → Run → Lefts → List Pair → List Ordered → Type 0
-Leads cores items run lefts pairs records =
-    (left : ℕ → List Item) × ((core : ℕ) → left_at lefts core ≡ Some (left core))
-    × ((more : List CertItem)
-    → scan cores none_taken 0 items (map Ok pairs ++ more) ≡ led_by records (scan cores (taken_of run.keeper) (place_of run.keeper) left more))
+-- recordings that had these items at first have now this left: those of each core that were taken are records; and whatever pairs come
+-- after these, a scan of the recordings begins with these records, and goes on with what is left
+pub record Leads (cores : ℕ) (items : ℕ → List Item) (run : Run) (lefts : Lefts) (pairs : List Pair) (records : List Ordered) : Type 0 where
+  pub left : ℕ → List Item
+  pub taken : ℕ → List Record
+  pub known : (core : ℕ) → left_at lefts core ≡ Some (left core)
+  pub split : (core : ℕ) → items core ≡ map Ok (taken core) ++ left core
+  pub counts : (core : ℕ) → length (taken core) ≡ taken_of run.keeper core
+  pub scans : (more : List CertItem)
+      → scan cores none_taken 0 items (map Ok pairs ++ more) ≡ led_by records (scan cores (taken_of run.keeper) (place_of run.keeper) left more)
 
 -- a run under way, which began with these recordings and after these bytes of the output: what has gone out since are its rows, and
 -- whatever the recordings had left at first begins with what was put

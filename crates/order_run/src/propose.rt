@@ -2,10 +2,9 @@
 
 ghost use Rattle.std.specs.Prelude.{◌≡◌, ◌≢◌, ◌<◌, ℕ, List, Option, Some, Ok, IfOk, OnOk, false, length, map};
 ghost use Rattle.apex_types.specs.declared.record.Pair.{Pair};
-ghost use Rattle.module_config.specs.Reading.{configuration_of};
 ghost use Rattle.order_cert.specs.Order.{IsPrefixOfLawful};
 ghost use Rattle.record_read.specs.Row.{records_of};
-ghost use Rattle.sink.specs.Taken.{with_more};
+ghost use Rattle.sink.specs.Written.{IsWritten};
 ghost use Rattle.order_run.specs.Left.{HasEnded, Lefts, left_at};
 ghost use Rattle.order_run.specs.Proposal.{HaveGoneOut, IsProposed};
 ghost use Rattle.order_run.specs.Rows.{rows_of};
@@ -30,7 +29,7 @@ pub fn propose_by<G: Guide, W: Sink>(
 ) -> Result<Proposal, ProposalFault>
     requires { length (G.left guide.old) ≡ config.now.cores }
     ensures prefix { (pairs : List Pair) × IsPrefixOfLawful config.now.cores pairs × HaveGoneOut (W.bytes out.old) (rows_of pairs) result (W.bytes out.new) }
-    ensures proposed { (text : List ℕ) (recordings : List (List ℕ)) → configuration_of text ≡ Ok config.now → G.left guide.old ≡ map (λ recording. Some (records_of recording)) recordings → IfOk result (λ proposal. (certificate : List ℕ) × (W.bytes out.new ≡ with_more (W.bytes out.old) certificate) × IsProposed config.now (record { config = text; recordings = recordings; certificate = certificate }) proposal) }
+    ensures proposed { (texts : List (List ℕ)) → G.left guide.old ≡ map (λ text. Some (records_of text)) texts → IfOk result (λ proposal. (certificate : List ℕ) × IsWritten (W.bytes out.old) certificate (W.bytes out.new) × IsProposed config.now texts certificate proposal) }
 {
     config.keeps_limits();
     let mut run = Run::start(alloc, config)?;

@@ -4,10 +4,12 @@ ghost use Rattle.std.specs.Prelude.{◌≡◌, ◌<◌, ◌++◌, ◌∷◌, [],
 ghost use Rattle.apex_machine.specs.Configuration.{Configuration};
 ghost use Rattle.apex_types.specs.declared.record.Ordered.{Ordered};
 ghost use Rattle.apex_types.specs.declared.record.Pair.{Pair};
-ghost use Rattle.order_cert.specs.Kept.{place_of, put, taken_of};
+ghost use Rattle.order_cert.specs.Kept.{none_taken, place_of, put, taken_of};
 ghost use Rattle.order_cert.specs.Order.{misplaced, pair_of};
 ghost use Rattle.placement.specs.Scan.{placed_at};
 ghost use Rattle.sink.specs.Written.{IsCut, IsWritten};
+ghost use Rattle.verdict_merge.specs.Verdicts.{IsVerdict};
+ghost use Rattle.order_run.specs.Proposal.{verdict_of};
 ghost use Rattle.order_run.specs.Stands.{HasCome};
 
 use crate::base::Base;
@@ -38,7 +40,10 @@ impl Run {
     ///
     /// Memory where a growth is refused.
     pub fn start(alloc: Global, config: &Config) -> Result<Run, Memory>
-        ensures { IfOk result (λ run. HasCome config.now run [] [] []) }
+        ensures come { IfOk result (λ run. HasCome config.now run [] [] []) }
+        ensures taken { IfOk result (λ run. taken_of run.keeper ≡ none_taken) }
+        ensures place { IfOk result (λ run. place_of run.keeper ≡ 0) }
+        ensures empty { IfOk result (λ run. run.round.items ≡ []) }
     {
         let base = Base::start(alloc, config)?;
         Ok(Run {
@@ -103,8 +108,10 @@ impl Run {
         Ok(())
     }
 
-    /// What is proposed, once every record is put.
-    pub fn proposal(&self) -> Proposal {
+    /// What is proposed, once every record is judged.
+    pub fn proposal(&self) -> Proposal
+        ensures { (configuration : Configuration) (pairs : List Pair) (before : List Ordered) → HasCome configuration self.now pairs [] before → self.now.round.items ≡ [] → IsVerdict configuration [] before (verdict_of result) }
+    {
         match self.refused {
             Some(refused) => Proposal::NotFound(refused),
             None => Proposal::Found {

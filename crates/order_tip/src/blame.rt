@@ -4,8 +4,7 @@ use crate::pieces::{Pieces, Rejection};
 use crate::reach::touched_by_call;
 use crate::things;
 use apex_machine::{Process, Wait};
-use apex_types::limits::MOST_OBJECTS;
-use apex_types::{Body, Cause, CoreId, ObjectKind, Ordered, PartId, Who, Woken};
+use apex_types::{Body, Cause, CoreId, Ordered, PartId, Who, Woken};
 use piece_check::{Piece, Subject};
 use process_state::ProcTable;
 use std::alloc::AllocError;
@@ -48,12 +47,6 @@ fn blame_in_partition(
 ) -> Result<(), AllocError> {
     if cause == Cause::Choice {
         return blame_choice(piece, part, ordered, things);
-    }
-    if cause == Cause::OutsideProfile {
-        // Whether a service may be used may rest on who owns a mutex.
-        for number in 0..i64::from(MOST_OBJECTS) {
-            things.push(things::object(part, ObjectKind::Mutex, number.saturating_add(1)))?;
-        }
     }
     match &ordered.rec.body {
         Body::Disp(_) => Ok(()),

@@ -13,6 +13,7 @@ mod propose;
 mod reach;
 mod rivals;
 mod things;
+mod tip_piece;
 mod watcher;
 
 pub use order_search::Limits;

@@ -1,10 +1,15 @@
 // The machine at the tip of a search.
 
+ghost use Rattle.std.specs.Prelude.{◌≡◌, ◌≤◌, ◌<◌, ◌+◌, IfOk, OnOk, length};
+ghost use Rattle.apex_types.specs.declared.limits.TheConstants.{PLACE_COUNT};
+ghost use Rattle.order_run.specs.Left.{IsTaken};
+
 use crate::blame::blame;
 use crate::checkpoints::{Checkpoint, Checkpoints};
 use crate::pieces::{Pieces, Rejection};
 use crate::reach::{Reach, is_free, reaches, touched};
 use crate::rivals::rivals_of;
+use apex_types::limits::PLACE_COUNT;
 use apex_types::{Body, Cause, Ordered, Place, Record};
 use csv_rows::TextSource;
 use module_config::Config;
@@ -51,6 +56,7 @@ pub struct Machine<'a, R: TextSource> {
     since_checkpoint: u64,
     // Why a recording could not be read on.
     fault: Option<PlacingFault>,
+    ghost bounded: { decided + length undecided.items ≤ PLACE_COUNT },
 }
 
 impl<'a, R: TextSource + Drop> Machine<'a, R> {
@@ -145,8 +151,7 @@ impl<'a, R: TextSource + Drop> Machine<'a, R> {
         let index = self.index(core);
         match self.lanes.reach(core, index) {
             Ok(is_ahead) => {
-                let place = Place::new(self.level());
-                self.lanes.set_place(core, index, place);
+                self.set_place(core, self.level());
                 Ok(is_ahead)
             }
             Err(fault) => {
@@ -225,7 +230,7 @@ impl<'a, R: TextSource + Drop> Machine<'a, R> {
         self.since_checkpoint = 0;
         let checkpoint = Checkpoint {
             level: self.level(),
-            pieces: self.pieces.copy()?,
+            pieces: self.pieces.copy(self.alloc)?,
             counts: self.counts.clone()?,
             times: self.times.clone()?,
         };
@@ -237,7 +242,7 @@ impl<'a, R: TextSource + Drop> Machine<'a, R> {
         let Some(checkpoint) = self.checkpoints.back_to(level) else {
             return Err(AllocError);
         };
-        self.pieces = checkpoint.pieces.copy()?;
+        self.pieces = checkpoint.pieces.copy(self.alloc)?;
         self.counts = checkpoint.counts.clone()?;
         self.times = checkpoint.times.clone()?;
         self.since_checkpoint = 0;
@@ -252,18 +257,17 @@ impl<'a, R: TextSource + Drop> Machine<'a, R> {
             let Some(core) = self.undecided.get(index).copied() else {
                 break;
             };
-            let place = Place::new(self.decided.saturating_add(index as u64));
-            self.set_place(core, place);
+            self.set_place(core, self.decided.saturating_add(index as u64));
             self.take_next(core)?;
         }
         Ok(())
     }
 
-    // A core's next record stands at this place.
-    fn set_place(&mut self, core: usize, place: Place) {
-        if core < self.lanes.count() {
+    // A core's next record stands at this place, if there is such a one.
+    fn set_place(&mut self, core: usize, place: u64) {
+        if core < self.lanes.count() && place < PLACE_COUNT {
             let index = self.index(core);
-            self.lanes.set_place(core, index, place);
+            self.lanes.set_place(core, index, Place::new(place));
         }
     }
 }
@@ -307,7 +311,7 @@ impl<'a, R: TextSource + Drop> Tip for Machine<'a, R> {
             self.keep_checkpoint()?;
         }
         self.since_checkpoint = self.since_checkpoint.saturating_add(1);
-        if !self.look(core)? || self.rejected(core).is_some() {
+        if !self.look(core)? || self.level() >= PLACE_COUNT || self.rejected(core).is_some() {
             return Ok(false);
         }
         self.take_next(core)?;

@@ -1,13 +1,10 @@
 // All pieces of a module, at the tip of a search.
 
-ghost use Rattle.std.specs.Prelude.{◌≡◌};
-ghost use Rattle.verdict_merge.specs.Rounds.{AreGoing};
-
+use crate::tip_piece::TipPiece;
 use apex_types::{Cause, Ordered};
 use module_config::Config;
-use piece_check::{Piece, PieceFault, Subject, count, subject_of};
+use piece_check::{Piece, count};
 use std::alloc::{AllocError, Global};
-use verdict_merge::start_pieces;
 
 /// A piece rejects a record for a cause.
 #[derive(Clone, Copy, Debug, PartialEq, Eq)]
@@ -17,59 +14,44 @@ pub struct Rejection {
     pub cause: Cause,
 }
 
-/// All pieces of a module, which have taken the records before a place.
+/// All pieces of a module, in order of number.
 #[derive(Drop)]
 pub struct Pieces<'a> {
-    alloc: Global,
-    config: &'a Config,
-    list: Vec<Piece>,
-    place: u64,
-    ghost going: { AreGoing config.now place list.items },
+    list: Vec<TipPiece<'a>>,
 }
 
 impl<'a> Pieces<'a> {
     /// The pieces before the first record.
     pub fn start(alloc: Global, config: &'a Config) -> Result<Pieces<'a>, AllocError> {
-        let Ok(list) = start_pieces(alloc, config) else {
-            return Err(AllocError);
-        };
-        Ok(Pieces {
-            alloc,
-            config,
-            list,
-            place: 0,
-        })
+        let mut list = Vec::new(alloc);
+        for number in 0..count(config) {
+            list.push(TipPiece::start(alloc, config, number)?)?;
+        }
+        Ok(Pieces { list })
     }
 
     /// A copy of them.
-    pub fn copy(&self) -> Result<Pieces<'a>, AllocError> {
-        Ok(Pieces {
-            alloc: self.alloc,
-            config: self.config,
-            list: self.list.clone()?,
-            place: self.place,
-        })
+    pub fn copy(&self, alloc: Global) -> Result<Pieces<'a>, AllocError> {
+        let mut list = Vec::with_capacity(alloc, self.list.len())?;
+        for piece in self.list.iter() {
+            list.push(piece.copy()?)?;
+        }
+        Ok(Pieces { list })
     }
 
     /// The piece of this number.
     pub fn get(&self, number: usize) -> Option<&Piece> {
-        self.list.get(number)
+        Some(self.list.get(number)?.piece())
     }
 
-    /// The first piece that rejects a record, if one does. A piece that was refused memory rejects nothing.
+    /// The first piece that rejects a record, if one does.
     pub fn rejection(&self, ordered: &Ordered) -> Option<Rejection> {
-        if ordered.pos.number() < self.place {
-            return None;
-        }
         for (number, piece) in self.list.iter().enumerate() {
-            let subject = subject_of(self.config, number);
-            if subject.is_touched(self.config, ordered) {
-                if let Err(PieceFault::Rejected { cause, .. }) = piece.judge(self.config, ordered) {
-                    return Some(Rejection {
-                        piece: number,
-                        cause,
-                    });
-                }
+            if let Some(cause) = piece.rejection(ordered) {
+                return Some(Rejection {
+                    piece: number,
+                    cause,
+                });
             }
         }
         None
@@ -77,18 +59,9 @@ impl<'a> Pieces<'a> {
 
     /// Takes a record that no piece rejects.
     pub fn take(&mut self, ordered: &Ordered) -> Result<(), AllocError> {
-        if ordered.pos.number() < self.place || ordered.core.number() >= self.config.cores() {
-            return Ok(());
+        for piece in self.list.iter_mut() {
+            piece.take(ordered)?;
         }
-        for number in 0..self.list.len() {
-            let subject = subject_of(self.config, number);
-            if subject.is_touched(self.config, ordered) {
-                if let Err(PieceFault::Memory) = self.list[number].step(self.config, ordered) {
-                    return Err(AllocError);
-                }
-            }
-        }
-        self.place = ordered.pos.number() + 1;
         Ok(())
     }
 }
