@@ -1,6 +1,8 @@
 // The search as the guide of a run.
 
-ghost use Rattle.std.specs.Prelude.{◌≡◌, OnOk};
+ghost use Rattle.std.specs.Prelude.{◌≡◌, [], OnOk, None, true};
+ghost use Rattle.order_search.specs.Agreement.{Agrees, undecided_of};
+ghost use Rattle.order_tip.specs.declared.guided.Stage.{Stage};
 
 use crate::machine::Machine;
 use crate::watcher::Watcher;
@@ -8,7 +10,7 @@ use apex_types::{Cause, Record};
 use csv_rows::TextSource;
 use module_config::Config;
 use order_run::Guide;
-use order_search::{Answer, Search, Step, Tip};
+use order_search::{Search, Step};
 use placement::PlacingFault;
 use std::alloc::AllocError;
 
@@ -31,6 +33,7 @@ pub struct Guided<'a, 'w, R: TextSource, V> {
     machine: Machine<'a, R>,
     watcher: &'w mut V,
     stage: Stage,
+    ghost agrees: { stage ≡ Stage.Searching → Agrees search machine.undecided.cores.items (λ core. true) },
 }
 
 impl<'a, 'w, R: TextSource + Drop, V: Watcher> Guided<'a, 'w, R, V> {
@@ -40,7 +43,10 @@ impl<'a, 'w, R: TextSource + Drop, V: Watcher> Guided<'a, 'w, R, V> {
         search: Search,
         machine: Machine<'a, R>,
         watcher: &'w mut V,
-    ) -> Guided<'a, 'w, R, V> {
+    ) -> Guided<'a, 'w, R, V>
+        requires search { Agrees search machine.undecided.cores.items (λ core. true) }
+        ensures { result.machine ≡ machine }
+    {
         Guided {
             config,
             search,
@@ -51,12 +57,18 @@ impl<'a, 'w, R: TextSource + Drop, V: Watcher> Guided<'a, 'w, R, V> {
     }
 
     // The next record that the search decides on, or None where it is over.
-    fn decide(&mut self) -> Result<Option<usize>, AllocError> {
+    fn decide(&mut self) -> Result<Option<usize>, AllocError>
+        ensures { OnOk result (self.new.machine.outlook.lanes ≡ self.old.machine.outlook.lanes) }
+    {
         if self.stage == Stage::Searching {
-            if let Step::Next(core) = self.search.next(&mut self.machine)? {
-                return Ok(Some(core));
+            match self.search.next(&mut self.machine) {
+                Ok(Step::Next(core)) => return Ok(Some(core)),
+                Ok(Step::Over(_)) => self.stage = Stage::Following,
+                Err(e) => {
+                    self.stage = Stage::Over;
+                    return Err(e);
+                }
             }
-            self.stage = Stage::Following;
         }
         if self.stage == Stage::Following {
             return self.follow();
@@ -65,11 +77,12 @@ impl<'a, 'w, R: TextSource + Drop, V: Watcher> Guided<'a, 'w, R, V> {
     }
 
     // A core whose next record is accepted; else one whose record is rejected, which is the last one.
-    fn follow(&mut self) -> Result<Option<usize>, AllocError> {
+    fn follow(&mut self) -> Result<Option<usize>, AllocError>
+        requires { self.old.stage ≡ Stage.Following }
+        ensures { OnOk result (self.new.machine.outlook.lanes ≡ self.old.machine.outlook.lanes) }
+    {
         for core in 0..self.machine.cores() {
-            let answer = self.machine.judge(core)?;
-            if matches!(answer, Answer::Free | Answer::Shared { .. }) && self.machine.take(core)? {
-                self.machine.decide(core);
+            if self.machine.go_on(core)? {
                 return Ok(Some(core));
             }
         }
@@ -79,7 +92,10 @@ impl<'a, 'w, R: TextSource + Drop, V: Watcher> Guided<'a, 'w, R, V> {
 
     // Shows the watcher each core's next record, and gives the core whose record is put at the place that is reported: one that waits
     // for no other core's time, where there is one.
-    fn furthest(&mut self) -> Option<usize> {
+    fn furthest(&mut self) -> Option<usize>
+        ensures machine { self.new.machine ≡ self.old.machine }
+        ensures stage { self.new.stage ≡ self.old.stage }
+    {
         let mut found: Option<usize> = None;
         let mut is_skewed = true;
         for core in 0..self.machine.cores() {
@@ -99,7 +115,7 @@ impl<'a, 'w, R: TextSource + Drop, V: Watcher> Guided<'a, 'w, R, V> {
 }
 
 impl<'a, 'w, R: TextSource + Drop, V: Watcher> Guide for Guided<'a, 'w, R, V> {
-    ghost left = { λ guided. Machine.input guided.machine };
+    ghost left = { λ guided. guided.machine.outlook.lanes };
 
     fn next(&mut self) -> Result<Option<usize>, PlacingFault> {
         let answer = self.decide();
