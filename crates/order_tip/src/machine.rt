@@ -70,7 +70,8 @@ impl<'a, R: TextSource + Drop> Machine<'a, R> {
     pub fn go_on(&mut self, core: usize) -> Result<bool, AllocError>
         ensures { OnOk result (self.new.outlook.lanes ≡ self.old.outlook.lanes) }
     {
-        if !self.take(core)? {
+        let answer = self.judge(core)?;
+        if !matches!(answer, Answer::Free | Answer::Shared { .. }) || !self.take(core)? {
             return Ok(false);
         }
         self.undecided.decide_all();
@@ -112,7 +113,7 @@ impl<'a, R: TextSource + Drop> Tip for Machine<'a, R> {
     fn take(&mut self, core: usize) -> Result<bool, AllocError> {
         let level = self.undecided.level();
         self.outlook.keep_some(level, self.undecided.decided)?;
-        if self.undecided.is_full() || !self.outlook.take(core, level)? {
+        if self.undecided.is_full() || !self.outlook.take(core, &self.undecided)? {
             return Ok(false);
         }
         self.undecided.push(core)

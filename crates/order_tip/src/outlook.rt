@@ -19,7 +19,7 @@ use placement::PlacingFault;
 use std::alloc::{AllocError, Global};
 
 /// How many records are taken between two checkpoints.
-const BETWEEN_CHECKPOINTS: u64 = 256;
+const BETWEEN_CHECKPOINTS: u64 = 512;
 
 // What is known of a core's next record.
 #[derive(Clone, Copy, Debug)]
@@ -202,26 +202,33 @@ impl<'a, R: TextSource + Drop> Outlook<'a, R> {
         }
     }
 
-    /// Whether a core's next record is accepted at this place, at which it is then taken.
-    pub fn take(&mut self, core: usize, place: u64) -> Result<bool, AllocError>
+    /// Takes a core's next record, which stands after those that are taken. The answer is false where it is rejected.
+    pub fn take(&mut self, core: usize, undecided: &Undecided) -> Result<bool, AllocError>
         ensures { OnOk result (self.new.lanes ≡ self.old.lanes) }
     {
-        if !self.look(core, place)? || self.rejected(core).is_some() {
+        let level = undecided.level();
+        if !self.look(core, level)? {
             return Ok(false);
         }
-        self.take_next(core)?;
+        if !self.take_next(core)? {
+            // Some pieces have taken it.
+            self.back(undecided, level)?;
+            return Ok(false);
+        }
         Ok(true)
     }
 
-    // Takes a core's next record, which no piece rejects.
-    fn take_next(&mut self, core: usize) -> Result<(), AllocError>
+    // Takes a core's next record. The answer is false where a piece rejects it: nothing is said of the pieces then.
+    fn take_next(&mut self, core: usize) -> Result<bool, AllocError>
         ensures { self.new.lanes ≡ self.old.lanes }
     {
         let index = self.index(core);
         let Some(ordered) = self.lanes.get(core, index) else {
-            return Ok(());
+            return Ok(false);
         };
-        self.pieces.take(ordered)?;
+        if !self.pieces.take(ordered)? {
+            return Ok(false);
+        }
         let is_tick = is_tick(&ordered.rec.body);
         let is_free = is_free(&self.reaches, &ordered.rec.body);
         if let Some(count) = self.counts.get_mut(core) {
@@ -233,7 +240,7 @@ impl<'a, R: TextSource + Drop> Outlook<'a, R> {
             }
         }
         self.forget_answers(core, is_tick, is_free);
-        Ok(())
+        Ok(true)
     }
 
     // Forgets what was said of the cores whose next record a taken one may change.
@@ -284,7 +291,7 @@ impl<'a, R: TextSource + Drop> Outlook<'a, R> {
                 break;
             };
             self.set_place(core, undecided.decided.saturating_add(index as u64));
-            self.take_next(core)?;
+            let _ = self.take_next(core)?;
         }
         for known in self.known.iter_mut() {
             known.answer = None;

@@ -57,11 +57,13 @@ impl<'a> Pieces<'a> {
         None
     }
 
-    /// Takes a record that no piece rejects.
-    pub fn take(&mut self, ordered: &Ordered) -> Result<(), AllocError> {
+    /// Takes a record. The answer is false where a piece rejects it: some have taken it then, and others have not.
+    pub fn take(&mut self, ordered: &Ordered) -> Result<bool, AllocError> {
         for piece in self.list.iter_mut() {
-            piece.take(ordered)?;
+            if !piece.take(ordered)? {
+                return Ok(false);
+            }
         }
-        Ok(())
+        Ok(true)
     }
 }

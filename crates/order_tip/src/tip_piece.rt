@@ -64,22 +64,22 @@ impl<'a> TipPiece<'a> {
         }
     }
 
-    /// Takes a record that it does not reject.
+    /// Takes a record, unless it rejects it. The answer is false where it does.
     #[tactic(auto, using(piece_check::proofs::Parting::HoldsBefore_later))]
-    pub fn take(&mut self, ordered: &Ordered) -> Result<(), AllocError> {
+    pub fn take(&mut self, ordered: &Ordered) -> Result<bool, AllocError> {
         let place = ordered.pos.number();
         if place < self.place
             || ordered.core.number() >= self.config.cores()
             || !self.subject.is_touched(self.config, ordered)
         {
-            return Ok(());
+            return Ok(true);
         }
         match self.piece.step(self.config, ordered) {
             Ok(()) => {
                 self.place = place + 1;
-                Ok(())
+                Ok(true)
             }
-            Err(PieceFault::Rejected { .. }) => Ok(()),
+            Err(PieceFault::Rejected { .. }) => Ok(false),
             Err(PieceFault::Memory) => Err(AllocError),
         }
     }
