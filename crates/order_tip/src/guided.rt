@@ -87,18 +87,19 @@ impl<'a, 'w, R: TextSource + Drop, V: Watcher> Guided<'a, 'w, R, V> {
             }
         }
         self.stage = Stage::Over;
-        Ok(self.furthest())
+        self.furthest()
     }
 
     // Shows the watcher each core's next record, and gives the core whose record is put at the place that is reported: one that waits
     // for no other core's time, where there is one.
-    fn furthest(&mut self) -> Option<usize>
-        ensures machine { self.new.machine ≡ self.old.machine }
+    fn furthest(&mut self) -> Result<Option<usize>, AllocError>
+        ensures lanes { OnOk result (self.new.machine.outlook.lanes ≡ self.old.machine.outlook.lanes) }
         ensures stage { self.new.stage ≡ self.old.stage }
     {
         let mut found: Option<usize> = None;
         let mut is_skewed = true;
         for core in 0..self.machine.cores() {
+            self.machine.look(core)?;
             if let Some((ordered, rejection)) = self.machine.rejected(core) {
                 if let Some(piece) = self.machine.pieces().get(rejection.piece) {
                     let cause = rejection.cause;
@@ -110,7 +111,7 @@ impl<'a, 'w, R: TextSource + Drop, V: Watcher> Guided<'a, 'w, R, V> {
                 }
             }
         }
-        found
+        Ok(found)
     }
 }
 

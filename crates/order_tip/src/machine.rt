@@ -78,7 +78,15 @@ impl<'a, R: TextSource + Drop> Machine<'a, R> {
         Ok(true)
     }
 
-    /// A core's next record with the piece that rejects it, if one does.
+    /// Looks for a core's next record. The answer is false where the recording has ended.
+    pub fn look(&mut self, core: usize) -> Result<bool, AllocError>
+        ensures lanes { OnOk result (self.new.outlook.lanes ≡ self.old.outlook.lanes) }
+        ensures undecided { self.new.undecided ≡ self.old.undecided }
+    {
+        self.outlook.look(core, self.undecided.level())
+    }
+
+    /// A core's next record with the piece that rejects it, if one does, once it is looked for.
     pub fn rejected(&self, core: usize) -> Option<(&Ordered, Rejection)> {
         self.outlook.rejected(core)
     }
