@@ -10,6 +10,10 @@ use Rattle.record_read.specs.declared.fault.RowFault.{RowFault}
 use Rattle.record_read.specs.Row.{Item, records_of}
 use Rattle.order_run.specs.Left.{IsStillKnown, Takes, behind, left_since}
 
+-- a record that is ahead, as an item
+abbrev item : Ordered → Item
+item ordered = Ok ordered.rec
+
 -- at first all is left
 pub opened : (known : Option (List ℕ)) → left_since known [] (option_map records_of known) ≡ option_map records_of known
 opened None = refl
@@ -27,9 +31,9 @@ read_ahead outside None ahead ordered old new still gives = refl
 read_ahead outside (Some bytes) ahead ordered None new still gives = absurd still
 read_ahead outside (Some bytes) ahead ordered (Some items) new still (rest, is, left) =
     ap (option_map (behind (ahead ++ ordered ∷ []))) left
-    ∙ ap (λ (front : List Item). Some (front ++ rest)) (map-append (λ (one : Ordered). Ok {E = RowFault} one.rec) ahead (ordered ∷ []))
-    ∙ ap Some (append_assoc (map (λ (one : Ordered). Ok {E = RowFault} one.rec) ahead) (Ok ordered.rec ∷ []) rest)
-    ∙ ap (λ (all : List Item). Some (map (λ (one : Ordered). Ok {E = RowFault} one.rec) ahead ++ all)) (sym is)
+    ∙ ap (λ (front : List Item). Some (front ++ rest)) (map-append item ahead (ordered ∷ []))
+    ∙ ap Some (append_assoc (map item ahead) (Ok ordered.rec ∷ []) rest)
+    ∙ ap (λ (all : List Item). Some (map item ahead ++ all)) (sym is)
 
 pub read_known : (outside : RowFault → Type 0) (known : Option (List ℕ)) (made : Option Record) (old new : Option (List Item))
     → IsStillKnown known old → IfSome old (λ items. Gives outside items (Ok made) new) → IsStillKnown known new

@@ -1,5 +1,5 @@
 -- What is put next is what a scan of the recordings goes on with.
-use Rattle.std.proofs.Common.{◌≡◌, ◌≢◌, ◌<◌, ◌∙◌, ℕ, zero, suc, List, [], ◌∷◌, ◌++◌, length, map, Option, Some, None, Ok, refl, sym, ap, subst, inl, inr, arith, append_assoc, append-nil, length-append}
+use Rattle.std.proofs.Common.{◌≡◌, ◌≢◌, ◌<◌, ◌+◌, ◌∙◌, ℕ, zero, suc, List, [], ◌∷◌, ◌++◌, length, map, Option, Some, None, Ok, refl, sym, ap, subst, inl, inr, arith, append_assoc, append-nil, length-append}
 use Rattle.std.specs.Prelude.{IfSome}
 use Rattle.std.proofs.lemmas.Bool.{cases_eq}
 use Rattle.std.proofs.lemmas.List.{map-append}
@@ -45,6 +45,15 @@ leads_on cores items old new lefts after pairs records core rec leads is fits to
     more_taken : List Record
     more_taken = leads.taken core ++ rec ∷ []
 
+    after_it : (ℕ → ℕ) → ℕ → List Item → List CertItem → Scan
+    after_it taken place rest more = scan cores taken place (put leads.left core rest) more
+
+    here_counts : length (put leads.taken core more_taken core) ≡ taken_of new.keeper core
+    here_counts =
+        let one_more : length (leads.taken core) + 1 ≡ suc (taken_of old.keeper core) = omega (arith, leads.counts core) in
+        ap length (put-here leads.taken core more_taken) ∙ length-append (leads.taken core) (rec ∷ []) ∙ one_more
+        ∙ sym (ap (λ taken. taken core) took ∙ put-here (taken_of old.keeper) core (suc (taken_of old.keeper core)))
+
     by : Leaves (leads.left core) (Some rec) (left_at after core) → Leads cores items new after (pairs ++ pair ∷ []) (records ++ ordered ∷ [])
     by (rest, here, now) = record {
       left = put leads.left core rest;
@@ -60,16 +69,19 @@ leads_on cores items old new lefts after pairs records core rec leads is fits to
         | inr apart ↦ rw (put-other leads.left core other rest apart, put-other leads.taken core other more_taken apart) (leads.split other)
       ];
       counts = λ other. elim (cases_eq other core) [
-        | inl same ↦ rw (same, took, put-here leads.taken core more_taken, put-here (taken_of old.keeper) core (suc (taken_of old.keeper core)))
-            (length-append (leads.taken core) (rec ∷ []) ∙ omega (arith, leads.counts core))
-        | inr apart ↦ rw (took, put-other leads.taken core other more_taken apart, put-other (taken_of old.keeper) core other (suc (taken_of old.keeper core)) apart) (leads.counts other)
+        | inl same ↦ subst (λ one. length (put leads.taken core more_taken one) ≡ taken_of new.keeper one) (sym same) here_counts
+        | inr apart ↦ ap length (put-other leads.taken core other more_taken apart) ∙ leads.counts other
+            ∙ sym (ap (λ taken. taken other) took ∙ put-other (taken_of old.keeper) core other (suc (taken_of old.keeper core)) apart)
       ];
       scans = λ more.
           let front : scan cores none_taken 0 items (map Ok (pairs ++ pair ∷ []) ++ more) ≡ scan cores none_taken 0 items (map Ok pairs ++ (Ok pair ∷ more)) =
           ap (scan cores none_taken 0 items) (ap (λ (list : List CertItem). list ++ more) (map-append Ok pairs (pair ∷ [])) ∙ append_assoc (map Ok pairs) (Ok pair ∷ []) more) in
-          rw (took, place)
-          (front ∙ leads.scans (Ok pair ∷ more) ∙ ap (led_by records) (one_scanned cores (taken_of old.keeper) (place_of old.keeper) leads.left pair rec rest more fits here)
-          ∙ led_twice records (ordered ∷ []) (scan cores (put (taken_of old.keeper) core (suc (taken_of old.keeper core))) (suc (place_of old.keeper)) (put leads.left core rest) more));
+          let chain : scan cores none_taken 0 items (map Ok (pairs ++ pair ∷ []) ++ more) ≡ led_by (records ++ ordered ∷ []) (after_it (put (taken_of old.keeper) core (suc (taken_of old.keeper core))) (suc (place_of old.keeper)) rest more) =
+          front ∙ leads.scans (Ok pair ∷ more) ∙ ap (led_by records) (one_scanned cores (taken_of old.keeper) (place_of old.keeper) leads.left pair rec rest more fits here)
+          ∙ led_twice records (ordered ∷ []) (after_it (put (taken_of old.keeper) core (suc (taken_of old.keeper core))) (suc (place_of old.keeper)) rest more) in
+          subst (λ taken. scan cores none_taken 0 items (map Ok (pairs ++ pair ∷ []) ++ more) ≡ led_by (records ++ ordered ∷ []) (after_it taken (place_of new.keeper) rest more)) (sym took)
+          (subst (λ place. scan cores none_taken 0 items (map Ok (pairs ++ pair ∷ []) ++ more)
+          ≡ led_by (records ++ ordered ∷ []) (after_it (put (taken_of old.keeper) core (suc (taken_of old.keeper core))) place rest more)) (sym place) chain);
     }
 
 -- at first nothing is taken
@@ -80,8 +92,10 @@ leads_first cores items run lefts known none place = record {
   taken = λ core. [];
   known = known;
   split = λ core. refl;
-  counts = λ core. rw none refl;
-  scans = λ more. rw (none, place) refl;
+  counts = λ core. sym (ap (λ taken. taken core) none);
+  scans = λ more.
+      subst (λ taken. scan cores none_taken 0 items more ≡ led_by [] (scan cores taken (place_of run.keeper) items more)) (sym none)
+      (subst (λ place. scan cores none_taken 0 items more ≡ led_by [] (scan cores none_taken place items more)) (sym place) refl);
 }
 
 -- where nothing is put, nothing changes
@@ -92,8 +106,9 @@ leads_same cores items old new lefts pairs records leads same = record {
   taken = leads.taken;
   known = leads.known;
   split = leads.split;
-  counts = rw same leads.counts;
-  scans = rw same leads.scans;
+  counts = subst (λ kept. (core : ℕ) → length (leads.taken core) ≡ taken_of kept core) (sym same) leads.counts;
+  scans = subst (λ kept. (more : List CertItem) → scan cores none_taken 0 items (map Ok pairs ++ more)
+      ≡ led_by records (scan cores (taken_of kept) (place_of kept) leads.left more)) (sym same) leads.scans;
 }
 
 -- where a recording has ended, nothing changes

@@ -2,7 +2,6 @@
 
 ghost use Rattle.std.specs.Prelude.{◌≡◌, [], OnOk, None, true};
 ghost use Rattle.order_search.specs.Agreement.{Agrees, undecided_of};
-ghost use Rattle.order_tip.specs.declared.guided.Stage.{Stage};
 
 use crate::machine::Machine;
 use crate::watcher::Watcher;
