@@ -1,5 +1,8 @@
 // How a run of the program ends.
 
+ghost use Rattle.std.specs.Prelude.{◌≡◌};
+ghost use Rattle.apexorder.specs.Endings.{status_of};
+
 use crate::usage::UsageFault;
 use order_run::{Proposal, ProposalFault};
 use report::CheckFault;
@@ -24,7 +27,9 @@ pub enum Ending {
 impl Ending {
     /// The exit status: 0 for an order or the version, 1 where none was found, 2 where an input is refused, 3 for want of memory, and 4
     /// where the output failed.
-    pub fn status(&self) -> u8 {
+    pub fn status(&self) -> u8
+        ensures { result ≡ status_of self.now }
+    {
         match self {
             Ending::Proposed(Proposal::Found { .. }) | Ending::Version => 0,
             Ending::Proposed(Proposal::NotFound(_)) => 1,
