@@ -110,7 +110,8 @@ fn blame_tick(
     woken: &Woken,
     things: &mut Vec<u64>,
 ) -> Result<(), AllocError> {
-    for index in 0..table.len() {
+    // The process that initialises the partition is beside those that are counted.
+    for index in 0..usize::saturating_add(table.len(), 1) {
         if let Some((proc, process)) = table.at(index) {
             let who = Who { part, proc: *proc };
             let is_named = woken.as_slice().contains(&who);
