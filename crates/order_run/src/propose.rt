@@ -21,6 +21,7 @@ use std::alloc::Global;
 /// judged, or after that of the one that is refused.
 ///
 /// Where the guide knows no further record, those that are left follow in the order of the cores.
+#[tactic(auto, using(crate::proofs::Way::way_first, crate::proofs::Way::way_ends, crate::proofs::Way::way_whole, crate::proofs::Way::way_begun, crate::proofs::Way::way_cut))]
 pub fn propose_by<G: Guide, W: Sink>(
     alloc: Global,
     config: &Config,
@@ -40,6 +41,7 @@ pub fn propose_by<G: Guide, W: Sink>(
 }
 
 // Puts records as the guide says, until it knows none or one was refused.
+#[tactic(auto, using(crate::proofs::Way::way_begun))]
 fn follow<G: Guide, W: Sink>(
     config: &Config,
     guide: &mut G,
@@ -64,6 +66,7 @@ fn follow<G: Guide, W: Sink>(
 }
 
 // Puts what is left of all cores, one core after another.
+#[tactic(auto, using(crate::proofs::Way::way_begun))]
 fn drain_all<G: Guide, W: Sink>(
     config: &Config,
     guide: &mut G,
@@ -81,6 +84,7 @@ fn drain_all<G: Guide, W: Sink>(
 }
 
 // Puts what is left of a core.
+#[tactic(auto, using(crate::proofs::Way::way_begun))]
 fn drain<G: Guide, W: Sink>(
     config: &Config,
     guide: &mut G,
@@ -103,6 +107,7 @@ fn drain<G: Guide, W: Sink>(
 }
 
 // Puts the next record of a core. The answer is false where its recording has ended.
+#[tactic(auto, using(crate::proofs::Way::way_settled, crate::proofs::Way::way_put, crate::proofs::Way::way_end, crate::proofs::Way::way_begun, crate::proofs::Way::way_cut, crate::proofs::Scanned::has_ended))]
 fn put_next<G: Guide, W: Sink>(
     config: &Config,
     guide: &mut G,

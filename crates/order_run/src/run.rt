@@ -39,6 +39,7 @@ impl Run {
     /// An order of no record.
     ///
     /// Memory where a growth is refused.
+    #[tactic(auto, using(crate::proofs::Onward::begun))]
     pub fn start(alloc: Global, config: &Config) -> Result<Run, Memory>
         ensures come { IfOk result (λ run. HasCome config.now run [] [] []) }
         ensures taken { IfOk result (λ run. taken_of run.keeper ≡ none_taken) }
@@ -61,6 +62,7 @@ impl Run {
     }
 
     /// The next record of a core is put next.
+    #[tactic(auto, using(crate::proofs::Onward::put_on))]
     pub fn put(&mut self, core: u32, rec: Record) -> Result<(), ProposalFault>
         ensures come { OnOk result ((config : Configuration) (gone waiting : List Pair) (before : List Ordered) → HasCome config self.old gone waiting before → HasCome config self.new gone (waiting ++ pair_of core (taken_of self.old.keeper core) ∷ []) before) }
         ensures round { OnOk result (self.new.round.items ≡ self.old.round.items ++ placed_at (place_of self.old.keeper) core rec ∷ []) }
@@ -89,6 +91,7 @@ impl Run {
     }
 
     /// Judges the records of the round, unless one was refused before, and writes their rows.
+    #[tactic(auto, using(crate::proofs::Onward::gone_on, crate::proofs::Onward::round_judged, crate::proofs::Onward::still_refused, crate::proofs::Onward::round_placed))]
     pub fn settle<W: Sink>(&mut self, config: &Config, out: &mut W) -> Result<(), ProposalFault>
         requires { (gone waiting : List Pair) × (before : List Ordered) × HasCome config.now self.old gone waiting before }
         ensures come { OnOk result ((gone waiting : List Pair) (before : List Ordered) → HasCome config.now self.old gone waiting before → HasCome config.now self.new (gone ++ waiting) [] (before ++ self.old.round.items)) }
@@ -109,6 +112,7 @@ impl Run {
     }
 
     /// What is proposed, once every record is judged.
+    #[tactic(auto, using(crate::proofs::Onward::all_found, crate::proofs::Onward::none_found))]
     pub fn proposal(&self) -> Proposal
         ensures { (configuration : Configuration) (pairs : List Pair) (before : List Ordered) → HasCome configuration self.now pairs [] before → self.now.round.items ≡ [] → IsVerdict configuration [] before (verdict_of result) }
     {
