@@ -32,7 +32,12 @@ impl<T: Drop> From<AllocFailed<T>> for OpenFault {
 
 /// Searches for an order of the recordings in the files that are asked for, and writes it to standard output. The configuration is
 /// read first, then the recordings are opened, core 0 first.
-pub fn propose_for<R, F>(rt: &R, alloc: Global, asked: &OrderAsked, seen: &mut Seen<'_, R>) -> Ending
+pub fn propose_for<R, F>(
+    rt: &R,
+    alloc: Global,
+    asked: &OrderAsked,
+    seen: &mut Seen<'_, R>,
+) -> Ending
 where
     R: Files<File = F> + Clock + Print + Eprint,
     F: Read + Drop,

@@ -41,7 +41,10 @@ fn row_of<R: Files<File = F>, F: Read + Drop>(
 }
 
 /// How the file of this name is compressed, if it is. None where it is no regular file.
-pub fn compression_of<R: Files<File = F>, F: Read + Drop>(rt: &R, name: &str) -> Option<Compression> {
+pub fn compression_of<R: Files<File = F>, F: Read + Drop>(
+    rt: &R,
+    name: &str,
+) -> Option<Compression> {
     if !is_regular(rt, name) {
         return None;
     }

@@ -28,7 +28,11 @@ use usage::{Asked, UsageFault, from_words};
 fn main(rt: HostRuntime) -> ExitCode {
     let alloc = rt.alloc();
     let asked = from_words(&rt, alloc);
-    let mut seen = Seen::new(&rt, alloc, wants_progress(&asked, rt.stderr().is_terminal()));
+    let mut seen = Seen::new(
+        &rt,
+        alloc,
+        wants_progress(&asked, rt.stderr().is_terminal()),
+    );
     let ending = run(&rt, alloc, &asked, &mut seen);
     seen.clear();
     let mut output = WriterSink::new(rt.stderr());

@@ -67,7 +67,10 @@ fn tell_order<R: Files<File = F> + Clock + Eprint, F: Read + Drop>(
     if !asked.quiet {
         if !seen.unknown_keys().is_empty() {
             let mut words = Words::new(alloc);
-            words.say(format_args!("{}: these keys are not known and are ignored:", asked.config));
+            words.say(format_args!(
+                "{}: these keys are not known and are ignored:",
+                asked.config
+            ));
             words.append(seen.unknown_keys());
             say(rt, &words);
         }

@@ -156,8 +156,7 @@ way_ends configuration texts bytes start run new lefts now after proposal way op
     let leads : Leads configuration.cores (items_at texts) run lefts pairs records =
     way.leads (items_at texts) (λ core. ap (λ lefts. left_at lefts core) opened ∙ all_left texts core) in
     let none : (core : ℕ) → core < configuration.cores → leads.left core ≡ [] =
-    λ core within. none_left configuration.cores (items_at texts) run lefts pairs records core leads (ended core within) in
-    (
+    λ core within. none_left configuration.cores (items_at texts) run lefts pairs records core leads (ended core within) in (
       rows_of pairs,
       (way_whole configuration bytes start run lefts now after way whole).2,
       proposed configuration texts (rows_of pairs) proposal pairs leads.taken records windows ends

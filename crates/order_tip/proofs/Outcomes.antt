@@ -48,7 +48,7 @@ proposal_is_the_outcome settings configuration texts proposal sound read count i
     let scan_is : IsScanOf never (length texts.recordings) none_taken 0 (items_at texts.recordings) (pairs_of texts.certificate) scanned =
     (items_at texts.recordings, pairs_of texts.certificate, (λ core. reads_all false row.Read (items_at texts.recordings core)), reads_all false cert.Read (pairs_of texts.certificate), scans) in (
       inr (subst (λ found. IsOutcomeWith found texts whole [] (Ok (verdict_of proposal))) (sym sound)
-      (subst (λ one. IsOutcomeBy one texts whole [] (Ok (verdict_of proposal))) (sym read)
-      (outcome_under configuration texts whole [] (Ok (verdict_of proposal)) scanned count scans judged))),
+          (subst (λ one. IsOutcomeBy one texts whole [] (Ok (verdict_of proposal))) (sym read)
+          (outcome_under configuration texts whole [] (Ok (verdict_of proposal)) scanned count scans judged))),
       yes_means never texts [] configuration scanned read count scan_is (verdict_of proposal) (Ok (verdict_of proposal)) is.yes (answers proposal),
     )

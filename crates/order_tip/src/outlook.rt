@@ -314,7 +314,12 @@ impl<'a, R: TextSource + Drop> Outlook<'a, R> {
     }
 
     /// Adds what a core's next record changes that records of other cores may see.
-    pub fn touched(&mut self, core: usize, place: u64, things: &mut Vec<u64>) -> Result<(), AllocError>
+    pub fn touched(
+        &mut self,
+        core: usize,
+        place: u64,
+        things: &mut Vec<u64>,
+    ) -> Result<(), AllocError>
         ensures { OnOk result (self.new.lanes ≡ self.old.lanes) }
     {
         if !self.look(core, place)? {
@@ -327,7 +332,12 @@ impl<'a, R: TextSource + Drop> Outlook<'a, R> {
     }
 
     /// Adds what the pieces looked at where one rejects a core's next record.
-    pub fn blamed(&mut self, core: usize, place: u64, things: &mut Vec<u64>) -> Result<(), AllocError>
+    pub fn blamed(
+        &mut self,
+        core: usize,
+        place: u64,
+        things: &mut Vec<u64>,
+    ) -> Result<(), AllocError>
         ensures { OnOk result (self.new.lanes ≡ self.old.lanes) }
     {
         if !self.look(core, place)? {

@@ -2,8 +2,8 @@
 
 use crate::things;
 use apex_types::{
-    BlackboardOperation, Body, Call, CallerOperation, Code, CoreId, EventOperation, NewObject, ObjectKind, Out,
-    PartId, ProcessOperation, QueuingOperation, Request, SamplingOperation, Who,
+    BlackboardOperation, Body, Call, CallerOperation, Code, CoreId, EventOperation, NewObject,
+    ObjectKind, Out, PartId, ProcessOperation, QueuingOperation, Request, SamplingOperation, Who,
 };
 use module_config::{ChannelKind, Config};
 use std::alloc::{AllocError, Global};
@@ -15,7 +15,11 @@ pub fn is_alone(config: &Config, part: PartId) -> bool {
     }
     for index in 0..config.channel_count() {
         let number = config.channel_number(index);
-        if config.channel_kind(number).is_some_and(|kind| matches!(kind, ChannelKind::Queuing { .. })) && config.is_at_end(number, part) {
+        if config
+            .channel_kind(number)
+            .is_some_and(|kind| matches!(kind, ChannelKind::Queuing { .. }))
+            && config.is_at_end(number, part)
+        {
             return false;
         }
     }
@@ -60,14 +64,21 @@ pub fn reach_of(reaches: &[Reach], part: PartId) -> Reach {
             return *reach;
         }
     }
-    Reach { number: part, alone: false, one_core: false }
+    Reach {
+        number: part,
+        alone: false,
+        one_core: false,
+    }
 }
 
 /// Whether no record of another core can tell that this one was taken.
 pub fn is_free(reaches: &[Reach], body: &Body) -> bool {
     match body {
         Body::Disp(_) | Body::Ret(_) => true,
-        Body::Tick(woken) => woken.as_slice().iter().all(|who| reach_of(reaches, who.part).alone),
+        Body::Tick(woken) => woken
+            .as_slice()
+            .iter()
+            .all(|who| reach_of(reaches, who.part).alone),
         Body::Call(call) => is_free_call(reach_of(reaches, call.who.part), call),
     }
 }
@@ -83,12 +94,16 @@ fn is_free_call(reach: Reach, call: &Call) -> bool {
         Request::SamplingPort(_, SamplingOperation::Write { .. }) => false,
         Request::QueuingPort(_, _) => false,
         Request::GetId(_, _) | Request::GetStatus(_, _) => true,
-        Request::Caller(CallerOperation::GetMyId) | Request::Caller(CallerOperation::GetTime) => true,
-        Request::Caller(CallerOperation::TimedWait { .. }) | Request::Caller(CallerOperation::PeriodicWait) => {
+        Request::Caller(CallerOperation::GetMyId) | Request::Caller(CallerOperation::GetTime) =>
+            true,
+        Request::Caller(CallerOperation::TimedWait { .. })
+        | Request::Caller(CallerOperation::PeriodicWait) => {
             reach.alone || call.claim.out == Out::Waits
         }
-        Request::Blackboard(_, BlackboardOperation::Read { .. }) => reach.alone || call.claim.out != Out::Waits,
-        Request::Event(_, EventOperation::Wait { .. }) => reach.alone || call.claim.out != Out::Waits,
+        Request::Blackboard(_, BlackboardOperation::Read { .. }) => reach.alone
+            || call.claim.out != Out::Waits,
+        Request::Event(_, EventOperation::Wait { .. }) => reach.alone
+            || call.claim.out != Out::Waits,
         _ => reach.alone,
     }
 }
@@ -130,12 +145,28 @@ pub fn touched_by_call(call: &Call, into: &mut Vec<u64>) -> Result<(), AllocErro
             into.push(things::object(part, kind, made))?;
         }
         Request::Buffer(number, _) => into.push(things::object(part, ObjectKind::Buffer, *number))?,
-        Request::Blackboard(number, _) => into.push(things::object(part, ObjectKind::Blackboard, *number))?,
-        Request::Semaphore(number, _) => into.push(things::object(part, ObjectKind::Semaphore, *number))?,
+        Request::Blackboard(number, _) => into.push(things::object(
+            part,
+            ObjectKind::Blackboard,
+            *number,
+        ))?,
+        Request::Semaphore(number, _) => into.push(things::object(
+            part,
+            ObjectKind::Semaphore,
+            *number,
+        ))?,
         Request::Event(number, _) => into.push(things::object(part, ObjectKind::Event, *number))?,
         Request::Mutex(number, _) => into.push(things::object(part, ObjectKind::Mutex, *number))?,
-        Request::SamplingPort(number, _) => into.push(things::object(part, ObjectKind::SamplingPort, *number))?,
-        Request::QueuingPort(number, _) => into.push(things::object(part, ObjectKind::QueuingPort, *number))?,
+        Request::SamplingPort(number, _) => into.push(things::object(
+            part,
+            ObjectKind::SamplingPort,
+            *number,
+        ))?,
+        Request::QueuingPort(number, _) => into.push(things::object(
+            part,
+            ObjectKind::QueuingPort,
+            *number,
+        ))?,
         Request::GetId(_, _) => {}
         Request::GetStatus(kind, number) => into.push(things::object(part, *kind, *number))?,
     }
@@ -149,7 +180,9 @@ fn changes_caller(call: &Call) -> bool {
     }
     matches!(
         &call.request,
-        Request::Caller(CallerOperation::TimedWait { .. }) | Request::Caller(CallerOperation::PeriodicWait)
-            | Request::Mutex(_, _) | Request::SetPartitionMode(_)
+        Request::Caller(CallerOperation::TimedWait { .. })
+            | Request::Caller(CallerOperation::PeriodicWait)
+            | Request::Mutex(_, _)
+            | Request::SetPartitionMode(_)
     )
 }
