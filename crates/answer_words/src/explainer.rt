@@ -1,0 +1,121 @@
+// What explains the end of a run to a person. It is gathered while the run goes on, and printed after the line.
+
+use crate::names::InputNames;
+use apex_types::{Cause, Ordered, View};
+use explanation::Explanation;
+use input_explanation::{Compression, tell_compression, tell_unknown_keys};
+use module_config::Config;
+use piece_check::Piece;
+use report::Witness;
+use rules_file::RulesFault;
+use std::alloc::Global;
+use std::fmt::Display;
+use user_rules::Relation;
+use wording::Words;
+
+/// What explains the end of a run. As the witness of a check it explains the record at the place of a No or of a broken rule.
+#[derive(Drop)]
+pub struct Explainer {
+    alloc: Global,
+    explanation: Explanation,
+    note: Words,
+    unknown_keys: Words,
+    compression: Option<Compression>,
+    unopened: Option<String>,
+    broken_rule: Words,
+}
+
+impl Explainer {
+    /// One that has explained nothing yet. Takes no memory.
+    pub fn new(alloc: Global) -> Explainer {
+        Explainer {
+            alloc,
+            explanation: Explanation::new(alloc),
+            note: Words::new(alloc),
+            unknown_keys: Words::new(alloc),
+            compression: None,
+            unopened: None,
+            broken_rule: Words::new(alloc),
+        }
+    }
+
+    /// The record at the place of a No or of a broken rule, in words.
+    pub fn explanation(&self) -> &Explanation {
+        &self.explanation
+    }
+
+    /// What is printed before anything else, empty if there is nothing.
+    pub fn noted(&self) -> &Words {
+        &self.note
+    }
+
+    /// The keys of the configuration that are not known, empty where each is.
+    pub fn unknown_keys(&self) -> &Words {
+        &self.unknown_keys
+    }
+
+    /// The file that could not be opened or read, if there is one.
+    pub fn unopened(&self) -> Option<&str> {
+        self.unopened.as_deref()
+    }
+
+    /// The rule that is broken: that of an option by its words, another by its name. Empty if none is.
+    pub fn broken_rule(&self) -> &Words {
+        &self.broken_rule
+    }
+
+    /// How the configuration is compressed, if it is.
+    pub fn compression(&self) -> Option<Compression> {
+        self.compression
+    }
+
+    /// Notes which file could not be opened or read, and why.
+    pub fn note_unopened(&mut self, name: &str, why: impl Display + Drop) {
+        self.note.say(format_args!("{name}: {why}"));
+        self.unopened = String::from_str(self.alloc, name).ok();
+    }
+
+    /// Notes which rule is broken, by its number and its words or its name, and at which place.
+    pub fn note_broken(&mut self, place: u64, rule: usize, name: impl Display + Drop) {
+        self.broken_rule.say(name);
+        self.note.say(format_args!("the record in place {place} breaks rule {rule}: "));
+        self.note.append(&self.broken_rule);
+    }
+
+    /// Notes why the rules file with this text is refused. A refusal of memory is reported by the line alone.
+    pub fn note_rules(&mut self, names: &InputNames, fault: &RulesFault, text: Option<&[u8]>) {
+        match (&names.rules, fault) {
+            (None, _) | (_, RulesFault::Memory) => {}
+            (Some(name), fault) => {
+                self.note.say(format_args!("{name}: {fault}"));
+                tell_compression(&mut self.note, name, compression_of(text));
+            }
+        }
+    }
+
+    /// Notes the keys of the configuration with this text that are not known, and how the text is compressed.
+    pub fn note_configuration(&mut self, config: &[u8]) {
+        tell_unknown_keys(&mut self.unknown_keys, self.alloc, config);
+        self.compression = Compression::of(config);
+    }
+
+    /// Adds the fields of the record's view that this relation names, where the record breaks a rule.
+    pub fn tell_fields(&mut self, relation: &Relation) {
+        self.explanation.tell_fields(relation);
+    }
+}
+
+// How a text is compressed, where there is one.
+fn compression_of(text: Option<&[u8]>) -> Option<Compression> {
+    Compression::of(text?)
+}
+
+impl Witness for Explainer {
+    fn refused(&mut self, config: &Config, piece: &Piece, ordered: &Ordered, cause: Cause) {
+        self.explanation.tell_refused(config, piece, ordered, cause);
+    }
+
+    fn broken(&mut self, ordered: &Ordered, view: &View, _rule: usize) {
+        self.explanation.tell_broken(ordered, view);
+    }
+}

@@ -1,0 +1,288 @@
+// Why the answer is no Yes: in words, and where, if that is in a file. The files of a run are read once more for it.
+
+ghost use Rattle.std.specs.Prelude.{◌≡◌, map, option_map, slice_get, string_bytes};
+
+use crate::explainer::Explainer;
+use crate::files::{open, open_text};
+use crate::names::InputNames;
+use csv_rows::{RowFields, read_decimal};
+use explanation::{Explanation, RecordNumber};
+use input_explanation::{
+    Compression, FoundRow, LONGEST_SIGNATURE, find_lines, find_row, find_rows, tell_certificate,
+    tell_compression, tell_configuration, tell_order, tell_row_fault,
+};
+use module_config::ConfigFault;
+use placement::InputFault;
+use report::{ArgumentFault, CheckFault, Verdict};
+use std::alloc::Global;
+use std::fs;
+use std::fs::Files;
+use std::io::Read;
+use wording::{Count, Words};
+
+/// Why the answer is no Yes: in words, the file that they are about, and the row there, if it is found once more.
+#[derive(Drop)]
+pub struct Told<'a> {
+    pub words: Words,
+    pub file: Option<&'a str>,
+    row: Option<FoundRow>,
+}
+
+impl<'a> Told<'a> {
+    // These words, which are about no file.
+    fn of(words: Words) -> Told<'a> {
+        Told {
+            words,
+            file: None,
+            row: None,
+        }
+    }
+
+    /// The line on which the row begins, counted from 1.
+    pub fn line(&self) -> Option<u64> {
+        match &self.row {
+            Some(row) => Some(row.line),
+            None => None,
+        }
+    }
+
+    // The fields of the row. Those of a compressed file say nothing to a person.
+    fn fields(&self, alloc: Global, compression: Option<Compression>) -> Option<RowFields> {
+        match (&self.row, compression) {
+            (Some(row), None) => row.fields(alloc),
+            _ => None,
+        }
+    }
+}
+
+/// The files of a run, which are read once more.
+#[derive(Drop)]
+pub struct RunFiles<'a, R> {
+    pub rt: &'a R,
+    pub alloc: Global,
+    pub names: &'a InputNames,
+}
+
+impl<'a, R: Files<File = F>, F: Read + Drop> RunFiles<'a, R> {
+    /// Why the answer is no Yes. None after a Yes, and where only a note says why.
+    pub fn told_of(
+        &self,
+        outcome: &Result<Verdict, CheckFault>,
+        explainer: &Explainer,
+    ) -> Option<Told<'a>> {
+        match outcome {
+            Ok(Verdict::Yes { .. }) => None,
+            Ok(Verdict::No { .. } | Verdict::Broken { .. }) => {
+                self.told_of_record(explainer.explanation())
+            }
+            Err(CheckFault::Memory) => {
+                let mut words = Words::new(self.alloc);
+                words.say("out of memory: the records were not judged to their end");
+                Some(Told::of(words))
+            }
+            Err(CheckFault::Arguments(fault)) => Some(Told::of(words_of_arguments(
+                self.alloc,
+                *fault,
+                self.names.cores.len(),
+            ))),
+            Err(CheckFault::Config(fault)) => {
+                Some(self.told_of_configuration(*fault, explainer.compression()))
+            }
+            Err(CheckFault::Input(fault)) => self.told_of_input(fault),
+        }
+    }
+
+    // Where a refused certificate, order or recording is wrong, and what is wrong with it.
+    fn told_of_input(&self, fault: &InputFault) -> Option<Told<'a>> {
+        match fault {
+            InputFault::Cert { place, fault } => {
+                let name = &self.names.order;
+                let compression = self.compression_of(name);
+                let mut told = self.told_of_row(name, *place);
+                let fields = told.fields(self.alloc, compression);
+                tell_certificate(&mut told.words, *fault, fields.as_ref());
+                tell_compression(&mut told.words, name, compression);
+                Some(told)
+            }
+            InputFault::Order { place, core, fault } => {
+                let mut told = self.told_of_row(&self.names.order, *place);
+                let named = number_named(told.fields(self.alloc, None));
+                tell_order(&mut told.words, *fault, *core, named);
+                Some(told)
+            }
+            InputFault::Row { core, seq, fault } => {
+                let name = name_of_core(self.names, *core)?;
+                let compression = self.compression_of(name);
+                let mut told = self.told_of_row(name, *seq);
+                let fields = told.fields(self.alloc, compression);
+                tell_row_fault(&mut told.words, *fault, *seq, fields.as_ref());
+                tell_compression(&mut told.words, name, compression);
+                Some(told)
+            }
+        }
+    }
+
+    // What the record at the place of a No says.
+    fn told_of_record(&self, explanation: &Explanation) -> Option<Told<'a>> {
+        let RecordNumber { core, seq } = explanation.record()?;
+        let name = name_of_core(self.names, u32::from(core.number()))?;
+        let mut told = self.told_of_row(name, u64::from(seq));
+        told.words.append(explanation.words());
+        self.tell_places(&mut told.words, explanation.words().places());
+        Some(told)
+    }
+
+    // Tells in which files and lines the records at these places are.
+    fn tell_places(&self, words: &mut Words, places: &[u64]) {
+        let mut rising = places.to_vec(self.alloc).unwrap_or(Vec::new(self.alloc));
+        rising.sort_unstable();
+        let rows = self.rows_of(&self.names.order, rising.as_slice());
+        for (place, row) in rising.iter().zip(rows.iter()) {
+            let Some((core, seq)) = pair_named(self.alloc, row) else {
+                continue;
+            };
+            let Some(name) = name_of_core(self.names, core) else {
+                continue;
+            };
+            if let Some(found) = self.row_of(name, seq) {
+                words.next_line();
+                words.say(format_args!("place {place} is {name}, line {}", found.line));
+            }
+        }
+    }
+
+    /// The rows of these numbers, which rise, in the file of this name, as far as they are found.
+    pub fn rows_of(&self, name: &str, numbers: &[u64]) -> Vec<FoundRow> {
+        if !numbers.is_empty() && self.is_regular(name) {
+            if let Ok(file) = open(self.rt, name) {
+                return find_rows(self.alloc, file, numbers);
+            }
+        }
+        Vec::new(self.alloc)
+    }
+
+    // What is wrong with the configuration, which is compressed in this way.
+    fn told_of_configuration(
+        &self,
+        fault: ConfigFault,
+        compression: Option<Compression>,
+    ) -> Told<'a> {
+        let name = &self.names.config;
+        let mut words = Words::new(self.alloc);
+        words.say(format_args!("{name}: "));
+        let text = if compression.is_none() && self.is_regular(name) {
+            open_text(self.rt, self.alloc, name).ok()
+        } else {
+            None
+        };
+        tell_configuration(&mut words, self.alloc, fault, text.as_deref());
+        tell_compression(&mut words, name, compression);
+        Told {
+            words,
+            file: Some(name.as_str()),
+            row: None,
+        }
+    }
+
+    // Where a row is: its file and its line, or its number where it is not found once more.
+    fn told_of_row(&self, name: &'a str, number: u64) -> Told<'a> {
+        let mut words = Words::new(self.alloc);
+        let row = self.row_of(name, number);
+        match &row {
+            Some(row) => words.say(format_args!("{name}, line {}: ", row.line)),
+            None => words.say(format_args!("{name}, row {number}, counted from 0: ")),
+        }
+        Told {
+            words,
+            file: Some(name),
+            row,
+        }
+    }
+
+    // The row of this number in the file of this name, read once more. None where it is no regular file: a pipe gives its text once.
+    fn row_of(&self, name: &str, number: u64) -> Option<FoundRow> {
+        if !self.is_regular(name) {
+            return None;
+        }
+        match open(self.rt, name) {
+            Ok(file) => find_row(self.alloc, file, number),
+            Err(_) => None,
+        }
+    }
+
+    /// Finds the lines of the rows from this number on in the file of this name, as many as there is room for.
+    pub fn find_lines(&self, name: &str, first: u64, lines: &mut [Option<u64>]) {
+        if self.is_regular(name) {
+            if let Ok(file) = open(self.rt, name) {
+                find_lines(self.alloc, file, first, lines);
+            }
+        }
+    }
+
+    // How the file of this name is compressed, if it is. None where it is no regular file.
+    fn compression_of(&self, name: &str) -> Option<Compression> {
+        if !self.is_regular(name) {
+            return None;
+        }
+        let mut first = [0u8; LONGEST_SIGNATURE];
+        match open(self.rt, name) {
+            Ok(mut file) => match file.read(&mut first) {
+                Ok(count) => Compression::of(first.get(..count)?),
+                Err(_) => None,
+            },
+            Err(_) => None,
+        }
+    }
+
+    // Whether a file can be read once more.
+    fn is_regular(&self, name: &str) -> bool {
+        match fs::metadata(self.rt, name) {
+            Ok(metadata) => metadata.is_file(),
+            Err(_) => false,
+        }
+    }
+}
+
+// The core and the number of the record that a row of the certificate names.
+fn pair_named(alloc: Global, row: &FoundRow) -> Option<(u32, u64)> {
+    let fields = row.fields(alloc)?;
+    let core = read_decimal(fields.get(0)?, u32::MAX as u64)?;
+    let seq = read_decimal(fields.get(1)?, u32::MAX as u64)?;
+    Some((core as u32, seq))
+}
+
+// The number of the record that a row of the certificate names.
+fn number_named(fields: Option<RowFields>) -> Option<u64> {
+    let fields = fields?;
+    read_decimal(fields.get(1)?, u32::MAX as u64)
+}
+
+/// The name of the file with a core's recording.
+pub fn name_of_core(names: &InputNames, core: u32) -> Option<&str>
+    ensures { option_map (λ name. name.now) result ≡ slice_get (map string_bytes names.now.cores.items) core }
+{
+    match names.cores.get(core as usize) {
+        Some(name) => Some(name.as_str()),
+        None => None,
+    }
+}
+
+// What is wrong with the arguments of a check.
+fn words_of_arguments(alloc: Global, fault: ArgumentFault, recordings: usize) -> Words {
+    let mut words = Words::new(alloc);
+    words.say(fault);
+    words.next_line();
+    match fault {
+        ArgumentFault::NoWorkers | ArgumentFault::TooManyWorkers => {
+            words.say("--workers must be a number from 1 to 64");
+        }
+        ArgumentFault::NoDepth | ArgumentFault::TooDeep => {
+            words.say("--depth must be a number from 1 to 4096");
+        }
+        ArgumentFault::ReaderCount => words.say(format_args!(
+            "there are {}; expected one for each of the configuration's cores",
+            Count(recordings, "recording")
+        )),
+    }
+    words
+}

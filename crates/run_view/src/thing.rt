@@ -1,0 +1,223 @@
+// What an object or a channel holds, and who waits there.
+
+use crate::waiter::{Waiter, waiters_of};
+use apex_types::{ChanId, ObjectKind, PartId, ProcId};
+use channel::Channel;
+use message_queue::MessageQueue;
+use partition_state::PartitionState;
+use piece_check::{Piece, Subject};
+use std::alloc::{AllocError, Global};
+use wait_set::Named;
+
+/// What can hold messages or values, and where processes wait: an object of a partition, or a channel.
+#[derive(Clone, Copy, Debug, PartialEq, Eq)]
+pub enum ThingKey {
+    Object {
+        part: PartId,
+        kind: ObjectKind,
+        number: u32,
+    },
+    Channel(ChanId),
+}
+
+/// What an object or a channel holds. A message is seen as its bytes.
+#[derive(Debug, Drop, PartialEq, Eq)]
+pub enum Contents {
+    /// A buffer or a queuing channel: its messages, how many it can hold, and the oldest of them.
+    Queue {
+        count: usize,
+        capacity: usize,
+        oldest: Option<Vec<u8>>,
+    },
+    /// A blackboard: the message that it shows, if it shows one.
+    Board { shown: Option<Vec<u8>> },
+    Semaphore { value: u16, maximum: u16 },
+    Event { is_up: bool },
+    /// A mutex: who owns it, how often its owner has acquired it, and the priority that it gives its owner.
+    Mutex {
+        owner: Option<ProcId>,
+        count: u64,
+        priority: u8,
+    },
+    /// A sampling channel: the message that was last written, and when, in ticks of the writer's core.
+    Sampled { written: Option<(Vec<u8>, u64)> },
+}
+
+/// An object or a channel: its name, if it has one, what it holds, and who waits there: to send, and for all else.
+#[derive(Debug, Drop, PartialEq, Eq)]
+pub struct ThingView {
+    pub name: Vec<u8>,
+    pub contents: Contents,
+    pub senders: Vec<Waiter>,
+    pub waiters: Vec<Waiter>,
+}
+
+/// What a partition holds of an object. None where it has no such object, and for a port, which holds nothing.
+///
+/// AllocError where memory is refused.
+pub fn thing_view(
+    alloc: Global,
+    state: &PartitionState,
+    kind: ObjectKind,
+    number: u32,
+) -> Result<Option<ThingView>, AllocError> {
+    match kind {
+        ObjectKind::Buffer => buffer_view(alloc, state, number),
+        ObjectKind::Blackboard => board_view(alloc, state, number),
+        ObjectKind::Semaphore => semaphore_view(alloc, state, number),
+        ObjectKind::Event => event_view(alloc, state, number),
+        ObjectKind::Mutex => mutex_view(alloc, state, number),
+        ObjectKind::SamplingPort | ObjectKind::QueuingPort => Ok(None),
+    }
+}
+
+/// What an object or a channel holds, which is one of these pieces or in one of them. None where it is in none.
+///
+/// AllocError where memory is refused.
+pub fn view_of(
+    alloc: Global,
+    pieces: &[Piece],
+    key: ThingKey,
+) -> Result<Option<ThingView>, AllocError> {
+    let subject = match key {
+        ThingKey::Object { part, .. } => Subject::Partition(part),
+        ThingKey::Channel(channel) => Subject::Channel(channel),
+    };
+    for piece in pieces {
+        if piece.subject() != subject {
+            continue;
+        }
+        if let (ThingKey::Object { kind, number, .. }, Some(state)) = (key, piece.partition()) {
+            return thing_view(alloc, state, kind, number);
+        }
+        if let Some(channel) = piece.channel() {
+            return Ok(Some(channel_view(alloc, channel)?));
+        }
+    }
+    Ok(None)
+}
+
+fn buffer_view(
+    alloc: Global,
+    state: &PartitionState,
+    number: u32,
+) -> Result<Option<ThingView>, AllocError> {
+    let Some(buffer) = state.buffers().at(number) else {
+        return Ok(None);
+    };
+    Ok(Some(queue_view(alloc, buffer.name().as_bytes(), buffer.queue())?))
+}
+
+fn board_view(
+    alloc: Global,
+    state: &PartitionState,
+    number: u32,
+) -> Result<Option<ThingView>, AllocError> {
+    let Some(board) = state.blackboards().at(number) else {
+        return Ok(None);
+    };
+    let shown = match board.message() {
+        Some(message) => Some(Vec::from_slice(alloc, message.as_bytes())?),
+        None => None,
+    };
+    Ok(Some(ThingView {
+        name: Vec::from_slice(alloc, board.name().as_bytes())?,
+        contents: Contents::Board { shown },
+        senders: Vec::new(alloc),
+        waiters: waiters_of(alloc, board.readers())?,
+    }))
+}
+
+fn semaphore_view(
+    alloc: Global,
+    state: &PartitionState,
+    number: u32,
+) -> Result<Option<ThingView>, AllocError> {
+    let Some(semaphore) = state.semaphores().at(number) else {
+        return Ok(None);
+    };
+    Ok(Some(ThingView {
+        name: Vec::from_slice(alloc, semaphore.name().as_bytes())?,
+        contents: Contents::Semaphore {
+            value: semaphore.value(),
+            maximum: semaphore.maximum(),
+        },
+        senders: Vec::new(alloc),
+        waiters: waiters_of(alloc, semaphore.waiters())?,
+    }))
+}
+
+fn event_view(
+    alloc: Global,
+    state: &PartitionState,
+    number: u32,
+) -> Result<Option<ThingView>, AllocError> {
+    let Some(event) = state.events().at(number) else {
+        return Ok(None);
+    };
+    Ok(Some(ThingView {
+        name: Vec::from_slice(alloc, event.name().as_bytes())?,
+        contents: Contents::Event {
+            is_up: event.is_up(),
+        },
+        senders: Vec::new(alloc),
+        waiters: waiters_of(alloc, event.waiters())?,
+    }))
+}
+
+fn mutex_view(
+    alloc: Global,
+    state: &PartitionState,
+    number: u32,
+) -> Result<Option<ThingView>, AllocError> {
+    let Some(mutex) = state.mutexes().at(number) else {
+        return Ok(None);
+    };
+    Ok(Some(ThingView {
+        name: Vec::from_slice(alloc, mutex.name().as_bytes())?,
+        contents: Contents::Mutex {
+            owner: mutex.owner(),
+            count: mutex.count(),
+            priority: mutex.priority(),
+        },
+        senders: Vec::new(alloc),
+        waiters: waiters_of(alloc, mutex.waiters())?,
+    }))
+}
+
+/// What a channel holds.
+///
+/// AllocError where memory is refused.
+pub fn channel_view(alloc: Global, channel: &Channel) -> Result<ThingView, AllocError> {
+    if let Some(queue) = channel.queue() {
+        return queue_view(alloc, &[], queue);
+    }
+    let written = match channel.written() {
+        Some(last) => Some((Vec::from_slice(alloc, last.message().as_bytes())?, last.stamp())),
+        None => None,
+    };
+    Ok(ThingView {
+        name: Vec::new(alloc),
+        contents: Contents::Sampled { written },
+        senders: Vec::new(alloc),
+        waiters: Vec::new(alloc),
+    })
+}
+
+// What a queue of this name holds.
+fn queue_view(alloc: Global, name: &[u8], queue: &MessageQueue) -> Result<ThingView, AllocError> {
+    let oldest = match queue.oldest() {
+        Some(message) => Some(Vec::from_slice(alloc, message.as_bytes())?),
+        None => None,
+    };
+    Ok(ThingView {
+        name: Vec::from_slice(alloc, name)?,
+        contents: Contents::Queue {
+            count: queue.len(),
+            capacity: queue.capacity(),
+            oldest,
+        },
+        senders: waiters_of(alloc, queue.senders())?,
+        waiters: waiters_of(alloc, queue.receivers())?,
+    })
+}

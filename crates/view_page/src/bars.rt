@@ -1,0 +1,77 @@
+// The bars of a lane.
+
+use crate::look::Look;
+use std::alloc::{AllocError, Global};
+
+/// What a bar says: how it looks, its text, and more of it for whom the text is too short.
+#[derive(Debug, Drop, PartialEq, Eq)]
+pub struct Saying {
+    pub look: Look,
+    pub text: String,
+    pub title: String,
+}
+
+/// A bar from one column to another, without that one.
+#[derive(Debug, Drop)]
+pub struct Bar {
+    pub from: usize,
+    pub to: usize,
+    pub saying: Saying,
+}
+
+/// Bars one after another, of which the last may go on.
+#[derive(Drop)]
+pub struct Bars {
+    bars: Vec<Bar>,
+    is_open: bool,
+}
+
+impl Bars {
+    /// No bars. Takes no memory.
+    pub fn new(alloc: Global) -> Bars {
+        Bars {
+            bars: Vec::new(alloc),
+            is_open: false,
+        }
+    }
+
+    /// From this column on this is said, and what was said ends. A bar that says the same goes on.
+    pub fn say(&mut self, column: usize, saying: Saying) -> Result<(), AllocError> {
+        if let (true, Some(last)) = (self.is_open, self.bars.last()) {
+            if last.saying == saying {
+                return Ok(());
+            }
+        }
+        self.end(column);
+        self.bars.push(Bar {
+            from: column,
+            to: usize::MAX,
+            saying,
+        })?;
+        self.is_open = true;
+        Ok(())
+    }
+
+    /// What is said ends before this column.
+    pub fn end(&mut self, column: usize) {
+        if self.is_open {
+            if let Some(last) = self.bars.last_mut() {
+                last.to = column;
+            }
+        }
+        self.is_open = false;
+    }
+
+    /// The look of the bar that goes on, if one does.
+    pub fn look(&self) -> Option<Look> {
+        match self.bars.last() {
+            Some(last) if self.is_open => Some(last.saying.look),
+            _ => None,
+        }
+    }
+
+    /// The bars.
+    pub fn as_slice(&self) -> &[Bar] {
+        self.bars.as_slice()
+    }
+}

@@ -1,0 +1,600 @@
+// A strip of a picture as SVG.
+
+use crate::arrow::{Arrow, ArrowEnd, ArrowKind};
+use crate::bars::Bar;
+use crate::column::{Column, Status};
+use crate::html::PageTexts;
+use crate::lane::{Lane, Mark, MarkKind};
+use crate::lane_key::LaneKey;
+use crate::layout::{LABELS, LONGEST_LABEL, Layout, Row, Strip};
+use crate::markup::Markup;
+use crate::picture::Picture;
+use crate::style::{DEFINITIONS, STYLE};
+use std::alloc::AllocError;
+use std::fmt::Display;
+
+/// The width of a character of a text, in pixels as all lengths here.
+const CHARACTER: u64 = 6;
+
+/// What is free on both sides of the text of a bar together.
+const INSIDE: u64 = 8;
+
+/// The height of a line of text below a picture.
+const TEXT_LINE: u64 = 17;
+
+/// The height of the band of a core's windows.
+const BAND: u64 = 14;
+
+/// Begins a picture by itself, of these strips one below the other.
+pub fn svg_head(
+    out: &mut Markup,
+    picture: &Picture,
+    strips: &[Strip],
+    texts: &PageTexts<'_>,
+) -> Result<(), AllocError> {
+    let (mut width, mut height) = (0u64, height_of_texts(texts));
+    for strip in strips {
+        let layout = Layout::new(picture, *strip)?;
+        width = width.max(layout.width);
+        height = height.saturating_add(layout.height);
+    }
+    out.mark("<svg xmlns=\"http://www.w3.org/2000/svg\" class=\"alone\" width=\"")?;
+    out.say(width)?;
+    out.mark("\" height=\"")?;
+    out.say(height)?;
+    out.mark("\" viewBox=\"0 0 ")?;
+    out.say(width)?;
+    out.mark(" ")?;
+    out.say(height)?;
+    out.mark("\">\n<title>")?;
+    out.say(texts.heading)?;
+    out.mark("</title>\n<style>")?;
+    out.mark(STYLE)?;
+    out.mark("</style>\n")?;
+    out.mark(DEFINITIONS)?;
+    out.mark("<rect class=\"paper\" width=\"100%\" height=\"100%\"/>\n")
+}
+
+/// Ends a picture by itself, of which the strips end at this height, with the line of the answer and why it is no Yes.
+pub fn svg_foot(out: &mut Markup, texts: &PageTexts<'_>, y: u64) -> Result<(), AllocError> {
+    let mut y = y.saturating_add(TEXT_LINE);
+    out.mark("<g class=\"answer\">\n")?;
+    tell_text(out, "line", 8, y, texts.line)?;
+    for line in texts.explanation.split('\n') {
+        y = y.saturating_add(TEXT_LINE);
+        tell_text(out, "line", 8, y, line)?;
+    }
+    out.mark("</g>\n</svg>\n")
+}
+
+// The height of the line of the answer and of what explains it.
+fn height_of_texts(texts: &PageTexts<'_>) -> u64 {
+    let lines = texts.explanation.split('\n').count() as u64;
+    TEXT_LINE.saturating_mul(lines.saturating_add(2))
+}
+
+/// Adds a strip, which begins at this height of the picture. Answers where it ends.
+pub fn tell_strip(
+    out: &mut Markup,
+    picture: &Picture,
+    strip: Strip,
+    y: u64,
+) -> Result<u64, AllocError> {
+    let layout = Layout::new(picture, strip)?;
+    out.mark("<svg class=\"strip\" y=\"")?;
+    out.say(y)?;
+    out.mark("\" width=\"")?;
+    out.say(layout.width)?;
+    out.mark("\" height=\"")?;
+    out.say(layout.height)?;
+    out.mark("\" viewBox=\"0 0 ")?;
+    out.say(layout.width)?;
+    out.mark(" ")?;
+    out.say(layout.height)?;
+    out.mark("\" role=\"img\">\n")?;
+    tell_title(out, picture, strip)?;
+    tell_grounds(out, picture, &layout)?;
+    for column in strip.from..strip.to {
+        if let Some(one) = picture.columns.get(column) {
+            tell_column(out, &layout, column, one)?;
+        }
+    }
+    for row in layout.rows.iter() {
+        if let Some(lane) = picture.lanes.get(row.lane) {
+            tell_lane(out, picture, &layout, *row, lane)?;
+        }
+    }
+    for arrow in picture.arrows.iter() {
+        tell_arrow(out, picture, &layout, arrow)?;
+    }
+    out.mark("</svg>\n")?;
+    Ok(y.saturating_add(layout.height))
+}
+
+// What the strip is, for who does not see it.
+fn tell_title(out: &mut Markup, picture: &Picture, strip: Strip) -> Result<(), AllocError> {
+    let first = picture.columns.get(strip.from);
+    let last = picture.columns.get(strip.to.saturating_sub(1));
+    if let (Some(first), Some(last)) = (first, last) {
+        out.mark("<title>")?;
+        out.say(format_args!(
+            "Places {} to {}; the table below the picture says the same",
+            first.place.number(),
+            last.place.number()
+        ))?;
+        out.mark("</title>\n")?;
+    }
+    Ok(())
+}
+
+// The grounds of the lanes, and of the records that are rejected or not judged.
+fn tell_grounds(out: &mut Markup, picture: &Picture, layout: &Layout) -> Result<(), AllocError> {
+    for row in layout.rows.iter() {
+        tell_rect(out, "ground", LABELS, row.y, layout.left(layout.strip.to), row.height)?;
+    }
+    let height = layout.bottom.saturating_sub(layout.top);
+    for column in layout.strip.from..layout.strip.to {
+        let Some(one) = picture.columns.get(column) else {
+            continue;
+        };
+        let class = match one.status {
+            Status::Accepted => continue,
+            Status::Rejected => "ground-rejected",
+            Status::Broken => "ground-rejected",
+            Status::After => "ground-after",
+        };
+        let (left, right) = (layout.left(column), layout.left(column.saturating_add(1)));
+        tell_rect(out, class, left, layout.top, right, height)?;
+    }
+    Ok(())
+}
+
+// A rectangle of this class from one edge to another.
+fn tell_rect(
+    out: &mut Markup,
+    class: &'static str,
+    left: u64,
+    y: u64,
+    right: u64,
+    height: u64,
+) -> Result<(), AllocError> {
+    out.mark("<rect class=\"")?;
+    out.mark(class)?;
+    out.mark("\"")?;
+    tell_box(out, left, y, right, height)?;
+    out.mark("/>\n")
+}
+
+// Where a rectangle is.
+fn tell_box(
+    out: &mut Markup,
+    left: u64,
+    y: u64,
+    right: u64,
+    height: u64,
+) -> Result<(), AllocError> {
+    out.mark(" x=\"")?;
+    out.say(left)?;
+    out.mark("\" y=\"")?;
+    out.say(y)?;
+    out.mark("\" width=\"")?;
+    out.say(right.saturating_sub(left))?;
+    out.mark("\" height=\"")?;
+    out.say(height)?;
+    out.mark("\"")
+}
+
+// A text of this class, which begins at this point.
+fn tell_text(
+    out: &mut Markup,
+    class: &'static str,
+    x: u64,
+    y: u64,
+    text: impl Display + Drop,
+) -> Result<(), AllocError> {
+    out.mark("<text class=\"")?;
+    out.mark(class)?;
+    out.mark("\" x=\"")?;
+    out.say(x)?;
+    out.mark("\" y=\"")?;
+    out.say(y)?;
+    out.mark("\">")?;
+    out.say(text)?;
+    out.mark("</text>\n")
+}
+
+// The label of a record, its place, and what it says for who points at it.
+fn tell_column(
+    out: &mut Markup,
+    layout: &Layout,
+    index: usize,
+    column: &Column,
+) -> Result<(), AllocError> {
+    let (left, right) = (layout.left(index), layout.left(index.saturating_add(1)));
+    out.mark("<g class=\"record ")?;
+    out.mark(status_class(column.status))?;
+    out.mark("\" data-place=\"")?;
+    out.say(column.place.number())?;
+    out.mark("\"><title>")?;
+    out.say(format_args!(
+        "place {}, core {}: {}\n{}",
+        column.place.number(),
+        column.core.number(),
+        column.words,
+        column.source
+    ))?;
+    out.mark("</title>\n")?;
+    let height = layout.bottom.saturating_sub(layout.foot_of_labels);
+    tell_rect(out, "hit", left, layout.foot_of_labels, right, height)?;
+    match column.status {
+        Status::After => {}
+        Status::Accepted | Status::Rejected | Status::Broken => {
+            tell_label(out, layout, index, left, column)?;
+        }
+    }
+    out.mark("</g>\n")
+}
+
+fn tell_label(
+    out: &mut Markup,
+    layout: &Layout,
+    index: usize,
+    left: u64,
+    column: &Column,
+) -> Result<(), AllocError> {
+    let (x, y) = (left.saturating_add(9), layout.foot_of_labels.saturating_sub(5));
+    out.mark("<text class=\"label\" transform=\"translate(")?;
+    out.say(x)?;
+    out.mark(",")?;
+    out.say(y)?;
+    out.mark(") rotate(-62)\">")?;
+    if column.status == Status::Rejected || column.status == Status::Broken {
+        out.mark("✗ ")?;
+    }
+    out.say(Fitted(column.label.as_str(), LONGEST_LABEL))?;
+    out.mark("</text>\n")?;
+    let place = column.place.number();
+    if place < 10_000 || index % 3 == 0 {
+        let y = layout.foot_of_labels.saturating_add(11);
+        tell_text(out, "place", left.saturating_add(2), y, place)?;
+    }
+    Ok(())
+}
+
+fn status_class(status: Status) -> &'static str {
+    match status {
+        Status::Accepted => "accepted",
+        Status::Rejected => "rejected",
+        Status::Broken => "broken",
+        Status::After => "after",
+    }
+}
+
+// A lane: its label, its bars and its marks.
+fn tell_lane(
+    out: &mut Markup,
+    picture: &Picture,
+    layout: &Layout,
+    row: Row,
+    lane: &Lane,
+) -> Result<(), AllocError> {
+    out.mark("<g class=\"lane ")?;
+    out.mark(lane_class(lane.key))?;
+    out.mark("\">\n")?;
+    let is_core = matches!(lane.key, LaneKey::Core(_));
+    let x = match lane.key {
+        LaneKey::Process(_) => 18,
+        LaneKey::Thing(_) if lane.key.partition().is_some() => 18,
+        _ => 6,
+    };
+    let most = ((LABELS - 20) / CHARACTER) as usize;
+    tell_text(
+        out,
+        "name",
+        x,
+        row.middle().saturating_add(4),
+        Fitted(lane.label.trim_start(), most),
+    )?;
+    let (y, height) = if is_core {
+        for bar in lane.windows.as_slice() {
+            tell_bar(out, picture, layout, bar, row.y, BAND)?;
+        }
+        (row.y.saturating_add(BAND + 1), row.height.saturating_sub(BAND + 1))
+    } else {
+        (row.y, row.height)
+    };
+    for bar in lane.bars.as_slice() {
+        tell_bar(out, picture, layout, bar, y, height)?;
+    }
+    tell_marks(out, picture, layout, row, lane)?;
+    out.mark("</g>\n")
+}
+
+fn lane_class(key: LaneKey) -> &'static str {
+    match key {
+        LaneKey::Core(_) => "core",
+        LaneKey::Partition(_) => "partition",
+        LaneKey::Process(_) => "process",
+        LaneKey::Thing(_) => "thing",
+    }
+}
+
+// A bar, as far as it is in the strip.
+fn tell_bar(
+    out: &mut Markup,
+    picture: &Picture,
+    layout: &Layout,
+    bar: &Bar,
+    y: u64,
+    height: u64,
+) -> Result<(), AllocError> {
+    let from = bar.from.max(layout.strip.from);
+    let to = bar.to.min(layout.strip.to);
+    if from >= to {
+        return Ok(());
+    }
+    let (left, right) = (layout.left(from), layout.left(to));
+    out.mark("<g class=\"")?;
+    out.mark(bar.saying.look.classes())?;
+    out.mark("\"><title>")?;
+    out.say(bar.saying.title.as_str())?;
+    tell_stretch(out, picture, bar)?;
+    out.mark("</title><rect class=\"fill\"")?;
+    tell_box(out, left, y, right, height)?;
+    out.mark("/>")?;
+    if let Some(pattern) = bar.saying.look.pattern() {
+        out.mark("<rect class=\"pattern\" fill=\"")?;
+        out.mark(pattern)?;
+        out.mark("\"")?;
+        tell_box(out, left, y, right, height)?;
+        out.mark("/>")?;
+    }
+    let room = right.saturating_sub(left).saturating_sub(INSIDE) / CHARACTER;
+    let text = bar.saying.text.as_str();
+    if room >= 2 {
+        let y = y.saturating_add(height / 2).saturating_add(4);
+        let x = left.saturating_add(INSIDE / 2);
+        let class = if height <= BAND { "said small" } else { "said" };
+        tell_text(out, class, x, y, Fitted(text, room as usize))?;
+    }
+    out.mark("</g>\n")
+}
+
+// From which place to which a bar goes.
+fn tell_stretch(out: &mut Markup, picture: &Picture, bar: &Bar) -> Result<(), AllocError> {
+    out.mark("\n")?;
+    match picture.columns.get(bar.from) {
+        Some(column) if bar.from > 0 => {
+            out.say(format_args!("from place {}", column.place.number()))?;
+        }
+        _ => out.mark("from before the picture or its first record")?,
+    }
+    match picture.columns.get(bar.to) {
+        Some(column) => out.say(format_args!(", up to place {}", column.place.number())),
+        None => out.mark(", to the end of the picture"),
+    }
+}
+
+// The marks of a lane in the strip.
+fn tell_marks(
+    out: &mut Markup,
+    picture: &Picture,
+    layout: &Layout,
+    row: Row,
+    lane: &Lane,
+) -> Result<(), AllocError> {
+    let mut line = 0u64;
+    let boxes = lane.marks.iter().filter(|mark| is_box(mark.kind)).count() as u64;
+    for mark in lane.marks.iter() {
+        if !layout.has(mark.column) {
+            continue;
+        }
+        if is_box(mark.kind) {
+            let height = row.height / boxes.max(1);
+            let y = row.y.saturating_add(height.saturating_mul(line));
+            tell_box_mark(out, layout, mark, y, height)?;
+            line = line.saturating_add(1);
+        } else {
+            tell_point_mark(out, picture, layout, mark, row)?;
+        }
+    }
+    Ok(())
+}
+
+fn is_box(kind: MarkKind) -> bool {
+    match kind {
+        MarkKind::Rejected | MarkKind::Lawful | MarkKind::Unlawful => true,
+        MarkKind::Tick
+        | MarkKind::Dispatch
+        | MarkKind::Call
+        | MarkKind::Return
+        | MarkKind::Restart => false,
+    }
+}
+
+// A mark with its text in the column of the record that is rejected.
+fn tell_box_mark(
+    out: &mut Markup,
+    layout: &Layout,
+    mark: &Mark,
+    y: u64,
+    height: u64,
+) -> Result<(), AllocError> {
+    let (class, sign) = match mark.kind {
+        MarkKind::Lawful => ("mark lawful", "✓ "),
+        MarkKind::Rejected
+        | MarkKind::Unlawful
+        | MarkKind::Tick
+        | MarkKind::Dispatch
+        | MarkKind::Call
+        | MarkKind::Return
+        | MarkKind::Restart => ("mark unlawful", "✗ "),
+    };
+    let (left, right) = (
+        layout.left(mark.column).saturating_add(3),
+        layout.left(mark.column.saturating_add(1)).saturating_sub(3),
+    );
+    out.mark("<g class=\"")?;
+    out.mark(class)?;
+    out.mark("\"><rect")?;
+    tell_box(out, left, y.saturating_add(1), right, height.saturating_sub(2))?;
+    out.mark("/><text class=\"said\" x=\"")?;
+    out.say(left.saturating_add(4))?;
+    out.mark("\" y=\"")?;
+    out.say(y.saturating_add(height / 2).saturating_add(4))?;
+    out.mark("\">")?;
+    out.mark(sign)?;
+    let room = right.saturating_sub(left).saturating_sub(INSIDE) / CHARACTER;
+    out.say(Fitted(mark.text.as_str(), (room as usize).saturating_sub(2)))?;
+    out.mark("</text></g>\n")
+}
+
+// A mark at the left edge of a record.
+fn tell_point_mark(
+    out: &mut Markup,
+    picture: &Picture,
+    layout: &Layout,
+    mark: &Mark,
+    row: Row,
+) -> Result<(), AllocError> {
+    let x = layout.left(mark.column);
+    out.mark("<g class=\"mark ")?;
+    out.mark(point_class(mark.kind))?;
+    out.mark("\"><title>")?;
+    out.say(mark.text.as_str())?;
+    if let Some(column) = picture.columns.get(mark.column) {
+        out.mark("\n")?;
+        out.say(column.source.as_str())?;
+    }
+    out.mark("</title>")?;
+    match mark.kind {
+        MarkKind::Tick => tell_line(out, x, row.y, row.y.saturating_add(row.height))?,
+        MarkKind::Restart => {
+            tell_line(out, x, row.y.saturating_sub(3), layout.bottom)?;
+            let y = row.y.saturating_add(row.height / 2).saturating_add(4);
+            tell_text(out, "said", x.saturating_add(4), y, mark.text.as_str())?;
+        }
+        MarkKind::Dispatch => {
+            let middle = row.middle().saturating_add(7);
+            out.mark("<path d=\"M")?;
+            out.say(format_args!("{x},{}", middle.saturating_sub(6)))?;
+            out.mark("l9,6l-9,6z\"/>")?;
+        }
+        MarkKind::Call
+        | MarkKind::Return
+        | MarkKind::Rejected
+        | MarkKind::Lawful
+        | MarkKind::Unlawful => {
+            out.mark("<circle r=\"4\" cx=\"")?;
+            out.say(x)?;
+            out.mark("\" cy=\"")?;
+            out.say(row.middle())?;
+            out.mark("\"/>")?;
+        }
+    }
+    out.mark("</g>\n")
+}
+
+fn point_class(kind: MarkKind) -> &'static str {
+    match kind {
+        MarkKind::Tick => "tick",
+        MarkKind::Dispatch => "dispatch",
+        MarkKind::Call => "call",
+        MarkKind::Return => "return",
+        MarkKind::Restart => "restart",
+        MarkKind::Rejected | MarkKind::Unlawful => "unlawful",
+        MarkKind::Lawful => "lawful",
+    }
+}
+
+fn tell_line(out: &mut Markup, x: u64, top: u64, bottom: u64) -> Result<(), AllocError> {
+    out.mark("<line x1=\"")?;
+    out.say(x)?;
+    out.mark("\" x2=\"")?;
+    out.say(x)?;
+    out.mark("\" y1=\"")?;
+    out.say(top)?;
+    out.mark("\" y2=\"")?;
+    out.say(bottom)?;
+    out.mark("\"/>")
+}
+
+// An arrow, as far as it is in the strip.
+fn tell_arrow(
+    out: &mut Markup,
+    picture: &Picture,
+    layout: &Layout,
+    arrow: &Arrow,
+) -> Result<(), AllocError> {
+    let (Some(from), Some(to)) = (
+        layout.row(picture, arrow.from.lane),
+        layout.row(picture, arrow.to.lane),
+    ) else {
+        return Ok(());
+    };
+    let (Some((left, begins)), Some((right, ends))) =
+        (x_of(layout, arrow.from), x_of(layout, arrow.to))
+    else {
+        return Ok(());
+    };
+    if !begins && !ends {
+        return Ok(());
+    }
+    let (class, title) = match arrow.kind {
+        ArrowKind::Wake => ("arrow wake", "ends its wait"),
+        ArrowKind::Message => ("arrow message", "the message"),
+    };
+    out.mark("<g class=\"")?;
+    out.mark(class)?;
+    out.mark("\"><title>")?;
+    out.mark(title)?;
+    out.say(format_args!(
+        ": from place {} to place {}",
+        arrow.from.place, arrow.to.place
+    ))?;
+    out.mark("</title><path d=\"M")?;
+    let (top, bottom) = (from.middle(), to.middle());
+    match arrow.kind {
+        ArrowKind::Wake => out.say(format_args!(
+            "{},{top}L{},{bottom}",
+            left.saturating_add(5),
+            left.saturating_add(5)
+        ))?,
+        ArrowKind::Message => {
+            let middle = left.saturating_add(right) / 2;
+            out.say(format_args!(
+                "{left},{top}C{middle},{top} {middle},{bottom} {right},{bottom}"
+            ))?;
+        }
+    }
+    out.mark("\"/></g>\n")
+}
+
+// Where an end of an arrow is, and whether it is in the strip: else it is at the nearer edge. None where it is further away.
+fn x_of(layout: &Layout, end: ArrowEnd) -> Option<(u64, bool)> {
+    match end.column {
+        None => Some((LABELS, false)),
+        Some(column) if column < layout.strip.from => Some((LABELS, false)),
+        Some(column) if column >= layout.strip.to => {
+            Some((layout.left(layout.strip.to), false))
+        }
+        Some(column) => Some((layout.left(column), true)),
+    }
+}
+
+// A text, or its first characters where it is longer than this many.
+#[derive(Clone, Copy)]
+struct Fitted<'a>(&'a str, usize);
+
+impl Display for Fitted<'_> {
+    fn fmt<W: std::fmt::Write>(&self, f: &mut std::fmt::Formatter<W>) -> std::fmt::Result {
+        let count = self.0.chars().count();
+        if count <= self.1 {
+            return write!(f, "{}", self.0);
+        }
+        for character in self.0.chars().take(self.1.saturating_sub(1)) {
+            f.write_char(character)?;
+        }
+        f.write_char('…')
+    }
+}

@@ -1,0 +1,482 @@
+// A run as a trace, record by record.
+
+use crate::event::{Events, FlowKind, Track};
+use crate::said::{counted, counter_name, due_text, mode_name, state_name};
+use apex_machine::Mode;
+use apex_types::{Body, CoreId, Ordered, PartId, Who};
+use piece_check::{Piece, Subject};
+use run_view::{Change, CoreView, Followed, ProcessView, Standing, ThingKey, view_of};
+use std::alloc::{AllocError, Global};
+use wording::{Ascii, Numbered, Words, tell_record};
+
+/// The processes of the trace: one for the cores, one for the channels, and one for each partition from a number on.
+const CORES: u64 = 1;
+const CHANNELS: u64 = 2;
+const FIRST_PARTITION: u64 = 10;
+
+/// The threads of a partition: one for its mode, and one for each process from a number on.
+const MODE: u64 = 1;
+const FIRST_PROCESS: u64 = 2;
+
+/// A run as a trace.
+#[derive(Drop)]
+pub struct Tracer {
+    alloc: Global,
+    events: Events,
+    cores: Vec<TracedCore>,
+    modes: Vec<TracedMode>,
+    processes: Vec<TracedProcess>,
+    // The messages that are sent and not received, by the places at which they were sent.
+    messages: Vec<u64>,
+    wakes: u64,
+    place: u64,
+}
+
+#[derive(Clone, Copy)]
+struct TracedCore {
+    view: CoreView,
+}
+
+#[derive(Clone, Copy)]
+struct TracedMode {
+    part: PartId,
+    mode: Mode,
+}
+
+#[derive(Clone, Copy)]
+struct TracedProcess {
+    who: Who,
+    view: ProcessView,
+    runs: bool,
+    is_named: bool,
+    is_open: bool,
+}
+
+impl Tracer {
+    /// A trace without an event.
+    pub fn new(alloc: Global) -> Tracer {
+        Tracer {
+            alloc,
+            events: Events::new(alloc),
+            cores: Vec::new(alloc),
+            modes: Vec::new(alloc),
+            processes: Vec::new(alloc),
+            messages: Vec::new(alloc),
+            wakes: 0,
+            place: 0,
+        }
+    }
+
+    /// The text that is not yet written.
+    pub fn text(&self) -> &str {
+        self.events.text()
+    }
+
+    /// Forgets the text, which is written.
+    pub fn clear(&mut self) {
+        self.events.clear();
+    }
+
+    /// Begins the trace with what the pieces hold before the first record: all of it is among the changes.
+    pub fn begin(&mut self, pieces: &[Piece], changes: &[Change]) -> Result<(), AllocError> {
+        self.events.begin()?;
+        self.events.name_process(CORES, "cores")?;
+        self.events.name_process(CHANNELS, "channels")?;
+        for piece in pieces {
+            if let Subject::Partition(part) = piece.subject() {
+                let name = format!(in self.alloc; "partition {}", part.number())?;
+                self.events.name_process(process_of(part), name.as_str())?;
+            }
+        }
+        self.apply(pieces, changes)
+    }
+
+    /// Adds a record that is accepted, with what it changed, and what it does with messages.
+    pub fn accept(
+        &mut self,
+        pieces: &[Piece],
+        ordered: &Ordered,
+        changes: &[Change],
+        followed: &Followed,
+    ) -> Result<(), AllocError> {
+        self.place = ordered.pos.number();
+        self.begin_wakes(ordered)?;
+        self.apply(pieces, changes)?;
+        self.add_record(ordered)?;
+        self.end_wakes(ordered)?;
+        self.follow(ordered, followed)
+    }
+
+    /// Adds the record that is rejected, for a cause of this name.
+    pub fn reject(&mut self, ordered: &Ordered, cause: &str) -> Result<(), AllocError> {
+        self.place = ordered.pos.number();
+        let name = format!(in self.alloc; "rejected: {cause}")?;
+        let words = self.words_of(ordered)?;
+        let time = self.time_of(ordered.core);
+        let track = actor_of(ordered);
+        self.events.instant(track, self.place, name.as_str(), time, words.as_str())
+    }
+
+    /// Ends the trace: what is open ends with it.
+    pub fn end(&mut self) -> Result<(), AllocError> {
+        let place = self.place.saturating_add(1);
+        for number in self.messages.iter() {
+            let track = Track {
+                process: CHANNELS,
+                thread: 0,
+            };
+            self.events.end_flow(FlowKind::Message, track, place, *number)?;
+        }
+        for core in self.cores.iter() {
+            self.events.end_slice(core_track(core.view.core), place)?;
+        }
+        for mode in self.modes.iter() {
+            self.events.end_slice(mode_track(mode.part), place)?;
+        }
+        for process in self.processes.iter() {
+            if process.is_open {
+                self.events.end_slice(process_track(process.who), place)?;
+            }
+        }
+        self.events.end()
+    }
+
+    // Adds what a record does.
+    fn add_record(&mut self, ordered: &Ordered) -> Result<(), AllocError> {
+        let name = match &ordered.rec.body {
+            Body::Call(call) => {
+                format!(in self.alloc; "{}", Ascii(call.request.service().name()))?
+            }
+            Body::Ret(ret) => format!(in self.alloc; "return {}", Ascii(ret.service.name()))?,
+            Body::Disp(_) => String::from_str(self.alloc, "dispatch")?,
+            Body::Tick(_) => String::from_str(self.alloc, "tick")?,
+        };
+        let words = self.words_of(ordered)?;
+        let time = self.time_of(ordered.core);
+        let track = actor_of(ordered);
+        self.events.instant(track, self.place, name.as_str(), time, words.as_str())
+    }
+
+    fn words_of(&self, ordered: &Ordered) -> Result<String, AllocError> {
+        let mut words = Words::new(self.alloc);
+        tell_record(&mut words, ordered);
+        format!(in self.alloc; "{}", words.shown(false))
+    }
+
+    fn time_of(&self, core: CoreId) -> u64 {
+        match self.cores.iter().find(|traced| traced.view.core == core) {
+            Some(traced) => traced.view.time,
+            None => 0,
+        }
+    }
+
+    // Begins a flow to each process whose wait a record ends.
+    fn begin_wakes(&mut self, ordered: &Ordered) -> Result<(), AllocError> {
+        let track = actor_of(ordered);
+        for index in 0..woken_by(ordered).len() {
+            let number = self.wakes.saturating_add(index as u64);
+            self.events.begin_flow(FlowKind::Wake, track, self.place, number)?;
+        }
+        Ok(())
+    }
+
+    fn end_wakes(&mut self, ordered: &Ordered) -> Result<(), AllocError> {
+        for who in woken_by(ordered) {
+            let track = process_track(*who);
+            self.events.end_flow(FlowKind::Wake, track, self.place, self.wakes)?;
+            self.wakes = self.wakes.saturating_add(1);
+        }
+        Ok(())
+    }
+
+    // Adds what a record does with messages.
+    fn follow(&mut self, ordered: &Ordered, followed: &Followed) -> Result<(), AllocError> {
+        if let Some(ended) = followed.ended {
+            self.end_message(ended.place.number(), process_track(ended.who))?;
+        }
+        if followed.is_sent {
+            let track = actor_of(ordered);
+            self.events.begin_flow(FlowKind::Message, track, self.place, self.place)?;
+            self.messages.push(self.place)?;
+        }
+        if let Some(received) = followed.received {
+            let number = received.sent.place.number();
+            let track = process_track(received.by);
+            if !received.stays {
+                return self.end_message(number, track);
+            }
+            if self.messages.contains(&number) {
+                self.events.step_flow(FlowKind::Message, track, self.place, number)?;
+            }
+        }
+        Ok(())
+    }
+
+    fn end_message(&mut self, number: u64, track: Track) -> Result<(), AllocError> {
+        if let Some(index) = self.messages.iter().position(|open| *open == number) {
+            self.messages.remove(index);
+            self.events.end_flow(FlowKind::Message, track, self.place, number)?;
+        }
+        Ok(())
+    }
+
+    // Adds what has changed.
+    fn apply(&mut self, pieces: &[Piece], changes: &[Change]) -> Result<(), AllocError> {
+        let mut is_moved = false;
+        for change in changes {
+            match *change {
+                Change::Core(view) => is_moved |= self.apply_core(view)?,
+                Change::Mode(part, mode) => self.apply_mode(part, mode)?,
+                Change::Process(who, view) => self.apply_process(pieces, who, view)?,
+                Change::Ended(who) => self.end_process(who)?,
+                Change::Thing(key) => self.apply_thing(pieces, key)?,
+                Change::Gone(_) => {}
+            }
+        }
+        if is_moved {
+            self.renew_running()?;
+        }
+        Ok(())
+    }
+
+    // Adds the occupant of a core; answers whether it is another one.
+    fn apply_core(&mut self, view: CoreView) -> Result<bool, AllocError> {
+        let last = self.cores.iter_mut().find(|traced| traced.view.core == view.core);
+        let is_other = match last {
+            Some(last) => {
+                let is_other = last.view.occupant != view.occupant;
+                last.view = view;
+                if !is_other {
+                    return Ok(false);
+                }
+                self.events.end_slice(core_track(view.core), self.place)?;
+                is_other
+            }
+            None => {
+                self.cores.push(TracedCore { view })?;
+                let name = format!(in self.alloc; "core {}", view.core.number())?;
+                self.events.name_thread(core_track(view.core), name.as_str())?;
+                true
+            }
+        };
+        let name = match view.occupant {
+            Some(who) => format!(in self.alloc; "{}", Numbered(who))?,
+            None => String::from_str(self.alloc, "idle")?,
+        };
+        let window = match view.window {
+            Some(part) => format!(in self.alloc; "window of partition {}", part.number())?,
+            None => String::from_str(self.alloc, "no window")?,
+        };
+        let track = core_track(view.core);
+        self.events.begin_slice(
+            track,
+            self.place,
+            name.as_str(),
+            view.time,
+            window.as_str(),
+        )?;
+        Ok(is_other)
+    }
+
+    fn apply_mode(&mut self, part: PartId, mode: Mode) -> Result<(), AllocError> {
+        let track = mode_track(part);
+        match self.modes.iter_mut().find(|traced| traced.part == part) {
+            Some(last) => {
+                last.mode = mode;
+                self.events.end_slice(track, self.place)?;
+            }
+            None => {
+                self.modes.push(TracedMode { part, mode })?;
+                self.events.name_thread(track, "mode")?;
+            }
+        }
+        self.events.begin_slice(track, self.place, mode_name(mode), 0, "")
+    }
+
+    fn apply_process(
+        &mut self,
+        pieces: &[Piece],
+        who: Who,
+        view: ProcessView,
+    ) -> Result<(), AllocError> {
+        let runs = self.is_running(who, &view);
+        let index = match self.processes.iter().position(|traced| traced.who == who) {
+            Some(index) => index,
+            None => {
+                self.processes.push(TracedProcess {
+                    who,
+                    view,
+                    runs,
+                    is_named: false,
+                    is_open: false,
+                })?;
+                self.processes.len().saturating_sub(1)
+            }
+        };
+        let Some(last) = self.processes.get_mut(index) else {
+            return Ok(());
+        };
+        let before = *last;
+        let is_same = before.is_open && before.view.standing == view.standing && before.runs == runs;
+        *last = TracedProcess {
+            who,
+            view,
+            runs,
+            is_named: true,
+            is_open: true,
+        };
+        if !before.is_named {
+            let name = name_of(self.alloc, pieces, who)?;
+            self.events.name_thread(process_track(who), name.as_str())?;
+        }
+        if !before.is_open || before.view.current_priority != view.current_priority {
+            let name = format!(in self.alloc; "priority of process {}", who.proc.number())?;
+            let values = [("priority", u64::from(view.current_priority))];
+            self.events.count(process_of(who.part), self.place, name.as_str(), &values)?;
+        }
+        if is_same {
+            return Ok(());
+        }
+        if before.is_open {
+            self.events.end_slice(process_track(who), self.place)?;
+        }
+        self.begin_state(who, &view, runs)
+    }
+
+    fn begin_state(
+        &mut self,
+        who: Who,
+        view: &ProcessView,
+        runs: bool,
+    ) -> Result<(), AllocError> {
+        let name = state_name(self.alloc, view, runs)?;
+        let due = due_text(self.alloc, view)?;
+        let time = self.time_of(view.affinity);
+        self.events.begin_slice(
+            process_track(who),
+            self.place,
+            name.as_str(),
+            time,
+            due.as_str(),
+        )
+    }
+
+    fn end_process(&mut self, who: Who) -> Result<(), AllocError> {
+        if let Some(traced) = self.processes.iter_mut().find(|traced| traced.who == who) {
+            if traced.is_open {
+                traced.is_open = false;
+                self.events.end_slice(process_track(who), self.place)?;
+            }
+        }
+        Ok(())
+    }
+
+    // Whether a core runs a process.
+    fn is_running(&self, who: Who, view: &ProcessView) -> bool {
+        view.standing == Standing::Ready
+            && self.cores.iter().any(|core| {
+                core.view.core == view.affinity && core.view.occupant == Some(who)
+            })
+    }
+
+    // Adds the processes that run now and did not, or did and do no longer.
+    fn renew_running(&mut self) -> Result<(), AllocError> {
+        for index in 0..self.processes.len() {
+            let Some(process) = self.processes.get(index) else {
+                return Ok(());
+            };
+            let TracedProcess {
+                who,
+                view,
+                runs: before,
+                is_open,
+                ..
+            } = *process;
+            let runs = self.is_running(who, &view);
+            if !is_open || runs == before {
+                continue;
+            }
+            if let Some(process) = self.processes.get_mut(index) {
+                process.runs = runs;
+            }
+            self.events.end_slice(process_track(who), self.place)?;
+            self.begin_state(who, &view, runs)?;
+        }
+        Ok(())
+    }
+
+    fn apply_thing(&mut self, pieces: &[Piece], key: ThingKey) -> Result<(), AllocError> {
+        let Some(view) = view_of(self.alloc, pieces, key)? else {
+            return Ok(());
+        };
+        let process = match key {
+            ThingKey::Object { part, .. } => process_of(part),
+            ThingKey::Channel(_) => CHANNELS,
+        };
+        let name = counter_name(self.alloc, key)?;
+        let waiting = usize::saturating_add(view.senders.len(), view.waiters.len());
+        let values = [counted(&view.contents), ("waiting", waiting as u64)];
+        self.events.count(process, self.place, name.as_str(), &values)
+    }
+}
+
+fn woken_by(ordered: &Ordered) -> &[Who] {
+    match &ordered.rec.body {
+        Body::Call(call) => call.claim.woken.as_slice(),
+        Body::Tick(woken) => woken.as_slice(),
+        Body::Ret(_) | Body::Disp(_) => &[],
+    }
+}
+
+// The track of what makes a record.
+fn actor_of(ordered: &Ordered) -> Track {
+    match &ordered.rec.body {
+        Body::Call(call) => process_track(call.who),
+        Body::Ret(ret) => process_track(ret.who),
+        Body::Disp(_) | Body::Tick(_) => core_track(ordered.core),
+    }
+}
+
+fn core_track(core: CoreId) -> Track {
+    Track {
+        process: CORES,
+        thread: u64::from(core.number()) + 1,
+    }
+}
+
+fn process_of(part: PartId) -> u64 {
+    FIRST_PARTITION + u64::from(part.number())
+}
+
+fn mode_track(part: PartId) -> Track {
+    Track {
+        process: process_of(part),
+        thread: MODE,
+    }
+}
+
+fn process_track(who: Who) -> Track {
+    Track {
+        process: process_of(who.part),
+        thread: FIRST_PROCESS + u64::from(who.proc.number()),
+    }
+}
+
+// The name of a process.
+fn name_of(alloc: Global, pieces: &[Piece], who: Who) -> Result<String, AllocError> {
+    let number = who.proc.number();
+    for piece in pieces {
+        if piece.subject() != Subject::Partition(who.part) {
+            continue;
+        }
+        if let Some(state) = piece.partition() {
+            if let Some(process) = state.processes().proc(who.proc) {
+                let name = process.name.as_bytes();
+                if !name.is_empty() {
+                    return format!(in alloc; "process {number} {}", Ascii(name));
+                }
+            }
+        }
+    }
+    format!(in alloc; "process {number}")
+}
