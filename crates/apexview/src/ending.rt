@@ -49,7 +49,9 @@ pub fn line_of(alloc: Global, ending: &Ending) -> Words {
         Ending::Checked(outcome) => say_report(&mut words, alloc, outcome),
         Ending::BadUsage => words.say("REFUSED usage"),
         Ending::Unopened => words.say("REFUSED open"),
-        Ending::BadRules(RulesFault::Memory) => words.say("REFUSED memory"),
+        Ending::BadRules(RulesFault::Memory) => {
+            say_report(&mut words, alloc, &Err(CheckFault::Memory));
+        }
         Ending::BadRules(RulesFault::File(fault)) => {
             words.say(format_args!("REFUSED rules fault={}", fault_name(*fault)));
         }

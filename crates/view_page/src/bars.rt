@@ -3,11 +3,12 @@
 use crate::look::Look;
 use std::alloc::{AllocError, Global};
 
-/// What a bar says: how it looks, its text, and more of it for whom the text is too short.
+/// What a bar says: how it looks, its text, a shorter one where there is no room for it, and a longer one for who points at the bar.
 #[derive(Debug, Drop, PartialEq, Eq)]
 pub struct Saying {
     pub look: Look,
     pub text: String,
+    pub brief: String,
     pub title: String,
 }
 

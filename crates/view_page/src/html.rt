@@ -77,7 +77,7 @@ const KEY: [(Look, &str); 10] = [
     (Look::Running, "runs on a core"),
     (Look::Raised, "runs with a priority above its own"),
     (Look::Ready, "ready"),
-    (Look::Preempted, "preempted: ready, and another process took its core"),
+    (Look::Preempted, "ready, and preempted: another process took its core"),
     (Look::Waiting, "waits"),
     (Look::Suspended, "suspended by another process"),
     (Look::Dormant, "dormant"),
@@ -111,6 +111,7 @@ const POINTS: &str = "<li><svg width=\"18\" height=\"18\" aria-hidden=\"true\"><
 <li><svg width=\"18\" height=\"18\" aria-hidden=\"true\"><g class=\"mark return\"><circle cx=\"9\" cy=\"9\" r=\"4\"/></g></svg>return</li>
 <li><svg width=\"18\" height=\"18\" aria-hidden=\"true\"><g class=\"mark dispatch\"><path d=\"M5,3l9,6l-9,6z\"/></g></svg>dispatch</li>
 <li><svg width=\"18\" height=\"18\" aria-hidden=\"true\"><g class=\"mark tick\"><line x1=\"9\" x2=\"9\" y1=\"2\" y2=\"16\"/></g></svg>tick of a core</li>
-<li><svg width=\"34\" height=\"18\" aria-hidden=\"true\"><g class=\"arrow wake\"><path d=\"M3,9L28,9\"/></g></svg>ends a wait</li>
-<li><svg width=\"34\" height=\"18\" aria-hidden=\"true\"><g class=\"arrow message\"><path d=\"M3,9L28,9\"/></g></svg>a message, from its sender to its receiver</li>
+<li><svg width=\"34\" height=\"18\" aria-hidden=\"true\"><g class=\"arrow wake\"><path class=\"way\" d=\"M3,9L28,9\"/></g></svg>ends a wait</li>
+<li><svg width=\"34\" height=\"18\" aria-hidden=\"true\"><g class=\"arrow message\"><path class=\"way\" d=\"M3,9L28,9\"/></g></svg>a message, from its sender to its receiver</li>
+<li><b>0:1</b> is process 1 of partition 0</li>
 ";

@@ -11,10 +11,14 @@ pub const LABELS: u64 = 186;
 
 /// The width of the columns of a strip at most, and what is free to their right.
 const COLUMNS: u64 = 938;
-pub const RIGHT: u64 = 56;
+pub const RIGHT: u64 = 96;
 
-/// The width of a record, of one that is rejected, and of one that is not judged.
+/// The width of a record in a picture of several strips. That of one strip is between the other two.
 const STEP: u64 = 26;
+const LEAST_STEP: u64 = 20;
+const GREATEST_STEP: u64 = 62;
+
+/// The width of a record that is rejected, and of one that is not judged.
 const WIDE_STEP: u64 = 168;
 const NARROW_STEP: u64 = 11;
 
@@ -41,11 +45,12 @@ pub struct Strip {
 /// The strips of a picture, of which the last is full.
 pub fn strips_of(picture: &Picture) -> Result<Vec<Strip>, AllocError> {
     let mut strips = Vec::new(picture.alloc);
+    let step = step_of(picture);
     let mut to = picture.columns.len();
     let mut width = 0u64;
     for index in 0..picture.columns.len() {
         let column = picture.columns.len() - 1 - index;
-        let more = width_of(picture.columns.get(column));
+        let more = width_of(picture.columns.get(column), step);
         if width.saturating_add(more) > COLUMNS {
             strips.push(Strip {
                 from: column.saturating_add(1),
@@ -61,12 +66,26 @@ pub fn strips_of(picture: &Picture) -> Result<Vec<Strip>, AllocError> {
     Ok(strips)
 }
 
-// The width of a column.
-fn width_of(column: Option<&Column>) -> u64 {
+// The width of a record, by how many there are.
+fn step_of(picture: &Picture) -> u64 {
+    let (mut count, mut width) = (0u64, 0u64);
+    for column in picture.columns.iter() {
+        match column.status {
+            Status::Accepted | Status::Broken => count = count.saturating_add(1),
+            Status::Rejected => width = width.saturating_add(WIDE_STEP),
+            Status::After => width = width.saturating_add(NARROW_STEP),
+        }
+    }
+    let step = COLUMNS.saturating_sub(width) / count.max(1);
+    if step < LEAST_STEP { STEP } else { step.min(GREATEST_STEP) }
+}
+
+// The width of a column, where that of a record is this.
+fn width_of(column: Option<&Column>, step: u64) -> u64 {
     match column {
         Some(column) => match column.status {
-            Status::Accepted => STEP,
-            Status::Broken => STEP,
+            Status::Accepted => step,
+            Status::Broken => step,
             Status::Rejected => WIDE_STEP,
             Status::After => NARROW_STEP,
         },
@@ -164,17 +183,18 @@ impl Layout {
 
 fn edges_of(picture: &Picture, strip: Strip) -> Result<Vec<u64>, AllocError> {
     let mut edges = Vec::new(picture.alloc);
+    let step = step_of(picture);
     let mut x = LABELS;
     edges.push(x)?;
     for column in strip.from..strip.to {
-        x = x.saturating_add(width_of(picture.columns.get(column)));
+        x = x.saturating_add(width_of(picture.columns.get(column), step));
         edges.push(x)?;
     }
     Ok(edges)
 }
 
 /// How many characters of a record's label are shown.
-pub const LONGEST_LABEL: usize = 28;
+pub const LONGEST_LABEL: usize = 30;
 
 // The height of the labels of the records, which rise at an angle.
 fn height_of_labels(picture: &Picture, strip: Strip) -> u64 {
@@ -186,7 +206,7 @@ fn height_of_labels(picture: &Picture, strip: Strip) -> u64 {
             }
         }
     }
-    (longest as u64).saturating_mul(5).saturating_add(22)
+    (longest as u64).saturating_mul(13).saturating_add(50) / 2
 }
 
 // The lanes of a strip, from this height on.

@@ -5,10 +5,11 @@ use crate::column::{Column, Source, Status};
 use crate::lane::{Lane, Mark, MarkKind};
 use crate::lane_key::LaneKey;
 use crate::process_bars::{
-    Hold, Short, mode_name, mode_saying, occupant_saying, process_saying, window_saying,
+    Hold, Short, mode_saying, occupant_saying, process_saying, window_saying,
 };
 use crate::thing_bars::{KeyName, thing_saying};
-use apex_types::{Body, Code, CoreId, ObjectKind, Ordered, Out, PartId, Who};
+use apex_machine::Mode;
+use apex_types::{Body, Code, CoreId, Ordered, Out, PartId, Who};
 use partition_state::restart_of;
 use piece_check::{Piece, Subject};
 use run_view::{
@@ -16,7 +17,7 @@ use run_view::{
 };
 use std::alloc::{AllocError, Global};
 use std::fmt::Display;
-use wording::{Ascii, Numbered, Occupant, Words, code_name, out_name, tell_record};
+use wording::{Ascii, Numbered, Words, code_name, out_name, tell_record};
 
 /// A stretch of a run as a picture.
 #[derive(Drop)]
@@ -143,7 +144,7 @@ impl Picture {
             match *change {
                 Change::Core(view) => self.apply_core(column, view, told)?,
                 Change::Mode(part, mode) => {
-                    let saying = mode_saying(self.alloc, part, mode)?;
+                    let saying = mode_saying(self.alloc, part, mode, false)?;
                     add_words(told, format_args!("{}", saying.title))?;
                     let lane = self.lane(LaneKey::Partition(part), "")?;
                     lane.bars.say(column, saying)?;
@@ -319,14 +320,27 @@ impl Picture {
             }
             Body::Call(call) => {
                 self.add_mark(LaneKey::Process(call.who), column, MarkKind::Call, words)?;
-                if let Some(mode) = restart_of(call) {
-                    let text = format!(in self.alloc; "restart: {}", mode_name(mode))?;
-                    let lane = LaneKey::Partition(call.who.part);
-                    self.add_mark(lane, column, MarkKind::Restart, text)?;
+                match restart_of(call) {
+                    Some(mode) => self.mark_restart(column, call.who.part, mode),
+                    None => Ok(()),
                 }
-                Ok(())
             }
         }
+    }
+
+    // Marks a restart of a partition in this mode.
+    fn mark_restart(
+        &mut self,
+        column: usize,
+        part: PartId,
+        mode: Mode,
+    ) -> Result<(), AllocError> {
+        let saying = mode_saying(self.alloc, part, mode, true)?;
+        let text = String::from_str(self.alloc, saying.text.as_str())?;
+        let lane = self.lane(LaneKey::Partition(part), "")?;
+        lane.bars.end(column);
+        lane.bars.say(column, saying)?;
+        self.add_mark(LaneKey::Partition(part), column, MarkKind::Restart, text)
     }
 
     fn add_mark(

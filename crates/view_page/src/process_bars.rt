@@ -7,7 +7,7 @@ use apex_types::{PartId, Who};
 use run_view::{CoreView, ProcessView, Standing};
 use std::alloc::{AllocError, Global};
 use std::fmt;
-use wording::{Ascii, Numbered, Set};
+use wording::{Numbered, Set};
 
 /// How a process that is ready stands to its core.
 #[derive(Clone, Copy, Debug, PartialEq, Eq)]
@@ -33,7 +33,7 @@ pub fn process_saying(
         Standing::Dormant => String::from_str(alloc, "dormant")?,
         Standing::Ready => match hold {
             Hold::Runs if current > base => format!(in alloc; "runs, raised to {current}")?,
-            Hold::Runs => String::from_str(alloc, "runs")?,
+            Hold::Runs => format!(in alloc; "runs, priority {current}")?,
             Hold::Lost => format!(in alloc; "preempted, priority {current}")?,
             Hold::Waits => format!(in alloc; "ready, priority {current}")?,
         },
@@ -42,10 +42,16 @@ pub fn process_saying(
         Standing::Suspended(wait) => format!(in alloc; "suspended, and {}", Waits(wait))?,
     };
     let title = format!(in alloc;
-        "{} {text}; priority {current}, its own is {base}; core {}{}",
-        Numbered(who), view.affinity.number(), Due(view)
+        "{} {text}; its priority is {current}, its own {base}; its core is {}",
+        Numbered(who), view.affinity.number()
     )?;
-    Ok(Saying { look, text, title })
+    let brief = String::from_str(alloc, brief_of(look))?;
+    Ok(Saying {
+        look,
+        text,
+        brief,
+        title,
+    })
 }
 
 fn look_of(view: &ProcessView, hold: Hold) -> Look {
@@ -62,16 +68,24 @@ fn look_of(view: &ProcessView, hold: Hold) -> Look {
     }
 }
 
-// The service from which a process has to return.
-#[derive(Clone, Copy)]
-struct Due<'a>(&'a ProcessView);
-
-impl fmt::Display for Due<'_> {
-    fn fmt<W: fmt::Write>(&self, f: &mut fmt::Formatter<W>) -> fmt::Result {
-        match self.0.due {
-            Some(service) => write!(f, "; its return from {} is due", Ascii(service.name())),
-            None => Ok(()),
-        }
+// The text of a look in a bar with little room; empty where the look alone is to say it.
+fn brief_of(look: Look) -> &'static str {
+    match look {
+        Look::Running => "runs",
+        Look::Raised => "raised",
+        Look::Ready => "ready",
+        Look::Preempted => "ready",
+        Look::Waiting => "waits",
+        Look::Window
+        | Look::NoWindow
+        | Look::Occupied
+        | Look::Idle
+        | Look::Normal
+        | Look::OtherMode
+        | Look::Suspended
+        | Look::Dormant
+        | Look::Free
+        | Look::Awaited => "",
     }
 }
 
@@ -102,11 +116,17 @@ pub fn occupant_saying(alloc: Global, view: &CoreView) -> Result<Saying, AllocEr
         None => Ok(Saying {
             look: Look::Idle,
             text: String::from_str(alloc, "idle")?,
+            brief: String::new(alloc),
             title: format!(in alloc; "core {core} is idle")?,
         }),
         Some(who) => Ok(Saying {
             look: Look::Occupied,
-            text: format!(in alloc; "{}", Short(who))?,
+            text: if view.window == Some(who.part) {
+                format!(in alloc; "process {}", who.proc.number())?
+            } else {
+                format!(in alloc; "{}", Numbered(who))?
+            },
+            brief: format!(in alloc; "{}", Short(who))?,
             title: format!(in alloc; "core {core} runs {}", Numbered(who))?,
         }),
     }
@@ -129,25 +149,38 @@ pub fn window_saying(alloc: Global, view: &CoreView) -> Result<Saying, AllocErro
         Some(part) => Ok(Saying {
             look: Look::Window,
             text: format!(in alloc; "window of partition {}", part.number())?,
+            brief: format!(in alloc; "P{}", part.number())?,
             title: format!(in alloc; "core {core} is in a window of partition {}", part.number())?,
         }),
         None => Ok(Saying {
             look: Look::NoWindow,
             text: String::from_str(alloc, "no window")?,
+            brief: String::new(alloc),
             title: format!(in alloc; "core {core} is in no window")?,
         }),
     }
 }
 
-/// What is said of the mode of a partition.
-pub fn mode_saying(alloc: Global, part: PartId, mode: Mode) -> Result<Saying, AllocError> {
+/// What is said of the mode of a partition, which may have been restarted in it.
+pub fn mode_saying(
+    alloc: Global,
+    part: PartId,
+    mode: Mode,
+    is_restart: bool,
+) -> Result<Saying, AllocError> {
     let name = mode_name(mode);
+    let text = if is_restart {
+        format!(in alloc; "restart: {name}")?
+    } else {
+        String::from_str(alloc, name)?
+    };
     Ok(Saying {
         look: match mode {
             Mode::Normal => Look::Normal,
             Mode::Idle | Mode::ColdStart | Mode::WarmStart => Look::OtherMode,
         },
-        text: String::from_str(alloc, name)?,
+        text,
+        brief: String::from_str(alloc, if is_restart { "restart" } else { "" })?,
         title: format!(in alloc; "partition {} is in the mode {name}", part.number())?,
     })
 }

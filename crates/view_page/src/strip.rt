@@ -1,7 +1,7 @@
 // A strip of a picture as SVG.
 
 use crate::arrow::{Arrow, ArrowEnd, ArrowKind};
-use crate::bars::Bar;
+use crate::bars::{Bar, Saying};
 use crate::column::{Column, Status};
 use crate::html::PageTexts;
 use crate::lane::{Lane, Mark, MarkKind};
@@ -16,8 +16,12 @@ use std::fmt::Display;
 /// The width of a character of a text, in pixels as all lengths here.
 const CHARACTER: u64 = 6;
 
-/// What is free on both sides of the text of a bar together.
-const INSIDE: u64 = 8;
+/// What is free on both sides of the text of a bar together, and left of it: there the mark of a record can be.
+const INSIDE: u64 = 12;
+const BEFORE_TEXT: u64 = 9;
+
+/// How many characters of a text are worth to be shown.
+const LEAST_ROOM: usize = 9;
 
 /// The height of a line of text below a picture.
 const TEXT_LINE: u64 = 17;
@@ -107,6 +111,7 @@ pub fn tell_strip(
     for arrow in picture.arrows.iter() {
         tell_arrow(out, picture, &layout, arrow)?;
     }
+    tell_frames(out, picture, &layout)?;
     out.mark("</svg>\n")?;
     Ok(y.saturating_add(layout.height))
 }
@@ -145,6 +150,31 @@ fn tell_grounds(out: &mut Markup, picture: &Picture, layout: &Layout) -> Result<
         };
         let (left, right) = (layout.left(column), layout.left(column.saturating_add(1)));
         tell_rect(out, class, left, layout.top, right, height)?;
+    }
+    Ok(())
+}
+
+// The frame round a record that is rejected or whose view breaks a rule, and what is said of those that are not judged.
+fn tell_frames(out: &mut Markup, picture: &Picture, layout: &Layout) -> Result<(), AllocError> {
+    let height = layout.bottom.saturating_sub(layout.top);
+    let mut is_said = false;
+    for column in layout.strip.from..layout.strip.to {
+        let Some(one) = picture.columns.get(column) else {
+            continue;
+        };
+        let (left, right) = (layout.left(column), layout.left(column.saturating_add(1)));
+        match one.status {
+            Status::Accepted => {}
+            Status::Rejected | Status::Broken => {
+                tell_rect(out, "frame", left, layout.top, right, height)?;
+            }
+            Status::After if !is_said => {
+                is_said = true;
+                let y = layout.foot_of_labels.saturating_add(11);
+                tell_text(out, "place", left.saturating_add(3), y, "not judged")?;
+            }
+            Status::After => {}
+        }
     }
     Ok(())
 }
@@ -349,15 +379,28 @@ fn tell_bar(
         tell_box(out, left, y, right, height)?;
         out.mark("/>")?;
     }
-    let room = right.saturating_sub(left).saturating_sub(INSIDE) / CHARACTER;
-    let text = bar.saying.text.as_str();
-    if room >= 2 {
+    let room = (right.saturating_sub(left).saturating_sub(INSIDE) / CHARACTER) as usize;
+    if let Some(text) = text_that_fits(&bar.saying, room) {
         let y = y.saturating_add(height / 2).saturating_add(4);
-        let x = left.saturating_add(INSIDE / 2);
+        let x = left.saturating_add(BEFORE_TEXT);
         let class = if height <= BAND { "said small" } else { "said" };
-        tell_text(out, class, x, y, Fitted(text, room as usize))?;
+        tell_text(out, class, x, y, Fitted(text, room))?;
     }
     out.mark("</g>\n")
+}
+
+// The text of a bar that has room for so many characters: its text, the shorter one, or the beginning of its text.
+fn text_that_fits(saying: &Saying, room: usize) -> Option<&str> {
+    let (text, brief) = (saying.text.as_str(), saying.brief.as_str());
+    if text.chars().count() <= room {
+        Some(text)
+    } else if room >= LEAST_ROOM {
+        Some(text)
+    } else if !brief.is_empty() && brief.chars().count() <= room {
+        Some(brief)
+    } else {
+        None
+    }
 }
 
 // From which place to which a bar goes.
@@ -470,9 +513,8 @@ fn tell_point_mark(
     match mark.kind {
         MarkKind::Tick => tell_line(out, x, row.y, row.y.saturating_add(row.height))?,
         MarkKind::Restart => {
-            tell_line(out, x, row.y.saturating_sub(3), layout.bottom)?;
-            let y = row.y.saturating_add(row.height / 2).saturating_add(4);
-            tell_text(out, "said", x.saturating_add(4), y, mark.text.as_str())?;
+            let bottom = foot_of_partition(picture, layout, row);
+            tell_line(out, x, row.y.saturating_sub(4), bottom)?;
         }
         MarkKind::Dispatch => {
             let middle = row.middle().saturating_add(7);
@@ -495,6 +537,23 @@ fn tell_point_mark(
     out.mark("</g>\n")
 }
 
+// Where the last lane of the partition of this lane ends.
+fn foot_of_partition(picture: &Picture, layout: &Layout, row: Row) -> u64 {
+    let part = match picture.lanes.get(row.lane) {
+        Some(lane) => lane.key.partition(),
+        None => None,
+    };
+    let mut foot = row.y.saturating_add(row.height);
+    for other in layout.rows.iter() {
+        if let Some(lane) = picture.lanes.get(other.lane) {
+            if lane.key.partition() == part {
+                foot = foot.max(other.y.saturating_add(other.height));
+            }
+        }
+    }
+    foot
+}
+
 fn point_class(kind: MarkKind) -> &'static str {
     match kind {
         MarkKind::Tick => "tick",
@@ -507,8 +566,15 @@ fn point_class(kind: MarkKind) -> &'static str {
     }
 }
 
+// A line from top to bottom, over a broader one in the colour of the paper.
 fn tell_line(out: &mut Markup, x: u64, top: u64, bottom: u64) -> Result<(), AllocError> {
+    out.mark("<line class=\"halo\" x1=\"")?;
+    tell_ends(out, x, top, bottom)?;
     out.mark("<line x1=\"")?;
+    tell_ends(out, x, top, bottom)
+}
+
+fn tell_ends(out: &mut Markup, x: u64, top: u64, bottom: u64) -> Result<(), AllocError> {
     out.say(x)?;
     out.mark("\" x2=\"")?;
     out.say(x)?;
@@ -552,22 +618,43 @@ fn tell_arrow(
         ": from place {} to place {}",
         arrow.from.place, arrow.to.place
     ))?;
-    out.mark("</title><path d=\"M")?;
-    let (top, bottom) = (from.middle(), to.middle());
-    match arrow.kind {
-        ArrowKind::Wake => out.say(format_args!(
-            "{},{top}L{},{bottom}",
-            left.saturating_add(5),
-            left.saturating_add(5)
-        ))?,
-        ArrowKind::Message => {
-            let middle = left.saturating_add(right) / 2;
-            out.say(format_args!(
-                "{left},{top}C{middle},{top} {middle},{bottom} {right},{bottom}"
-            ))?;
+    out.mark("</title><path class=\"halo\" d=\"")?;
+    let way = Way {
+        kind: arrow.kind,
+        from: (left, from.middle()),
+        to: (right, to.middle()),
+    };
+    out.say(way)?;
+    out.mark("\"/><path class=\"way\" d=\"")?;
+    out.say(way)?;
+    out.mark("\"/></g>\n")
+}
+
+// The way of an arrow, from one point to another.
+#[derive(Clone, Copy)]
+struct Way {
+    kind: ArrowKind,
+    from: (u64, u64),
+    to: (u64, u64),
+}
+
+impl Display for Way {
+    fn fmt<W: std::fmt::Write>(&self, f: &mut std::fmt::Formatter<W>) -> std::fmt::Result {
+        let ((left, top), (right, bottom)) = (self.from, self.to);
+        match self.kind {
+            ArrowKind::Wake => {
+                let x = left.saturating_add(5);
+                write!(f, "M{x},{top}L{x},{bottom}")
+            }
+            ArrowKind::Message => {
+                let middle = left.saturating_add(right) / 2;
+                write!(
+                    f,
+                    "M{left},{top}C{middle},{top} {middle},{bottom} {right},{bottom}"
+                )
+            }
         }
     }
-    out.mark("\"/></g>\n")
 }
 
 // Where an end of an arrow is, and whether it is in the strip: else it is at the nearer edge. None where it is further away.

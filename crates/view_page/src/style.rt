@@ -14,7 +14,8 @@ pub const STYLE: &str = "
 .strip .process .name, .strip .thing .name { font-weight: 400; }
 .strip .rejected .label, .strip .broken .label { fill: var(--fault); font-weight: 700; }
 .ground { fill: var(--ground); }
-.ground-rejected { fill: var(--fault); fill-opacity: .14; stroke: var(--fault); stroke-width: 2; }
+.ground-rejected { fill: var(--fault); fill-opacity: .14; }
+.frame { fill: none; stroke: var(--fault); stroke-width: 2; }
 .ground-after { fill: url(#after); }
 .hit { fill: transparent; }
 .record:hover .hit { fill: var(--soft); fill-opacity: .18; }
@@ -38,19 +39,21 @@ pub const STYLE: &str = "
 .bar.dormant .said { fill: var(--soft); }
 .free .fill { fill: #e9e4d8; }
 .awaited .fill { fill: #f6dca6; }
-.mark.tick line { stroke: var(--ink); stroke-width: 1.5; }
-.mark.dispatch path { fill: var(--ink); stroke: var(--paper); }
-.mark.call circle { fill: var(--ink); stroke: var(--paper); }
-.mark.return circle { fill: var(--paper); stroke: var(--ink); stroke-width: 1.5; }
+.mark.tick line { stroke: #000000; stroke-width: 1.5; }
+.mark.tick line.halo { stroke: #ffffff; stroke-width: 3.5; }
+.mark.dispatch path { fill: #000000; stroke: #ffffff; }
+.mark.call circle { fill: #000000; stroke: #ffffff; }
+.mark.return circle { fill: #ffffff; stroke: #000000; stroke-width: 1.5; }
 .mark.restart line { stroke: var(--fault); stroke-width: 2; stroke-dasharray: 6 3; }
-.mark.restart text { fill: #000000; font-weight: 700; }
+.mark.restart line.halo { stroke: var(--paper); stroke-width: 4; stroke-dasharray: none; }
 .mark.lawful rect { fill: var(--paper); stroke: var(--right); stroke-width: 2; stroke-dasharray: 5 3; }
 .mark.lawful text { fill: var(--right); font-weight: 700; }
 .mark.unlawful rect { fill: var(--paper); stroke: var(--fault); stroke-width: 2; }
 .mark.unlawful text { fill: var(--fault); font-weight: 700; }
 .arrow path { fill: none; stroke-width: 2; }
-.arrow.wake path { stroke: var(--right); marker-end: url(#wake-end); }
-.arrow.message path { stroke: var(--message); stroke-dasharray: 7 3; marker-end: url(#message-end); }
+.arrow .halo { stroke: var(--paper); stroke-width: 5; stroke-opacity: .85; }
+.arrow.wake .way { stroke: var(--right); marker-end: url(#wake-end); }
+.arrow.message .way { stroke: var(--message); stroke-dasharray: 7 3; marker-end: url(#message-end); }
 #wake-end path { fill: var(--right); }
 #message-end path { fill: var(--message); }
 #after rect { fill: var(--ground); }
@@ -80,12 +83,14 @@ pre { margin: 8px 0; padding: 10px 12px; border-left: 4px solid var(--fault); ba
 .strips { display: flex; flex-wrap: wrap; gap: 14px 18px; align-items: flex-start; }
 .piece { max-width: 100%; }
 .strip { display: block; max-width: 100%; height: auto; }
-.key { display: flex; flex-wrap: wrap; gap: 6px 16px; margin: 10px 0 0; padding: 0; list-style: none; font-size: 12px; }
+.key { display: flex; flex-wrap: wrap; gap: 6px 16px; margin: 10px 0 18px; padding: 0; list-style: none; font-size: 12px; }
 .key svg { vertical-align: -5px; margin-right: 5px; }
 table { border-collapse: collapse; font-size: 13px; }
 caption { text-align: left; font-weight: 600; padding: 4px 0; }
-th, td { border: 1px solid var(--line); padding: 3px 7px; text-align: left; vertical-align: top; overflow-wrap: anywhere; }
-th { background: var(--ground); }
+th, td { border: 1px solid var(--line); padding: 3px 7px; text-align: left; vertical-align: top; }
+td { overflow-wrap: anywhere; }
+td:nth-child(-n+3) { overflow-wrap: normal; text-align: right; }
+th { background: var(--ground); white-space: nowrap; }
 tr.rejected td, tr.broken td { background: color-mix(in srgb, var(--fault) 14%, transparent); font-weight: 600; }
 tr.after td { color: var(--soft); }
 .hidden { position: absolute; width: 0; height: 0; overflow: hidden; }

@@ -33,7 +33,13 @@ pub fn thing_saying(
         QueueInFull("to send", &view.senders),
         QueueInFull("here", &view.waiters)
     )?;
-    Ok(Saying { look, text, title })
+    let brief = format!(in alloc; "{}", Brief(&view.contents))?;
+    Ok(Saying {
+        look,
+        text,
+        brief,
+        title,
+    })
 }
 
 /// The name of an object or a channel.
@@ -96,6 +102,29 @@ impl fmt::Display for Held<'_> {
             Contents::Sampled {
                 written: Some((bytes, time)),
             } => write!(f, "{} of time {time}", Digits(bytes.as_slice())),
+        }
+    }
+}
+
+// What an object or a channel holds, in a few characters.
+#[derive(Clone, Copy)]
+struct Brief<'a>(&'a Contents);
+
+impl fmt::Display for Brief<'_> {
+    fn fmt<W: fmt::Write>(&self, f: &mut fmt::Formatter<W>) -> fmt::Result {
+        match self.0 {
+            Contents::Queue {
+                count, capacity, ..
+            } => write!(f, "{count}/{capacity}"),
+            Contents::Semaphore { value, .. } => write!(f, "{value}"),
+            Contents::Event { is_up: true } => write!(f, "up"),
+            Contents::Mutex {
+                owner: Some(owner), ..
+            } => write!(f, "{}", owner.number()),
+            Contents::Event { is_up: false }
+            | Contents::Mutex { owner: None, .. }
+            | Contents::Board { .. }
+            | Contents::Sampled { .. } => Ok(()),
         }
     }
 }
