@@ -3,7 +3,7 @@
 use crate::ending::Ending;
 use placement::{InputFault, PlacingFault};
 use report::CheckFault;
-use run_view::WalkFault;
+use run_walk::WalkFault;
 use sink::WriteFault;
 use std::alloc::{AllocError, AllocFailed};
 

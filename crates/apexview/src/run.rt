@@ -11,7 +11,7 @@ use module_config::Config;
 use placement::Placer;
 use report::{Verdict, Witness};
 use rules_file::NamedRule;
-use run_view::{Refusal, Walk, WalkFault};
+use run_walk::{Refusal, Walk, WalkFault};
 use sink::Sink;
 use std::alloc::Global;
 use std::fs::{File, Files};

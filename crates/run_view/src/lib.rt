@@ -13,7 +13,6 @@ mod message_links;
 mod process;
 mod thing;
 mod waiter;
-mod walk;
 
 pub use change::Change;
 pub use cores::{CoreView, core_view};
@@ -23,4 +22,3 @@ pub use message_links::{Followed, MessageLinks, Received, Sent};
 pub use process::{ProcessView, Standing, process_view};
 pub use thing::{Contents, ThingKey, ThingView, channel_view, thing_view, view_of};
 pub use waiter::{Waiter, waiters_of};
-pub use walk::{Refusal, Walk, WalkFault};

@@ -155,7 +155,7 @@ impl LinkedThing {
 
     // Another message is shown in the place of the one before, or none.
     fn show(&mut self, sent: Option<Sent>) -> Result<Followed, AllocError> {
-        let ended = self.held.pop_front().flatten();
+        let ended = known(self.held.pop_front());
         self.held.clear();
         if sent.is_some() {
             self.held.push_back(sent)?;
@@ -182,7 +182,7 @@ impl LinkedThing {
 
     // Takes the oldest message out. The message of a sender whose wait ends comes after the others.
     fn receive(&mut self, call: &Call) -> Result<Followed, AllocError> {
-        let oldest = self.held.pop_front().flatten();
+        let oldest = known(self.held.pop_front());
         for who in call.claim.woken.as_slice() {
             let index = self.waiting.iter().position(|sent| sent.who == *who);
             let sent = match index {
@@ -218,6 +218,14 @@ impl LinkedThing {
             self.held.pop_front();
         }
         Ok(())
+    }
+}
+
+// Where a message was sent, if there is one and that is known.
+fn known(sent: Option<Option<Sent>>) -> Option<Sent> {
+    match sent {
+        Some(sent) => sent,
+        None => None,
     }
 }
 

@@ -1,5 +1,7 @@
 // A picture as it grows, record by record.
 
+ghost use Rattle.std.specs.Prelude.{◌<◌, IfOk, length};
+
 use crate::arrow::{Arrow, ArrowEnd, ArrowKind};
 use crate::column::{Column, Source, Status};
 use crate::lane::{Lane, Mark, MarkKind};
@@ -474,17 +476,25 @@ impl Picture {
 
     // The lane of this key, which is added if there is none; the name is added to its label.
     fn lane(&mut self, key: LaneKey, name: &str) -> Result<&mut Lane, AllocError> {
-        let rank = key.rank();
-        let index = self.lanes.iter().filter(|lane| lane.key.rank() < rank).count();
-        let is_there = match self.lanes.get(index) {
-            Some(lane) => lane.key == key,
-            None => false,
-        };
-        if !is_there {
-            let label = label_of_lane(self.alloc, key, name)?;
-            self.lanes.insert(index, Lane::new(self.alloc, key, label))?;
-        }
+        let index = self.lane_index(key, name)?;
         Ok(&mut self.lanes[index])
+    }
+
+    // The index of that lane.
+    fn lane_index(&mut self, key: LaneKey, name: &str) -> Result<usize, AllocError>
+        ensures { IfOk result (λ index. index < length self.new.lanes.items) }
+    {
+        let rank = key.rank();
+        let before = self.lanes.iter().filter(|lane| lane.key.rank() < rank).count();
+        let index = before.min(self.lanes.len());
+        if let Some(lane) = self.lanes.get(index) {
+            if lane.key == key {
+                return Ok(index);
+            }
+        }
+        let label = label_of_lane(self.alloc, key, name)?;
+        self.lanes.insert(index, Lane::new(self.alloc, key, label))?;
+        Ok(index)
     }
 }
 

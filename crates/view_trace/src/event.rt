@@ -179,23 +179,33 @@ impl Events {
         self.add(&event)
     }
 
-    /// The values of a counter.
-    pub fn count(
+    /// The priority of a process, as a counter.
+    pub fn count_priority(
         &mut self,
         process: u64,
         place: u64,
         name: &str,
-        values: &[(&str, u64)],
+        priority: u64,
     ) -> Result<(), AllocError> {
-        let mut args = json!(in self.alloc; {})?;
-        if let Some(members) = args.as_object_mut() {
-            for (key, value) in values {
-                let key = String::from_str(self.alloc, key)?;
-                members.insert(key, Value::from(*value))?;
-            }
-        }
         let event = json!(in self.alloc; {
-            "name": name, "ph": "C", "pid": process, "tid": 0u64, "ts": place, "args": args
+            "name": name, "ph": "C", "pid": process, "tid": 0u64, "ts": place,
+            "args": {"priority": priority}
+        })?;
+        self.add(&event)
+    }
+
+    /// What an object or a channel holds, and how many wait there, as a counter.
+    pub fn count_held(
+        &mut self,
+        process: u64,
+        place: u64,
+        name: &str,
+        held: u64,
+        waiting: u64,
+    ) -> Result<(), AllocError> {
+        let event = json!(in self.alloc; {
+            "name": name, "ph": "C", "pid": process, "tid": 0u64, "ts": place,
+            "args": {"held": held, "waiting": waiting}
         })?;
         self.add(&event)
     }

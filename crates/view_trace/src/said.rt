@@ -76,14 +76,16 @@ pub fn counter_name(alloc: Global, key: ThingKey) -> Result<String, AllocError> 
     }
 }
 
-/// What is counted of what an object or a channel holds, and its name.
-pub fn counted(contents: &Contents) -> (&'static str, u64) {
+/// What an object or a channel holds, as a number: its messages, its value, 1 for an event that is up, or how often a mutex is
+/// acquired.
+pub fn held_number(contents: &Contents) -> u64 {
     match contents {
-        Contents::Queue { count, .. } => ("messages", *count as u64),
-        Contents::Board { shown } => ("messages", u64::from(shown.is_some())),
-        Contents::Semaphore { value, .. } => ("value", u64::from(*value)),
-        Contents::Event { is_up } => ("up", u64::from(*is_up)),
-        Contents::Mutex { count, .. } => ("acquired", *count),
-        Contents::Sampled { written } => ("messages", u64::from(written.is_some())),
+        Contents::Queue { count, .. } => *count as u64,
+        Contents::Board { shown: Some(_) } | Contents::Sampled { written: Some(_) } => 1,
+        Contents::Board { shown: None } | Contents::Sampled { written: None } => 0,
+        Contents::Semaphore { value, .. } => u64::from(*value),
+        Contents::Event { is_up: true } => 1,
+        Contents::Event { is_up: false } => 0,
+        Contents::Mutex { count, .. } => *count,
     }
 }

@@ -1,7 +1,7 @@
 // A run as a trace, record by record.
 
 use crate::event::{Events, FlowKind, Track};
-use crate::said::{counted, counter_name, due_text, mode_name, state_name};
+use crate::said::{counter_name, due_text, held_number, mode_name, state_name};
 use apex_machine::Mode;
 use apex_types::{Body, CoreId, Ordered, PartId, Who};
 use piece_check::{Piece, Subject};
@@ -205,7 +205,7 @@ impl Tracer {
             if !received.stays {
                 return self.end_message(number, track);
             }
-            if self.messages.contains(&number) {
+            if self.messages.as_slice().contains(&number) {
                 self.events.step_flow(FlowKind::Message, track, self.place, number)?;
             }
         }
@@ -331,8 +331,12 @@ impl Tracer {
         }
         if !before.is_open || before.view.current_priority != view.current_priority {
             let name = format!(in self.alloc; "priority of process {}", who.proc.number())?;
-            let values = [("priority", u64::from(view.current_priority))];
-            self.events.count(process_of(who.part), self.place, name.as_str(), &values)?;
+            self.events.count_priority(
+                process_of(who.part),
+                self.place,
+                name.as_str(),
+                u64::from(view.current_priority),
+            )?;
         }
         if is_same {
             return Ok(());
@@ -415,8 +419,13 @@ impl Tracer {
         };
         let name = counter_name(self.alloc, key)?;
         let waiting = usize::saturating_add(view.senders.len(), view.waiters.len());
-        let values = [counted(&view.contents), ("waiting", waiting as u64)];
-        self.events.count(process, self.place, name.as_str(), &values)
+        self.events.count_held(
+            process,
+            self.place,
+            name.as_str(),
+            held_number(&view.contents),
+            waiting as u64,
+        )
     }
 }
 
