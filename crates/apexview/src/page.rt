@@ -92,10 +92,15 @@ fn heading_of(
         (_, Some(at)) if ends_before => {
             format!(in alloc; "The records up to place {at}")
         }
-        (Verdict::Yes { records }, _) => format!(in alloc;
-            "A lawful recording of {}: the last of them",
-            Count(usize::try_from(*records).unwrap_or(usize::MAX), "record")
-        ),
+        (Verdict::Yes { records }, _) => {
+            let all = Count(usize::try_from(*records).unwrap_or(usize::MAX), "record");
+            let shown = stretch.kept.len();
+            if shown as u64 == *records {
+                format!(in alloc; "A lawful recording of {all}")
+            } else {
+                format!(in alloc; "The last {shown} of a lawful recording of {all}")
+            }
+        }
         (Verdict::No { pos, .. }, _) => {
             format!(in alloc; "The record at place {} is rejected", pos.number())
         }

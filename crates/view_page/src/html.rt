@@ -113,5 +113,5 @@ const POINTS: &str = "<li><svg width=\"18\" height=\"18\" aria-hidden=\"true\"><
 <li><svg width=\"18\" height=\"18\" aria-hidden=\"true\"><g class=\"mark tick\"><line x1=\"9\" x2=\"9\" y1=\"2\" y2=\"16\"/></g></svg>tick of a core</li>
 <li><svg width=\"34\" height=\"18\" aria-hidden=\"true\"><g class=\"arrow wake\"><path class=\"way\" d=\"M3,9L28,9\"/></g></svg>ends a wait</li>
 <li><svg width=\"34\" height=\"18\" aria-hidden=\"true\"><g class=\"arrow message\"><path class=\"way\" d=\"M3,9L28,9\"/></g></svg>a message, from its sender to its receiver</li>
-<li><b>0:1</b> is process 1 of partition 0</li>
+<li><code>0:1</code> is process 1 of partition 0</li>
 ";

@@ -21,6 +21,20 @@ pub enum MarkKind {
     Unlawful,
 }
 
+impl MarkKind {
+    /// Whether the mark has its text beside it, as those in the column of a rejected record.
+    pub fn is_box(self) -> bool {
+        match self {
+            MarkKind::Rejected | MarkKind::Lawful | MarkKind::Unlawful => true,
+            MarkKind::Tick
+            | MarkKind::Dispatch
+            | MarkKind::Call
+            | MarkKind::Return
+            | MarkKind::Restart => false,
+        }
+    }
+}
+
 /// A mark in a lane at a column, with its text.
 #[derive(Debug, Drop)]
 pub struct Mark {

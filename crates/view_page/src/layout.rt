@@ -29,6 +29,9 @@ const PLACES: u64 = 16;
 const GAP: u64 = 3;
 const GROUP_GAP: u64 = 7;
 
+/// The height of a mark with a text.
+const BOX: u64 = 19;
+
 /// What is free below the last lane.
 const BELOW: u64 = 8;
 
@@ -231,7 +234,7 @@ fn rows_of(
         if begins_group(lane.key) {
             y = y.saturating_add(GROUP_GAP);
         }
-        let height = height_of(lane.key);
+        let height = height_of(lane);
         rows.push(Row {
             lane: index,
             y,
@@ -262,11 +265,14 @@ fn begins_group(key: LaneKey) -> bool {
     }
 }
 
-fn height_of(key: LaneKey) -> u64 {
-    match key {
+// The height of a lane: that of its kind, or more where several marks with texts are in it.
+fn height_of(lane: &Lane) -> u64 {
+    let height = match lane.key {
         LaneKey::Core(_) => 40,
         LaneKey::Partition(_) => 18,
-        LaneKey::Process(_) => 24,
+        LaneKey::Process(_) => 26,
         LaneKey::Thing(_) => 20,
-    }
+    };
+    let boxes = lane.marks.iter().filter(|mark| mark.kind.is_box()).count() as u64;
+    boxes.saturating_mul(BOX).max(height)
 }

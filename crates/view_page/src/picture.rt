@@ -7,7 +7,8 @@ use crate::column::{Column, Source, Status};
 use crate::lane::{Lane, Mark, MarkKind};
 use crate::lane_key::LaneKey;
 use crate::process_bars::{
-    Hold, Short, mode_saying, occupant_saying, process_saying, window_saying,
+    Hold, Short, mode_saying, occupant_saying, process_saying, verb_of,
+    window_saying,
 };
 use crate::thing_bars::{KeyName, thing_saying};
 use apex_machine::Mode;
@@ -240,7 +241,8 @@ impl Picture {
         if is_affected {
             lane.concerned.push(column)?;
             let saying = process_saying(self.alloc, who, &view, Hold::Waits)?;
-            add_words(told, format_args!("{} {}", Numbered(who), saying.text))?;
+            let verb = verb_of(saying.look);
+            add_words(told, format_args!("{} {verb}{}", Numbered(who), saying.text))?;
             if view.current_priority != view.base_priority {
                 add_words(
                     told,

@@ -41,8 +41,9 @@ pub fn process_saying(
         Standing::Suspended(Wait::Nothing) => String::from_str(alloc, "suspended")?,
         Standing::Suspended(wait) => format!(in alloc; "suspended, and {}", Waits(wait))?,
     };
+    let verb = verb_of(look);
     let title = format!(in alloc;
-        "{} {text}; its priority is {current}, its own {base}; its core is {}",
+        "{} {verb}{text}; its own priority is {base}, and its core {}",
         Numbered(who), view.affinity.number()
     )?;
     let brief = String::from_str(alloc, brief_of(look))?;
@@ -65,6 +66,24 @@ fn look_of(view: &ProcessView, hold: Hold) -> Look {
             Hold::Lost => Look::Preempted,
             Hold::Waits => Look::Ready,
         },
+    }
+}
+
+/// What comes between the name of a process and what is said of it.
+pub fn verb_of(look: Look) -> &'static str {
+    match look {
+        Look::Ready | Look::Preempted | Look::Suspended | Look::Dormant => "is ",
+        Look::Running
+        | Look::Raised
+        | Look::Waiting
+        | Look::Window
+        | Look::NoWindow
+        | Look::Occupied
+        | Look::Idle
+        | Look::Normal
+        | Look::OtherMode
+        | Look::Free
+        | Look::Awaited => "",
     }
 }
 

@@ -26,6 +26,9 @@ const LEAST_ROOM: usize = 9;
 /// The height of a line of text below a picture.
 const TEXT_LINE: u64 = 17;
 
+/// The height of a bar whose text is in the middle: that of a higher one is above, since marks are below it.
+const TALL: u64 = 19;
+
 /// The height of the band of a core's windows.
 const BAND: u64 = 14;
 
@@ -381,7 +384,7 @@ fn tell_bar(
     }
     let room = (right.saturating_sub(left).saturating_sub(INSIDE) / CHARACTER) as usize;
     if let Some(text) = text_that_fits(&bar.saying, room) {
-        let y = y.saturating_add(height / 2).saturating_add(4);
+        let y = y.saturating_add(height.min(TALL) / 2).saturating_add(4);
         let x = left.saturating_add(BEFORE_TEXT);
         let class = if height <= BAND { "said small" } else { "said" };
         tell_text(out, class, x, y, Fitted(text, room))?;
@@ -427,12 +430,12 @@ fn tell_marks(
     lane: &Lane,
 ) -> Result<(), AllocError> {
     let mut line = 0u64;
-    let boxes = lane.marks.iter().filter(|mark| is_box(mark.kind)).count() as u64;
+    let boxes = lane.marks.iter().filter(|mark| mark.kind.is_box()).count() as u64;
     for mark in lane.marks.iter() {
         if !layout.has(mark.column) {
             continue;
         }
-        if is_box(mark.kind) {
+        if mark.kind.is_box() {
             let height = row.height / boxes.max(1);
             let y = row.y.saturating_add(height.saturating_mul(line));
             tell_box_mark(out, layout, mark, y, height)?;
@@ -442,17 +445,6 @@ fn tell_marks(
         }
     }
     Ok(())
-}
-
-fn is_box(kind: MarkKind) -> bool {
-    match kind {
-        MarkKind::Rejected | MarkKind::Lawful | MarkKind::Unlawful => true,
-        MarkKind::Tick
-        | MarkKind::Dispatch
-        | MarkKind::Call
-        | MarkKind::Return
-        | MarkKind::Restart => false,
-    }
 }
 
 // A mark with its text in the column of the record that is rejected.
@@ -527,10 +519,10 @@ fn tell_point_mark(
         | MarkKind::Rejected
         | MarkKind::Lawful
         | MarkKind::Unlawful => {
-            out.mark("<circle r=\"4\" cx=\"")?;
+            out.mark("<circle r=\"3.5\" cx=\"")?;
             out.say(x)?;
             out.mark("\" cy=\"")?;
-            out.say(row.middle())?;
+            out.say(row.y.saturating_add(row.height).saturating_sub(5))?;
             out.mark("\"/>")?;
         }
     }
