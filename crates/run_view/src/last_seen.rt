@@ -4,7 +4,7 @@ use crate::change::Change;
 use crate::cores::{CoreView, core_view};
 use crate::process::{ProcessView, process_view};
 use crate::thing::{ThingKey, ThingView, channel_view, thing_view};
-use apex_machine::Mode;
+use apex_machine::{Mode, Process};
 use apex_types::{CoreId, ObjectKind, Ordered, PartId, ProcId, Who};
 use channel::Channel;
 use dispatch_rule::Clock;
@@ -205,22 +205,20 @@ fn look_at_processes(
         let Some((number, process)) = table.at(index) else {
             break;
         };
-        let (number, view) = (*number, process_view(process));
         count = index.saturating_add(1);
-        let now = SeenProcess { number, view };
         match seen.get_mut(index) {
             Some(last) => {
-                if *last == now {
+                if last.number == *number && last.view == process_view(process) {
                     continue;
                 }
-                if last.number != number {
+                if last.number != *number {
                     changes.push(Change::Ended(who_of(part, last.number)))?;
                 }
-                *last = now;
+                *last = seen_process(*number, process);
             }
-            None => seen.push(now)?,
+            None => seen.push(seen_process(*number, process))?,
         }
-        changes.push(Change::Process(who_of(part, number), view))?;
+        changes.push(Change::Process(who_of(part, *number), process_view(process)))?;
     }
     for _ in count..seen.len() {
         if let Some(last) = seen.pop() {
@@ -228,6 +226,13 @@ fn look_at_processes(
         }
     }
     Ok(())
+}
+
+fn seen_process(number: ProcId, process: &Process) -> SeenProcess {
+    SeenProcess {
+        number,
+        view: process_view(process),
+    }
 }
 
 fn who_of(part: PartId, proc: ProcId) -> Who {

@@ -6,7 +6,7 @@ use module_config::Config;
 use partition_state::PartitionState;
 use piece_check::{Piece, Subject};
 use std::alloc::{AllocError, Global};
-use wait_set::Given;
+use wait_set::{Given, WaitSet};
 
 /// What would have been lawful, or what is not, as far as a picture can show it.
 #[derive(Clone, Copy, Debug, PartialEq, Eq)]
@@ -189,37 +189,84 @@ fn compare(
     cause: Cause,
     found: &mut Vec<Lawful>,
 ) -> Result<(), AllocError> {
-    let named = call.claim.woken.as_slice();
-    if cause == Cause::Out {
-        found.push(Lawful::Gets(call.who, given.out))?;
+    match cause {
+        Cause::Out => {
+            found.push(Lawful::Gets(call.who, given.out))?;
+            Ok(())
+        }
+        Cause::Woken => {
+            let named = call.claim.woken.as_slice();
+            add_missing(given, named, found)?;
+            add_others(given, named, found)
+        }
+        Cause::Names
+        | Cause::Skew
+        | Cause::Idle
+        | Cause::Window
+        | Cause::Choice
+        | Cause::Return
+        | Cause::OutsideProfile
+        | Cause::Prio
+        | Cause::Chan
+        | Cause::Val
+        | Cause::Data => Ok(()),
     }
-    if cause != Cause::Woken {
-        return Ok(());
-    }
+}
+
+// Adds those whose waits a call ends and who are not named.
+fn add_missing(
+    given: &Given<'_>,
+    named: &[Who],
+    found: &mut Vec<Lawful>,
+) -> Result<(), AllocError> {
     if let Some(who) = given.woken {
         if !named.contains(&who) {
             found.push(Lawful::Wakes(who))?;
         }
     }
-    if let Some(set) = given.woken_all {
-        let mut left = set.clone()?;
-        for _ in 0..set.len() {
-            if let Some(entry) = left.take_first() {
-                if !named.contains(&entry.who) {
-                    found.push(Lawful::Wakes(entry.who))?;
-                }
-            }
+    match given.woken_all {
+        Some(set) => add_missing_of(set, named, found),
+        None => Ok(()),
+    }
+}
+
+// Adds those who wait in a set and are not named.
+fn add_missing_of(
+    set: &WaitSet,
+    named: &[Who],
+    found: &mut Vec<Lawful>,
+) -> Result<(), AllocError> {
+    let mut left = set.clone()?;
+    for _ in 0..set.len() {
+        let Some(entry) = left.take_first() else {
+            return Ok(());
+        };
+        if !named.contains(&entry.who) {
+            found.push(Lawful::Wakes(entry.who))?;
         }
     }
+    Ok(())
+}
+
+// Adds those who are named and whose waits the call does not end.
+fn add_others(
+    given: &Given<'_>,
+    named: &[Who],
+    found: &mut Vec<Lawful>,
+) -> Result<(), AllocError> {
     for who in named {
-        let is_given = given.woken == Some(*who)
-            || match given.woken_all {
-                Some(set) => set.has(*who),
-                None => false,
-            };
-        if !is_given {
+        if !is_given(given, who) {
             found.push(Lawful::Sleeps(*who))?;
         }
     }
     Ok(())
+}
+
+// Whether a call ends the wait of this process.
+fn is_given(given: &Given<'_>, who: &Who) -> bool {
+    given.woken == Some(*who)
+        || match given.woken_all {
+            Some(set) => set.has(*who),
+            None => false,
+        }
 }

@@ -92,8 +92,8 @@ impl MessageLinks {
             place: ordered.pos,
             who: call.who,
         };
-        let view = view_of(self.alloc, pieces, key)?;
-        let Some(thing) = self.thing(key)? else {
+        let view = view_of(self.alloc, pieces, &key)?;
+        let Some(thing) = self.thing(&key)? else {
             return Ok(NOTHING);
         };
         let followed = match (used, call.claim.out) {
@@ -110,15 +110,15 @@ impl MessageLinks {
     }
 
     // What is known of an object or a channel; a new one holds nothing that is known.
-    fn thing(&mut self, key: ThingKey) -> Result<Option<&mut LinkedThing>, AllocError> {
-        if !self.things.iter().any(|thing| thing.key == key) {
+    fn thing(&mut self, key: &ThingKey) -> Result<Option<&mut LinkedThing>, AllocError> {
+        if !self.things.iter().any(|thing| thing.key == *key) {
             self.things.push(LinkedThing {
-                key,
+                key: *key,
                 held: VecDeque::new(self.alloc),
                 waiting: Vec::new(self.alloc),
             })?;
         }
-        Ok(self.things.iter_mut().find(|thing| thing.key == key))
+        Ok(self.things.iter_mut().find(|thing| thing.key == *key))
     }
 }
 

@@ -77,24 +77,36 @@ pub fn thing_view(
 pub fn view_of(
     alloc: Global,
     pieces: &[Piece],
-    key: ThingKey,
+    key: &ThingKey,
 ) -> Result<Option<ThingView>, AllocError> {
-    let subject = match key {
-        ThingKey::Object { part, .. } => Subject::Partition(part),
-        ThingKey::Channel(channel) => Subject::Channel(channel),
-    };
     for piece in pieces {
-        if piece.subject() != subject {
-            continue;
-        }
-        if let (ThingKey::Object { kind, number, .. }, Some(state)) = (key, piece.partition()) {
-            return thing_view(alloc, state, kind, number);
-        }
-        if let Some(channel) = piece.channel() {
-            return Ok(Some(channel_view(alloc, channel)?));
+        let is_found = match key {
+            ThingKey::Object { part, .. } => piece.subject() == Subject::Partition(*part),
+            ThingKey::Channel(channel) => piece.subject() == Subject::Channel(*channel),
+        };
+        if is_found {
+            return view_in(alloc, piece, key);
         }
     }
     Ok(None)
+}
+
+// What an object or a channel holds, which is this piece or in it.
+fn view_in(
+    alloc: Global,
+    piece: &Piece,
+    key: &ThingKey,
+) -> Result<Option<ThingView>, AllocError> {
+    match key {
+        ThingKey::Object { kind, number, .. } => match piece.partition() {
+            Some(state) => thing_view(alloc, state, *kind, *number),
+            None => Ok(None),
+        },
+        ThingKey::Channel(_) => match piece.channel() {
+            Some(channel) => Ok(Some(channel_view(alloc, channel)?)),
+            None => Ok(None),
+        },
+    }
 }
 
 fn buffer_view(

@@ -263,7 +263,7 @@ impl Picture {
         key: ThingKey,
         told: &mut String,
     ) -> Result<(), AllocError> {
-        let Some(view) = view_of(self.alloc, pieces, key)? else {
+        let Some(view) = view_of(self.alloc, pieces, &key)? else {
             return Ok(());
         };
         let saying = thing_saying(self.alloc, key, &view)?;

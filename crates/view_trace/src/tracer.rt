@@ -410,7 +410,7 @@ impl Tracer {
     }
 
     fn apply_thing(&mut self, pieces: &[Piece], key: ThingKey) -> Result<(), AllocError> {
-        let Some(view) = view_of(self.alloc, pieces, key)? else {
+        let Some(view) = view_of(self.alloc, pieces, &key)? else {
             return Ok(());
         };
         let process = match key {
