@@ -27,7 +27,7 @@ const CHANNELS: u32 = 1000;
 
 impl LaneKey {
     /// Where the lane is among the others.
-    pub fn rank(self) -> LaneRank {
+    pub fn rank(&self) -> LaneRank {
         match self {
             LaneKey::Core(core) => LaneRank {
                 group: CORES,
@@ -35,7 +35,7 @@ impl LaneKey {
                 number: u32::from(core.number()),
             },
             LaneKey::Partition(part) => LaneRank {
-                group: group_of(part),
+                group: group_of(*part),
                 class: 0,
                 number: 0,
             },
@@ -45,9 +45,9 @@ impl LaneKey {
                 number: who.proc.number(),
             },
             LaneKey::Thing(ThingKey::Object { part, kind, number }) => LaneRank {
-                group: group_of(part),
-                class: class_of(kind),
-                number,
+                group: group_of(*part),
+                class: class_of(*kind),
+                number: *number,
             },
             LaneKey::Thing(ThingKey::Channel(channel)) => LaneRank {
                 group: CHANNELS,
@@ -58,10 +58,12 @@ impl LaneKey {
     }
 
     /// The partition that the lane belongs to, if it does.
-    pub fn partition(self) -> Option<PartId> {
+    pub fn partition(&self) -> Option<PartId> {
         match self {
             LaneKey::Core(_) | LaneKey::Thing(ThingKey::Channel(_)) => None,
-            LaneKey::Partition(part) | LaneKey::Thing(ThingKey::Object { part, .. }) => Some(part),
+            LaneKey::Partition(part) | LaneKey::Thing(ThingKey::Object { part, .. }) => {
+                Some(*part)
+            }
             LaneKey::Process(who) => Some(who.part),
         }
     }

@@ -172,10 +172,10 @@ impl Layout {
     }
 
     /// The row of the lane of this key, if the strip shows it.
-    pub fn row(&self, picture: &Picture, key: LaneKey) -> Option<Row> {
+    pub fn row(&self, picture: &Picture, key: &LaneKey) -> Option<Row> {
         for row in self.rows.iter() {
             if let Some(lane) = picture.lanes.get(row.lane) {
-                if lane.key == key {
+                if lane.key == *key {
                     return Some(*row);
                 }
             }
@@ -231,7 +231,7 @@ fn rows_of(
         if !is_shown(picture, lane, chosen) {
             continue;
         }
-        if begins_group(lane.key) {
+        if begins_group(&lane.key) {
             y = y.saturating_add(GROUP_GAP);
         }
         let height = height_of(lane);
@@ -258,7 +258,7 @@ fn is_shown(picture: &Picture, lane: &Lane, strip: Strip) -> bool {
 }
 
 // Whether more is free above a lane.
-fn begins_group(key: LaneKey) -> bool {
+fn begins_group(key: &LaneKey) -> bool {
     match key {
         LaneKey::Partition(_) => true,
         LaneKey::Core(_) | LaneKey::Process(_) | LaneKey::Thing(_) => false,

@@ -6,16 +6,21 @@
 
 mod arrow;
 mod bars;
+mod changes;
 mod column;
 mod html;
+mod labels;
 mod lane;
 mod lane_key;
 mod layout;
 mod look;
 mod markup;
+mod marks;
 mod picture;
 mod process_bars;
+mod shapes;
 mod strip;
+mod strip_marks;
 mod style;
 mod table;
 mod thing_bars;

@@ -23,7 +23,7 @@ pub enum Hold {
 /// What is said of a process.
 pub fn process_saying(
     alloc: Global,
-    who: Who,
+    who: &Who,
     view: &ProcessView,
     hold: Hold,
 ) -> Result<Saying, AllocError> {
@@ -44,7 +44,7 @@ pub fn process_saying(
     let verb = verb_of(look);
     let title = format!(in alloc;
         "{} {verb}{text}; its own priority is {base}, and its core {}",
-        Numbered(who), view.affinity.number()
+        Numbered(*who), view.affinity.number()
     )?;
     let brief = String::from_str(alloc, brief_of(look))?;
     Ok(Saying {
@@ -131,7 +131,7 @@ impl fmt::Display for Waits {
 /// What is said of the occupant of a core.
 pub fn occupant_saying(alloc: Global, view: &CoreView) -> Result<Saying, AllocError> {
     let core = view.core.number();
-    match view.occupant {
+    match &view.occupant {
         None => Ok(Saying {
             look: Look::Idle,
             text: String::from_str(alloc, "idle")?,
@@ -143,10 +143,10 @@ pub fn occupant_saying(alloc: Global, view: &CoreView) -> Result<Saying, AllocEr
             text: if view.window == Some(who.part) {
                 format!(in alloc; "process {}", who.proc.number())?
             } else {
-                format!(in alloc; "{}", Numbered(who))?
+                format!(in alloc; "{}", Numbered(*who))?
             },
-            brief: format!(in alloc; "{}", Short(who))?,
-            title: format!(in alloc; "core {core} runs {}", Numbered(who))?,
+            brief: format!(in alloc; "{}", Short(*who))?,
+            title: format!(in alloc; "core {core} runs {}", Numbered(*who))?,
         }),
     }
 }
@@ -164,7 +164,7 @@ impl fmt::Display for Short {
 /// What is said of the window of a core.
 pub fn window_saying(alloc: Global, view: &CoreView) -> Result<Saying, AllocError> {
     let core = view.core.number();
-    match view.window {
+    match &view.window {
         Some(part) => Ok(Saying {
             look: Look::Window,
             text: format!(in alloc; "window of partition {}", part.number())?,

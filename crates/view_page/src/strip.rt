@@ -1,24 +1,18 @@
 // A strip of a picture as SVG.
 
-use crate::arrow::{Arrow, ArrowEnd, ArrowKind};
 use crate::bars::{Bar, Saying};
 use crate::column::{Column, Status};
 use crate::html::PageTexts;
-use crate::lane::{Lane, Mark, MarkKind};
+use crate::lane::Lane;
 use crate::lane_key::LaneKey;
 use crate::layout::{LABELS, LONGEST_LABEL, Layout, Row, Strip};
 use crate::markup::Markup;
 use crate::picture::Picture;
+use crate::shapes::{BEFORE_TEXT, CHARACTER, Fitted, INSIDE, tell_box, tell_rect, tell_text};
+use crate::strip_marks::{tell_arrow, tell_marks};
 use crate::style::{DEFINITIONS, STYLE};
+use run_view::ThingKey;
 use std::alloc::AllocError;
-use std::fmt::Display;
-
-/// The width of a character of a text, in pixels as all lengths here.
-const CHARACTER: u64 = 6;
-
-/// What is free on both sides of the text of a bar together, and left of it: there the mark of a record can be.
-const INSIDE: u64 = 12;
-const BEFORE_TEXT: u64 = 9;
 
 /// How many characters of a text are worth to be shown.
 const LEAST_ROOM: usize = 9;
@@ -182,60 +176,6 @@ fn tell_frames(out: &mut Markup, picture: &Picture, layout: &Layout) -> Result<(
     Ok(())
 }
 
-// A rectangle of this class from one edge to another.
-fn tell_rect(
-    out: &mut Markup,
-    class: &'static str,
-    left: u64,
-    y: u64,
-    right: u64,
-    height: u64,
-) -> Result<(), AllocError> {
-    out.mark("<rect class=\"")?;
-    out.mark(class)?;
-    out.mark("\"")?;
-    tell_box(out, left, y, right, height)?;
-    out.mark("/>\n")
-}
-
-// Where a rectangle is.
-fn tell_box(
-    out: &mut Markup,
-    left: u64,
-    y: u64,
-    right: u64,
-    height: u64,
-) -> Result<(), AllocError> {
-    out.mark(" x=\"")?;
-    out.say(left)?;
-    out.mark("\" y=\"")?;
-    out.say(y)?;
-    out.mark("\" width=\"")?;
-    out.say(right.saturating_sub(left))?;
-    out.mark("\" height=\"")?;
-    out.say(height)?;
-    out.mark("\"")
-}
-
-// A text of this class, which begins at this point.
-fn tell_text(
-    out: &mut Markup,
-    class: &'static str,
-    x: u64,
-    y: u64,
-    text: impl Display + Drop,
-) -> Result<(), AllocError> {
-    out.mark("<text class=\"")?;
-    out.mark(class)?;
-    out.mark("\" x=\"")?;
-    out.say(x)?;
-    out.mark("\" y=\"")?;
-    out.say(y)?;
-    out.mark("\">")?;
-    out.say(text)?;
-    out.mark("</text>\n")
-}
-
 // The label of a record, its place, and what it says for who points at it.
 fn tell_column(
     out: &mut Markup,
@@ -312,13 +252,12 @@ fn tell_lane(
     lane: &Lane,
 ) -> Result<(), AllocError> {
     out.mark("<g class=\"lane ")?;
-    out.mark(lane_class(lane.key))?;
+    out.mark(lane_class(&lane.key))?;
     out.mark("\">\n")?;
-    let is_core = matches!(lane.key, LaneKey::Core(_));
-    let x = match lane.key {
-        LaneKey::Process(_) => 18,
-        LaneKey::Thing(_) if lane.key.partition().is_some() => 18,
-        _ => 6,
+    let is_core = matches!(&lane.key, LaneKey::Core(_));
+    let x = match &lane.key {
+        LaneKey::Process(_) | LaneKey::Thing(ThingKey::Object { .. }) => 18,
+        LaneKey::Core(_) | LaneKey::Partition(_) | LaneKey::Thing(ThingKey::Channel(_)) => 6,
     };
     let most = ((LABELS - 20) / CHARACTER) as usize;
     tell_text(
@@ -326,7 +265,7 @@ fn tell_lane(
         "name",
         x,
         row.middle().saturating_add(4),
-        Fitted(lane.label.trim_start(), most),
+        Fitted(lane.label.as_str(), most),
     )?;
     let (y, height) = if is_core {
         for bar in lane.windows.as_slice() {
@@ -343,7 +282,7 @@ fn tell_lane(
     out.mark("</g>\n")
 }
 
-fn lane_class(key: LaneKey) -> &'static str {
+fn lane_class(key: &LaneKey) -> &'static str {
     match key {
         LaneKey::Core(_) => "core",
         LaneKey::Partition(_) => "partition",
@@ -418,262 +357,5 @@ fn tell_stretch(out: &mut Markup, picture: &Picture, bar: &Bar) -> Result<(), Al
     match picture.columns.get(bar.to) {
         Some(column) => out.say(format_args!(", up to place {}", column.place.number())),
         None => out.mark(", to the end of the picture"),
-    }
-}
-
-// The marks of a lane in the strip.
-fn tell_marks(
-    out: &mut Markup,
-    picture: &Picture,
-    layout: &Layout,
-    row: Row,
-    lane: &Lane,
-) -> Result<(), AllocError> {
-    let mut line = 0u64;
-    let boxes = lane.marks.iter().filter(|mark| mark.kind.is_box()).count() as u64;
-    for mark in lane.marks.iter() {
-        if !layout.has(mark.column) {
-            continue;
-        }
-        if mark.kind.is_box() {
-            let height = row.height / boxes.max(1);
-            let y = row.y.saturating_add(height.saturating_mul(line));
-            tell_box_mark(out, layout, mark, y, height)?;
-            line = line.saturating_add(1);
-        } else {
-            tell_point_mark(out, picture, layout, mark, row)?;
-        }
-    }
-    Ok(())
-}
-
-// A mark with its text in the column of the record that is rejected.
-fn tell_box_mark(
-    out: &mut Markup,
-    layout: &Layout,
-    mark: &Mark,
-    y: u64,
-    height: u64,
-) -> Result<(), AllocError> {
-    let (class, sign) = match mark.kind {
-        MarkKind::Lawful => ("mark lawful", "✓ "),
-        MarkKind::Rejected
-        | MarkKind::Unlawful
-        | MarkKind::Tick
-        | MarkKind::Dispatch
-        | MarkKind::Call
-        | MarkKind::Return
-        | MarkKind::Restart => ("mark unlawful", "✗ "),
-    };
-    let (left, right) = (
-        layout.left(mark.column).saturating_add(3),
-        layout.left(mark.column.saturating_add(1)).saturating_sub(3),
-    );
-    out.mark("<g class=\"")?;
-    out.mark(class)?;
-    out.mark("\"><rect")?;
-    tell_box(out, left, y.saturating_add(1), right, height.saturating_sub(2))?;
-    out.mark("/><text class=\"said\" x=\"")?;
-    out.say(left.saturating_add(4))?;
-    out.mark("\" y=\"")?;
-    out.say(y.saturating_add(height / 2).saturating_add(4))?;
-    out.mark("\">")?;
-    out.mark(sign)?;
-    let room = right.saturating_sub(left).saturating_sub(INSIDE) / CHARACTER;
-    out.say(Fitted(mark.text.as_str(), (room as usize).saturating_sub(2)))?;
-    out.mark("</text></g>\n")
-}
-
-// A mark at the left edge of a record.
-fn tell_point_mark(
-    out: &mut Markup,
-    picture: &Picture,
-    layout: &Layout,
-    mark: &Mark,
-    row: Row,
-) -> Result<(), AllocError> {
-    let x = layout.left(mark.column);
-    out.mark("<g class=\"mark ")?;
-    out.mark(point_class(mark.kind))?;
-    out.mark("\"><title>")?;
-    out.say(mark.text.as_str())?;
-    if let Some(column) = picture.columns.get(mark.column) {
-        out.mark("\n")?;
-        out.say(column.source.as_str())?;
-    }
-    out.mark("</title>")?;
-    match mark.kind {
-        MarkKind::Tick => tell_line(out, x, row.y, row.y.saturating_add(row.height))?,
-        MarkKind::Restart => {
-            let bottom = foot_of_partition(picture, layout, row);
-            tell_line(out, x, row.y.saturating_sub(4), bottom)?;
-        }
-        MarkKind::Dispatch => {
-            let middle = row.middle().saturating_add(7);
-            out.mark("<path d=\"M")?;
-            out.say(format_args!("{x},{}", middle.saturating_sub(6)))?;
-            out.mark("l9,6l-9,6z\"/>")?;
-        }
-        MarkKind::Call
-        | MarkKind::Return
-        | MarkKind::Rejected
-        | MarkKind::Lawful
-        | MarkKind::Unlawful => {
-            out.mark("<circle r=\"3.5\" cx=\"")?;
-            out.say(x)?;
-            out.mark("\" cy=\"")?;
-            out.say(row.y.saturating_add(row.height).saturating_sub(5))?;
-            out.mark("\"/>")?;
-        }
-    }
-    out.mark("</g>\n")
-}
-
-// Where the last lane of the partition of this lane ends.
-fn foot_of_partition(picture: &Picture, layout: &Layout, row: Row) -> u64 {
-    let part = match picture.lanes.get(row.lane) {
-        Some(lane) => lane.key.partition(),
-        None => None,
-    };
-    let mut foot = row.y.saturating_add(row.height);
-    for other in layout.rows.iter() {
-        if let Some(lane) = picture.lanes.get(other.lane) {
-            if lane.key.partition() == part {
-                foot = foot.max(other.y.saturating_add(other.height));
-            }
-        }
-    }
-    foot
-}
-
-fn point_class(kind: MarkKind) -> &'static str {
-    match kind {
-        MarkKind::Tick => "tick",
-        MarkKind::Dispatch => "dispatch",
-        MarkKind::Call => "call",
-        MarkKind::Return => "return",
-        MarkKind::Restart => "restart",
-        MarkKind::Rejected | MarkKind::Unlawful => "unlawful",
-        MarkKind::Lawful => "lawful",
-    }
-}
-
-// A line from top to bottom, over a broader one in the colour of the paper.
-fn tell_line(out: &mut Markup, x: u64, top: u64, bottom: u64) -> Result<(), AllocError> {
-    out.mark("<line class=\"halo\" x1=\"")?;
-    tell_ends(out, x, top, bottom)?;
-    out.mark("<line x1=\"")?;
-    tell_ends(out, x, top, bottom)
-}
-
-fn tell_ends(out: &mut Markup, x: u64, top: u64, bottom: u64) -> Result<(), AllocError> {
-    out.say(x)?;
-    out.mark("\" x2=\"")?;
-    out.say(x)?;
-    out.mark("\" y1=\"")?;
-    out.say(top)?;
-    out.mark("\" y2=\"")?;
-    out.say(bottom)?;
-    out.mark("\"/>")
-}
-
-// An arrow, as far as it is in the strip.
-fn tell_arrow(
-    out: &mut Markup,
-    picture: &Picture,
-    layout: &Layout,
-    arrow: &Arrow,
-) -> Result<(), AllocError> {
-    let (Some(from), Some(to)) = (
-        layout.row(picture, arrow.from.lane),
-        layout.row(picture, arrow.to.lane),
-    ) else {
-        return Ok(());
-    };
-    let (Some((left, begins)), Some((right, ends))) =
-        (x_of(layout, arrow.from), x_of(layout, arrow.to))
-    else {
-        return Ok(());
-    };
-    if !begins && !ends {
-        return Ok(());
-    }
-    let (class, title) = match arrow.kind {
-        ArrowKind::Wake => ("arrow wake", "ends its wait"),
-        ArrowKind::Message => ("arrow message", "the message"),
-    };
-    out.mark("<g class=\"")?;
-    out.mark(class)?;
-    out.mark("\"><title>")?;
-    out.mark(title)?;
-    out.say(format_args!(
-        ": from place {} to place {}",
-        arrow.from.place, arrow.to.place
-    ))?;
-    out.mark("</title><path class=\"halo\" d=\"")?;
-    let way = Way {
-        kind: arrow.kind,
-        from: (left, from.middle()),
-        to: (right, to.middle()),
-    };
-    out.say(way)?;
-    out.mark("\"/><path class=\"way\" d=\"")?;
-    out.say(way)?;
-    out.mark("\"/></g>\n")
-}
-
-// The way of an arrow, from one point to another.
-#[derive(Clone, Copy)]
-struct Way {
-    kind: ArrowKind,
-    from: (u64, u64),
-    to: (u64, u64),
-}
-
-impl Display for Way {
-    fn fmt<W: std::fmt::Write>(&self, f: &mut std::fmt::Formatter<W>) -> std::fmt::Result {
-        let ((left, top), (right, bottom)) = (self.from, self.to);
-        match self.kind {
-            ArrowKind::Wake => {
-                let x = left.saturating_add(5);
-                write!(f, "M{x},{top}L{x},{bottom}")
-            }
-            ArrowKind::Message => {
-                let middle = left.saturating_add(right) / 2;
-                write!(
-                    f,
-                    "M{left},{top}C{middle},{top} {middle},{bottom} {right},{bottom}"
-                )
-            }
-        }
-    }
-}
-
-// Where an end of an arrow is, and whether it is in the strip: else it is at the nearer edge. None where it is further away.
-fn x_of(layout: &Layout, end: ArrowEnd) -> Option<(u64, bool)> {
-    match end.column {
-        None => Some((LABELS, false)),
-        Some(column) if column < layout.strip.from => Some((LABELS, false)),
-        Some(column) if column >= layout.strip.to => {
-            Some((layout.left(layout.strip.to), false))
-        }
-        Some(column) => Some((layout.left(column), true)),
-    }
-}
-
-// A text, or its first characters where it is longer than this many.
-#[derive(Clone, Copy)]
-struct Fitted<'a>(&'a str, usize);
-
-impl Display for Fitted<'_> {
-    fn fmt<W: std::fmt::Write>(&self, f: &mut std::fmt::Formatter<W>) -> std::fmt::Result {
-        let count = self.0.chars().count();
-        if count <= self.1 {
-            return write!(f, "{}", self.0);
-        }
-        for character in self.0.chars().take(self.1.saturating_sub(1)) {
-            f.write_char(character)?;
-        }
-        f.write_char('…')
     }
 }

@@ -17,7 +17,7 @@ const MOST_WAITERS: usize = 6;
 /// What is said of an object or a channel.
 pub fn thing_saying(
     alloc: Global,
-    key: ThingKey,
+    key: &ThingKey,
     view: &ThingView,
 ) -> Result<Saying, AllocError> {
     let waits = !view.senders.is_empty() || !view.waiters.is_empty();
@@ -28,7 +28,7 @@ pub fn thing_saying(
     )?;
     let title = format!(in alloc;
         "{} {}{}{}",
-        KeyName(key),
+        KeyName(*key),
         HeldInFull(&view.contents),
         QueueInFull("to send", &view.senders),
         QueueInFull("here", &view.waiters)

@@ -67,10 +67,10 @@ pub fn mode_name(mode: Mode) -> &'static str {
 }
 
 /// The name of the counter of an object or a channel.
-pub fn counter_name(alloc: Global, key: ThingKey) -> Result<String, AllocError> {
+pub fn counter_name(alloc: Global, key: &ThingKey) -> Result<String, AllocError> {
     match key {
         ThingKey::Object { kind, number, .. } => {
-            format!(in alloc; "{} {number}", kind_name(kind))
+            format!(in alloc; "{} {number}", kind_name(*kind))
         }
         ThingKey::Channel(channel) => format!(in alloc; "channel {}", channel.number()),
     }

@@ -23,8 +23,8 @@ const FIRST_PROCESS: u64 = 2;
 pub struct Tracer {
     alloc: Global,
     events: Events,
-    cores: Vec<TracedCore>,
-    modes: Vec<TracedMode>,
+    cores: Vec<CoreView>,
+    modes: Vec<PartId>,
     processes: Vec<TracedProcess>,
     // The messages that are sent and not received, by the places at which they were sent.
     messages: Vec<u64>,
@@ -33,22 +33,10 @@ pub struct Tracer {
 }
 
 #[derive(Clone, Copy)]
-struct TracedCore {
-    view: CoreView,
-}
-
-#[derive(Clone, Copy)]
-struct TracedMode {
-    part: PartId,
-    mode: Mode,
-}
-
-#[derive(Clone, Copy)]
 struct TracedProcess {
     who: Who,
     view: ProcessView,
     runs: bool,
-    is_named: bool,
     is_open: bool,
 }
 
@@ -112,7 +100,7 @@ impl Tracer {
         self.place = ordered.pos.number();
         let name = format!(in self.alloc; "rejected: {cause}")?;
         let words = self.words_of(ordered)?;
-        let time = self.time_of(ordered.core);
+        let time = self.time_of(&ordered.core);
         let track = actor_of(ordered);
         self.events.instant(track, self.place, name.as_str(), time, words.as_str())
     }
@@ -128,10 +116,10 @@ impl Tracer {
             self.events.end_flow(FlowKind::Message, track, place, *number)?;
         }
         for core in self.cores.iter() {
-            self.events.end_slice(core_track(core.view.core), place)?;
+            self.events.end_slice(core_track(core.core), place)?;
         }
-        for mode in self.modes.iter() {
-            self.events.end_slice(mode_track(mode.part), place)?;
+        for part in self.modes.iter() {
+            self.events.end_slice(mode_track(*part), place)?;
         }
         for process in self.processes.iter() {
             if process.is_open {
@@ -152,7 +140,7 @@ impl Tracer {
             Body::Tick(_) => String::from_str(self.alloc, "tick")?,
         };
         let words = self.words_of(ordered)?;
-        let time = self.time_of(ordered.core);
+        let time = self.time_of(&ordered.core);
         let track = actor_of(ordered);
         self.events.instant(track, self.place, name.as_str(), time, words.as_str())
     }
@@ -163,9 +151,9 @@ impl Tracer {
         format!(in self.alloc; "{}", words.shown(false))
     }
 
-    fn time_of(&self, core: CoreId) -> u64 {
-        match self.cores.iter().find(|traced| traced.view.core == core) {
-            Some(traced) => traced.view.time,
+    fn time_of(&self, core: &CoreId) -> u64 {
+        match self.cores.iter().find(|view| view.core == *core) {
+            Some(view) => view.time,
             None => 0,
         }
     }
@@ -224,9 +212,9 @@ impl Tracer {
     fn apply(&mut self, pieces: &[Piece], changes: &[Change]) -> Result<(), AllocError> {
         let mut is_moved = false;
         for change in changes {
-            match *change {
+            match change {
                 Change::Core(view) => is_moved |= self.apply_core(view)?,
-                Change::Mode(part, mode) => self.apply_mode(part, mode)?,
+                Change::Mode(part, mode) => self.apply_mode(part, *mode)?,
                 Change::Process(who, view) => self.apply_process(pieces, who, view)?,
                 Change::Ended(who) => self.end_process(who)?,
                 Change::Thing(key) => self.apply_thing(pieces, key)?,
@@ -240,181 +228,175 @@ impl Tracer {
     }
 
     // Adds the occupant of a core; answers whether it is another one.
-    fn apply_core(&mut self, view: CoreView) -> Result<bool, AllocError> {
-        let last = self.cores.iter_mut().find(|traced| traced.view.core == view.core);
-        let is_other = match last {
-            Some(last) => {
-                let is_other = last.view.occupant != view.occupant;
-                last.view = view;
-                if !is_other {
+    fn apply_core(&mut self, view: &CoreView) -> Result<bool, AllocError> {
+        let before = self.cores.iter().position(|last| last.core == view.core);
+        match before {
+            Some(index) => {
+                if !self.renew_core(index, view) {
                     return Ok(false);
                 }
                 self.events.end_slice(core_track(view.core), self.place)?;
-                is_other
             }
             None => {
-                self.cores.push(TracedCore { view })?;
+                self.cores.push(*view)?;
                 let name = format!(in self.alloc; "core {}", view.core.number())?;
                 self.events.name_thread(core_track(view.core), name.as_str())?;
-                true
             }
-        };
-        let name = match view.occupant {
-            Some(who) => format!(in self.alloc; "{}", Numbered(who))?,
+        }
+        let name = match &view.occupant {
+            Some(who) => format!(in self.alloc; "{}", Numbered(*who))?,
             None => String::from_str(self.alloc, "idle")?,
         };
-        let window = match view.window {
+        let window = match &view.window {
             Some(part) => format!(in self.alloc; "window of partition {}", part.number())?,
             None => String::from_str(self.alloc, "no window")?,
         };
-        let track = core_track(view.core);
-        self.events.begin_slice(
-            track,
-            self.place,
-            name.as_str(),
-            view.time,
-            window.as_str(),
-        )?;
-        Ok(is_other)
+        let (name, window) = (name.as_str(), window.as_str());
+        self.events.begin_slice(core_track(view.core), self.place, name, view.time, window)?;
+        Ok(true)
     }
 
-    fn apply_mode(&mut self, part: PartId, mode: Mode) -> Result<(), AllocError> {
-        let track = mode_track(part);
-        match self.modes.iter_mut().find(|traced| traced.part == part) {
+    // Keeps what is known of the core of this index; answers whether its occupant is another one.
+    fn renew_core(&mut self, index: usize, view: &CoreView) -> bool {
+        match self.cores.get_mut(index) {
             Some(last) => {
-                last.mode = mode;
-                self.events.end_slice(track, self.place)?;
+                let is_other = last.occupant != view.occupant;
+                *last = *view;
+                is_other
             }
-            None => {
-                self.modes.push(TracedMode { part, mode })?;
-                self.events.name_thread(track, "mode")?;
-            }
+            None => false,
         }
-        self.events.begin_slice(track, self.place, mode_name(mode), 0, "")
+    }
+
+    fn apply_mode(&mut self, part: &PartId, mode: Mode) -> Result<(), AllocError> {
+        if self.modes.as_slice().contains(part) {
+            self.events.end_slice(mode_track(*part), self.place)?;
+        } else {
+            self.modes.push(*part)?;
+            self.events.name_thread(mode_track(*part), "mode")?;
+        }
+        self.events.begin_slice(mode_track(*part), self.place, mode_name(mode), 0, "")
     }
 
     fn apply_process(
         &mut self,
         pieces: &[Piece],
-        who: Who,
-        view: ProcessView,
+        who: &Who,
+        view: &ProcessView,
     ) -> Result<(), AllocError> {
-        let runs = self.is_running(who, &view);
-        let index = match self.processes.iter().position(|traced| traced.who == who) {
-            Some(index) => index,
+        let runs = self.is_running(who, view);
+        match self.processes.iter().position(|traced| traced.who == *who) {
+            Some(index) => self.go_on(index, view, runs),
             None => {
+                let name = name_of(self.alloc, pieces, who)?;
+                self.events.name_thread(process_track(*who), name.as_str())?;
                 self.processes.push(TracedProcess {
-                    who,
-                    view,
+                    who: *who,
+                    view: *view,
                     runs,
-                    is_named: false,
-                    is_open: false,
+                    is_open: true,
                 })?;
-                self.processes.len().saturating_sub(1)
+                self.count_priority(who, view)?;
+                self.begin_state(who, view, runs)
             }
-        };
+        }
+    }
+
+    // Shows what a process that is known does now.
+    fn go_on(&mut self, index: usize, view: &ProcessView, runs: bool) -> Result<(), AllocError> {
         let Some(last) = self.processes.get_mut(index) else {
             return Ok(());
         };
-        let before = *last;
-        let is_same = before.is_open && before.view.standing == view.standing && before.runs == runs;
-        *last = TracedProcess {
-            who,
-            view,
-            runs,
-            is_named: true,
-            is_open: true,
-        };
-        if !before.is_named {
-            let name = name_of(self.alloc, pieces, who)?;
-            self.events.name_thread(process_track(who), name.as_str())?;
+        let who = last.who;
+        let was_open = last.is_open;
+        let is_same_priority = last.view.current_priority == view.current_priority;
+        let is_same = last.view.standing == view.standing && last.runs == runs;
+        last.view = *view;
+        last.runs = runs;
+        last.is_open = true;
+        if !was_open || !is_same_priority {
+            self.count_priority(&who, view)?;
         }
-        if !before.is_open || before.view.current_priority != view.current_priority {
-            let name = format!(in self.alloc; "priority of process {}", who.proc.number())?;
-            self.events.count_priority(
-                process_of(who.part),
-                self.place,
-                name.as_str(),
-                u64::from(view.current_priority),
-            )?;
-        }
-        if is_same {
+        if was_open && is_same {
             return Ok(());
         }
-        if before.is_open {
-            self.events.end_slice(process_track(who), self.place)?;
+        if was_open {
+            self.end_state(&who)?;
         }
-        self.begin_state(who, &view, runs)
+        self.begin_state(&who, view, runs)
+    }
+
+    fn count_priority(&mut self, who: &Who, view: &ProcessView) -> Result<(), AllocError> {
+        let name = format!(in self.alloc; "priority of process {}", who.proc.number())?;
+        self.events.count_priority(
+            process_of(who.part),
+            self.place,
+            name.as_str(),
+            u64::from(view.current_priority),
+        )
     }
 
     fn begin_state(
         &mut self,
-        who: Who,
+        who: &Who,
         view: &ProcessView,
         runs: bool,
     ) -> Result<(), AllocError> {
         let name = state_name(self.alloc, view, runs)?;
         let due = due_text(self.alloc, view)?;
-        let time = self.time_of(view.affinity);
-        self.events.begin_slice(
-            process_track(who),
-            self.place,
-            name.as_str(),
-            time,
-            due.as_str(),
-        )
+        let time = self.time_of(&view.affinity);
+        let (name, due) = (name.as_str(), due.as_str());
+        self.events.begin_slice(process_track(*who), self.place, name, time, due)
     }
 
-    fn end_process(&mut self, who: Who) -> Result<(), AllocError> {
-        if let Some(traced) = self.processes.iter_mut().find(|traced| traced.who == who) {
-            if traced.is_open {
-                traced.is_open = false;
-                self.events.end_slice(process_track(who), self.place)?;
-            }
+    fn end_state(&mut self, who: &Who) -> Result<(), AllocError> {
+        self.events.end_slice(process_track(*who), self.place)
+    }
+
+    fn end_process(&mut self, who: &Who) -> Result<(), AllocError> {
+        let mut was_open = false;
+        if let Some(traced) = self.processes.iter_mut().find(|traced| traced.who == *who) {
+            was_open = traced.is_open;
+            traced.is_open = false;
         }
-        Ok(())
+        if was_open { self.end_state(who) } else { Ok(()) }
     }
 
     // Whether a core runs a process.
-    fn is_running(&self, who: Who, view: &ProcessView) -> bool {
+    fn is_running(&self, who: &Who, view: &ProcessView) -> bool {
         view.standing == Standing::Ready
-            && self.cores.iter().any(|core| {
-                core.view.core == view.affinity && core.view.occupant == Some(who)
-            })
+            && self
+                .cores
+                .iter()
+                .any(|core| core.core == view.affinity && core.occupant == Some(*who))
     }
 
     // Adds the processes that run now and did not, or did and do no longer.
     fn renew_running(&mut self) -> Result<(), AllocError> {
         for index in 0..self.processes.len() {
-            let Some(process) = self.processes.get(index) else {
-                return Ok(());
-            };
-            let TracedProcess {
-                who,
-                view,
-                runs: before,
-                is_open,
-                ..
-            } = *process;
-            let runs = self.is_running(who, &view);
-            if !is_open || runs == before {
-                continue;
-            }
-            if let Some(process) = self.processes.get_mut(index) {
-                process.runs = runs;
-            }
-            self.events.end_slice(process_track(who), self.place)?;
-            self.begin_state(who, &view, runs)?;
+            self.renew_process(index)?;
         }
         Ok(())
     }
 
-    fn apply_thing(&mut self, pieces: &[Piece], key: ThingKey) -> Result<(), AllocError> {
-        let Some(view) = view_of(self.alloc, pieces, &key)? else {
+    fn renew_process(&mut self, index: usize) -> Result<(), AllocError> {
+        let Some(process) = self.processes.get(index) else {
+            return Ok(());
+        };
+        let view = process.view;
+        let runs = self.is_running(&process.who, &view);
+        if !process.is_open || runs == process.runs {
+            return Ok(());
+        }
+        self.go_on(index, &view, runs)
+    }
+
+    fn apply_thing(&mut self, pieces: &[Piece], key: &ThingKey) -> Result<(), AllocError> {
+        let Some(view) = view_of(self.alloc, pieces, key)? else {
             return Ok(());
         };
         let process = match key {
-            ThingKey::Object { part, .. } => process_of(part),
+            ThingKey::Object { part, .. } => process_of(*part),
             ThingKey::Channel(_) => CHANNELS,
         };
         let name = counter_name(self.alloc, key)?;
@@ -472,7 +454,7 @@ fn process_track(who: Who) -> Track {
 }
 
 // The name of a process.
-fn name_of(alloc: Global, pieces: &[Piece], who: Who) -> Result<String, AllocError> {
+fn name_of(alloc: Global, pieces: &[Piece], who: &Who) -> Result<String, AllocError> {
     let number = who.proc.number();
     for piece in pieces {
         if piece.subject() != Subject::Partition(who.part) {
