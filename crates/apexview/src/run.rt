@@ -125,7 +125,7 @@ impl<'a> Run<'a> {
         &self,
         alloc: Global,
         ordered: &Ordered,
-        judgement: Judgement,
+        judgement: &Judgement,
         explainer: &mut Explainer,
     ) -> Option<Verdict> {
         match judgement {
@@ -141,11 +141,11 @@ impl<'a> Run<'a> {
                 })
             }
             Judgement::Broken { rule, view } => {
-                explainer.broken(ordered, &view, rule);
-                note_broken(alloc, self.shown, ordered, rule, explainer);
+                explainer.broken(ordered, view, *rule);
+                note_broken(alloc, self.shown, ordered, *rule, explainer);
                 Some(Verdict::Broken {
                     pos: ordered.pos,
-                    rule,
+                    rule: *rule,
                 })
             }
         }

@@ -61,12 +61,12 @@ pub fn gather<R: Wait, S: TextSource, C: TextSource>(
         };
         let is_past = shown.is_past(&ordered);
         let judgement = run.judge(&ordered)?;
-        let verdict = run.verdict(alloc, &ordered, judgement, explainer);
+        let verdict = run.verdict(alloc, &ordered, &judgement, explainer);
         match judgement {
             _ if is_past => stretch.keep_after(ordered)?,
             Judgement::Accepted => stretch.keep(shown, ordered)?,
             Judgement::Rejected(refusal) => {
-                let lawful = lawful_at(alloc, shown.config, &run, &ordered, refusal)?;
+                let lawful = lawful_at(alloc, shown.config, &run, &ordered, &refusal)?;
                 stretch.rejected = Some(Rejected {
                     ordered,
                     cause: refusal.cause,
@@ -92,7 +92,7 @@ fn lawful_at(
     config: &Config,
     run: &Run<'_>,
     ordered: &Ordered,
-    refusal: Refusal,
+    refusal: &Refusal,
 ) -> Result<Vec<Lawful>, AllocError> {
     match run.walk().pieces().get(refusal.piece) {
         Some(piece) => lawful_of(alloc, config, piece, ordered, refusal.cause),

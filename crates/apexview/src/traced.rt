@@ -67,13 +67,13 @@ fn trace_all<R: Wait, S: TextSource, C: TextSource, W: Sink>(
         };
         let judgement = run.judge(&ordered)?;
         if !shown.is_past(&ordered) {
-            following.add(shown, &run, &ordered, judgement, tracer)?;
+            following.add(shown, &run, &ordered, &judgement, tracer)?;
         }
         if tracer.text().len() >= PIECE {
             put_all(output, tracer.text().as_bytes())?;
             tracer.clear();
         }
-        if let Some(verdict) = run.verdict(alloc, &ordered, judgement, explainer) {
+        if let Some(verdict) = run.verdict(alloc, &ordered, &judgement, explainer) {
             return Ok(verdict);
         }
     }
@@ -114,7 +114,7 @@ impl Following {
         shown: &Shown<'_>,
         run: &Run<'_>,
         ordered: &Ordered,
-        judgement: Judgement,
+        judgement: &Judgement,
         tracer: &mut Tracer,
     ) -> Result<(), ShowFault> {
         if let Judgement::Rejected(refusal) = judgement {

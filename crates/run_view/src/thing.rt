@@ -1,5 +1,9 @@
 // What an object or a channel holds, and who waits there.
 
+ghost use Rattle.std.specs.Prelude.{IfOk};
+ghost use Rattle.apex_machine.specs.State.{item_at};
+ghost use Rattle.run_view.specs.Things.{Shows, ShowsBlackboard, ShowsBuffer, ShowsChannel, ShowsEvent, ShowsMutex, ShowsObject, ShowsSemaphore};
+
 use crate::waiter::{Waiter, waiters_of};
 use apex_types::{ChanId, ObjectKind, PartId, ProcId};
 use channel::Channel;
@@ -60,7 +64,9 @@ pub fn thing_view(
     state: &PartitionState,
     kind: ObjectKind,
     number: u32,
-) -> Result<Option<ThingView>, AllocError> {
+) -> Result<Option<ThingView>, AllocError>
+    ensures { IfOk result (ShowsObject kind number state.now) }
+{
     match kind {
         ObjectKind::Buffer => buffer_view(alloc, state, number),
         ObjectKind::Blackboard => board_view(alloc, state, number),
@@ -113,7 +119,9 @@ fn buffer_view(
     alloc: Global,
     state: &PartitionState,
     number: u32,
-) -> Result<Option<ThingView>, AllocError> {
+) -> Result<Option<ThingView>, AllocError>
+    ensures { IfOk result (Shows ShowsBuffer (item_at state.now.buffers number)) }
+{
     let Some(buffer) = state.buffers().at(number) else {
         return Ok(None);
     };
@@ -124,7 +132,9 @@ fn board_view(
     alloc: Global,
     state: &PartitionState,
     number: u32,
-) -> Result<Option<ThingView>, AllocError> {
+) -> Result<Option<ThingView>, AllocError>
+    ensures { IfOk result (Shows ShowsBlackboard (item_at state.now.blackboards number)) }
+{
     let Some(board) = state.blackboards().at(number) else {
         return Ok(None);
     };
@@ -144,7 +154,9 @@ fn semaphore_view(
     alloc: Global,
     state: &PartitionState,
     number: u32,
-) -> Result<Option<ThingView>, AllocError> {
+) -> Result<Option<ThingView>, AllocError>
+    ensures { IfOk result (Shows ShowsSemaphore (item_at state.now.semaphores number)) }
+{
     let Some(semaphore) = state.semaphores().at(number) else {
         return Ok(None);
     };
@@ -163,7 +175,9 @@ fn event_view(
     alloc: Global,
     state: &PartitionState,
     number: u32,
-) -> Result<Option<ThingView>, AllocError> {
+) -> Result<Option<ThingView>, AllocError>
+    ensures { IfOk result (Shows ShowsEvent (item_at state.now.events number)) }
+{
     let Some(event) = state.events().at(number) else {
         return Ok(None);
     };
@@ -181,7 +195,9 @@ fn mutex_view(
     alloc: Global,
     state: &PartitionState,
     number: u32,
-) -> Result<Option<ThingView>, AllocError> {
+) -> Result<Option<ThingView>, AllocError>
+    ensures { IfOk result (Shows ShowsMutex (item_at state.now.mutexes number)) }
+{
     let Some(mutex) = state.mutexes().at(number) else {
         return Ok(None);
     };
@@ -200,7 +216,9 @@ fn mutex_view(
 /// What a channel holds.
 ///
 /// AllocError where memory is refused.
-pub fn channel_view(alloc: Global, channel: &Channel) -> Result<ThingView, AllocError> {
+pub fn channel_view(alloc: Global, channel: &Channel) -> Result<ThingView, AllocError>
+    ensures { IfOk result (ShowsChannel channel.now) }
+{
     if let Some(queue) = channel.queue() {
         return queue_view(alloc, &[], queue);
     }

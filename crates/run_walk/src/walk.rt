@@ -1,9 +1,14 @@
 // The pieces of a module, which go over records one after another.
 
+ghost use Rattle.std.specs.Prelude.{◌≡◌, ◌<◌, ◌+◌, IfOk, None};
+ghost use Rattle.verdict_merge.specs.Rounds.{AreGoing};
+ghost use Rattle.run_walk.specs.Walks.{Takes};
+
 use apex_types::{Cause, Ordered, View};
 use module_config::Config;
 use piece_check::{Piece, PieceFault};
 use std::alloc::Global;
+use std::marker::Model;
 use thiserror::Error;
 use verdict_merge::start_pieces;
 
@@ -28,11 +33,22 @@ pub struct Walk {
     pieces: Vec<Piece>,
 }
 
+impl Model for Walk {
+    ghost use Rattle.std.specs.Prelude.{List};
+    ghost use Rattle.piece_check.specs.Parts.{Holding};
+
+    ghost Value = { List Holding };
+
+    ghost view = { λ walk. walk.pieces.items };
+}
+
 impl Walk {
     /// The pieces before the first record.
     ///
     /// Memory where it is refused.
-    pub fn start(alloc: Global, config: &Config) -> Result<Walk, WalkFault> {
+    pub fn start(alloc: Global, config: &Config) -> Result<Walk, WalkFault>
+        ensures going { IfOk result (AreGoing config.now 0) }
+    {
         match start_pieces(alloc, config) {
             Ok(pieces) => Ok(Walk { pieces }),
             Err(_) => Err(WalkFault::Memory),
@@ -40,12 +56,16 @@ impl Walk {
     }
 
     /// The pieces, in the order of their numbers.
-    pub fn pieces(&self) -> &[Piece] {
+    pub fn pieces(&self) -> &[Piece]
+        ensures { result.now ≡ self.now }
+    {
         self.pieces.as_slice()
     }
 
     /// What a user's relation sees of the next record, before it is taken.
-    pub fn view(&self, config: &Config, ordered: &Ordered) -> Option<View> {
+    pub fn view(&self, config: &Config, ordered: &Ordered) -> Option<View>
+        requires going { AreGoing config.now ordered.now.pos self.now }
+    {
         for piece in self.pieces.iter() {
             if piece.subject().is_touched(config, ordered) {
                 if let Some(view) = piece.view(ordered) {
@@ -64,7 +84,12 @@ impl Walk {
         &mut self,
         config: &Config,
         ordered: &Ordered,
-    ) -> Result<Option<Refusal>, WalkFault> {
+    ) -> Result<Option<Refusal>, WalkFault>
+        requires going { AreGoing config.now ordered.now.pos self.old }
+        requires core { ordered.now.core < config.now.cores }
+        ensures going { IfOk result (λ refusal. refusal ≡ None → AreGoing config.now (ordered.now.pos + 1) self.new) }
+        ensures takes { IfOk result (λ refusal. Takes config.now ordered.now self.old refusal self.new) }
+    {
         for (number, piece) in self.pieces.iter_mut().enumerate() {
             if !piece.subject().is_touched(config, ordered) {
                 continue;

@@ -5,7 +5,7 @@ use std::alloc::AllocError;
 use std::fmt::Display;
 
 /// The width of a character of a text, in pixels as all lengths here.
-pub const CHARACTER: u64 = 6;
+pub const CHARACTER: u64 = 7;
 
 /// What is free on both sides of the text of a bar together, and left of it: there the mark of a record can be.
 pub const INSIDE: u64 = 12;

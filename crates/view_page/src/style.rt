@@ -85,6 +85,7 @@ pre { margin: 8px 0; padding: 10px 12px; border-left: 4px solid var(--fault); ba
 .strip { display: block; max-width: 100%; height: auto; }
 .key { display: flex; flex-wrap: wrap; gap: 6px 16px; margin: 10px 0 18px; padding: 0; list-style: none; font-size: 12px; }
 .key svg { vertical-align: -5px; margin-right: 5px; }
+.key .point { background: #cfe3ef; border-radius: 3px; }
 table { border-collapse: collapse; font-size: 13px; }
 caption { text-align: left; font-weight: 600; padding: 4px 0; }
 th, td { border: 1px solid var(--line); padding: 3px 7px; text-align: left; vertical-align: top; }
