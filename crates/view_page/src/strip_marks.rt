@@ -153,12 +153,6 @@ pub(crate) fn tell_arrow(
     layout: &Layout,
     arrow: &Arrow,
 ) -> Result<(), AllocError> {
-    let (Some(from), Some(to)) = (
-        layout.row(picture, &arrow.from.lane),
-        layout.row(picture, &arrow.to.lane),
-    ) else {
-        return Ok(());
-    };
     let (Some((left, begins)), Some((right, ends))) =
         (x_of(layout, &arrow.from), x_of(layout, &arrow.to))
     else {
@@ -167,6 +161,12 @@ pub(crate) fn tell_arrow(
     if !begins && !ends {
         return Ok(());
     }
+    let (Some(from), Some(to)) = (
+        layout.row(picture, &arrow.from.lane),
+        layout.row(picture, &arrow.to.lane),
+    ) else {
+        return Ok(());
+    };
     let (class, title) = match arrow.kind {
         ArrowKind::Wake => ("arrow wake", "ends its wait"),
         ArrowKind::Message => ("arrow message", "the message"),
