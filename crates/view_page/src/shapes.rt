@@ -11,6 +11,9 @@ pub const CHARACTER: u64 = 7;
 pub const INSIDE: u64 = 12;
 pub const BEFORE_TEXT: u64 = 9;
 
+/// The height of the band of a core's windows, in which its ticks are marked.
+pub const BAND: u64 = 14;
+
 // A rectangle of this class from one edge to another.
 pub(crate) fn tell_rect(
     out: &mut Markup,

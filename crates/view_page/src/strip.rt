@@ -8,7 +8,7 @@ use crate::lane_key::LaneKey;
 use crate::layout::{LABELS, LONGEST_LABEL, Layout, Row, Strip};
 use crate::markup::Markup;
 use crate::picture::Picture;
-use crate::shapes::{BEFORE_TEXT, CHARACTER, Fitted, INSIDE, tell_box, tell_rect, tell_text};
+use crate::shapes::{BAND, BEFORE_TEXT, CHARACTER, Fitted, INSIDE, tell_box, tell_rect, tell_text};
 use crate::strip_marks::{tell_arrow, tell_marks};
 use crate::style::{DEFINITIONS, STYLE};
 use run_view::ThingKey;
@@ -22,9 +22,6 @@ const TEXT_LINE: u64 = 17;
 
 /// The height of a bar whose text is in the middle: that of a higher one is above, since marks are below it.
 const TALL: u64 = 19;
-
-/// The height of the band of a core's windows.
-const BAND: u64 = 14;
 
 /// Begins a picture by itself, of these strips one below the other.
 pub fn svg_head(

@@ -5,7 +5,7 @@ use crate::lane::{Lane, Mark, MarkKind};
 use crate::layout::{LABELS, Layout, Row};
 use crate::markup::Markup;
 use crate::picture::Picture;
-use crate::shapes::{CHARACTER, Fitted, INSIDE, tell_box, tell_line};
+use crate::shapes::{BAND, CHARACTER, Fitted, INSIDE, tell_box, tell_line};
 use std::alloc::AllocError;
 use std::fmt::Display;
 
@@ -91,7 +91,7 @@ fn tell_point_mark(
     }
     out.mark("</title>")?;
     match mark.kind {
-        MarkKind::Tick => tell_line(out, x, row.y, row.y.saturating_add(row.height))?,
+        MarkKind::Tick => tell_line(out, x, row.y, row.y.saturating_add(BAND))?,
         MarkKind::Restart => {
             let bottom = foot_of_partition(picture, layout, row);
             tell_line(out, x, row.y.saturating_sub(4), bottom)?;
